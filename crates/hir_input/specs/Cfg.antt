@@ -1,0 +1,96 @@
+-- Conditions as plain data: how they are displayed, and whether they are true.
+use Rattle.std.specs.Prelude.{ℕ, List, [], ◌∷◌, ◌++◌, map, codes, Bool, true, false, not, Option, Some, None, option_map, unwrap_or, nat_eq, if◌then◌else◌, ◌||◌}
+use Rattle.std.specs.List.{join_by, find, list_any}
+use Rattle.std.specs.Cmp.Lexicographic.{pointwise}
+use Rattle.hir_input.specs.declared.cfg.CfgAtom.{CfgAtom}
+use Rattle.hir_input.specs.declared.cfg.CfgAtom.TheVariants.{Flag, KeyValue}
+use Rattle.hir_input.specs.declared.cfg.CfgExpr.{CfgExpr, fold-CfgExpr}
+use Rattle.hir_input.specs.declared.cfg.CfgExpr.TheOpen.{CfgExpr-F}
+use Rattle.hir_input.specs.contracts.cfg.CfgAtomPartialEq.TheImpl as atoms
+
+-- a condition
+mutual
+  pub data CfgView : Type 0 where
+    invalid : CfgView
+    atom : CfgAtom → CfgView
+    all_of : CfgViews → CfgView
+    any_of : CfgViews → CfgView
+    not_of : CfgView → CfgView
+
+  pub data CfgViews : Type 0 where
+    no_cfgs : CfgViews
+    cfg_and : CfgView → CfgViews → CfgViews
+
+-- a list of conditions
+abbrev pub cfgs_from : List CfgView → CfgViews
+cfgs_from [] = no_cfgs
+cfgs_from (c ∷ cs) = cfg_and c (cfgs_from cs)
+
+-- a condition's plain data, with each condition inside seen in its place
+abbrev pub cfg_step : CfgExpr-F CfgView → CfgView
+cfg_step CfgExpr-F.Invalid = invalid
+cfg_step (CfgExpr-F.Atom a) = atom a
+cfg_step (CfgExpr-F.All members) = all_of (cfgs_from members.items)
+cfg_step (CfgExpr-F.Any members) = any_of (cfgs_from members.items)
+cfg_step (CfgExpr-F.Not inner) = not_of inner.value
+
+abbrev pub cfg_view : CfgExpr → CfgView
+cfg_view = fold-CfgExpr CfgView cfg_step
+
+-- ---- how conditions are displayed
+
+-- a flag's name, or the key and the value
+abbrev pub shown_atom : CfgAtom → List ℕ
+shown_atom (Flag name) = name
+shown_atom (KeyValue key value) = key ++ codes " = \"" ++ value ++ codes "\""
+
+-- texts with a comma and a space between them
+abbrev pub by_commas : List (List ℕ) → List ℕ
+by_commas texts = join_by (λ text. text) (codes ", ") texts
+
+-- a condition's text
+unfoldable mutual
+  pub shown_cfg : CfgView → List ℕ
+  shown_cfg invalid = codes "invalid"
+  shown_cfg (atom a) = shown_atom a
+  shown_cfg (all_of cs) = codes "all(" ++ by_commas (shown_cfgs cs) ++ codes ")"
+  shown_cfg (any_of cs) = codes "any(" ++ by_commas (shown_cfgs cs) ++ codes ")"
+  shown_cfg (not_of c) = codes "not(" ++ shown_cfg c ++ codes ")"
+
+  pub shown_cfgs : CfgViews → List (List ℕ)
+  shown_cfgs no_cfgs = []
+  shown_cfgs (cfg_and c cs) = shown_cfg c ∷ shown_cfgs cs
+
+-- ---- whether conditions are true; `None` is unknown
+
+-- the flag `true` always holds and the flag `false` never; any other atom holds where it is set
+abbrev pub holds : List CfgAtom → CfgAtom → Bool
+holds set (Flag name) =
+    if pointwise nat_eq name (codes "true") then true else (if pointwise nat_eq name (codes "false") then false else list_any (λ a. atoms.ghosts.eq a (Flag name)) set)
+holds set (KeyValue key value) = list_any (λ a. atoms.ghosts.eq a (KeyValue key value)) set
+
+abbrev pub is_answer : Bool → Option Bool → Bool
+is_answer true (Some b) = b
+is_answer false (Some b) = not b
+is_answer b None = false
+
+-- the first answer that is not true, or true where there is none
+abbrev pub all_answer : List (Option Bool) → Option Bool
+all_answer answers = unwrap_or (find (λ a. not (is_answer true a)) answers) (Some true)
+
+-- the first answer that is not false, or false where there is none
+abbrev pub any_answer : List (Option Bool) → Option Bool
+any_answer answers = unwrap_or (find (λ a. not (is_answer false a)) answers) (Some false)
+
+-- whether a condition is true where these atoms are set
+unfoldable mutual
+  pub truth : List CfgAtom → CfgView → Option Bool
+  truth set invalid = None
+  truth set (atom a) = Some (holds set a)
+  truth set (all_of cs) = all_answer (truths set cs)
+  truth set (any_of cs) = any_answer (truths set cs)
+  truth set (not_of c) = option_map not (truth set c)
+
+  pub truths : List CfgAtom → CfgViews → List (Option Bool)
+  truths set no_cfgs = []
+  truths set (cfg_and c cs) = truth set c ∷ truths set cs

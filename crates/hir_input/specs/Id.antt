@@ -1,0 +1,37 @@
+-- How ids are displayed.
+use Rattle.std.specs.Prelude.{ℕ, ◌/◌, ◌%◌, List, [], ◌∷◌, ◌++◌, codes, decimal, true}
+use Rattle.std.specs.Fmt.{digit_glyph}
+use Rattle.hir_input.specs.declared.ids.AstIdKind.{AstIdKind}
+use Rattle.hir_input.specs.declared.ids.AstIdKind.TheVariants.{Const, Enum, ExternBlock, ExternCrate, Fn, Impl, MacroDef, MacroCall, MacroRules, Module, Static, Struct, Trait, TypeAlias, Union, Use}
+use Rattle.hir_input.specs.declared.ids.FileAstId.{FileAstId}
+
+-- a kind's word
+abbrev pub shown_kind : AstIdKind → List ℕ
+shown_kind Const = codes "Const"
+shown_kind Enum = codes "Enum"
+shown_kind ExternBlock = codes "ExternBlock"
+shown_kind ExternCrate = codes "ExternCrate"
+shown_kind Fn = codes "Fn"
+shown_kind Impl = codes "Impl"
+shown_kind MacroDef = codes "MacroDef"
+shown_kind MacroCall = codes "MacroCall"
+shown_kind MacroRules = codes "MacroRules"
+shown_kind Module = codes "Module"
+shown_kind Static = codes "Static"
+shown_kind Struct = codes "Struct"
+shown_kind Trait = codes "Trait"
+shown_kind TypeAlias = codes "TypeAlias"
+shown_kind Union = codes "Union"
+shown_kind Use = codes "Use"
+
+-- an upper-case hexadecimal digit
+abbrev pub hex_digit : ℕ → ℕ
+hex_digit d = digit_glyph true d
+
+-- four hexadecimal digits
+abbrev pub shown_hash : ℕ → List ℕ
+shown_hash hash = hex_digit (hash / 4096) ∷ hex_digit (hash / 256 % 16) ∷ hex_digit (hash / 16 % 16) ∷ hex_digit (hash % 16) ∷ []
+
+-- the kind, and in brackets the hash and the number
+abbrev pub shown_id : FileAstId → List ℕ
+shown_id id = shown_kind id.kind ++ codes "[" ++ shown_hash id.hash ++ codes ", " ++ decimal id.number ++ codes "]"

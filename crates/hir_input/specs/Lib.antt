@@ -1,0 +1,10 @@
+pub mod Name
+pub mod Edition
+pub mod Path
+pub mod Id
+pub mod Cfg
+pub mod Attr
+pub mod AttrCode
+pub mod Syntax
+pub mod SyntaxCode
+pub mod Bodies

@@ -1,0 +1,281 @@
+//! Attributes, and the metas that they are collected from.
+ghost use Rattle.std.specs.Prelude.{◌≡◌, IfOk, option_map, option_copied, map};
+ghost use Rattle.hir_input.specs.Attr.{meta_view, token_tree_of, string_with_span_of};
+
+use crate::ast::PathNode;
+use crate::cfg::CfgExpr;
+use crate::ids::SyntaxContext;
+use crate::mod_path::ModPath;
+use crate::span::Span;
+use crate::text::Text;
+use std::alloc::AllocError;
+use std::marker::Model;
+
+/// A literal: its text as it is written, and the string that it stands for if it is one of a string.
+#[derive(Debug, Drop, PartialEq, Eq)]
+pub struct Literal {
+    pub rendered: Text,
+    pub string: Option<Text>,
+    pub span: Span,
+}
+
+/// A token tree, by its text.
+#[derive(Debug, Drop, PartialEq, Eq)]
+pub struct TokenTree {
+    pub rendered: Text,
+}
+
+/// What stands behind the path of an attribute.
+///
+/// Stands for rust-analyzer's `AttrInput`.
+#[derive(Debug, Drop, PartialEq, Eq)]
+pub enum AttrInput {
+    /// `#[path = literal]`
+    Literal(Literal),
+    /// `#[path(tokens)]`
+    TokenTree(TokenTree),
+}
+
+/// An attribute.
+///
+/// Stands for rust-analyzer's `Attr`.
+#[derive(Debug, Drop, PartialEq, Eq)]
+pub struct Attr {
+    pub path: ModPath,
+    pub input: Option<AttrInput>,
+    pub ctxt: SyntaxContext,
+}
+
+impl Attr {
+    /// The token tree, if the input is one. rust-analyzer's `Attr::token_tree_value`.
+    pub fn token_tree_value(&self) -> Option<&TokenTree>
+        ensures { option_copied result ≡ token_tree_of self.now }
+    {
+        match &self.input {
+            Some(AttrInput::TokenTree(tokens)) => Some(tokens),
+            _ => None,
+        }
+    }
+
+    /// The string and its span, if the input is a literal that has a string.
+    /// rust-analyzer's `Attr::string_value_with_span`.
+    pub fn string_value_with_span(&self) -> Option<(&str, Span)>
+        ensures { option_map (λ found. (found.0.now, found.1)) result ≡ string_with_span_of self.now }
+    {
+        match &self.input {
+            Some(AttrInput::Literal(literal)) => match &literal.string {
+                Some(string) => Some((string.as_str(), literal.span)),
+                None => None,
+            },
+            _ => None,
+        }
+    }
+}
+
+/// The id of an attribute among those of its owner: its position, counted from 0.
+///
+/// Stands for rust-analyzer's `AttrId`.
+#[derive(Clone, Copy, Debug, PartialEq, Eq)]
+pub struct AttrId {
+    index: u32,
+}
+
+impl Model for AttrId {
+    ghost use Rattle.std.specs.Prelude.{ℕ};
+
+    ghost Value = { ℕ };
+
+    ghost view = { λ id. id.index };
+
+    ghost inverse = { λ n. record { index = n } };
+}
+
+impl AttrId {
+    /// The id of the attribute at this position. rust-analyzer's `AttrId::from_item_tree_index`.
+    pub fn from_item_tree_index(index: u32) -> AttrId
+        ensures { result ≡ index }
+    {
+        AttrId { index }
+    }
+
+    /// The position. rust-analyzer's `AttrId::item_tree_index`.
+    pub fn item_tree_index(self) -> u32
+        ensures { result ≡ self }
+    {
+        self.index
+    }
+}
+
+/// What stands in the brackets of an attribute, as it is written. A value that is no literal is `None`.
+///
+/// Stands for rust-analyzer's `ast::Meta`.
+#[derive(Debug, Drop, PartialEq, Eq)]
+pub enum Meta {
+    /// `path`
+    Path {
+        path: Option<PathNode>,
+        ctxt: SyntaxContext,
+    },
+    /// `path = value`
+    KeyValue {
+        path: Option<PathNode>,
+        value: Option<Literal>,
+        ctxt: SyntaxContext,
+    },
+    /// `path(tokens)`
+    TokenTree {
+        path: Option<PathNode>,
+        tokens: TokenTree,
+        ctxt: SyntaxContext,
+    },
+    /// `cfg(condition)`
+    Cfg(CfgExpr),
+    /// `cfg_attr(condition, metas)`
+    CfgAttr {
+        condition: CfgExpr,
+        metas: Vec<Meta>,
+    },
+    /// `unsafe(meta)`
+    Unsafe(Box<Meta>),
+}
+
+impl Clone for Literal {
+    ghost is_clone = { λ literal copy. copy ≡ literal };
+
+    fn clone(&self) -> Result<Literal, AllocError> {
+        let rendered = self.rendered.clone()?;
+        let string = match &self.string {
+            Some(string) => Some(string.clone()?),
+            None => None,
+        };
+        Ok(Literal {
+            rendered,
+            string,
+            span: self.span,
+        })
+    }
+}
+
+impl Clone for TokenTree {
+    ghost is_clone = { λ tokens copy. copy ≡ tokens };
+
+    fn clone(&self) -> Result<TokenTree, AllocError> {
+        let rendered = self.rendered.clone()?;
+        Ok(TokenTree { rendered })
+    }
+}
+
+impl Clone for AttrInput {
+    ghost is_clone = { λ input copy. copy ≡ input };
+
+    fn clone(&self) -> Result<AttrInput, AllocError> {
+        match self {
+            AttrInput::Literal(literal) => Ok(AttrInput::Literal(literal.clone()?)),
+            AttrInput::TokenTree(tokens) => Ok(AttrInput::TokenTree(tokens.clone()?)),
+        }
+    }
+}
+
+impl Clone for Attr {
+    ghost is_clone = { λ attr copy. copy ≡ attr };
+
+    fn clone(&self) -> Result<Attr, AllocError> {
+        let path = self.path.clone()?;
+        let input = match &self.input {
+            Some(input) => Some(input.clone()?),
+            None => None,
+        };
+        Ok(Attr {
+            path,
+            input,
+            ctxt: self.ctxt,
+        })
+    }
+}
+
+// A copy of a path, if there is one.
+fn clone_path(path: &Option<PathNode>) -> Result<Option<PathNode>, AllocError>
+    ensures { IfOk result (λ copy. copy ≡ path.now) }
+{
+    match path {
+        Some(PathNode::Readable(path)) => Ok(Some(PathNode::Readable(path.clone()?))),
+        Some(PathNode::Unreadable) => Ok(Some(PathNode::Unreadable)),
+        None => Ok(None),
+    }
+}
+
+// A copy of a value, if there is one.
+fn clone_value(value: &Option<Literal>) -> Result<Option<Literal>, AllocError>
+    ensures { IfOk result (λ copy. copy ≡ value.now) }
+{
+    match value {
+        Some(value) => Ok(Some(value.clone()?)),
+        None => Ok(None),
+    }
+}
+
+// A copy of a meta.
+#[cycle(clone_meta)]
+#[tactic(auto, using(crate::proofs::MetaLemmas::meta_views))]
+fn clone_meta(meta: &Meta) -> Result<Meta, AllocError>
+    ensures { IfOk result (λ copy. meta_view copy ≡ meta_view meta.now) }
+{
+    match meta {
+        Meta::Path { path, ctxt } => {
+            let path = clone_path(path)?;
+            Ok(Meta::Path { path, ctxt: *ctxt })
+        }
+        Meta::KeyValue { path, value, ctxt } => {
+            let path = clone_path(path)?;
+            let value = clone_value(value)?;
+            Ok(Meta::KeyValue {
+                path,
+                value,
+                ctxt: *ctxt,
+            })
+        }
+        Meta::TokenTree { path, tokens, ctxt } => {
+            let path = clone_path(path)?;
+            let tokens = tokens.clone()?;
+            Ok(Meta::TokenTree {
+                path,
+                tokens,
+                ctxt: *ctxt,
+            })
+        }
+        Meta::Cfg(condition) => Ok(Meta::Cfg(condition.clone()?)),
+        Meta::CfgAttr { condition, metas } => {
+            let condition = condition.clone()?;
+            let metas = clone_metas(metas)?;
+            Ok(Meta::CfgAttr { condition, metas })
+        }
+        Meta::Unsafe(inner) => {
+            let copy = clone_meta(inner)?;
+            Ok(Meta::Unsafe(Box::new(*Box::allocator(inner), copy)?))
+        }
+    }
+}
+
+// Copies of metas.
+#[cycle(clone_meta)]
+fn clone_metas(metas: &Vec<Meta>) -> Result<Vec<Meta>, AllocError>
+    ensures { IfOk result (λ copies. map meta_view copies.items ≡ map meta_view metas.now.items) }
+{
+    let mut copies = Vec::new(*metas.allocator());
+    for i in 0..metas.len() {
+        let copy = clone_meta(&metas[i])?;
+        copies.push(copy)?;
+    }
+    Ok(copies)
+}
+
+impl Clone for Meta {
+    ghost use Rattle.std.specs.Prelude.{◌≡◌};
+    ghost use Rattle.hir_input.specs.Attr.{meta_view};
+
+    ghost is_clone = { λ meta copy. meta_view copy ≡ meta_view meta };
+
+    fn clone(&self) -> Result<Meta, AllocError> {
+        clone_meta(self)
+    }
+}

@@ -1,0 +1,44 @@
+//! Editions.
+ghost use Rattle.std.specs.Prelude.{◌≡◌};
+ghost use Rattle.hir_input.specs.Name.{is_among};
+ghost use Rattle.hir_input.specs.Edition.{IsCopy};
+
+use crate::name::Name;
+use std::alloc::AllocError;
+
+/// The year of an edition.
+#[derive(Clone, Copy, Debug, PartialEq, Eq)]
+pub enum EditionYear {
+    E2015,
+    E2018,
+    E2021,
+    E2024,
+}
+
+/// An edition: its year, which changes no text, and its reserved words, which are displayed with `r#`.
+#[derive(Debug, Drop, PartialEq, Eq)]
+pub struct Edition {
+    pub year: EditionYear,
+    pub reserved: Vec<Name>,
+}
+
+impl Edition {
+    // Whether the name is a reserved word.
+    pub(crate) fn reserves(&self, name: &Name) -> bool
+        ensures { result ≡ is_among self.now.reserved.items name.now }
+    {
+        self.reserved.contains(name)
+    }
+}
+
+impl Clone for Edition {
+    ghost is_clone = { IsCopy };
+
+    fn clone(&self) -> Result<Edition, AllocError> {
+        let reserved = self.reserved.clone()?;
+        Ok(Edition {
+            year: self.year,
+            reserved,
+        })
+    }
+}

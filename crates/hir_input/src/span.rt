@@ -1,0 +1,11 @@
+//! Spans.
+
+use crate::ids::SyntaxContext;
+
+/// A stretch of a file from `start` up to `end`, in bytes, and where its tokens come from.
+#[derive(Clone, Copy, Debug, PartialEq, Eq)]
+pub struct Span {
+    pub start: u32,
+    pub end: u32,
+    pub ctxt: SyntaxContext,
+}
