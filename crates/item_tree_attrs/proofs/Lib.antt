@@ -1,0 +1,4 @@
+pub mod AttrsEq
+pub mod CollectSteps
+pub mod Cutting
+pub mod Places

@@ -1,0 +1,35 @@
+use Rattle.std.proofs.Common.{◌+◌, map, None, Some, sym, ap, ◌∙◌, subst}
+use Rattle.hir_input.specs.Attr.{meta_view}
+use Rattle.item_tree_attrs.specs.Collected.{cut, events, collected_from}
+use Rattle.item_tree_attrs.specs.Collecting.{Adds}
+use Rattle.item_tree_attrs.proofs.CollectSteps.{cut-CfgAttr, collected_of-take, collected_of-split, Adds-next, Adds-stop}
+use Rattle.item_tree_attrs.proofs.collect.+collect.Goals as goal
+
+pub collect-returns-else-is_disabled : goal.collect-returns-else-is_disabled
+collect-returns-else-is_disabled t c =
+    let options = c.args.cfg_options.now in
+    let skipped = c.args.skipped.now in
+    let kept = sym c.is_disabled.ensures ∙ c.if-is_disabled.false in
+    let same = ap (λ ms. collected_from options skipped (map meta_view ms)) c.deref.ensures.value ∙ sym (cut-CfgAttr options skipped c.in-CfgAttr.condition c.in-CfgAttr.metas kept) ∙ ap (λ m. cut (events options skipped (meta_view m))) (sym c.in-CfgAttr.is) in
+    rw (← same) c.collect_all.ensures
+
+pub collect_all-loop-meta-preserved : goal.collect_all-loop-meta-preserved
+collect_all-loop-meta-preserved t c =
+    let options = c.args.cfg_options.now in
+    let skipped = c.args.skipped.now in
+    let added = subst (λ met. Adds c.loop-meta.attrs.items c.collect.new.attrs.items met (cut (events options skipped (meta_view c.meta-item.result)))) c.in_default.is c.in_ok-cfg.ensures in
+    subst (λ x. Adds c.args.attrs.now.items c.collect.new.attrs.items None x)
+    (sym (collected_of-take options skipped c.args.metas.now c.loop-meta.meta-index c.meta-item.result c.loop-meta-test.true c.meta-item.is))
+    (Adds-next _ _ _ None _ _ c.loop-meta.invariant added)
+
+pub collect_all-returns-in-Some : goal.collect_all-returns-in-Some
+collect_all-returns-in-Some t c =
+    let options = c.args.cfg_options.now in
+    let skipped = c.args.skipped.now in
+    let metas = c.args.metas.now in
+    let i = c.loop-meta.meta-index in
+    let added = subst (λ met. Adds c.loop-meta.attrs.items c.collect.new.attrs.items met (cut (events options skipped (meta_view c.meta-item.result)))) c.in-Some.is c.in_ok-cfg.ensures in
+    let front = subst (λ x. Adds c.args.attrs.now.items c.collect.new.attrs.items (Some c.in-Some.cfg) x)
+    (sym (collected_of-take options skipped metas i c.meta-item.result c.loop-meta-test.true c.meta-item.is))
+    (Adds-next _ _ _ (Some c.in-Some.cfg) _ _ c.loop-meta.invariant added) in
+    subst (λ x. Adds c.args.attrs.now.items c.collect.new.attrs.items (Some c.in-Some.cfg) x) (sym (collected_of-split options skipped metas (i + 1))) (Adds-stop _ _ c.in-Some.cfg _ _ front)

@@ -1,0 +1,20 @@
+-- What the steps of collecting say of what they found. No public contract cites these words.
+use Rattle.std.specs.Prelude.{◌≡◌, List, [], ◌∷◌, ◌++◌, Option, None, Some, option_map}
+use Rattle.std.specs.Borrow.{Bor}
+use Rattle.either.specs.declared.Either.{Either}
+use Rattle.either.specs.declared.Either.TheVariants.{Left, Right}
+use Rattle.hir_input.specs.declared.attr.Attr.{Attr}
+use Rattle.hir_input.specs.declared.cfg.CfgExpr.{CfgExpr}
+use Rattle.hir_input.specs.Cfg.{cfg_view}
+use Rattle.item_tree_attrs.specs.Collected.{Collected, Event}
+
+-- what was found, as a list of events
+abbrev pub found : Option (Either Attr (Bor CfgExpr)) → List Event
+found None = []
+found (Some (Left attr)) = Left attr ∷ []
+found (Some (Right cfg)) = Right (cfg_view cfg.now) ∷ []
+
+-- the attributes of c now stand behind those that were there, and its false cfg was met
+pub record Adds (old new : List Attr) (met : Option (Bor CfgExpr)) (c : Collected) : Type 0 where
+  pub attrs : new ≡ old ++ c.attrs
+  pub false_cfg : option_map (λ cfg. cfg_view cfg.now) met ≡ c.false_cfg

@@ -1,0 +1,5 @@
+pub mod Collected
+pub mod CollectedCode
+pub mod Collecting
+pub mod Key
+pub mod Query
