@@ -1,0 +1,28 @@
+-- What is kept does not depend on body texts.
+use Rattle.std.proofs.Common.{◌≡◌, ℕ, Bool, List, refl, ap}
+use Rattle.std.specs.Prelude.{option_map}
+use Rattle.hir_input.specs.declared.cfg.CfgAtom.{CfgAtom}
+use Rattle.hir_input.specs.Syntax.{ItemView, ItemViews, fn_item, struct_item, bare_module, listed_module, no_items, item_and, SyntaxView, source_file, error}
+use Rattle.hir_input.specs.Bodies.{item_without_bodies, items_without_bodies, without_bodies}
+use Rattle.item_tree.specs.CrateView.{CrateView}
+use Rattle.item_tree.specs.Visibility.{read_visibility}
+use Rattle.item_tree.specs.Kept.{head_of, module_node, kept, kept_all, top_attrs_of, kept_syntax}
+use Rattle.item_tree.specs.Node.{add}
+
+module _ (options : List CfgAtom) (skipped : List (List ℕ)) where
+  mutual
+    kept-item_without_bodies : (i : ItemView) → kept options skipped (item_without_bodies i) ≡ kept options skipped i
+    kept-item_without_bodies (fn_item n) = refl
+    kept-item_without_bodies (struct_item n k) = refl
+    kept-item_without_bodies (bare_module n semicolon) = refl
+    kept-item_without_bodies (listed_module n semicolon is) =
+        ap (λ f. option_map (λ name. module_node semicolon (head_of options skipped n.node) name (read_visibility n.visibility) f) n.name) (kept_all-items_without_bodies is)
+
+    pub kept_all-items_without_bodies : (is : ItemViews) → kept_all options skipped (items_without_bodies is) ≡ kept_all options skipped is
+    kept_all-items_without_bodies no_items = refl
+    kept_all-items_without_bodies (item_and i is) = λ j. add (kept-item_without_bodies i j) (kept_all-items_without_bodies is j)
+
+pub kept_without_bodies : (is_root : Bool) (krate : CrateView) (skipped : List (List ℕ)) (s : SyntaxView) → kept_syntax is_root krate skipped (without_bodies s) ≡ kept_syntax is_root krate skipped s
+kept_without_bodies is_root krate skipped (source_file attrs is) =
+    ap (λ f. record { top_attrs = top_attrs_of is_root krate skipped attrs; forest = f }) (kept_all-items_without_bodies krate.options skipped is)
+kept_without_bodies is_root krate skipped error = refl

@@ -1,0 +1,117 @@
+-- The tables of a forest give the forest back.
+use Rattle.std.proofs.Common.{◌≡◌, ℕ, suc, ◌+◌, ◌*◌, ◌/◌, ◌%◌, ◌<◌, eq-eqb, List, [], ◌∷◌, ◌++◌, length, map, Some, refl, ap, sym, ◌∙◌, subst, arith, add-zero, append_assoc, append-nil, length-append}
+use Rattle.std.specs.Prelude.{slice_get}
+use Rattle.hir_input.specs.declared.ids.AstIdKind.{AstIdKind}
+use Rattle.hir_input.specs.declared.ids.AstIdKind.TheVariants as kind
+use Rattle.item_tree.specs.declared.visibility.RawVisibility.{RawVisibility}
+use Rattle.item_tree_attrs.specs.Collected.{Collected}
+use Rattle.item_tree.proofs.Arena.{KnowsNode, KnowsForest, Knows-met, leaf-back, trunk-back}
+use Rattle.item_tree.specs.Node.{Node, Forest, leaf, parent, empty, more, node_kind, Unfolding}
+use Rattle.item_tree.specs.Layout.{vis_id, trunk_map, Row, parent_row, row_key, row_attrs, row_item, arena_of, node_walk, walk, node_id, ids, node_rows, rows_of, kind_bit, layout, at, gather, row_node, build, zip_rows, tables_from, unfold_tables}
+use Rattle.item_tree.specs.Column.{is_empty, unless, column_of, places_from, attrs_stored}
+use Rattle.item_tree.proofs.Column.{get-at-seam, value-back, values-back}
+
+pub kind_bit-small : (k : AstIdKind) → kind_bit k < 2
+kind_bit-small kind.ExternCrate = omega arith
+kind_bit-small kind.Module = omega arith
+kind_bit-small kind.Struct = omega arith
+kind_bit-small kind.Use = omega arith
+kind_bit-small _ = omega arith
+
+pub at-id : (ns : List Node) (k : ℕ) (n : Node) → slice_get ns k ≡ Some n → at ns (2 * k + kind_bit (node_kind n)) ≡ Some n
+at-id ns k n h =
+    let b = kind_bit (node_kind n) in
+    let s = kind_bit-small (node_kind n) in
+    let d : (2 * k + b) / 2 ≡ k = omega arith in
+    let m : (2 * k + b) % 2 ≡ b = omega arith in
+    rw (d, m, h, eq-eqb b b refl) refl
+
+-- ns stands in the list from the place k on
+abbrev pub HasFrom : List Node → ℕ → List Node → Type 0
+HasFrom xs k [] = Unit {0}
+HasFrom xs k (n ∷ ns) = (slice_get xs k ≡ Some n) × HasFrom xs (k + 1) ns
+
+pub HasFrom-left : (xs : List Node) (k : ℕ) (us vs : List Node) → HasFrom xs k (us ++ vs) → HasFrom xs k us
+HasFrom-left xs k [] vs h = tt
+HasFrom-left xs k (u ∷ us) vs h = (h.0, HasFrom-left xs (k + 1) us vs h.1)
+
+pub HasFrom-right : (xs : List Node) (k : ℕ) (us vs : List Node) → HasFrom xs k (us ++ vs) → HasFrom xs (k + length us) vs
+HasFrom-right xs k [] vs h = rw add-zero h
+HasFrom-right xs k (u ∷ us) vs h =
+    let e : k + suc (length us) ≡ (k + 1) + length us = omega arith in
+    rw e (HasFrom-right xs (k + 1) us vs h.1)
+
+pub HasFrom-append : (us vs ws : List Node) → HasFrom (us ++ (vs ++ ws)) (length us) vs
+HasFrom-append us [] ws = tt
+HasFrom-append us (v ∷ vs) ws =
+    let h : HasFrom ((us ++ v ∷ []) ++ (vs ++ ws)) (length (us ++ v ∷ [])) vs = HasFrom-append (us ++ v ∷ []) vs ws in
+    let e : length (us ++ v ∷ []) ≡ length us + 1 = omega (arith, length-append us (v ∷ [])) in
+    let a : (us ++ v ∷ []) ++ (vs ++ ws) ≡ us ++ v ∷ (vs ++ ws) = append_assoc us (v ∷ []) (vs ++ ws) in
+    (get-at-seam us v (vs ++ ws), subst (λ k. HasFrom (us ++ v ∷ (vs ++ ws)) k vs) e (subst (λ zs. HasFrom zs (length (us ++ v ∷ [])) vs) a h))
+
+pub at-node_id : (ns : List Node) (b : ℕ) (n : Node) → HasFrom ns b (node_walk n) → at ns (node_id b n) ≡ Some n
+at-node_id ns b (leaf h l) w = at-id ns b (leaf h l) w.0
+at-node_id ns b (parent h t f) w = at-id ns (b + length (walk f)) (parent h t f) (HasFrom-right ns b (walk f) (parent h t f ∷ []) w).0
+
+pub gather-ids : (ns : List Node) (b : ℕ) (f : Forest) → HasFrom ns b (walk f) → gather ns (ids b f) ≡ f
+gather-ids ns b empty w = refl
+gather-ids ns b (more n f) w =
+    let e = at-node_id ns b n (HasFrom-left ns b (node_walk n) (walk f) w) in
+    let r = gather-ids ns (b + length (node_walk n)) f (HasFrom-right ns b (node_walk n) (walk f) w) in
+    rw (e, r) refl
+
+module _ (arena : List RawVisibility) where
+  pub build-append : (ns : List Node) (rs qs : List Row) → build arena ns (rs ++ qs) ≡ build arena (build arena ns rs) qs
+  build-append ns [] qs = refl
+  build-append ns (r ∷ rs) qs = build-append (ns ++ row_node arena ns r.0 r.1 ∷ []) rs qs
+
+  mutual
+    pub build-node : (n : Node) (ns : List Node) (b : ℕ) → KnowsNode n arena → length ns ≡ b → build arena ns (node_rows arena n b) ≡ ns ++ node_walk n
+    build-node (leaf h l) ns b k e = ap (λ z. ns ++ leaf h z ∷ []) (leaf-back arena l k)
+    build-node (parent h t f) ns b k e =
+        let r : build arena ns (rows_of arena f b) ≡ ns ++ walk f = build-forest f ns b k.1 e in
+        let w : HasFrom (ns ++ (walk f ++ [])) (length ns) (walk f) = HasFrom-append ns (walk f) [] in
+        let w' : HasFrom (ns ++ walk f) b (walk f) = subst (λ i. HasFrom (ns ++ walk f) i (walk f)) e (subst (λ zs. HasFrom (ns ++ zs) (length ns) (walk f)) (append-nil (walk f)) w) in
+        build-append ns (rows_of arena f b) ((h, parent_row (trunk_map (vis_id arena) t) (ids b f)) ∷ [])
+        ∙ rw (r, gather-ids (ns ++ walk f) b f w', trunk-back arena t k.0) (append_assoc ns (walk f) (parent h t f ∷ []))
+
+    pub build-forest : (f : Forest) (ns : List Node) (b : ℕ) → KnowsForest f arena → length ns ≡ b → build arena ns (rows_of arena f b) ≡ ns ++ walk f
+    build-forest empty ns b k e = sym (append-nil ns)
+    build-forest (more n f) ns b k e =
+        let r = build-node n ns b k.0 e in
+        let len : length (ns ++ node_walk n) ≡ b + length (node_walk n) = omega (arith, length-append ns (node_walk n)) in
+        let q = build-forest f (ns ++ node_walk n) (b + length (node_walk n)) k.1 len in
+        build-append ns (node_rows arena n b) (rows_of arena f (b + length (node_walk n)))
+        ∙ rw r (q ∙ append_assoc ns (node_walk n) (walk f))
+
+pub has_walk : (f : Forest) → HasFrom (walk f) 0 (walk f)
+has_walk f = subst (λ zs. HasFrom zs 0 (walk f)) (append-nil (walk f)) (HasFrom-append [] (walk f) [])
+
+-- the columns give the rows back
+pub zip-columns : (rs : List Row) → zip_rows (map row_key rs) (map row_attrs rs) (map row_item rs) ≡ rs
+zip-columns [] = refl
+zip-columns (r ∷ rs) = ap (λ z. r ∷ z) (zip-columns rs)
+
+module _ (top : List ℕ) (arena : List RawVisibility) (rs : List Row) (c : Collected) where
+  pub rows-back : let t = tables_from top arena rs c in zip_rows t.keys (map (attrs_stored t.column) t.places) t.items ≡ rs
+  rows-back = ap (λ z. zip_rows (map row_key rs) z (map row_item rs)) (values-back [] (unless (is_empty c) c) (map row_attrs rs)) ∙ zip-columns rs
+
+  pub top-back : let t = tables_from top arena rs c in attrs_stored t.column t.top_place ≡ c
+  top-back =
+      ap (λ z. attrs_stored (column_of (map row_attrs rs) ++ z) (tables_from top arena rs c).top_place) (sym (append-nil (unless (is_empty c) c)))
+      ∙ value-back (column_of (map row_attrs rs)) [] c
+
+-- the tables of a forest stand for it
+pub unfold-layout : (u : Unfolding) → unfold_tables (layout u) ≡ u
+unfold-layout u =
+    let arena = arena_of u.forest in
+    let rs = rows_of arena u.forest 0 in
+    let b : build arena [] rs ≡ walk u.forest = build-forest arena u.forest [] 0 (Knows-met u.forest []) refl in
+    let g : gather (build arena [] rs) (ids 0 u.forest) ≡ u.forest = ap (λ z. gather z (ids 0 u.forest)) b ∙ gather-ids (walk u.forest) 0 u.forest (has_walk u.forest) in
+    let f : (unfold_tables (layout u)).forest ≡ u.forest = ap (λ z. gather (build arena [] z) (ids 0 u.forest)) (rows-back (ids 0 u.forest) arena rs u.top_attrs) ∙ g in
+    let t : (unfold_tables (layout u)).top_attrs ≡ u.top_attrs = top-back (ids 0 u.forest) arena rs u.top_attrs in
+    λ i. record { top_attrs = t i; forest = f i }
+
+-- two forests with one layout are one
+pub layout-injective : (u w : Unfolding) → layout u ≡ layout w → u ≡ w
+layout-injective u w e = sym (unfold-layout u) ∙ ap unfold_tables e ∙ unfold-layout w

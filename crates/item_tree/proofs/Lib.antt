@@ -1,0 +1,11 @@
+pub mod VisibilityEq
+pub mod Arena
+pub mod Column
+pub mod Canon
+pub mod Lookup
+pub mod Walking
+pub mod Counted
+pub mod Equal
+pub mod Lowering
+pub mod BodyTexts
+pub mod Paging

@@ -1,0 +1,266 @@
+-- What stands in the rows of a layout.
+use Rattle.std.proofs.Common.{◌≡◌, ℕ, zero, suc, ◌+◌, ◌/◌, ◌%◌, ◌<◌, ◌≤◌, eqb, inl, inr, false, List, [], ◌∷◌, ◌++◌, length, map, get_or, Option, Some, None, refl, ap, sym, ◌∙◌, subst, arith, append-nil, eq-eqb, true}
+use Rattle.std.specs.Option.{option_map_or}
+use Rattle.std.specs.Prelude.{slice_get, is_some, IsSome, option_map, vec_len}
+use Rattle.std.proofs.lemmas.List.{length-map}
+use Rattle.std.proofs.lemmas.Bool.{false≢true, eqb-true}
+use Rattle.std.proofs.lemmas.Option.{slice_get-map, slice_get_read, slice_get_past}
+use Rattle.hir_input.specs.declared.ids.FileAstId.{FileAstId}
+use Rattle.hir_input.specs.declared.ids.AstIdKind.{AstIdKind}
+use Rattle.item_tree_attrs.specs.Collected.{Collected}
+use Rattle.item_tree.specs.declared.visibility.RawVisibility.{RawVisibility}
+use Rattle.item_tree.specs.declared.items.ModKind.{ModKind}
+use Rattle.item_tree.specs.declared.items.ModKind.TheVariants.{Inline, Outline}
+use Rattle.item_tree.specs.declared.items.ModItem.{ModItem}
+use Rattle.item_tree.specs.declared.rows.AstKey.{AstKey}
+use Rattle.item_tree.specs.declared.rows.Rows.{Rows}
+use Rattle.item_tree.specs.Node.{Leaf, function, struct_item, outline, Trunk, inline, leaf_kind, trunk_kind, Head, Node, Forest, leaf, parent, empty, more, nodes, node_head, node_kind, node_ast, file_id, Unfolding}
+use Rattle.item_tree.specs.Layout.{leaf_map, trunk_map, vis_id, value_at, plain_vis, Row, RowItem, leaf_row, parent_row, row_tag, key_of, row_key, row_attrs, row_item, arena_of, node_walk, walk, ids, node_rows, rows_of, kind_bit, layout, at_row, at, node_at}
+use Rattle.item_tree.specs.Column.{is_empty, unless, some_unless, column_of, plain_place, stored_at}
+use Rattle.item_tree.specs.Shown.{IsContained, IsLeaf, IsParent, IsModule, lent_attrs, attrs_at}
+use Rattle.item_tree.specs.Stored.{item_row, leaf_plain, parent_plain, module_row, key_in, column_in, tables_of}
+use Rattle.item_tree.proofs.Arena.{KnowsNode, KnowsForest, Knows-met, leaf-at, trunk-at, leaf_map-map, trunk_map-map, bool_cases}
+use Rattle.item_tree.proofs.Column.{lent-back, lent-each, places-length}
+use Rattle.item_tree.proofs.Canon.{at-node_id, has_walk, HasFrom, HasFrom-left, HasFrom-right}
+
+-- the ids of a forest stand for its nodes
+pub map-at-ids : (ns : List Node) (b : ℕ) (f : Forest) → HasFrom ns b (walk f) → map (at ns) (ids b f) ≡ map Some (nodes f)
+map-at-ids ns b empty w = refl
+map-at-ids ns b (more n f) w =
+    let e = at-node_id ns b n (HasFrom-left ns b (node_walk n) (walk f) w) in
+    let r = map-at-ids ns (b + length (node_walk n)) f (HasFrom-right ns b (node_walk n) (walk f) w) in
+    rw (e, r) refl
+
+pub top-stands : (f : Forest) → map (node_at f) (ids 0 f) ≡ map Some (nodes f)
+top-stands f = map-at-ids (walk f) 0 f (has_walk f)
+
+pub IsSome-within : {X : Type 0} (xs : List X) (k : ℕ) → IsSome (slice_get xs k) → k < length xs
+IsSome-within [] k h = cc
+IsSome-within (x ∷ xs) zero h = omega arith
+IsSome-within (x ∷ xs) (suc k) h = let r = IsSome-within xs k h in omega arith
+
+-- rows and nodes, one by one
+module _ {X : Type 0} (R : X → Node → Type 0) where
+  abbrev pub RowsAre : List X → List Node → Type 0
+  RowsAre [] [] = Unit {0}
+  RowsAre [] (n ∷ ns) = ⊥
+  RowsAre (r ∷ rs) [] = ⊥
+  RowsAre (r ∷ rs) (n ∷ ns) = R r n × RowsAre rs ns
+
+  pub RowsAre-append : (rs qs : List X) (ns ms : List Node) → RowsAre rs ns → RowsAre qs ms → RowsAre (rs ++ qs) (ns ++ ms)
+  RowsAre-append [] qs [] ms h k = k
+  RowsAre-append [] qs (n ∷ ns) ms h k = absurd h
+  RowsAre-append (r ∷ rs) qs [] ms h k = absurd h
+  RowsAre-append (r ∷ rs) qs (n ∷ ns) ms h k = (h.0, RowsAre-append rs qs ns ms h.1 k)
+
+  pub RowsAre-length : (rs : List X) (ns : List Node) → RowsAre rs ns → length rs ≡ length ns
+  RowsAre-length [] [] h = refl
+  RowsAre-length [] (n ∷ ns) h = absurd h
+  RowsAre-length (r ∷ rs) [] h = absurd h
+  RowsAre-length (r ∷ rs) (n ∷ ns) h = ap suc (RowsAre-length rs ns h.1)
+
+pub leaf_kind-map : {V W : Type 0} (f : V → W) (l : Leaf V) → leaf_kind l ≡ leaf_kind (leaf_map f l)
+leaf_kind-map f (function n v) = refl
+leaf_kind-map f (outline n v) = refl
+leaf_kind-map f (struct_item n v s c) = refl
+
+pub trunk_kind-map : {V W : Type 0} (f : V → W) (t : Trunk V) → trunk_kind t ≡ trunk_kind (trunk_map f t)
+trunk_kind-map f (inline n v) = refl
+
+-- What a row says of its node.
+module _ (arena : List RawVisibility) (ns : List Node) where
+  abbrev pub ItemIs : Head → RowItem → Node → Type 0
+  ItemIs h (leaf_row l) n = (m : Leaf RawVisibility) × (n ≡ leaf h m) × (leaf_map (value_at arena) l ≡ leaf_map Some m)
+  ItemIs h (parent_row t is) n =
+      (w : Trunk RawVisibility) × (g : Forest) × (n ≡ parent h w g) × (trunk_map (value_at arena) t ≡ trunk_map Some w) × (map (at ns) is ≡ map Some (nodes g))
+
+  pub record RowIs (r : Row) (n : Node) : Type 0 where
+    pub head : node_head n ≡ r.0
+    pub tag : node_kind n ≡ row_tag r
+    pub item : ItemIs r.0 r.1 n
+
+  mutual
+    pub rows_are-node : (n : Node) (b : ℕ) → KnowsNode n arena → HasFrom ns b (node_walk n) → RowsAre RowIs (node_rows arena n b) (node_walk n)
+    rows_are-node (leaf h l) b k w = (record { head = refl; tag = leaf_kind-map (vis_id arena) l; item = (l, refl, leaf-at arena l k) }, tt)
+    rows_are-node (parent h t f) b k w =
+        let u = HasFrom-left ns b (walk f) (parent h t f ∷ []) w in
+        RowsAre-append RowIs (rows_of arena f b) ((h, parent_row (trunk_map (vis_id arena) t) (ids b f)) ∷ []) (walk f) (parent h t f ∷ [])
+        (rows_are-forest f b k.1 u)
+        (record { head = refl; tag = trunk_kind-map (vis_id arena) t; item = (t, f, refl, trunk-at arena t k.0, map-at-ids ns b f u) }, tt)
+
+    pub rows_are-forest : (f : Forest) (b : ℕ) → KnowsForest f arena → HasFrom ns b (walk f) → RowsAre RowIs (rows_of arena f b) (walk f)
+    rows_are-forest empty b k w = tt
+    rows_are-forest (more n f) b k w =
+        RowsAre-append RowIs (node_rows arena n b) (rows_of arena f (b + length (node_walk n))) (node_walk n) (walk f)
+        (rows_are-node n b k.0 (HasFrom-left ns b (node_walk n) (walk f) w))
+        (rows_are-forest f (b + length (node_walk n)) k.1 (HasFrom-right ns b (node_walk n) (walk f) w))
+
+-- What a row shows.
+abbrev pub IsRowShown : Unfolding → ℕ → FileAstId → RowItem → Type 0
+IsRowShown u i a (leaf_row l) = (h : Head) × (m : Leaf RawVisibility) × (node_at u.forest i ≡ Some (leaf h m)) × (a ≡ file_id (leaf_kind m) h) × (leaf_map (value_at (arena_of u.forest)) l ≡ leaf_map Some m)
+IsRowShown u i a (parent_row t is) =
+    (h : Head) × (w : Trunk RawVisibility) × (g : Forest) × (node_at u.forest i ≡ Some (parent h w g)) × (a ≡ file_id (trunk_kind w) h) × (trunk_map (value_at (arena_of u.forest)) t ≡ trunk_map Some w) × (map (node_at u.forest) is ≡ map Some (nodes g))
+
+ItemIs-shown : (u : Unfolding) (i : ℕ) (n : Node) (a : FileAstId) (h : Head) (r : RowItem) → node_at u.forest i ≡ Some n → node_ast n ≡ a → ItemIs (arena_of u.forest) (walk u.forest) h r n → IsRowShown u i a r
+ItemIs-shown u i n a h (leaf_row l) e q s = (h, s.0, e ∙ ap Some s.1, sym q ∙ ap node_ast s.1, s.2)
+ItemIs-shown u i n a h (parent_row t is) e q s = (h, s.0, s.1, e ∙ ap Some s.2, sym q ∙ ap node_ast s.2, s.3, s.4)
+
+pub IsLeaf-row : (u : Unfolding) (i : ℕ) (a : FileAstId) (l : Leaf ℕ) → IsRowShown u i a (leaf_plain l) → IsLeaf u i a l
+IsLeaf-row u i a l h = record { head = h.0; item = h.1; found = h.2; ast_id = h.3; visible = sym (leaf_map-map (value_at (arena_of u.forest)) plain_vis l) ∙ h.4 }
+
+pub IsParent-row : (u : Unfolding) (i : ℕ) (a : FileAstId) (t : Trunk ℕ) (is : List ℕ) → IsRowShown u i a (parent_plain t is) → IsParent u i a t is
+IsParent-row u i a t is h = record { head = h.0; item = h.1; below = h.2; found = h.3; ast_id = h.4; visible = sym (trunk_map-map (value_at (arena_of u.forest)) plain_vis t) ∙ h.5; children = h.6 }
+
+pub IsModule-row : (u : Unfolding) (i : ℕ) (a : FileAstId) (name : List ℕ) (v : ℕ) (k : ModKind) → IsRowShown u i a (module_row name v k) → IsModule u i a name v k
+IsModule-row u i a name v (Inline items) h = IsParent-row u i a (inline name v) items.items h
+IsModule-row u i a name v Outline h = IsLeaf-row u i a (outline name v) h
+
+-- the row and the node at a place
+module _ {X : Type 0} (R : X → Node → Type 0) where
+  pub record Found (rs : List X) (ns : List Node) (k : ℕ) : Type 0 where
+    pub row : X
+    pub node : Node
+    pub row_at : slice_get rs k ≡ Some row
+    pub node_there : slice_get ns k ≡ Some node
+    pub related : R row node
+
+  pub RowsAre-found : (rs : List X) (ns : List Node) (k : ℕ) → RowsAre R rs ns → k < length ns → Found rs ns k
+  RowsAre-found [] [] k h l = absurd (omega arith)
+  RowsAre-found [] (n ∷ ns) k h l = absurd h
+  RowsAre-found (q ∷ rs) [] k h l = absurd h
+  RowsAre-found (q ∷ rs) (n ∷ ns) zero h l = record { row = q; node = n; row_at = refl; node_there = refl; related = h.0 }
+  RowsAre-found (q ∷ rs) (n ∷ ns) (suc k) h l =
+      let w = RowsAre-found rs ns k h.1 (omega arith) in
+      record { row = w.row; node = w.node; row_at = w.row_at; node_there = w.node_there; related = w.related }
+
+at_row-some : (o : Option Node) (b : ℕ) → IsSome (at_row o b) → IsSome o
+at_row-some None b h = cc
+at_row-some (Some n) b h = refl
+
+at_row-is : (n : Node) (b : ℕ) → IsSome (at_row (Some n) b) → at_row (Some n) b ≡ Some n
+at_row-is n b h =
+    elim (bool_cases (eqb (kind_bit (node_kind n)) b)) [
+      | inl e ↦ rw e refl
+      | inr e ↦ absurd (let z : is_some (at_row (Some n) b) ≡ false = rw e refl in cc)
+    ]
+
+is_some-at_row : (n : Node) (b : ℕ) → is_some (at_row (Some n) b) ≡ eqb (kind_bit (node_kind n)) b
+is_some-at_row n b =
+    elim (bool_cases (eqb (kind_bit (node_kind n)) b)) [ inl e ↦ rw e refl | inr e ↦ rw e refl ]
+
+some-same : {X : Type 0} (x y : X) → Some x ≡ Some y → x ≡ y
+some-same x y h = cc
+
+-- What the tables of a tree say of what it unfolds to.
+module _ (u : Unfolding) (top : List ℕ) (place : ℕ) (t : Rows) (canon : layout u ≡ tables_of top place t) where
+  abbrev f : Forest
+  f = u.forest
+
+  abbrev rs : List Row
+  rs = rows_of (arena_of u.forest) u.forest 0
+
+  rows_are : RowsAre (RowIs (arena_of f) (walk f)) rs (walk f)
+  rows_are = rows_are-forest (arena_of f) (walk f) f 0 (Knows-met f []) (has_walk f)
+
+  rows-len : length rs ≡ length (walk f)
+  rows-len = RowsAre-length (RowIs (arena_of f) (walk f)) rs (walk f) rows_are
+
+  pub top-stands_for : map (node_at f) top ≡ map Some (nodes f)
+  top-stands_for = ap (map (node_at f)) (sym (ap (λ z. z.top) canon)) ∙ top-stands f
+
+  pub tags-length : length t.tags.items ≡ length (walk f)
+  tags-length = ap (λ z. length z.tags) (sym canon) ∙ length-map rs row_tag ∙ rows-len
+
+  pub tags-len : vec_len t.tags ≡ length (walk f)
+  tags-len = t.tags.ok.0 ∙ tags-length
+
+  pub keys-len : vec_len t.keys ≡ length (walk f)
+  keys-len = t.keys.ok.0 ∙ sym (length-map t.keys.items key_in) ∙ ap (λ z. length z.keys) (sym canon) ∙ length-map rs row_key ∙ rows-len
+
+  pub items-len : vec_len t.items ≡ length (walk f)
+  items-len = t.items.ok.0 ∙ sym (length-map t.items.items item_row) ∙ ap (λ z. length z.items) (sym canon) ∙ length-map rs row_item ∙ rows-len
+
+  pub found : (k : ℕ) → k < length (walk f) → Found (RowIs (arena_of f) (walk f)) rs (walk f) k
+  found k h = RowsAre-found (RowIs (arena_of f) (walk f)) rs (walk f) k rows_are h
+
+  -- the tag of a row is the node's kind
+  tag-read : (k : ℕ) (x : AstIdKind) (h : k < length (walk f)) → x ≡ get_or t.tags.items k x → x ≡ node_kind (found k h).node
+  tag-read k x h g =
+      let w = found k h in
+      let q : slice_get t.tags.items k ≡ Some x = slice_get_read t.tags.items (length (walk f)) k x (sym tags-length) h g in
+      let s : slice_get t.tags.items k ≡ Some (row_tag w.row) = ap (λ z. slice_get z.tags k) (sym canon) ∙ slice_get-map row_tag rs k ∙ ap (option_map row_tag) w.row_at in
+      some-same x (row_tag w.row) (sym q ∙ s) ∙ sym w.related.tag
+
+  key-read : (k : ℕ) (x : AstKey) (h : k < length (walk f)) → x ≡ get_or t.keys.items k x → key_in x ≡ key_of (node_head (found k h).node)
+  key-read k x h g =
+      let w = found k h in
+      let q : slice_get t.keys.items k ≡ Some x = slice_get_read t.keys.items (length (walk f)) k x (sym keys-len ∙ t.keys.ok.0) h g in
+      let s : slice_get (map key_in t.keys.items) k ≡ Some (row_key w.row) = ap (λ z. slice_get z.keys k) (sym canon) ∙ slice_get-map row_key rs k ∙ ap (option_map row_key) w.row_at in
+      some-same (key_in x) (row_key w.row) (ap (option_map key_in) (sym q) ∙ sym (slice_get-map key_in t.keys.items k) ∙ s) ∙ ap key_of (sym w.related.head)
+
+  item-read : (k : ℕ) (x : ModItem) (h : k < length (walk f)) → x ≡ get_or t.items.items k x → item_row x ≡ (found k h).row.1
+  item-read k x h g =
+      let w = found k h in
+      let q : slice_get t.items.items k ≡ Some x = slice_get_read t.items.items (length (walk f)) k x (sym items-len ∙ t.items.ok.0) h g in
+      let s : slice_get (map item_row t.items.items) k ≡ Some (row_item w.row) = ap (λ z. slice_get z.items k) (sym canon) ∙ slice_get-map row_item rs k ∙ ap (option_map row_item) w.row_at in
+      some-same (item_row x) (row_item w.row) (ap (option_map item_row) (sym q) ∙ sym (slice_get-map item_row t.items.items k) ∙ s)
+
+  -- where the row is there, the id is contained exactly if its bit is that of the tag
+  pub contains-there : (i : ℕ) (x : AstIdKind) → i / 2 < length t.tags.items → x ≡ get_or t.tags.items (i / 2) x → (IsContained u i → kind_bit x ≡ i % 2) × (kind_bit x ≡ i % 2 → IsContained u i)
+  contains-there i x h g =
+      let l : i / 2 < length (walk f) = subst (λ z. i / 2 < z) tags-length h in
+      let w = found (i / 2) l in
+      let e : is_some (node_at f i) ≡ eqb (kind_bit x) (i % 2) =
+      ap (λ o. is_some (at_row o (i % 2))) w.node_there ∙ is_some-at_row w.node (i % 2) ∙ ap (λ z. eqb (kind_bit z) (i % 2)) (sym (tag-read (i / 2) x l g)) in
+      ((λ s. eqb-true (kind_bit x) (i % 2) (sym e ∙ s)), (λ q. e ∙ eq-eqb (kind_bit x) (i % 2) q))
+
+  pub contains-past : (i : ℕ) → length t.tags.items ≤ i / 2 → IsContained u i → ⊥
+  contains-past i h s =
+      let l : length (walk f) ≤ i / 2 = subst (λ z. z ≤ i / 2) tags-length h in
+      let e : is_some (node_at f i) ≡ false = ap (λ o. is_some (at_row o (i % 2))) (slice_get_past (walk f) (i / 2) l) in
+      absurd (false≢true (sym e ∙ s))
+
+  pub within : (i : ℕ) → IsSome (node_at f i) → i / 2 < length (walk f)
+  within i h = IsSome-within (walk f) (i / 2) (at_row-some (slice_get (walk f) (i / 2)) (i % 2) h)
+
+  at-found : (i : ℕ) (h : IsSome (node_at f i)) → node_at f i ≡ Some (found (i / 2) (within i h)).node
+  at-found i h =
+      let w = found (i / 2) (within i h) in
+      let e : node_at f i ≡ at_row (Some w.node) (i % 2) = ap (λ o. at_row o (i % 2)) w.node_there in
+      e ∙ at_row-is w.node (i % 2) (subst (λ o. IsSome o) e h)
+
+  pub ast-read : (i : ℕ) (x : AstIdKind) (y : AstKey) → IsSome (node_at f i) → x ≡ get_or t.tags.items (i / 2) x → y ≡ get_or t.keys.items (i / 2) y → option_map node_ast (node_at f i) ≡ Some (record { kind = x; hash = y.hash; number = y.number })
+  ast-read i x y h g k =
+      ap (option_map node_ast) (at-found i h) ∙ (λ j. Some (record { kind = sym (tag-read (i / 2) x (within i h) g) j; hash = (sym (key-read (i / 2) y (within i h) k) j).hash; number = (sym (key-read (i / 2) y (within i h) k) j).number }))
+
+  pub shown : (i : ℕ) (a : FileAstId) (x : ModItem) → IsSome (node_at f i) → option_map node_ast (node_at f i) ≡ Some a → x ≡ get_or t.items.items (i / 2) x → IsRowShown u i a (item_row x)
+  shown i a x h e g =
+      let w = found (i / 2) (within i h) in
+      let q : node_ast w.node ≡ a = some-same (node_ast w.node) a (ap (option_map node_ast) (sym (at-found i h)) ∙ e) in
+      subst (λ z. IsRowShown u i a z) (sym (item-read (i / 2) x (within i h) g)) (ItemIs-shown u i w.node a w.row.0 w.row.1 (at-found i h) q w.related.item)
+
+  pub places-len : vec_len t.places ≡ length (walk f)
+  places-len = t.places.ok.0 ∙ sym (length-map t.places.items plain_place) ∙ ap (λ z. length z.places) (sym canon) ∙ places-length 0 (map row_attrs rs) ∙ length-map rs row_attrs ∙ rows-len
+
+  pub attrs-read : (i : ℕ) (p : ℕ) → IsSome (node_at f i) → p ≡ get_or t.places.items (i / 2) p → stored_at (column_in t) (plain_place p) ≡ attrs_at u i
+  attrs-read i p h g =
+      let k = i / 2 in
+      let w = found k (within i h) in
+      let column = (layout u).column in
+      let q : slice_get t.places.items k ≡ Some p = slice_get_read t.places.items (length (walk f)) k p (sym places-len ∙ t.places.ok.0) (within i h) g in
+      let r : slice_get (layout u).places k ≡ Some (plain_place p) = ap (λ z. slice_get z.places k) canon ∙ slice_get-map plain_place t.places.items k ∙ ap (option_map plain_place) q in
+      let a : slice_get (map (stored_at column) (layout u).places) k ≡ Some (stored_at column (plain_place p)) = slice_get-map (stored_at column) (layout u).places k ∙ ap (option_map (stored_at column)) r in
+      let b : slice_get (map lent_attrs (map row_attrs rs)) k ≡ Some (lent_attrs (row_attrs w.row)) =
+      slice_get-map lent_attrs (map row_attrs rs) k ∙ ap (option_map lent_attrs) (slice_get-map row_attrs rs k ∙ ap (option_map row_attrs) w.row_at) in
+      let e : map (stored_at column) (layout u).places ≡ map lent_attrs (map row_attrs rs) = lent-each [] (unless (is_empty u.top_attrs) u.top_attrs) (map row_attrs rs) in
+      let s : stored_at column (plain_place p) ≡ lent_attrs (row_attrs w.row) = some-same (stored_at column (plain_place p)) (lent_attrs (row_attrs w.row)) (sym a ∙ ap (λ z. slice_get z k) e ∙ b) in
+      ap (λ z. stored_at z (plain_place p)) (sym (ap (λ z. z.column) canon)) ∙ s
+      ∙ ap (λ z. lent_attrs z.attrs) (sym w.related.head) ∙ sym (ap (λ o. option_map_or (λ n. lent_attrs (node_head n).attrs) o None) (at-found i h))
+
+  pub top_attrs-read : stored_at (column_in t) (plain_place place) ≡ lent_attrs u.top_attrs
+  top_attrs-read =
+      let c = u.top_attrs in
+      let before = column_of (map row_attrs rs) in
+      (λ j. stored_at (sym canon j).column (sym canon j).top_place)
+      ∙ ap (λ z. stored_at (before ++ z) (some_unless (is_empty c) (length before))) (sym (append-nil (unless (is_empty c) c)))
+      ∙ lent-back before [] c

@@ -1,0 +1,439 @@
+-- What lowering adds to the rows, piece by piece.
+use Rattle.std.proofs.Common.{◌≡◌, ℕ, ◌+◌, ◌*◌, ◌<◌, ◌≤◌, Bool, true, false, List, [], ◌∷◌, ◌++◌, length, map, get_or, take, drop, Option, Some, None, option_map, string_bytes, refl, ap, sym, ◌∙◌, subst, arith, add-zero, append_assoc, append-nil, length-append, inl, inr}
+use Rattle.std.proofs.lemmas.List.{map-append, length-map, take_more, take-append-drop}
+use Rattle.hir_input.specs.declared.cfg.CfgAtom.{CfgAtom}
+use Rattle.hir_input.specs.declared.ast.Item.{Item}
+use Rattle.hir_input.specs.declared.ast.StructKind.{StructKind}
+use Rattle.hir_input.specs.declared.ast.StructKind.TheVariants as written
+use Rattle.hir_input.specs.declared.ast.Module as ast_module
+use Rattle.hir_input.specs.Attr.{meta_view}
+use Rattle.hir_input.specs.Syntax.{NamedView, ItemView, module_from, items_from, item_view, items_view, module_view}
+use Rattle.hir_input.proofs.SyntaxViews.{module_view-fields}
+use Rattle.std.specs.Prelude.{max}
+use Rattle.item_tree_attrs.specs.Collected.{Collected, collected, collected_from, attr_limit}
+use Rattle.item_tree.specs.declared.items.FieldsShape.{FieldsShape}
+use Rattle.item_tree.specs.declared.fault.LowerError.{LowerError}
+use Rattle.item_tree.specs.declared.fault.LowerError.TheVariants.{TooManyItems, TooManyVisibilities, TooManyAttributes, OutOfMemory}
+use Rattle.item_tree.specs.declared.rows.Rows.{Rows}
+use Rattle.item_tree.specs.Node.{Ctor, ctor_with, Leaf, Trunk, trunk_kind, leaf_kind, Head, Node, Forest, leaf, parent, empty, more, add, function, struct_item, outline, inline, node_count, count, Unfolding}
+use Rattle.item_tree.specs.Visibility.{read_visibility}
+use Rattle.item_tree.specs.Kept.{head_of, shape_of, ctor_of, module_node, kept, kept_all}
+use Rattle.item_tree.specs.Layout.{VisId, vis_id, plain_vis, meet, ctor_map, leaf_map, trunk_map, ctor_vis, leaf_vis, trunk_vis, meet_all, met, node_met, arena_of, node_walk, walk, node_id, ids, Row, leaf_row, parent_row, head_of_key, row_tag, row_key, row_attrs, row_item, kind_bit, node_rows, rows_of, layout, unfold_tables}
+use Rattle.item_tree.specs.Column.{is_empty, unless, some_unless, column_of, places_from, plain_place}
+use Rattle.item_tree.specs.Size.{item_limit, visibility_limit, node_most_attrs, most_attrs, Fits, IsTooLarge}
+use Rattle.item_tree.specs.Stored.{item_row, key_in, keys_in, items_in, places_in, column_in, tables_of, AreSound}
+use Rattle.item_tree.specs.Growth.{ctor_id_of, kept_below, row_count, IsWithinLimits, Adds, Lowers, to_list, LowersOne, IsFault, IsAttrFault, Meets, IsUnmet, Puts, Pushes, IsFull}
+use Rattle.item_tree.proofs.Arena.{V, Extends, Extends-met, KnowsAll, KnowsAll-meet_all, KnowsForest, KnowsNode, Knows-met, leaf-stable, trunk-stable, meet-twice, bool_cases}
+use Rattle.item_tree.proofs.Column.{column-append, places-append}
+use Rattle.item_tree.proofs.Canon.{unfold-layout}
+use Rattle.item_tree.proofs.Lookup.{trunk_kind-map, leaf_kind-map}
+use Rattle.item_tree.proofs.Counted.{length-walk}
+
+-- ---- forests one after another
+
+abbrev pub join : Forest → Forest → Forest
+join empty g = g
+join (more n f) g = more n (join f g)
+
+pub count-join : (f g : Forest) → count (join f g) ≡ count f + count g
+count-join empty g = omega arith
+count-join (more n f) g = omega (arith, count-join f g)
+
+pub most_attrs-join : (f g : Forest) → most_attrs (join f g) ≡ max (most_attrs f) (most_attrs g)
+most_attrs-join empty g = omega arith
+most_attrs-join (more n f) g = omega (arith, most_attrs-join f g)
+
+pub met-join : (f g : Forest) (xs : List V) → met (join f g) xs ≡ met g (met f xs)
+met-join empty g xs = refl
+met-join (more n f) g xs = met-join f g (node_met n xs)
+
+pub ids-join : (f g : Forest) (b : ℕ) → ids b (join f g) ≡ ids b f ++ ids (b + length (walk f)) g
+ids-join empty g b = rw add-zero refl
+ids-join (more n f) g b =
+    let lb : (b + length (node_walk n)) + length (walk f) ≡ b + length (node_walk n ++ walk f) = omega (arith, length-append (node_walk n) (walk f)) in
+    ap (λ z. node_id b n ∷ z) (ids-join f g (b + length (node_walk n)) ∙ rw lb refl)
+
+pub rows-join : (xs : List V) (f g : Forest) (b : ℕ) → rows_of xs (join f g) b ≡ rows_of xs f b ++ rows_of xs g (b + length (walk f))
+rows-join xs empty g b = rw add-zero refl
+rows-join xs (more n f) g b =
+    let lb : (b + length (node_walk n)) + length (walk f) ≡ b + length (node_walk n ++ walk f) = omega (arith, length-append (node_walk n) (walk f)) in
+    ap (λ z. node_rows xs n b ++ z) (rows-join xs f g (b + length (node_walk n)) ∙ rw lb refl)
+    ∙ sym (append_assoc (node_rows xs n b) (rows_of xs f (b + length (node_walk n))) (rows_of xs g (b + length (node_walk n ++ walk f))))
+
+module _ (xs : List V) where
+  mutual
+    length-node_rows : (n : Node) (b : ℕ) → length (node_rows xs n b) ≡ length (node_walk n)
+    length-node_rows (leaf h l) b = refl
+    length-node_rows (parent h t f) b =
+        omega (arith, length-append (rows_of xs f b) ((h, parent_row (trunk_map (vis_id xs) t) (ids b f)) ∷ []), length-append (walk f) (parent h t f ∷ []), length-rows f b)
+
+    pub length-rows : (f : Forest) (b : ℕ) → length (rows_of xs f b) ≡ length (walk f)
+    length-rows empty b = refl
+    length-rows (more n f) b =
+        omega (arith, length-append (node_rows xs n b) (rows_of xs f (b + length (node_walk n))), length-append (node_walk n) (walk f), length-node_rows n b, length-rows f (b + length (node_walk n)))
+
+-- rows stay the same as the arena grows
+module _ (xs ys : List V) (h : Extends xs ys) where
+  mutual
+    pub rows-stable-node : (n : Node) (b : ℕ) → KnowsNode n xs → node_rows ys n b ≡ node_rows xs n b
+    rows-stable-node (leaf a l) b k = ap (λ z. (a, leaf_row z) ∷ []) (leaf-stable xs ys l h k)
+    rows-stable-node (parent a t f) b k =
+        let r = rows-stable f b k.1 in
+        let s = trunk-stable xs ys t h k.0 in
+        λ i. r i ++ (a, parent_row (s i) (ids b f)) ∷ []
+
+    pub rows-stable : (f : Forest) (b : ℕ) → KnowsForest f xs → rows_of ys f b ≡ rows_of xs f b
+    rows-stable empty b k = refl
+    rows-stable (more n f) b k =
+        let r = rows-stable-node n b k.0 in
+        let s = rows-stable f (b + length (node_walk n)) k.1 in
+        λ i. r i ++ s i
+
+-- ---- rows that are added
+
+pub Adds-nothing : (r : Rows) → Adds r r []
+Adds-nothing r = record { tags = sym (append-nil r.tags.items); keys = sym (append-nil (keys_in r)); items = sym (append-nil (items_in r)); places = sym (append-nil (places_in r)); column = sym (append-nil (column_in r)) }
+
+pub Adds-join : {a b c : Rows} {rs qs : List Row} → Adds a b rs → Adds b c qs → Adds a c (rs ++ qs)
+Adds-join {a} {b} {c} {rs} {qs} h k = record {
+  tags = k.tags ∙ rw (h.tags, map-append row_tag rs qs) (append_assoc a.tags.items (map row_tag rs) (map row_tag qs));
+  keys = k.keys ∙ rw (h.keys, map-append row_key rs qs) (append_assoc (keys_in a) (map row_key rs) (map row_key qs));
+  items = k.items ∙ rw (h.items, map-append row_item rs qs) (append_assoc (items_in a) (map row_item rs) (map row_item qs));
+  places =
+      let e : length (column_in a) + length (column_of (map row_attrs rs)) ≡ length (column_in b) = omega (arith, ap length h.column, length-append (column_in a) (column_of (map row_attrs rs))) in
+      k.places ∙ rw (h.places, map-append row_attrs rs qs, places-append (length (column_in a)) (map row_attrs rs) (map row_attrs qs), e)
+      (append_assoc (places_in a) (places_from (length (column_in a)) (map row_attrs rs)) (places_from (length (column_in b)) (map row_attrs qs)));
+  column = k.column ∙ rw (h.column, map-append row_attrs rs qs, column-append (map row_attrs rs) (map row_attrs qs)) (append_assoc (column_in a) (column_of (map row_attrs rs)) (column_of (map row_attrs qs)));
+}
+
+pub Adds-count : {a b : Rows} {rs : List Row} → Adds a b rs → row_count b ≡ row_count a + length rs
+Adds-count {a} {b} {rs} h =
+    omega (arith, ap length h.items, length-append (items_in a) (map row_item rs), length-map rs row_item, length-map a.items.items item_row, length-map b.items.items item_row)
+
+pub Meets-adds : {a b : Rows} {v : V} {i : ℕ} → Meets a b v i → Adds a b []
+Meets-adds {a} {b} h =
+    let n = Adds-nothing a in
+    record {
+      tags = ap (λ z. z.items) h.tags_kept ∙ n.tags;
+      keys = ap (λ z. map key_in z.items) h.keys_kept ∙ n.keys;
+      items = ap (λ z. map item_row z.items) h.items_kept ∙ n.items;
+      places = ap (λ z. map plain_place z.items) h.places_kept ∙ n.places;
+      column = ap (λ z. map collected z.items) h.column_kept ∙ n.column;
+    }
+
+pub Lowers-count : {old new : Rows} {f : Forest} {is : List ℕ} → Lowers old new f is → row_count new ≡ row_count old + count f
+Lowers-count {old} {new} {f} h = Adds-count h.added ∙ ap (λ z. row_count old + z) (length-rows new.arena.keys f (row_count old) ∙ length-walk f)
+
+pub Lowers-extends : {old new : Rows} {f : Forest} {is : List ℕ} → Lowers old new f is → Extends old.arena.keys new.arena.keys
+Lowers-extends {old} {new} {f} h = subst (λ z. Extends old.arena.keys z) (sym h.arena_met) (Extends-met f old.arena.keys)
+
+pub Lowers-knows : {old new : Rows} {f : Forest} {is : List ℕ} → Lowers old new f is → KnowsForest f new.arena.keys
+Lowers-knows {old} {new} {f} h = subst (λ z. KnowsForest f z) (sym h.arena_met) (Knows-met f old.arena.keys)
+
+pub Lowers-join : {a b c : Rows} {f g : Forest} {is js : List ℕ} → Lowers a b f is → Lowers b c g js → Lowers a c (join f g) (is ++ js)
+Lowers-join {a} {b} {c} {f} {g} {is} {js} h k =
+    let n = Lowers-count h ∙ ap (λ z. row_count a + z) (sym (length-walk f)) in
+    let s : rows_of b.arena.keys f (row_count a) ≡ rows_of c.arena.keys f (row_count a) = sym (rows-stable b.arena.keys c.arena.keys (Lowers-extends k) f (row_count a) (Lowers-knows h)) in
+    let r : rows_of c.arena.keys (join f g) (row_count a) ≡ rows_of c.arena.keys f (row_count a) ++ rows_of c.arena.keys g (row_count b) =
+    rows-join c.arena.keys f g (row_count a) ∙ ap (λ z. rows_of c.arena.keys f (row_count a) ++ rows_of c.arena.keys g z) (sym n) in
+    record {
+      given = rw (ids-join f g (row_count a), ← n, h.given, k.given) refl;
+      arena_met = k.arena_met ∙ ap (met g) h.arena_met ∙ sym (met-join f g a.arena.keys);
+      added = subst (λ z. Adds a c z) (sym r) (Adds-join (subst (λ z. Adds a b z) s h.added) k.added);
+      attributes = omega (arith, most_attrs-join f g, h.attributes, k.attributes);
+      within = k.within;
+    }
+
+pub length-Extends : (xs ys : List V) → Extends xs ys → length xs ≤ length ys
+length-Extends xs ys h = omega (arith, ap length h.1, length-append xs h.0)
+
+-- ---- one node
+
+-- a node without children, whose visibilities were met
+pub Lowers-leaf :
+    {o a b : Rows} {i : ℕ} (h k : Head) (l : Leaf V) (r : Leaf VisId) → Adds o a [] →
+    a.arena.keys ≡ meet_all o.arena.keys (leaf_vis l) → r ≡ leaf_map (vis_id a.arena.keys) l → k ≡ h → length h.attrs.attrs ≤ attr_limit →
+    Pushes a b (k, leaf_row r) i → Lowers o b (more (leaf h l) empty) (i ∷ [])
+Lowers-leaf {o} {a} {b} {i} h k l r s m e q w p =
+    let n : row_count a ≡ row_count o = omega (arith, Adds-count s) in
+    let x : r ≡ leaf_map (vis_id b.arena.keys) l = e ∙ ap (λ z. leaf_map (vis_id z) l) (sym p.arena_kept) in
+    let z : (k, leaf_row r) ∷ [] ≡ rows_of b.arena.keys (more (leaf h l) empty) (row_count o) = λ j. (q j, leaf_row (x j)) ∷ [] in
+    record {
+      given = ap (λ v. v ∷ []) (p.given ∙ (λ j. 2 * n j + kind_bit (leaf_kind (e j))) ∙ ap (λ v. 2 * row_count o + kind_bit v) (sym (leaf_kind-map (vis_id a.arena.keys) l)));
+      arena_met = p.arena_kept ∙ m;
+      added = subst (λ v. Adds o b v) z (Adds-join s p.added);
+      attributes = omega (arith, w);
+      within = p.within;
+    }
+
+-- a node with children, whose visibilities were met before theirs
+pub Lowers-parent :
+    {o a b c : Rows} {f : Forest} {is : List ℕ} {i : ℕ} (h k : Head) (t : Trunk V) (r : Trunk VisId) → Adds o a [] →
+    a.arena.keys ≡ meet_all o.arena.keys (trunk_vis t) → r ≡ trunk_map (vis_id a.arena.keys) t → k ≡ h → length h.attrs.attrs ≤ attr_limit →
+    Lowers a b f is → Pushes b c (k, parent_row r is) i → Lowers o c (more (parent h t f) empty) (i ∷ [])
+Lowers-parent {o} {a} {b} {c} {f} {is} {i} h k t r s m e q few l p =
+    let n : row_count a ≡ row_count o = omega (arith, Adds-count s) in
+    let d : row_count b ≡ row_count o + length (walk f) = omega (arith, Lowers-count l, length-walk f, n) in
+    let known : KnowsAll a.arena.keys (trunk_vis t) = subst (λ z. KnowsAll z (trunk_vis t)) (sym m) (KnowsAll-meet_all o.arena.keys (trunk_vis t)) in
+    let x : r ≡ trunk_map (vis_id c.arena.keys) t =
+    e ∙ sym (trunk-stable a.arena.keys b.arena.keys t (Lowers-extends l) known) ∙ ap (λ z. trunk_map (vis_id z) t) (sym p.arena_kept) in
+    let y : rows_of b.arena.keys f (row_count a) ≡ rows_of c.arena.keys f (row_count o) = λ j. rows_of (sym p.arena_kept j) f (n j) in
+    let w : is ≡ ids (row_count o) f = l.given ∙ ap (λ z. ids z f) n in
+    let z : (k, parent_row r is) ≡ (h, parent_row (trunk_map (vis_id c.arena.keys) t) (ids (row_count o) f)) = λ j. (q j, parent_row (x j) (w j)) in
+    let goal_rows : rows_of b.arena.keys f (row_count a) ++ (k, parent_row r is) ∷ [] ≡ rows_of c.arena.keys (more (parent h t f) empty) (row_count o) =
+    (λ j. y j ++ z j ∷ []) ∙ sym (append-nil (rows_of c.arena.keys f (row_count o) ++ (h, parent_row (trunk_map (vis_id c.arena.keys) t) (ids (row_count o) f)) ∷ [])) in
+    record {
+      given = ap (λ v. v ∷ []) (p.given ∙ (λ j. 2 * d j + kind_bit (trunk_kind (e j))) ∙ ap (λ v. 2 * (row_count o + length (walk f)) + kind_bit v) (sym (trunk_kind-map (vis_id a.arena.keys) t)));
+      arena_met = p.arena_kept ∙ l.arena_met ∙ ap (met f) m;
+      added = subst (λ v. Adds o c v) goal_rows (Adds-join s (Adds-join l.added p.added));
+      attributes = omega (arith, few, l.attributes);
+      within = p.within;
+    }
+
+-- ---- faults
+
+pub IsFull-parent :
+    {o a b : Rows} {f : Forest} {is : List ℕ} (h : Head) (t : Trunk V) (e : LowerError) → Adds o a [] →
+    Lowers a b f is → IsFull b e → IsFault o (more (parent h t f) empty) e
+IsFull-parent {o} {a} {b} {f} h t TooManyItems s l q = omega (arith, q, Adds-count s, Lowers-count l)
+IsFull-parent {o} {a} {b} {f} h t TooManyVisibilities s l q = absurd q
+IsFull-parent {o} {a} {b} {f} h t TooManyAttributes s l q = absurd q
+IsFull-parent h t OutOfMemory s l q = tt
+
+-- an item's own attributes are too many, where it has no children
+pub IsAttrFault-leaf : (o : Rows) (h : Head) (l : Leaf V) (e : LowerError) → IsAttrFault h.attrs e → IsFault o (more (leaf h l) empty) e
+IsAttrFault-leaf o h l TooManyItems q = absurd q
+IsAttrFault-leaf o h l TooManyVisibilities q = absurd q
+IsAttrFault-leaf o h l TooManyAttributes q = omega (arith, q)
+IsAttrFault-leaf o h l OutOfMemory q = tt
+
+-- the same where it has
+pub IsAttrFault-parent : (o : Rows) (h : Head) (t : Trunk V) (f : Forest) (e : LowerError) → IsAttrFault h.attrs e → IsFault o (more (parent h t f) empty) e
+IsAttrFault-parent o h t f TooManyItems q = absurd q
+IsAttrFault-parent o h t f TooManyVisibilities q = absurd q
+IsAttrFault-parent o h t f TooManyAttributes q = omega (arith, q)
+IsAttrFault-parent o h t f OutOfMemory q = tt
+
+-- a fault among the children
+pub IsFault-parent : {o a : Rows} (h : Head) (t : Trunk V) (f : Forest) (e : LowerError) → Adds o a [] → a.arena.keys ≡ meet_all o.arena.keys (trunk_vis t) → IsFault a f e → IsFault o (more (parent h t f) empty) e
+IsFault-parent {o} {a} h t f TooManyItems s m q = omega (arith, q, Adds-count s)
+IsFault-parent {o} {a} h t f TooManyVisibilities s m q = subst (λ z. visibility_limit < length (met f z)) m q
+IsFault-parent h t f TooManyAttributes s m q = omega (arith, q)
+IsFault-parent h t f OutOfMemory s m q = tt
+
+-- the rows are full before a node without children
+pub IsFull-leaf : {o a : Rows} (h : Head) (l : Leaf V) (e : LowerError) → Adds o a [] → IsFull a e → IsFault o (more (leaf h l) empty) e
+IsFull-leaf {o} {a} h l TooManyItems s q = omega (arith, q, Adds-count s)
+IsFull-leaf h l TooManyVisibilities s q = absurd q
+IsFull-leaf h l TooManyAttributes s q = absurd q
+IsFull-leaf h l OutOfMemory s q = tt
+
+-- ---- functions
+
+pub Lowers-function :
+    {o a b : Rows} {i u : ℕ} (h k : Head) (n p : List ℕ) (v : V) → Meets o a v u → p ≡ n → k ≡ h → length h.attrs.attrs ≤ attr_limit →
+    Pushes a b (k, leaf_row (function p (plain_vis u))) i → Lowers o b (more (leaf h (function n v)) empty) (i ∷ [])
+Lowers-function {o} {a} {b} {i} {u} h k n p v m e q few w =
+    Lowers-leaf h k (function n v) (function p (plain_vis u)) (Meets-adds m) m.met (λ j. function (e j) (m.given j)) q few w
+
+-- ---- structs
+
+meet_all-struct : (xs : List V) (k : StructKind) (v : V) → meet_all xs (v ∷ ctor_vis (ctor_of k v)) ≡ meet xs v
+meet_all-struct xs written.Record v = refl
+meet_all-struct xs written.Unit v = meet-twice xs v
+
+ctor-ids : (xs : List V) (k : StructKind) (i : ℕ) (v : V) → plain_vis i ≡ vis_id xs v → ctor_map plain_vis (ctor_id_of k i) ≡ ctor_map (vis_id xs) (ctor_of k v)
+ctor-ids xs written.Record i v e = refl
+ctor-ids xs written.Unit i v e = ap ctor_with e
+
+pub Lowers-struct :
+    {o a b : Rows} {i u : ℕ} (h q : Head) (n p : List ℕ) (v : V) (k : StructKind) (s : FieldsShape) (c : Ctor ℕ) → Meets o a v u → p ≡ n → s ≡ shape_of k → c ≡ ctor_id_of k u → q ≡ h → length h.attrs.attrs ≤ attr_limit →
+    Pushes a b (q, leaf_row (leaf_map plain_vis (struct_item p u s c))) i → Lowers o b (more (leaf h (struct_item n v (shape_of k) (ctor_of k v))) empty) (i ∷ [])
+Lowers-struct {o} {a} {b} {i} {u} h q n p v k s c m e d g is few w =
+    let x : ctor_map plain_vis c ≡ ctor_map (vis_id a.arena.keys) (ctor_of k v) = ap (ctor_map plain_vis) g ∙ ctor-ids a.arena.keys k u v m.given in
+    Lowers-leaf h q (struct_item n v (shape_of k) (ctor_of k v)) (leaf_map plain_vis (struct_item p u s c)) (Meets-adds m)
+    (m.met ∙ sym (meet_all-struct o.arena.keys k v)) (λ j. struct_item (e j) (m.given j) (d j) (x j)) is few w
+
+pub IsUnmet-struct : (o : Rows) (h : Head) (n : List ℕ) (v : V) (k : StructKind) (e : LowerError) → IsUnmet o v e → IsFault o (more (leaf h (struct_item n v (shape_of k) (ctor_of k v))) empty) e
+IsUnmet-struct o h n v k TooManyItems q = absurd q
+IsUnmet-struct o h n v k TooManyVisibilities q = rw (meet_all-struct o.arena.keys k v) q
+IsUnmet-struct o h n v k TooManyAttributes q = absurd q
+IsUnmet-struct o h n v k OutOfMemory q = tt
+
+-- ---- modules
+
+module _ (m : ast_module.Module) where
+  abbrev pub named : NamedView
+  named = record { node = record { hash = m.hash; number = m.number; attrs = map meta_view m.attrs.items; body = string_bytes m.body }; name = m.name; visibility = m.visibility }
+
+  abbrev pub value : V
+  value = read_visibility m.visibility
+
+module _ (options : List CfgAtom) (skipped : List (List ℕ)) (m : ast_module.Module) where
+  abbrev pub head : Head
+  head = record { hash = m.hash; number = m.number; attrs = collected_from options skipped (map meta_view m.attrs.items) }
+
+  abbrev pub below : Forest
+  below = kept_below options skipped (module_view m)
+
+  abbrev pub kept_module : Forest
+  kept_module = add (kept options skipped (module_view m)) empty
+
+  kept-module_from : (n : NamedView) (s : Bool) (o : Option (List ItemView)) →
+      kept options skipped (module_from n s o) ≡ option_map (λ name. module_node s (head_of options skipped n.node) name (read_visibility n.visibility) (kept_below options skipped (module_from n s o))) n.name
+  kept-module_from n s None = refl
+  kept-module_from n s (Some is) = refl
+
+  kept-module : (n : List ℕ) → m.name ≡ Some n → kept options skipped (module_view m) ≡ Some (module_node m.semicolon head n (value m) below)
+  kept-module n e =
+      subst (λ z. kept options skipped z ≡ option_map (λ name. module_node m.semicolon head name (value m) (kept_below options skipped z)) m.name) (sym (module_view-fields m)) (kept-module_from (named m) m.semicolon (option_map (λ v. map item_view v.items) m.items))
+      ∙ ap (option_map (λ name. module_node m.semicolon head name (value m) below)) e
+
+  kept-inline : (n : List ℕ) → m.name ≡ Some n → m.semicolon ≡ false → kept_module ≡ more (parent head (inline n (value m)) below) empty
+  kept-inline n e h = ap (λ o. add o empty) (kept-module n e) ∙ ap (λ b. more (module_node b head n (value m) below) empty) h
+
+  kept-outline : (n : List ℕ) → m.name ≡ Some n → m.semicolon ≡ true → kept_module ≡ more (leaf head (outline n (value m))) empty
+  kept-outline n e h = ap (λ o. add o empty) (kept-module n e) ∙ ap (λ b. more (module_node b head n (value m) below) empty) h
+
+  pub Lowers-outline :
+      {o a b : Rows} {i u : ℕ} (k : Head) (n p : List ℕ) → m.name ≡ Some n → m.semicolon ≡ true → p ≡ n → k ≡ head → length head.attrs.attrs ≤ attr_limit → Meets o a (value m) u →
+      Pushes a b (k, leaf_row (outline p (plain_vis u))) i → Lowers o b kept_module (i ∷ [])
+  Lowers-outline {o} {a} {b} {i} {u} k n p e s q d few v w =
+      rw (kept-outline n e s)
+      (Lowers-leaf head k (outline n (value m)) (outline p (plain_vis u)) (Meets-adds v) v.met (λ j. outline (q j) (v.given j)) d few w)
+
+  pub Lowers-inline :
+      {o a b c : Rows} {is : List ℕ} {i u : ℕ} (k : Head) (n p : List ℕ) → m.name ≡ Some n → m.semicolon ≡ false → p ≡ n → k ≡ head → length head.attrs.attrs ≤ attr_limit → Meets o a (value m) u →
+      Lowers a b below is → Pushes b c (k, parent_row (inline p (plain_vis u)) is) i → Lowers o c kept_module (i ∷ [])
+  Lowers-inline {o} {a} {b} {c} {is} {i} {u} k n p e s q d few v h w =
+      rw (kept-inline n e s)
+      (Lowers-parent head k (inline n (value m)) (inline p (plain_vis u)) (Meets-adds v) v.met (λ j. inline (q j) (v.given j)) d few h w)
+
+  pub IsAttrFault-module : (o : Rows) (n : List ℕ) (e : LowerError) → m.name ≡ Some n → IsAttrFault head.attrs e → IsFault o kept_module e
+  IsAttrFault-module o n e q h =
+      elim (bool_cases m.semicolon) [
+        | inl s ↦ rw (kept-outline n q s) (IsAttrFault-leaf o head (outline n (value m)) e h)
+        | inr s ↦ rw (kept-inline n q s) (IsAttrFault-parent o head (inline n (value m)) below e h)
+      ]
+
+  pub IsUnmet-module : (o : Rows) (n : List ℕ) (e : LowerError) → m.name ≡ Some n → IsUnmet o (value m) e → IsFault o kept_module e
+  IsUnmet-module o n TooManyItems q h = absurd h
+  IsUnmet-module o n TooManyVisibilities q h =
+      elim (bool_cases m.semicolon) [
+        | inl s ↦ rw (kept-outline n q s) h
+        | inr s ↦ rw (kept-inline n q s)
+            (omega (arith, h, length-Extends (meet o.arena.keys (value m)) (met below (meet o.arena.keys (value m))) (Extends-met below (meet o.arena.keys (value m)))))
+      ]
+  IsUnmet-module o n TooManyAttributes q h = absurd h
+  IsUnmet-module o n OutOfMemory q h = tt
+
+  pub IsFull-outline :
+      {o a : Rows} {u : ℕ} (n : List ℕ) (e : LowerError) → m.name ≡ Some n → m.semicolon ≡ true → Meets o a (value m) u → IsFull a e → IsFault o kept_module e
+  IsFull-outline n e q s v f = rw (kept-outline n q s) (IsFull-leaf head (outline n (value m)) e (Meets-adds v) f)
+
+  pub IsFault-inline :
+      {o a : Rows} {u : ℕ} (n : List ℕ) (e : LowerError) → m.name ≡ Some n → m.semicolon ≡ false → Meets o a (value m) u → IsFault a below e → IsFault o kept_module e
+  IsFault-inline n e q s v f = rw (kept-inline n q s) (IsFault-parent head (inline n (value m)) below e (Meets-adds v) v.met f)
+
+  pub IsFull-inline :
+      {o a b : Rows} {is : List ℕ} {u : ℕ} (n : List ℕ) (e : LowerError) → m.name ≡ Some n → m.semicolon ≡ false → Meets o a (value m) u →
+      Lowers a b below is → IsFull b e → IsFault o kept_module e
+  IsFull-inline n e q s v h f = rw (kept-inline n q s) (IsFull-parent head (inline n (value m)) e (Meets-adds v) h f)
+
+-- ---- several items
+
+module _ (options : List CfgAtom) (skipped : List (List ℕ)) where
+  add-join : (o : Option Node) (f g : Forest) → add o (join f g) ≡ join (add o f) g
+  add-join None f g = refl
+  add-join (Some n) f g = refl
+
+  kept_all-append : (us vs : List ItemView) → kept_all options skipped (items_from (us ++ vs)) ≡ join (kept_all options skipped (items_from us)) (kept_all options skipped (items_from vs))
+  kept_all-append [] vs = refl
+  kept_all-append (u ∷ us) vs = ap (add (kept options skipped u)) (kept_all-append us vs) ∙ add-join (kept options skipped u) (kept_all options skipped (items_from us)) (kept_all options skipped (items_from vs))
+
+  abbrev kept_list : List Item → Forest
+  kept_list xs = kept_all options skipped (items_view xs)
+
+  abbrev kept_one : Item → Forest
+  kept_one x = add (kept options skipped (item_view x)) empty
+
+  kept_list-append : (us vs : List Item) → kept_list (us ++ vs) ≡ join (kept_list us) (kept_list vs)
+  kept_list-append us vs = ap (λ z. kept_all options skipped (items_from z)) (map-append item_view us vs) ∙ kept_all-append (map item_view us) (map item_view vs)
+
+  kept_list-push : (xs : List Item) (i : ℕ) (x : Item) → x ≡ get_or xs i x → i < length xs → kept_list (take (i + 1) xs) ≡ join (kept_list (take i xs)) (kept_one x)
+  kept_list-push xs i x e h =
+      let t : take (i + 1) xs ≡ take i xs ++ x ∷ [] = take_more xs i x h ∙ ap (λ z. take i xs ++ z ∷ []) (sym e) in
+      ap kept_list t ∙ kept_list-append (take i xs) (x ∷ [])
+
+  kept_list-split : (xs : List Item) (i : ℕ) → kept_list xs ≡ join (kept_list (take i xs)) (kept_list (drop i xs))
+  kept_list-split xs i = ap kept_list (sym (take-append-drop i xs)) ∙ kept_list-append (take i xs) (drop i xs)
+
+  pub Lowers-step :
+      {a b c : Rows} {is js : List ℕ} (xs : List Item) (i : ℕ) (x : Item) → x ≡ get_or xs i x → i < length xs →
+      Lowers a b (kept_all options skipped (items_view (take i xs))) is → Lowers b c (add (kept options skipped (item_view x)) empty) js → Lowers a c (kept_all options skipped (items_view (take (i + 1) xs))) (is ++ js)
+  Lowers-step {a} {b} {c} {is} {js} xs i x e h p q = rw (kept_list-push xs i x e h) (Lowers-join p q)
+
+  pub IsFault-step :
+      {a b : Rows} {is : List ℕ} (xs : List Item) (i : ℕ) (x : Item) (e : LowerError) → x ≡ get_or xs i x → i < length xs →
+      Lowers a b (kept_all options skipped (items_view (take i xs))) is → IsFault b (add (kept options skipped (item_view x)) empty) e → IsFault a (kept_all options skipped (items_view xs)) e
+  IsFault-step {a} {b} xs i x TooManyItems q h p f =
+      omega (arith, f, ap count (kept_list-split xs (i + 1)), count-join (kept_list (take (i + 1) xs)) (kept_list (drop (i + 1) xs)), Lowers-count p, ap count (kept_list-push xs i x q h), count-join (kept_list (take i xs)) (kept_one x))
+  IsFault-step {a} {b} xs i x TooManyVisibilities q h p f =
+      let rest = kept_list (drop (i + 1) xs) in
+      let here = met (kept_one x) b.arena.keys in
+      let m : met (kept_list xs) a.arena.keys ≡ met rest here =
+      ap (λ z. met z a.arena.keys) (kept_list-split xs (i + 1)) ∙ met-join (kept_list (take (i + 1) xs)) rest a.arena.keys
+      ∙ ap (met rest) (ap (λ z. met z a.arena.keys) (kept_list-push xs i x q h) ∙ met-join (kept_list (take i xs)) (kept_one x) a.arena.keys ∙ ap (met (kept_one x)) (sym p.arena_met)) in
+      omega (arith, f, ap length m, length-Extends here (met rest here) (Extends-met rest here))
+  IsFault-step xs i x TooManyAttributes q h p f =
+      omega (arith, f, ap most_attrs (kept_list-split xs (i + 1)), most_attrs-join (kept_list (take (i + 1) xs)) (kept_list (drop (i + 1) xs)), ap most_attrs (kept_list-push xs i x q h), most_attrs-join (kept_list (take i xs)) (kept_one x))
+  IsFault-step xs i x OutOfMemory q h p f = tt
+
+-- ---- the tables of a tree whose rows were made from nothing
+
+module _
+    (old new whole : Rows) (f : Forest) (c : Collected) (top : List ℕ) (place : ℕ)
+    (tags_empty : old.tags.items ≡ []) (keys_empty : old.keys.items ≡ []) (items_empty : old.items.items ≡ [])
+    (places_empty : old.places.items ≡ []) (column_empty : old.column.items ≡ []) (arena_empty : old.arena.keys ≡ [])
+    (few : length c.attrs ≤ attr_limit) (h : Lowers old new f top) (k : Puts new.column whole.column c place) (same : whole ≡ record new { column = whole.column }) where
+  abbrev u : Unfolding
+  u = record { top_attrs = c; forest = f }
+
+  abbrev rows : List Row
+  rows = rows_of (arena_of f) f 0
+
+  arena_is : new.arena.keys ≡ arena_of f
+  arena_is = h.arena_met ∙ ap (met f) arena_empty
+
+  added : Adds old new rows
+  added = subst (λ z. Adds old new z) (λ i. rows_of (arena_is i) f (length (items_empty i))) h.added
+
+  column_is : column_in new ≡ column_of (map row_attrs rows)
+  column_is = added.column ∙ ap (λ z. map collected z ++ column_of (map row_attrs rows)) column_empty
+
+  tables-layout : layout u ≡ tables_of top place whole
+  tables-layout =
+      let t : ids 0 f ≡ top = sym (h.given ∙ ap (λ z. ids (length z) f) items_empty) in
+      let tags : map row_tag rows ≡ whole.tags.items = sym (ap (λ z. z.tags.items) same ∙ added.tags ∙ ap (λ z. z ++ map row_tag rows) tags_empty) in
+      let keys : map row_key rows ≡ keys_in whole = sym (ap keys_in same ∙ added.keys ∙ ap (λ z. map key_in z ++ map row_key rows) keys_empty) in
+      let items : map row_item rows ≡ items_in whole = sym (ap items_in same ∙ added.items ∙ ap (λ z. map item_row z ++ map row_item rows) items_empty) in
+      let places : places_from 0 (map row_attrs rows) ≡ places_in whole =
+      sym (ap places_in same ∙ added.places ∙ (λ i. map plain_place (places_empty i) ++ places_from (length (map collected (column_empty i))) (map row_attrs rows))) in
+      let top_place : some_unless (is_empty c) (length (column_of (map row_attrs rows))) ≡ plain_place place =
+      sym (k.given ∙ ap (some_unless (is_empty c)) (sym (length-map new.column.items collected) ∙ ap length column_is)) in
+      let column : column_of (map row_attrs rows) ++ unless (is_empty c) c ≡ column_in whole = sym (k.added ∙ ap (λ z. z ++ unless (is_empty c) c) column_is) in
+      let arena : arena_of f ≡ whole.arena.keys = sym (ap (λ z. z.arena.keys) same ∙ arena_is) in
+      λ i. record { top = t i; tags = tags i; keys = keys i; items = items i; places = places i; top_place = top_place i; column = column i; arena = arena i }
+
+  pub tables-unfold : unfold_tables (tables_of top place whole) ≡ u
+  tables-unfold = ap unfold_tables (sym tables-layout) ∙ unfold-layout u
+
+  pub tables-fit : Fits u
+  tables-fit = record {
+    items = omega (arith, h.within.items, Lowers-count h, ap length items_empty);
+    visibilities = omega (arith, h.within.visibilities, ap length arena_is);
+    attributes = omega (arith, few, h.attributes);
+  }
+
+  pub tables-sound : AreSound (tables_of top place whole)
+  tables-sound = record { laid_out = ap layout tables-unfold ∙ tables-layout; fits = subst (λ z. Fits z) (sym tables-unfold) tables-fit }

@@ -1,0 +1,121 @@
+-- The lines of a page by ids are those of the nodes.
+use Rattle.std.proofs.Common.{◌≡◌, ℕ, Bool, true, Option, None, suc, zero, ◌+◌, ◌<◌, ◌≤◌, List, [], ◌∷◌, ◌++◌, length, map, take, get_or, codes, Some, refl, ap, sym, ◌∙◌, false, string_bytes, arith, inl, inr}
+use Rattle.std.specs.Prelude.{◌==◌, ◌⊎◌, not, is_some, option_map, String}
+use Rattle.std.specs.Option.{option_map_or}
+use Rattle.std.specs.declared.alloc.Global.{Global}
+use Rattle.std.proofs.lemmas.Grind.{common_steps, flat_map-append}
+use Rattle.std.proofs.lemmas.List.{take_more, map-append, append-nil}
+use Rattle.hir_input.specs.declared.ids.FileAstId.{FileAstId}
+use Rattle.item_tree_attrs.specs.Collected.{Collected}
+use Rattle.item_tree.specs.declared.visibility.RawVisibility.{RawVisibility}
+use Rattle.item_tree.specs.Column.{is_empty, unless, some_unless}
+use Rattle.item_tree.proofs.Arena.{bool_cases, eqb-other}
+use Rattle.item_tree.proofs.Column.{empty-is}
+use Rattle.item_tree.specs.Node.{Trunk, inline, Node, Forest, empty, more, nodes, node_head, Unfolding}
+use Rattle.item_tree.specs.Layout.{trunk_map, vis_at, node_at}
+use Rattle.item_tree.specs.Shown.{IsParent, StandFor, lent_attrs, attrs_at}
+use Rattle.item_tree.specs.Line.{Line, text, blank, line_text, text_of}
+use Rattle.item_tree.specs.Page.{item_opening, top_opening, with_blanks, id_text, attrs_lines, trunk_header, inline_header, own_lines, parts, page_parts, page_lines, page}
+use Rattle.item_tree.specs.PageByIds.{Gains, gap, item_lines, lent_lines, node_lines, own_lines_at, lines_at, list_lines}
+use Rattle.item_tree.proofs.Walking.{map_of_id, parent_of_id}
+
+-- ---- one more part behind others
+
+with_blanks-next : (part : List Line) (others : List (List Line)) (last : List Line) → with_blanks ((part ∷ others) ++ last ∷ []) ≡ with_blanks (part ∷ others) ++ (blank ∷ last)
+with_blanks-next part others last = grind (arith, common_steps, flat_map-append)
+
+module _ (reserved : List (List ℕ)) (u : Unfolding) (k : ℕ) where
+  more-lines : (is : List ℕ) (j d : ℕ) → j < length is → map (lines_at reserved u k) (take (j + 1) is) ≡ map (lines_at reserved u k) (take j is) ++ lines_at reserved u k (get_or is j d) ∷ []
+  more-lines is j d h = ap (map (lines_at reserved u k)) (take_more is j d h) ∙ map-append (lines_at reserved u k) (take j is) (get_or is j d ∷ [])
+
+  first-lines : (is : List ℕ) (j d : ℕ) → j ≤ 0 → j < length is → list_lines reserved u k (take (j + 1) is) ≡ list_lines reserved u k (take j is) ++ lines_at reserved u k (get_or is j d)
+  first-lines is zero d z h = ap with_blanks (more-lines is 0 d h) ∙ append-nil (lines_at reserved u k (get_or is 0 d))
+  first-lines is (suc j) d z h = absurd (omega arith)
+
+  next-lines : (is : List ℕ) (j d : ℕ) → 0 < j → j < length is → list_lines reserved u k (take (j + 1) is) ≡ list_lines reserved u k (take j is) ++ (blank ∷ lines_at reserved u k (get_or is j d))
+  next-lines [] j d p h = absurd (omega arith)
+  next-lines (i ∷ is) zero d p h = absurd (omega arith)
+  next-lines (i ∷ is) (suc j) d p h = ap with_blanks (more-lines (i ∷ is) (suc j) d h) ∙ with_blanks-next (lines_at reserved u k i) (map (lines_at reserved u k) (take j is)) _
+
+  -- the text after one more item of a list, before which stands a blank unless it is the first
+  module _ (old out mid new : String Global) (is : List ℕ) (j i : ℕ) (within : j < length is) (at_j : i ≡ get_or is j i) (before : Gains old out (list_lines reserved u k (take j is))) (item : Gains mid new (lines_at reserved u k i)) where
+    pub gains_more : (0 < j) × (string_bytes mid ≡ string_bytes out ++ line_text blank) ⊎ (j ≤ 0) × (mid ≡ out) → Gains old new (list_lines reserved u k (take (j + 1) is))
+    gains_more (inl (p, gap)) = rw (next-lines is j i p within, ← at_j) (grind (arith, common_steps, flat_map-append))
+    gains_more (inr (z, same)) = rw (first-lines is j i z within, ← at_j) (grind (arith, common_steps, flat_map-append))
+
+-- an item's first lines, those of what stands in it, and the line of its end
+pub gains_nested : (old a b new : String Global) (head inner : List Line) (last : Line) → Gains old a head → Gains a b inner → string_bytes new ≡ string_bytes b ++ line_text last → Gains old new (head ++ (inner ++ last ∷ []))
+gains_nested old a b new head inner last p q r = grind (arith, common_steps, flat_map-append)
+
+-- ---- ids, and the nodes that they stand for
+
+module _ (reserved : List (List ℕ)) where
+  parts-nodes : (f : Forest) (k : ℕ) → map (node_lines reserved k) (nodes f) ≡ parts reserved f k
+  parts-nodes empty k = refl
+  parts-nodes (more n f) k = ap (λ ls. node_lines reserved k n ∷ ls) (parts-nodes f k)
+
+  parts-ids : (u : Unfolding) (f : Forest) (k : ℕ) (is : List ℕ) → StandFor u is f → map (lines_at reserved u k) is ≡ parts reserved f k
+  parts-ids u f k is e = map_of_id u [] (node_lines reserved k) is (nodes f) e ∙ parts-nodes f k
+
+  inline-header : (u : Unfolding) (name : List ℕ) (v : ℕ) (w : RawVisibility) (item : Trunk RawVisibility) → trunk_map (vis_at u.forest) (inline name v) ≡ trunk_map Some item → vis_at u.forest v ≡ Some w → trunk_header reserved item ≡ inline_header reserved name w
+  inline-header u name v w (inline n x) e q = cc
+
+  -- attributes that are lent have all lines that attributes have
+  lent-lines : (opening : List ℕ) (k : ℕ) (c : Collected) → lent_lines reserved opening k (lent_attrs c) ≡ attrs_lines reserved opening k c
+  lent-lines opening k c =
+      elim (bool_cases (is_empty c)) [
+        | inl e ↦ rw e (ap (attrs_lines reserved opening k) (sym (empty-is c e)))
+        | inr e ↦ rw e refl
+      ]
+
+  node-lines : (k : ℕ) (o : Option Node) → option_map_or (node_lines reserved k) o [] ≡ lent_lines reserved item_opening k (option_map_or (λ n. lent_attrs (node_head n).attrs) o None) ++ option_map_or (λ n. own_lines reserved n k) o []
+  node-lines k None = refl
+  node-lines k (Some n) = ap (λ ls. ls ++ own_lines reserved n k) (sym (lent-lines item_opening k (node_head n).attrs))
+
+  -- the text after an item: its attributes, and its own lines
+  pub item_gains :
+      (u : Unfolding) (k i : ℕ) (old mid new : String Global) → Gains old mid (lent_lines reserved item_opening k (attrs_at u i)) → Gains mid new (own_lines_at reserved u k i) → Gains old new (lines_at reserved u k i)
+  item_gains u k i old mid new p q = rw (node-lines k (node_at u.forest i)) (grind (arith, common_steps, flat_map-append))
+
+  -- an inline module's lines are those of its header, of its children's ids, and of its end
+  pub inline_lines :
+      {u : Unfolding} {i : ℕ} {a : FileAstId} {name : List ℕ} {v : ℕ} {is : List ℕ} (k : ℕ) (w : RawVisibility) → IsParent u i a (inline name v) is → vis_at u.forest v ≡ Some w →
+      own_lines_at reserved u k i ≡ item_lines k a (inline_header reserved name w) ++ (list_lines reserved u (k + 1) is ++ text k (codes "}") ∷ [])
+  inline_lines {u} {i} {a} {name} {v} {is} k w p q =
+      parent_of_id u [] (λ n. own_lines reserved n k) i a (inline name v) is p
+      ∙ (λ j. text k (id_text (sym p.ast_id j)) ∷ text k (inline-header u name v w p.item p.visible q j) ∷ (with_blanks (sym (parts-ids u p.below (k + 1) is p.children) j) ++ text k (codes "}") ∷ []))
+
+  abbrev has_nodes : Forest → Bool
+  has_nodes empty = false
+  has_nodes (more n f) = true
+
+  page-parts : (b : Bool) (c : Collected) (f : Forest) →
+      page_lines (unless b (attrs_lines reserved top_opening 0 c) ++ parts reserved f 0)
+      ≡ lent_lines reserved top_opening 0 (some_unless b c) ++ (gap (is_some (some_unless b c)) (has_nodes f) ++ with_blanks (parts reserved f 0))
+  page-parts true c empty = refl
+  page-parts true c (more n f) = refl
+  page-parts false c empty = refl
+  page-parts false c (more n f) = refl
+
+  has-ids : (u : Unfolding) (is : List ℕ) (f : Forest) → StandFor u is f → not (length is == 0) ≡ has_nodes f
+  has-ids u [] empty e = refl
+  has-ids u [] (more n f) e = absurd (cc)
+  has-ids u (i ∷ is) empty e = absurd (cc)
+  has-ids u (i ∷ is) (more n f) e = ap not (eqb-other (length (i ∷ is)) 0 (omega arith))
+
+  -- the page is the lines of the top attributes, and those of the ids at the top
+  pub page_of_ids :
+      (u : Unfolding) (is : List ℕ) → StandFor u is u.forest →
+      page_lines (page_parts reserved u) ≡ lent_lines reserved top_opening 0 (lent_attrs u.top_attrs) ++ (gap (is_some (lent_attrs u.top_attrs)) (not (length is == 0)) ++ list_lines reserved u 0 is)
+  page_of_ids u is h =
+      page-parts (is_empty u.top_attrs) u.top_attrs u.forest
+      ∙ (λ j. lent_lines reserved top_opening 0 (lent_attrs u.top_attrs) ++ (gap (is_some (lent_attrs u.top_attrs)) (sym (has-ids u is u.forest h) j) ++ with_blanks (sym (parts-ids u u.forest 0 is h) j)))
+
+-- three pieces of text, one behind another
+pub gains_three :
+    (old a b new : String Global) (attrs between items : List Line) → Gains old a attrs → Gains a b between → Gains b new items → Gains old new (attrs ++ (between ++ items))
+gains_three old a b new attrs between items p q r = grind (arith, common_steps, flat_map-append)
+
+pub is_some-map : {X Y : Type 0} (f : X → Y) (o : Option X) → is_some (option_map f o) ≡ is_some o
+is_some-map f None = refl
+is_some-map f (Some x) = refl

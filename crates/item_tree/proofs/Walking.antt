@@ -1,0 +1,84 @@
+-- For whoever walks a tree by its ids, in this crate or in another.
+use Rattle.std.proofs.Common.{◌≡◌, ℕ, zero, suc, ◌+◌, ◌<◌, List, [], ◌∷◌, length, map, sum, get_or, Some, refl, ap, sym, ◌∙◌, arith}
+use Rattle.std.specs.Prelude.{is_some}
+use Rattle.std.specs.Option.{option_map_or}
+use Rattle.std.specs.List.{sum_by, flat_map}
+use Rattle.std.proofs.lemmas.List.Sums.{sum-map, sum_by-cons, get_or-le-sum_by}
+use Rattle.std.proofs.lemmas.List.Folds.{flat_map-map}
+use Rattle.hir_input.specs.declared.ids.FileAstId.{FileAstId}
+use Rattle.item_tree.specs.Node.{Leaf, Trunk, Node, leaf, parent, Forest, empty, more, nodes, node_count, count, Unfolding}
+use Rattle.item_tree.specs.Layout.{node_at}
+use Rattle.item_tree.specs.Shown.{IsContained, StandFor, IsLeaf, IsParent}
+use Rattle.item_tree.specs.Walk.{of_id, AreContained, count_at}
+
+-- ---- what is said of ids is what is said of the nodes that they stand for
+
+module _ {X : Type 0} (u : Unfolding) (d : X) (h : Node → X) where
+  pub of_id_is : (i : ℕ) (n : Node) → node_at u.forest i ≡ Some n → of_id u d h i ≡ h n
+  of_id_is i n e = ap (λ o. option_map_or h o d) e
+
+  pub map_of_id : (is : List ℕ) (ns : List Node) → map (node_at u.forest) is ≡ map Some ns → map (of_id u d h) is ≡ map h ns
+  map_of_id [] [] e = refl
+  map_of_id [] (n ∷ ns) e = absurd (cc)
+  map_of_id (i ∷ is) [] e = absurd (cc)
+  map_of_id (i ∷ is) (n ∷ ns) e =
+      let first : node_at u.forest i ≡ Some n = cc in
+      let others : map (node_at u.forest) is ≡ map Some ns = cc in
+      rw (first, map_of_id is ns others) refl
+
+  pub leaf_of_id : (i : ℕ) (a : FileAstId) (l : Leaf ℕ) (p : IsLeaf u i a l) → of_id u d h i ≡ h (leaf p.head p.item)
+  leaf_of_id i a l p = of_id_is i (leaf p.head p.item) p.found
+
+  pub parent_of_id : (i : ℕ) (a : FileAstId) (t : Trunk ℕ) (is : List ℕ) (p : IsParent u i a t is) → of_id u d h i ≡ h (parent p.head p.item p.below)
+  parent_of_id i a t is p = of_id_is i (parent p.head p.item p.below) p.found
+
+pub flat_map_of_id : {X : Type 0} (u : Unfolding) (h : Node → List X) (is : List ℕ) (ns : List Node) → map (node_at u.forest) is ≡ map Some ns → flat_map (of_id u [] h) is ≡ flat_map h ns
+flat_map_of_id u h is ns e = sym (flat_map-map (λ xs. xs) (of_id u [] h) is) ∙ ap (flat_map (λ xs. xs)) (map_of_id u [] h is ns e) ∙ flat_map-map (λ xs. xs) h ns
+
+pub sum_by_of_id : (u : Unfolding) (h : Node → ℕ) (is : List ℕ) (ns : List Node) → map (node_at u.forest) is ≡ map Some ns → sum_by (of_id u 0 h) is ≡ sum_by h ns
+sum_by_of_id u h is ns e = sym (sum-map (of_id u 0 h) is) ∙ ap sum (map_of_id u 0 h is ns e) ∙ sum-map h ns
+
+-- ---- ids that a tree lends stand for nodes
+
+one_contained : (u : Unfolding) (is : List ℕ) (ns : List Node) (k d : ℕ) → map (node_at u.forest) is ≡ map Some ns → k < length is → IsContained u (get_or is k d)
+one_contained u [] ns k d e h = absurd (omega arith)
+one_contained u (i ∷ is) [] k d e h = absurd (cc)
+one_contained u (i ∷ is) (n ∷ ns) zero d e h = let first : node_at u.forest i ≡ Some n = cc in ap is_some first
+one_contained u (i ∷ is) (n ∷ ns) (suc k) d e h = let others : map (node_at u.forest) is ≡ map Some ns = cc in one_contained u is ns k d others (omega arith)
+
+-- ids of given nodes
+pub all_contained : (u : Unfolding) (is : List ℕ) (ns : List Node) → map (node_at u.forest) is ≡ map Some ns → AreContained u is
+all_contained u is ns e = λ k d h. one_contained u is ns k d e h
+
+-- ids of a forest's nodes, as those at the top
+pub ids_contained : (u : Unfolding) (is : List ℕ) (f : Forest) → StandFor u is f → AreContained u is
+ids_contained u is f e = all_contained u is (nodes f) e
+
+-- ids of a node's children
+pub children_contained : {u : Unfolding} {i : ℕ} {a : FileAstId} {t : Trunk ℕ} {is : List ℕ} → IsParent u i a t is → AreContained u is
+children_contained {u} {i} {a} {t} {is} p = ids_contained u is p.below p.children
+
+pub child_contained : {u : Unfolding} {i : ℕ} {a : FileAstId} {t : Trunk ℕ} {is : List ℕ} (k d : ℕ) → IsParent u i a t is → k < length is → IsContained u (get_or is k d)
+child_contained k d p h = children_contained p k d h
+
+-- ---- how many nodes there are from an id on down, which every walk downwards lessens
+
+sum_by-nodes : (f : Forest) → sum_by node_count (nodes f) ≡ count f
+sum_by-nodes empty = refl
+sum_by-nodes (more n f) = sum_by-cons node_count n (nodes f) ∙ ap (λ m. node_count n + m) (sum_by-nodes f)
+
+-- the ids of a forest's nodes, as those at the top, count as the forest does
+pub ids_count : (u : Unfolding) (is : List ℕ) (f : Forest) → StandFor u is f → sum_by (count_at u) is ≡ count f
+ids_count u is f e = sum_by_of_id u node_count is (nodes f) e ∙ sum_by-nodes f
+
+pub leaf_counts : {u : Unfolding} {i : ℕ} {a : FileAstId} {l : Leaf ℕ} → IsLeaf u i a l → count_at u i ≡ 1
+leaf_counts {u} {i} {a} {l} p = leaf_of_id u 0 node_count i a l p
+
+-- a parent counts one more than its children
+pub parent_counts : {u : Unfolding} {i : ℕ} {a : FileAstId} {t : Trunk ℕ} {is : List ℕ} → IsParent u i a t is → count_at u i ≡ 1 + sum_by (count_at u) is
+parent_counts {u} {i} {a} {t} {is} p =
+    let whole : count_at u i ≡ suc (count p.below) = parent_of_id u 0 node_count i a t is p in
+    omega (arith, whole, ids_count u is p.below p.children)
+
+pub child_falls : {u : Unfolding} {i : ℕ} {a : FileAstId} {t : Trunk ℕ} {is : List ℕ} (k d : ℕ) → IsParent u i a t is → k < length is → count_at u (get_or is k d) < count_at u i
+child_falls {u} {i} {a} {t} {is} k d p h = omega (arith, parent_counts p, get_or-le-sum_by (count_at u) is k d h)

@@ -1,0 +1,17 @@
+use Rattle.std.proofs.Common.{◌+◌, ◌*◌, take}
+use Rattle.std.specs.List.{sum_by}
+use Rattle.item_tree.specs.PageByIds.{Gains, list_lines}
+use Rattle.item_tree.specs.Walk.{count_at}
+use Rattle.item_tree.proofs.tree.ItemTree.+page.Given as goal
+
+abbrev pub decreases-push_item : goal.decreases-push_item
+decreases-push_item l = 3 * count_at l.self.now l.id + 1
+
+abbrev pub decreases-push_own : goal.decreases-push_own
+decreases-push_own l = 3 * count_at l.self.now l.id
+
+abbrev pub decreases-push_items : goal.decreases-push_items
+decreases-push_items l = 3 * sum_by (count_at l.self.now) l.ids.now + 2
+
+abbrev pub invariant-push_items-loop-place : goal.invariant-push_items-loop-place
+invariant-push_items-loop-place l = Gains l.fn.out l.out (list_lines l.printer.edition.now.reserved.items l.self l.printer.level (take l.place l.ids))

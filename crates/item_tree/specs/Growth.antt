@@ -1,0 +1,112 @@
+-- What lowering adds to the rows. Only private contracts speak of it.
+use Rattle.std.specs.Prelude.{◌≡◌, ℕ, ◌+◌, ◌*◌, ◌<◌, ◌≤◌, List, [], ◌∷◌, ◌++◌, length, map, Option, Some, None}
+use Rattle.std.specs.declared.vec.Vec.{Vec}
+use Rattle.std.specs.declared.alloc.Global.{Global}
+use Rattle.hir_input.specs.declared.cfg.CfgAtom.{CfgAtom}
+use Rattle.hir_input.specs.declared.ast.StructKind.{StructKind}
+use Rattle.hir_input.specs.declared.ast.StructKind.TheVariants as written
+use Rattle.hir_input.specs.Syntax.{ItemView, listed_module}
+use Rattle.item_tree_attrs.specs.declared.collect.AttrsOrCfg.{AttrsOrCfg}
+use Rattle.item_tree_attrs.specs.Collected.{Collected, collected, attr_limit}
+use Rattle.item_tree.specs.declared.visibility.RawVisibility.{RawVisibility}
+use Rattle.item_tree.specs.declared.rows.Rows.{Rows}
+use Rattle.item_tree.specs.declared.fault.LowerError.{LowerError}
+use Rattle.item_tree.specs.declared.fault.LowerError.TheVariants.{TooManyItems, TooManyVisibilities, TooManyAttributes, OutOfMemory}
+use Rattle.item_tree.specs.Node.{Ctor, no_ctor, ctor_with, Node, Forest, empty, add, count}
+use Rattle.item_tree.specs.Kept.{kept_all}
+use Rattle.item_tree.specs.Column.{is_empty, unless, some_unless, column_of, places_from, plain_place}
+use Rattle.item_tree.specs.Layout.{vis_id, meet, plain_vis, met, kind_bit, ids, Row, row_tag, row_key, row_attrs, row_item, rows_of}
+use Rattle.item_tree.specs.Size.{item_limit, visibility_limit, most_attrs}
+use Rattle.item_tree.specs.Stored.{keys_in, items_in, places_in, column_in}
+
+-- the constructor of a struct whose own visibility has this id
+abbrev pub ctor_id_of : StructKind → ℕ → Ctor ℕ
+ctor_id_of written.Record i = no_ctor
+ctor_id_of written.Unit i = ctor_with i
+
+-- what is kept of the items of a module
+abbrev pub kept_below : List CfgAtom → List (List ℕ) → ItemView → Forest
+kept_below options skipped (listed_module n semicolon is) = kept_all options skipped is
+kept_below options skipped i = empty
+
+abbrev pub row_count : Rows → ℕ
+row_count r = length r.items.items
+
+-- no size is passed so far
+pub record IsWithinLimits (r : Rows) : Type 0 where
+  pub items : row_count r ≤ item_limit
+  pub visibilities : length r.arena.keys ≤ visibility_limit
+  pub column : length r.column.items ≤ row_count r
+
+-- these rows were added at the end of each column
+pub record Adds (old new : Rows) (rows : List Row) : Type 0 where
+  pub tags : new.tags.items ≡ old.tags.items ++ map row_tag rows
+  pub keys : keys_in new ≡ keys_in old ++ map row_key rows
+  pub items : items_in new ≡ items_in old ++ map row_item rows
+  pub places : places_in new ≡ places_in old ++ places_from (length (column_in old)) (map row_attrs rows)
+  pub column : column_in new ≡ column_in old ++ column_of (map row_attrs rows)
+
+-- the rows of the forest were added, and these are the ids of its nodes
+pub record Lowers (old new : Rows) (f : Forest) (is : List ℕ) : Type 0 where
+  pub given : is ≡ ids (row_count old) f
+  pub arena_met : new.arena.keys ≡ met f old.arena.keys
+  pub added : Adds old new (rows_of new.arena.keys f (row_count old))
+  pub attributes : most_attrs f ≤ attr_limit
+  pub within : IsWithinLimits new
+
+abbrev pub to_list : Option ℕ → List ℕ
+to_list None = []
+to_list (Some i) = i ∷ []
+
+-- the same of one node, or of none
+abbrev pub LowersOne : Rows → Rows → Option Node → Option ℕ → Type 0
+LowersOne old new n i = Lowers old new (add n empty) (to_list i)
+
+-- the error names a size that the rows with those of the forest pass, or want of memory
+abbrev pub IsFault : Rows → Forest → LowerError → Type 0
+IsFault old f TooManyItems = item_limit < row_count old + count f
+IsFault old f TooManyVisibilities = visibility_limit < length (met f old.arena.keys)
+IsFault old f TooManyAttributes = attr_limit < most_attrs f
+IsFault old f OutOfMemory = Unit {0}
+
+-- the error names that an owner collects too many attributes, or want of memory
+abbrev pub IsAttrFault : Collected → LowerError → Type 0
+IsAttrFault c TooManyItems = ⊥
+IsAttrFault c TooManyVisibilities = ⊥
+IsAttrFault c TooManyAttributes = attr_limit < length c.attrs
+IsAttrFault c OutOfMemory = Unit {0}
+
+-- the visibility was met, and this is its id
+pub record Meets (old new : Rows) (v : RawVisibility) (i : ℕ) : Type 0 where
+  pub met : new.arena.keys ≡ meet old.arena.keys v
+  pub given : plain_vis i ≡ vis_id new.arena.keys v
+  pub tags_kept : new.tags ≡ old.tags
+  pub keys_kept : new.keys ≡ old.keys
+  pub items_kept : new.items ≡ old.items
+  pub places_kept : new.places ≡ old.places
+  pub column_kept : new.column ≡ old.column
+  pub within : IsWithinLimits new
+
+abbrev pub IsUnmet : Rows → RawVisibility → LowerError → Type 0
+IsUnmet old v TooManyItems = ⊥
+IsUnmet old v TooManyVisibilities = visibility_limit < length (meet old.arena.keys v)
+IsUnmet old v TooManyAttributes = ⊥
+IsUnmet old v OutOfMemory = Unit {0}
+
+-- the value stands at the end of the column, unless it is enabled and empty, and this is its place
+pub record Puts (old new : Vec AttrsOrCfg Global) (c : Collected) (place : ℕ) : Type 0 where
+  pub added : map collected new.items ≡ map collected old.items ++ unless (is_empty c) c
+  pub given : plain_place place ≡ some_unless (is_empty c) (length old.items)
+
+-- one row was added at the end, and this is its id
+pub record Pushes (old new : Rows) (r : Row) (i : ℕ) : Type 0 where
+  pub given : i ≡ 2 * row_count old + kind_bit (row_tag r)
+  pub added : Adds old new (r ∷ [])
+  pub arena_kept : new.arena.keys ≡ old.arena.keys
+  pub within : IsWithinLimits new
+
+abbrev pub IsFull : Rows → LowerError → Type 0
+IsFull old TooManyItems = item_limit ≤ row_count old
+IsFull old TooManyVisibilities = ⊥
+IsFull old TooManyAttributes = ⊥
+IsFull old OutOfMemory = Unit {0}

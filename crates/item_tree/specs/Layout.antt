@@ -1,0 +1,249 @@
+-- The tables that a forest fixes by counting.
+use Rattle.std.specs.Prelude.{ℕ, ◌+◌, ◌*◌, ◌/◌, ◌%◌, eqb, Bool, ◌==◌, List, [], ◌∷◌, ◌++◌, length, map, slice_get, Option, Some, None, if◌then◌else◌}
+use Rattle.std.specs.List.{position_or_len, list_any}
+use Rattle.hir_input.specs.declared.ids.AstIdKind.{AstIdKind}
+use Rattle.hir_input.specs.declared.ids.AstIdKind.TheVariants as kind
+use Rattle.item_tree_attrs.specs.Collected.{Collected}
+use Rattle.item_tree.specs.declared.visibility.RawVisibility.{RawVisibility}
+use Rattle.item_tree.specs.declared.visibility.RawVisibility.TheVariants.{Module, PubSelf, PubCrate, Public}
+use Rattle.item_tree.specs.declared.visibility.VisibilityExplicitness.TheVariants.{Explicit, Implicit}
+use Rattle.item_tree.specs.contracts.visibility.RawVisibilityPartialEq.TheImpl as raw
+use Rattle.item_tree.specs.Node.{Ctor, no_ctor, ctor_with, Leaf, function, struct_item, outline, Trunk, inline, leaf_kind, trunk_kind, Head, Node, Forest, leaf, parent, empty, more, add, node_kind, Unfolding}
+use Rattle.item_tree.specs.Column.{is_empty, unless, some_unless, column_of, places_from, attrs_stored}
+
+-- ---- visibilities, and the arena
+
+-- where the value of a visibility stands: with four of them everywhere, the others in the arena
+pub data VisId : Type 0 where
+  fixed : RawVisibility → VisId
+  place : ℕ → VisId
+
+abbrev pub same : RawVisibility → RawVisibility → Bool
+same = raw.ghosts.eq
+
+-- the place of v in the arena
+abbrev pub place_of : List RawVisibility → RawVisibility → ℕ
+place_of arena v = position_or_len (same v) arena
+
+abbrev pub vis_id : List RawVisibility → RawVisibility → VisId
+vis_id arena (Module p e) = place (place_of arena (Module p e))
+vis_id arena v = fixed v
+
+-- the arena once v was met: a module's visibility stands in it once
+abbrev pub meet : List RawVisibility → RawVisibility → List RawVisibility
+meet arena (Module p e) = if list_any (same (Module p e)) arena then arena else arena ++ Module p e ∷ []
+meet arena v = arena
+
+-- what a stored number stands for
+abbrev pub plain_vis : ℕ → VisId
+plain_vis i = if i == 4294967295 then fixed Public else (if i == 4294967294 then fixed (PubSelf Implicit) else (if i == 4294967293 then fixed (PubSelf Explicit) else (if i == 4294967292 then fixed PubCrate else place i)))
+
+-- the value of an id, where it has one
+abbrev pub value_at : List RawVisibility → VisId → Option RawVisibility
+value_at arena (fixed v) = Some v
+value_at arena (place k) = slice_get arena k
+
+abbrev pub or_public : Option RawVisibility → RawVisibility
+or_public None = Public
+or_public (Some v) = v
+
+abbrev pub vis_value : List RawVisibility → VisId → RawVisibility
+vis_value arena i = or_public (value_at arena i)
+
+-- ---- items over other visibilities
+
+module _ {V W : Type 0} (f : V → W) where
+  abbrev pub ctor_map : Ctor V → Ctor W
+  ctor_map no_ctor = no_ctor
+  ctor_map (ctor_with v) = ctor_with (f v)
+
+  abbrev pub leaf_map : Leaf V → Leaf W
+  leaf_map (function n v) = function n (f v)
+  leaf_map (struct_item n v s c) = struct_item n (f v) s (ctor_map c)
+  leaf_map (outline n v) = outline n (f v)
+
+  abbrev pub trunk_map : Trunk V → Trunk W
+  trunk_map (inline n v) = inline n (f v)
+
+abbrev pub ctor_vis : {V : Type 0} → Ctor V → List V
+ctor_vis no_ctor = []
+ctor_vis (ctor_with v) = v ∷ []
+
+-- the visibilities of an item, in the order in which they are met: its own, then its constructor's
+abbrev pub leaf_vis : {V : Type 0} → Leaf V → List V
+leaf_vis (function n v) = v ∷ []
+leaf_vis (struct_item n v s c) = v ∷ ctor_vis c
+leaf_vis (outline n v) = v ∷ []
+
+abbrev pub trunk_vis : {V : Type 0} → Trunk V → List V
+trunk_vis (inline n v) = v ∷ []
+
+-- ---- the two walks
+
+-- the nodes in the walk that meets a node's children before the node
+abbrev mutual
+  pub node_walk : Node → List Node
+  node_walk (leaf h l) = leaf h l ∷ []
+  node_walk (parent h t f) = walk f ++ parent h t f ∷ []
+
+  pub walk : Forest → List Node
+  walk empty = []
+  walk (more n f) = node_walk n ++ walk f
+
+abbrev pub meet_all : List RawVisibility → List RawVisibility → List RawVisibility
+meet_all arena [] = arena
+meet_all arena (v ∷ vs) = meet_all (meet arena v) vs
+
+-- the arena after the walk that meets a node's own visibilities before its children
+abbrev mutual
+  pub node_met : Node → List RawVisibility → List RawVisibility
+  node_met (leaf h l) arena = meet_all arena (leaf_vis l)
+  node_met (parent h t f) arena = met f (meet_all arena (trunk_vis t))
+
+  pub met : Forest → List RawVisibility → List RawVisibility
+  met empty arena = arena
+  met (more n f) arena = met f (node_met n arena)
+
+-- the distinct visibilities of modules in a forest, by first meeting
+abbrev pub arena_of : Forest → List RawVisibility
+arena_of f = met f []
+
+-- ---- ids, rows and tables
+
+-- the lowest bit of the ids of a kind
+abbrev pub kind_bit : AstIdKind → ℕ
+kind_bit kind.ExternCrate = 1
+kind_bit kind.Module = 1
+kind_bit kind.Struct = 1
+kind_bit kind.Use = 1
+kind_bit _ = 0
+
+-- the row of a node, where b nodes are met before its walk begins
+abbrev pub node_row : ℕ → Node → ℕ
+node_row b (leaf h l) = b
+node_row b (parent h t f) = b + length (walk f)
+
+abbrev pub node_id : ℕ → Node → ℕ
+node_id b n = 2 * node_row b n + kind_bit (node_kind n)
+
+abbrev pub ids : ℕ → Forest → List ℕ
+ids b empty = []
+ids b (more n f) = node_id b n ∷ ids (b + length (node_walk n)) f
+
+-- the item of a row
+pub data RowItem : Type 0 where
+  leaf_row : Leaf VisId → RowItem
+  parent_row : Trunk VisId → List ℕ → RowItem
+
+abbrev pub row_kind : RowItem → AstIdKind
+row_kind (leaf_row l) = leaf_kind l
+row_kind (parent_row t is) = trunk_kind t
+
+abbrev pub Row : Type 0
+Row = Head × RowItem
+
+abbrev pub row_tag : Row → AstIdKind
+row_tag r = row_kind r.1
+
+-- the hash and the number of a row
+pub record Key : Type 0 where
+  pub hash : ℕ
+  pub number : ℕ
+
+abbrev pub key_of : Head → Key
+key_of h = record { hash = h.hash; number = h.number }
+
+abbrev pub row_key : Row → Key
+row_key r = key_of r.0
+
+abbrev pub row_attrs : Row → Collected
+row_attrs r = r.0.attrs
+
+abbrev pub row_item : Row → RowItem
+row_item r = r.1
+
+module _ (arena : List RawVisibility) where
+  abbrev mutual
+    pub node_rows : Node → ℕ → List Row
+    node_rows (leaf h l) b = (h, leaf_row (leaf_map (vis_id arena) l)) ∷ []
+    node_rows (parent h t f) b = rows_of f b ++ (h, parent_row (trunk_map (vis_id arena) t) (ids b f)) ∷ []
+
+    pub rows_of : Forest → ℕ → List Row
+    rows_of empty b = []
+    rows_of (more n f) b = node_rows n b ++ rows_of f (b + length (node_walk n))
+
+-- one table in columns, with the place of each row's attributes; the column of attributes, which ends with the top's; the
+-- arena; and the ids at the top
+pub record Tables : Type 0 where
+  pub top : List ℕ
+  pub tags : List AstIdKind
+  pub keys : List Key
+  pub items : List RowItem
+  pub places : List (Option ℕ)
+  pub top_place : Option ℕ
+  pub column : List Collected
+  pub arena : List RawVisibility
+
+-- the tables with these rows and top attributes
+abbrev pub tables_from : List ℕ → List RawVisibility → List Row → Collected → Tables
+tables_from top arena rows top_attrs = record {
+  top = top;
+  tags = map row_tag rows;
+  keys = map row_key rows;
+  items = map row_item rows;
+  places = places_from 0 (map row_attrs rows);
+  top_place = some_unless (is_empty top_attrs) (length (column_of (map row_attrs rows)));
+  column = column_of (map row_attrs rows) ++ unless (is_empty top_attrs) top_attrs;
+  arena = arena;
+}
+
+abbrev pub layout : Unfolding → Tables
+layout u = tables_from (ids 0 u.forest) (arena_of u.forest) (rows_of (arena_of u.forest) u.forest 0) u.top_attrs
+
+-- ---- what ids stand for
+
+-- the node of a row, if the lowest bit of the id is that of its kind
+abbrev pub at_row : Option Node → ℕ → Option Node
+at_row None b = None
+at_row (Some n) b = if eqb (kind_bit (node_kind n)) b then Some n else None
+
+abbrev pub at : List Node → ℕ → Option Node
+at ns i = at_row (slice_get ns (i / 2)) (i % 2)
+
+-- the node that an id stands for
+abbrev pub node_at : Forest → ℕ → Option Node
+node_at f i = at (walk f) i
+
+-- the visibility that an id stands for
+abbrev pub vis_at : Forest → ℕ → Option RawVisibility
+vis_at f i = value_at (arena_of f) (plain_vis i)
+
+-- ---- back from tables to what they unfold to
+
+abbrev pub gather : List Node → List ℕ → Forest
+gather ns [] = empty
+gather ns (i ∷ is) = add (at ns i) (gather ns is)
+
+module _ (arena : List RawVisibility) where
+  abbrev pub row_node : List Node → Head → RowItem → Node
+  row_node ns h (leaf_row l) = leaf h (leaf_map (vis_value arena) l)
+  row_node ns h (parent_row t is) = parent h (trunk_map (vis_value arena) t) (gather ns is)
+
+  abbrev pub build : List Node → List Row → List Node
+  build ns [] = ns
+  build ns (r ∷ rs) = build (ns ++ row_node ns r.0 r.1 ∷ []) rs
+
+abbrev pub head_of_key : Key → Collected → Head
+head_of_key k c = record { hash = k.hash; number = k.number; attrs = c }
+
+abbrev pub zip_rows : List Key → List Collected → List RowItem → List Row
+zip_rows [] cs is = []
+zip_rows (k ∷ ks) [] is = []
+zip_rows (k ∷ ks) (c ∷ cs) [] = []
+zip_rows (k ∷ ks) (c ∷ cs) (i ∷ is) = (head_of_key k c, i) ∷ zip_rows ks cs is
+
+abbrev pub unfold_tables : Tables → Unfolding
+unfold_tables t = record {
+  top_attrs = attrs_stored t.column t.top_place;
+  forest = gather (build t.arena [] (zip_rows t.keys (map (attrs_stored t.column) t.places) t.items)) t.top;
+}

@@ -1,0 +1,109 @@
+-- The page of a tree.
+use Rattle.std.specs.Prelude.{ℕ, ◌+◌, List, [], ◌∷◌, ◌++◌, codes, Option, Some, None}
+use Rattle.std.specs.List.{join_by, flat_map}
+use Rattle.hir_input.specs.declared.attr.Attr.{Attr}
+use Rattle.hir_input.specs.declared.attr.AttrInput.{AttrInput}
+use Rattle.hir_input.specs.declared.attr.AttrInput.TheVariants.{Literal, TokenTree}
+use Rattle.hir_input.specs.declared.ids.FileAstId.{FileAstId}
+use Rattle.hir_input.specs.Cfg.{CfgView, shown_cfg}
+use Rattle.hir_input.specs.Id.{shown_id}
+use Rattle.hir_input.specs.Name.{shown_name}
+use Rattle.hir_input.specs.Path.{shown_path}
+use Rattle.item_tree_attrs.specs.Collected.{Collected}
+use Rattle.item_tree.specs.declared.visibility.RawVisibility.{RawVisibility}
+use Rattle.item_tree.specs.declared.visibility.RawVisibility.TheVariants.{Module, PubSelf, PubCrate, Public}
+use Rattle.item_tree.specs.Column.{is_empty, unless}
+use Rattle.item_tree.specs.Line.{Line, text, blank, text_of, lines_of_text}
+use Rattle.item_tree.specs.Node.{Leaf, function, struct_item, outline, Trunk, inline, leaf_kind, trunk_kind, Node, leaf, parent, Forest, empty, more, node_head, file_id, Unfolding}
+
+-- lists of lines with one blank between each two
+abbrev pub with_blanks : List (List Line) → List Line
+with_blanks parts = join_by (λ part. part) (blank ∷ []) parts
+
+-- the lines of a page of parts: one blank where there are none
+abbrev pub page_lines : List (List Line) → List Line
+page_lines [] = blank ∷ []
+page_lines (part ∷ others) = with_blanks (part ∷ others)
+
+-- the text of an id line
+unfoldable pub id_text : FileAstId → List ℕ
+id_text a = codes "// AstId: " ++ shown_id a
+
+-- how an attribute of an item begins, and how one of the top does
+abbrev pub item_opening : List ℕ
+item_opening = codes "#["
+
+abbrev pub top_opening : List ℕ
+top_opening = codes "#!["
+
+-- what stands behind the path of an attribute
+abbrev pub shown_input : Option AttrInput → List ℕ
+shown_input None = []
+shown_input (Some (Literal l)) = codes " = " ++ l.rendered
+shown_input (Some (TokenTree t)) = t.rendered
+
+-- the cfg that is false
+unfoldable pub false_cfg_text : List ℕ → CfgView → List ℕ
+false_cfg_text opening cfg = opening ++ codes "cfg(" ++ shown_cfg cfg ++ codes ")]"
+
+abbrev pub false_cfg_lines : List ℕ → ℕ → Option CfgView → List Line
+false_cfg_lines opening k None = []
+false_cfg_lines opening k (Some cfg) = lines_of_text k (false_cfg_text opening cfg)
+
+-- under these reserved words
+module _ (reserved : List (List ℕ)) where
+  -- a visibility, with a space at its end
+  abbrev pub shown_visibility : RawVisibility → List ℕ
+  shown_visibility Public = codes "pub "
+  shown_visibility PubCrate = codes "pub(crate) "
+  shown_visibility (PubSelf e) = codes "pub(self) "
+  shown_visibility (Module p e) = codes "pub(in " ++ shown_path reserved p ++ codes ") "
+
+  -- an attribute
+  unfoldable pub attr_text : List ℕ → Attr → List ℕ
+  attr_text opening a = opening ++ shown_path reserved a.path ++ shown_input a.input ++ codes "]"
+
+  -- the lines of attributes at a level: each attribute, and then the cfg
+  abbrev pub attrs_lines : List ℕ → ℕ → Collected → List Line
+  attrs_lines opening k c = flat_map (λ a. lines_of_text k (attr_text opening a)) c.attrs ++ false_cfg_lines opening k c.false_cfg
+
+  -- each header
+  unfoldable pub function_header : List ℕ → RawVisibility → List ℕ
+  function_header name v = shown_visibility v ++ codes "fn " ++ shown_name reserved name ++ codes ";"
+
+  unfoldable pub struct_header : List ℕ → RawVisibility → List ℕ
+  struct_header name v = shown_visibility v ++ codes "struct " ++ shown_name reserved name ++ codes " { ... }"
+
+  unfoldable pub outline_header : List ℕ → RawVisibility → List ℕ
+  outline_header name v = shown_visibility v ++ codes "mod " ++ shown_name reserved name ++ codes ";"
+
+  unfoldable pub inline_header : List ℕ → RawVisibility → List ℕ
+  inline_header name v = shown_visibility v ++ codes "mod " ++ shown_name reserved name ++ codes " {"
+
+  abbrev pub leaf_header : Leaf RawVisibility → List ℕ
+  leaf_header (function name v) = function_header name v
+  leaf_header (struct_item name v shape ctor) = struct_header name v
+  leaf_header (outline name v) = outline_header name v
+
+  abbrev pub trunk_header : Trunk RawVisibility → List ℕ
+  trunk_header (inline name v) = inline_header name v
+
+  -- the lines of a node at a level behind its attributes, with its children one level deeper; and all lines of each node
+  -- of a forest
+  abbrev mutual
+    pub own_lines : Node → ℕ → List Line
+    own_lines (leaf h l) k = text k (id_text (file_id (leaf_kind l) h)) ∷ text k (leaf_header l) ∷ []
+    own_lines (parent h t f) k =
+        text k (id_text (file_id (trunk_kind t) h)) ∷ text k (trunk_header t) ∷ (with_blanks (parts f (k + 1)) ++ text k (codes "}") ∷ [])
+
+    pub parts : Forest → ℕ → List (List Line)
+    parts empty k = []
+    parts (more n f) k = (attrs_lines item_opening k (node_head n).attrs ++ own_lines n k) ∷ parts f k
+
+  -- the parts of a page: the top attributes, if there are any, and the items
+  abbrev pub page_parts : Unfolding → List (List Line)
+  page_parts u = unless (is_empty u.top_attrs) (attrs_lines top_opening 0 u.top_attrs) ++ parts u.forest 0
+
+  -- the page of a tree
+  abbrev pub page : Unfolding → List ℕ
+  page u = text_of (page_lines (page_parts u))

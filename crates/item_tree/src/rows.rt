@@ -1,0 +1,139 @@
+//! The table of a tree as it grows: rows in columns, and the arena of visibilities.
+ghost use Rattle.std.specs.Prelude.{◌≡◌, ◌<◌, ◌-◌, ◌^◌, IfOk, IfErr, [], length, option_map};
+ghost use Rattle.item_tree_attrs.specs.Collected.{collected};
+ghost use Rattle.item_tree.specs.Column.{plain_place, stored_at};
+ghost use Rattle.item_tree.specs.Layout.{head_of_key};
+ghost use Rattle.item_tree.specs.Stored.{key_in, item_row, column_in};
+ghost use Rattle.item_tree.specs.Growth.{IsWithinLimits, Meets, IsUnmet, Puts, Pushes, IsFull};
+
+use crate::fault::LowerError;
+use crate::items::{ModItem, ModItemId};
+use crate::visibility::{
+    PRIVATE_EXPLICIT, PRIVATE_IMPLICIT, PUB_CRATE, PUBLIC, RawVisibility, RawVisibilityId,
+    VisibilityExplicitness,
+};
+use hir_input::AstIdKind;
+use indexmap::IndexSet;
+use item_tree_attrs::AttrsOrCfg;
+use std::alloc::{AllocError, Global};
+
+// The most rows.
+const ROW_LIMIT: usize = 2_147_483_647;
+
+/// The place of attributes that are enabled and empty, which are not kept.
+pub(crate) const NO_ATTRS: u32 = u32::MAX;
+
+/// The hash and the number of a row's `FileAstId`, whose kind is the row's tag.
+#[derive(Clone, Copy, Debug, PartialEq, Eq)]
+pub(crate) struct AstKey {
+    pub(crate) hash: u16,
+    pub(crate) number: u32,
+}
+
+/// The rows of a tree in columns of equal length, the attributes that their places tell, and the visibilities of
+/// modules in order of first use.
+#[derive(Debug, Drop)]
+pub(crate) struct Rows {
+    pub(crate) tags: Vec<AstIdKind>,
+    pub(crate) keys: Vec<AstKey>,
+    pub(crate) items: Vec<ModItem>,
+    pub(crate) places: Vec<u32>,
+    pub(crate) column: Vec<AttrsOrCfg>,
+    pub(crate) arena: IndexSet<RawVisibility>,
+}
+
+impl Rows {
+    pub(crate) fn new(alloc: Global) -> Rows
+        ensures tags { result.tags.items ≡ [] }
+        ensures keys { result.keys.items ≡ [] }
+        ensures items { result.items.items ≡ [] }
+        ensures places { result.places.items ≡ [] }
+        ensures column { result.column.items ≡ [] }
+        ensures arena { result.arena.keys ≡ [] }
+    {
+        Rows {
+            tags: Vec::new(alloc),
+            keys: Vec::new(alloc),
+            items: Vec::new(alloc),
+            places: Vec::new(alloc),
+            column: Vec::new(alloc),
+            arena: IndexSet::new(alloc),
+        }
+    }
+
+    // The id of a visibility, which the arena keeps once.
+    pub(crate) fn alloc_visibility(
+        &mut self,
+        visibility: RawVisibility,
+    ) -> Result<RawVisibilityId, LowerError>
+        requires { IsWithinLimits self.old }
+        ensures met { IfOk result (λ id. Meets self.old self.new visibility id) }
+        ensures fault { IfErr result (λ e. IsUnmet self.old visibility e) }
+    {
+        match visibility {
+            RawVisibility::Public => Ok(RawVisibilityId::from_number(PUBLIC)),
+            RawVisibility::PubSelf(VisibilityExplicitness::Implicit) => {
+                Ok(RawVisibilityId::from_number(PRIVATE_IMPLICIT))
+            }
+            RawVisibility::PubSelf(VisibilityExplicitness::Explicit) => {
+                Ok(RawVisibilityId::from_number(PRIVATE_EXPLICIT))
+            }
+            RawVisibility::PubCrate => Ok(RawVisibilityId::from_number(PUB_CRATE)),
+            RawVisibility::Module(_, _) => {
+                let (place, _) = self.arena.insert_full(visibility)?;
+                if place >= PUB_CRATE as usize {
+                    return Err(LowerError::TooManyVisibilities);
+                }
+                Ok(RawVisibilityId::from_number(place as u32))
+            }
+        }
+    }
+
+    // The id of a new row at the end.
+    pub(crate) fn push(
+        &mut self,
+        key: AstKey,
+        attrs: AttrsOrCfg,
+        item: ModItem,
+    ) -> Result<ModItemId, LowerError>
+        requires { IsWithinLimits self.old }
+        ensures pushed { IfOk result (λ id. Pushes self.old self.new (head_of_key (key_in key) (collected attrs), item_row item) id) }
+        ensures fault { IfErr result (λ e. IsFull self.old e) }
+    {
+        let row = self.items.len();
+        if row >= ROW_LIMIT {
+            return Err(LowerError::TooManyItems);
+        }
+        let kind = item.kind();
+        let place = push_attrs(&mut self.column, attrs)?;
+        self.tags.push(kind)?;
+        self.keys.push(key)?;
+        self.items.push(item)?;
+        self.places.push(place)?;
+        Ok(ModItemId::from_row(row as u32, kind))
+    }
+
+    // Lends the attributes of a place, if it is one.
+    pub(crate) fn attrs_at(&self, place: u32) -> Option<&AttrsOrCfg>
+        ensures { option_map (λ attrs. collected attrs.now) result ≡ stored_at (column_in self.now) (plain_place place) }
+    {
+        if place == NO_ATTRS {
+            None
+        } else {
+            self.column.get(place as usize)
+        }
+    }
+}
+
+// The place of attributes, which are put at the end of the column unless they are enabled and empty.
+pub(crate) fn push_attrs(column: &mut Vec<AttrsOrCfg>, attrs: AttrsOrCfg) -> Result<u32, AllocError>
+    requires { length column.old.items < 2 ^ 32 - 1 }
+    ensures { IfOk result (λ place. Puts column.old column.new (collected attrs) place) }
+{
+    if attrs.is_empty() {
+        return Ok(NO_ATTRS);
+    }
+    let place = column.len() as u32;
+    column.push(attrs)?;
+    Ok(place)
+}

@@ -1,0 +1,181 @@
+//! Visibilities.
+ghost use Rattle.std.specs.Prelude.{◌≡◌, ◌↔◌, [], IsTrue, IfOk, option_copied};
+ghost use Rattle.item_tree.specs.Visibility.{read_visibility};
+ghost use Rattle.item_tree.specs.declared.visibility.RawVisibility.TheVariants.{PubSelf, PubCrate, Public};
+ghost use Rattle.item_tree.specs.declared.visibility.VisibilityExplicitness.TheVariants.{Explicit, Implicit};
+
+use hir_input::ast::{PathNode, Visibility};
+use hir_input::{ModPath, PathKind};
+use std::alloc::{AllocError, Global};
+use std::fmt;
+use std::marker::Model;
+
+/// Whether a private visibility was written.
+#[derive(Clone, Copy, Debug, PartialEq, Eq, Hash)]
+pub enum VisibilityExplicitness {
+    Explicit,
+    Implicit,
+}
+
+impl VisibilityExplicitness {
+    /// Whether it was written. rust-analyzer's `VisibilityExplicitness::is_explicit`.
+    pub fn is_explicit(&self) -> bool
+        ensures { IsTrue result ↔ (self.now ≡ Explicit) }
+    {
+        matches!(self, VisibilityExplicitness::Explicit)
+    }
+}
+
+/// A visibility that is not resolved: in a module by its path, in the module itself, in the crate, or public.
+///
+/// Stands for rust-analyzer's `RawVisibility`.
+#[derive(Debug, Drop, PartialEq, Eq, Hash)]
+pub enum RawVisibility {
+    Module(ModPath, VisibilityExplicitness),
+    PubSelf(VisibilityExplicitness),
+    PubCrate,
+    Public,
+}
+
+impl Clone for RawVisibility {
+    ghost is_clone = { λ visibility copy. copy ≡ visibility };
+
+    fn clone(&self) -> Result<RawVisibility, AllocError> {
+        match self {
+            RawVisibility::Module(path, explicitness) => {
+                Ok(RawVisibility::Module(path.clone()?, *explicitness))
+            }
+            RawVisibility::PubSelf(explicitness) => Ok(RawVisibility::PubSelf(*explicitness)),
+            RawVisibility::PubCrate => Ok(RawVisibility::PubCrate),
+            RawVisibility::Public => Ok(RawVisibility::Public),
+        }
+    }
+}
+
+pub(crate) const PUBLIC: u32 = u32::MAX;
+
+pub(crate) const PRIVATE_IMPLICIT: u32 = u32::MAX - 1;
+
+pub(crate) const PRIVATE_EXPLICIT: u32 = u32::MAX - 2;
+
+pub(crate) const PUB_CRATE: u32 = u32::MAX - 3;
+
+/// The id of a visibility in an item tree, by which the tree lends its value.
+#[derive(Clone, Copy, PartialEq, Eq)]
+pub struct RawVisibilityId {
+    id: u32,
+}
+
+impl Model for RawVisibilityId {
+    ghost use Rattle.std.specs.Prelude.{ℕ};
+
+    ghost Value = { ℕ };
+
+    ghost view = { λ i. i.id };
+
+    ghost inverse = { λ n. record { id = n } };
+}
+
+impl RawVisibilityId {
+    pub(crate) fn number(self) -> u32
+        ensures { result ≡ self }
+    {
+        self.id
+    }
+
+    pub(crate) fn from_number(id: u32) -> RawVisibilityId
+        ensures { result ≡ id }
+    {
+        RawVisibilityId { id }
+    }
+}
+
+/// The values of the four ids that every tree has, which a tree keeps so that it can lend them.
+#[derive(Debug, Drop)]
+pub(crate) struct FixedVisibilities {
+    public: RawVisibility,
+    private_implicit: RawVisibility,
+    private_explicit: RawVisibility,
+    pub_crate: RawVisibility,
+    ghost public_is: { public ≡ Public },
+    ghost private_implicit_is: { private_implicit ≡ PubSelf Implicit },
+    ghost private_explicit_is: { private_explicit ≡ PubSelf Explicit },
+    ghost pub_crate_is: { pub_crate ≡ PubCrate },
+}
+
+impl FixedVisibilities {
+    ghost use Rattle.item_tree.specs.Layout.{value_at, plain_vis};
+
+    pub(crate) fn new() -> FixedVisibilities {
+        FixedVisibilities {
+            public: RawVisibility::Public,
+            private_implicit: RawVisibility::PubSelf(VisibilityExplicitness::Implicit),
+            private_explicit: RawVisibility::PubSelf(VisibilityExplicitness::Explicit),
+            pub_crate: RawVisibility::PubCrate,
+        }
+    }
+
+    // Lends the value of an id, if it is one of the four.
+    pub(crate) fn get(&self, id: RawVisibilityId) -> Option<&RawVisibility>
+        ensures { option_copied result ≡ value_at [] (plain_vis id) }
+    {
+        match id.id {
+            PUBLIC => Some(&self.public),
+            PRIVATE_IMPLICIT => Some(&self.private_implicit),
+            PRIVATE_EXPLICIT => Some(&self.private_explicit),
+            PUB_CRATE => Some(&self.pub_crate),
+            _ => None,
+        }
+    }
+}
+
+/// Shows the four ids that every tree has by what they stand for, and any other as its number.
+impl fmt::Debug for RawVisibilityId {
+    fn fmt<W: fmt::Write>(&self, f: &mut fmt::Formatter<W>) -> fmt::Result {
+        match self.id {
+            PUBLIC => f.debug_tuple("RawVisibilityId").field(&"pub").finish(),
+            PRIVATE_IMPLICIT | PRIVATE_EXPLICIT => {
+                f.debug_tuple("RawVisibilityId")
+                    .field(&"pub(self)")
+                    .finish()
+            }
+            PUB_CRATE => f
+                .debug_tuple("RawVisibilityId")
+                .field(&"pub(crate)")
+                .finish(),
+            number => f.debug_tuple("RawVisibilityId").field(&number).finish(),
+        }
+    }
+}
+
+/// Reads a written visibility. Nothing written, and a path that is not readable, are private and implicit.
+///
+/// rust-analyzer's `visibility_from_ast`. The only error is want of memory for a path.
+pub fn visibility_from_ast(
+    alloc: Global,
+    visibility: Option<&Visibility>,
+) -> Result<RawVisibility, AllocError>
+    ensures { IfOk result (λ v. v ≡ read_visibility (option_copied visibility.entry)) }
+{
+    let Some(visibility) = visibility else {
+        return Ok(RawVisibility::PubSelf(VisibilityExplicitness::Implicit));
+    };
+    match visibility {
+        Visibility::Pub => Ok(RawVisibility::Public),
+        Visibility::PubCrate => Ok(RawVisibility::PubCrate),
+        Visibility::PubSelf => Ok(RawVisibility::PubSelf(VisibilityExplicitness::Explicit)),
+        Visibility::PubSuper => {
+            let path = ModPath::from_segments(PathKind::Super(1), Vec::new(alloc)).unwrap();
+            Ok(RawVisibility::Module(path, VisibilityExplicitness::Explicit))
+        }
+        Visibility::InPath(PathNode::Readable(path)) => {
+            Ok(RawVisibility::Module(path.clone()?, VisibilityExplicitness::Explicit))
+        }
+        Visibility::InPath(PathNode::Unreadable) => {
+            Ok(RawVisibility::PubSelf(VisibilityExplicitness::Implicit))
+        }
+    }
+}
+
+#[cfg(test)]
+mod tests;
