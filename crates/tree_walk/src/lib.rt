@@ -1,0 +1,144 @@
+//! Walks over an item tree by its public calls alone: an example to copy from.
+#![tactic(auto)]
+
+ghost use Rattle.std.specs.Prelude.{◌≡◌, false, ◌↔◌, ◌+◌, ◌<◌, ◌^◌, ◌++◌, ◌⊎◌, IsTrue, IfOk, IfErr, OnOk, Some, map};
+ghost use Rattle.std.specs.List.{sum_by, flat_map};
+ghost use Rattle.hir_input.specs.Syntax.{syntax_view};
+ghost use Rattle.item_tree.specs.CrateView.{crate_view};
+ghost use Rattle.item_tree.specs.Kept.{kept_syntax};
+ghost use Rattle.item_tree.specs.Layout.{node_at};
+ghost use Rattle.item_tree.specs.Node.{node_ast, count};
+ghost use Rattle.item_tree.specs.Shown.{IsContained, StandFor};
+ghost use Rattle.item_tree.specs.Size.{Fits, IsTooLarge};
+ghost use Rattle.item_tree.specs.Walk.{AreContained, count_at};
+ghost use Rattle.tree_walk.specs.Preorder.{children_at, preorder, Adds, preorder_at};
+
+use hir_input::ast::Syntax;
+use hir_input::{FileAstId, Name};
+use item_tree::{CrateData, ItemTree, LowerError, ModItemId, ModItemKind, ModKind, lower_syntax};
+use std::alloc::{AllocError, Global};
+
+/// The ids of the items that stand in an item, none where no item can.
+#[tactic(auto, using(item_tree::proofs::Walking::leaf_counts, item_tree::proofs::Walking::parent_counts, item_tree::proofs::Walking::children_contained))]
+pub fn children(tree: &ItemTree, id: ModItemId) -> &[ModItemId]
+    requires { IsContained tree.now id }
+    ensures stand { StandFor tree.now result.now (children_at tree.now id) }
+    ensures contained { AreContained tree.now result.now }
+    ensures counts { count_at tree.now id ≡ 1 + sum_by (count_at tree.now) result.now }
+{
+    match tree.index(id) {
+        ModItemKind::Mod(_, module) => match &module.kind {
+            ModKind::Inline { items } => items.as_slice(),
+            ModKind::Outline => &[],
+        },
+        _ => &[],
+    }
+}
+
+/// How many items a tree has, at every depth.
+#[tactic(auto, using(item_tree::proofs::Walking::ids_contained, item_tree::proofs::Walking::ids_count))]
+pub fn count_items(tree: &ItemTree) -> usize
+    ensures { result ≡ count tree.now.forest }
+{
+    count_all(tree, tree.top_level_items())
+}
+
+// Items, and all that stand in them.
+#[cycle(count)]
+fn count_all(tree: &ItemTree, ids: &[ModItemId]) -> usize
+    requires contained { AreContained tree.now ids.now }
+    requires count_fits { sum_by (count_at tree.now) ids.now < 2 ^ 64 }
+    ensures { result ≡ sum_by (count_at tree.now) ids.now }
+{
+    let mut total = 0;
+    for id in ids {
+        total += count_one(tree, *id);
+    }
+    total
+}
+
+// An item, and all that stand in it.
+#[cycle(count)]
+fn count_one(tree: &ItemTree, id: ModItemId) -> usize
+    requires contained { IsContained tree.now id }
+    requires count_fits { count_at tree.now id < 2 ^ 64 }
+    ensures { result ≡ count_at tree.now id }
+{
+    1 + count_all(tree, children(tree, id))
+}
+
+/// The ids of all items of a tree, each before those that stand in it.
+///
+/// The only error is want of memory.
+#[tactic(auto, using(item_tree::proofs::Walking::ids_contained, item_tree::proofs::Walking::all_contained, crate::proofs::Below::preorder_ids))]
+pub fn preorder(alloc: Global, tree: &ItemTree) -> Result<Vec<ModItemId>, AllocError>
+    ensures stand { IfOk result (λ ids. map (node_at tree.now.forest) ids.items ≡ map Some (preorder tree.now.forest)) }
+    ensures contained { IfOk result (λ ids. AreContained tree.now ids.items) }
+{
+    let mut found = Vec::new(alloc);
+    add_all(tree, tree.top_level_items(), &mut found)?;
+    Ok(found)
+}
+
+// Items, and all that stand in them.
+#[cycle(add)]
+fn add_all(tree: &ItemTree, ids: &[ModItemId], found: &mut Vec<ModItemId>) -> Result<(), AllocError>
+    requires { AreContained tree.now ids.now }
+    ensures { OnOk result (Adds tree.now found.old.items (flat_map (preorder_at tree.now) ids.now) found.new.items) }
+{
+    for id in ids {
+        add_one(tree, *id, found)?;
+    }
+    Ok(())
+}
+
+// An item, and all that stand in it.
+#[cycle(add)]
+fn add_one(tree: &ItemTree, id: ModItemId, found: &mut Vec<ModItemId>) -> Result<(), AllocError>
+    requires { IsContained tree.now id }
+    ensures { OnOk result (Adds tree.now found.old.items (preorder_at tree.now id) found.new.items) }
+{
+    found.push(id)?;
+    add_all(tree, children(tree, id), found)
+}
+
+/// The ids in the file of all items of a tree, each before those that stand in it.
+///
+/// The only error is want of memory.
+pub fn outline(alloc: Global, tree: &ItemTree) -> Result<Vec<FileAstId>, AllocError>
+    ensures { IfOk result (λ ast_ids. ast_ids.items ≡ map node_ast (preorder tree.now.forest)) }
+{
+    let ids = preorder(alloc, tree)?;
+    let mut ast_ids = Vec::new(alloc);
+    for id in &ids {
+        ast_ids.push(id.ast_id(tree))?;
+    }
+    Ok(ast_ids)
+}
+
+/// Whether two syntaxes have the same tree, as files of a crate that are not its root: then they differ at
+/// most in what no tree shows, as in bodies.
+///
+/// Errors: where a syntax has no tree, the reason that `lower_syntax` gives, the left one's first.
+pub fn is_same_tree(
+    alloc: Global,
+    krate: &CrateData,
+    skipped: &[Name],
+    left: &Syntax,
+    right: &Syntax,
+) -> Result<bool, LowerError>
+    ensures decided { let kept = kept_syntax false (crate_view krate.now) skipped.now in
+        IfOk result (λ same. IsTrue same ↔ (kept (syntax_view left.now) ≡ kept (syntax_view right.now))) }
+    ensures fit { let kept = kept_syntax false (crate_view krate.now) skipped.now in
+        OnOk result (Fits (kept (syntax_view left.now)) × Fits (kept (syntax_view right.now))) }
+    ensures too_large { let kept = kept_syntax false (crate_view krate.now) skipped.now in
+        IfErr result (λ e. IsTooLarge (kept (syntax_view left.now)) e
+        ⊎ (Fits (kept (syntax_view left.now)) × IsTooLarge (kept (syntax_view right.now)) e)) }
+{
+    let left = lower_syntax(alloc, left, false, krate, skipped)?;
+    let right = lower_syntax(alloc, right, false, krate, skipped)?;
+    Ok(left == right)
+}
+
+#[cfg(test)]
+mod tests;
