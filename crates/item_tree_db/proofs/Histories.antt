@@ -1,0 +1,145 @@
+-- A list of edits, against the whole history.
+use Rattle.std.proofs.Common.{◌≡◌, ◌≢◌, ◌⊎◌, inl, inr, ℕ, zero, suc, ◌+◌, ◌<◌, Bool, true, false, not, List, [], ◌∷◌, length, take, cond, Some, None, Option, slice_get, refl, sym, ap, subst, ◌∙◌, arith, true≢false, eq-or-lt_of_le, le_of_suc-le-suc}
+use Rattle.std.specs.Option.{option_or, option_map, unwrap_or}
+use Rattle.std.proofs.lemmas.Option.{same_Some, none-some}
+use Rattle.item_tree.specs.CrateView.{CrateView}
+use Rattle.item_tree.specs.Node.{Unfolding}
+use Rattle.item_tree.specs.NodeCode.{unfolding_code}
+use Rattle.item_tree.specs.Same.{same, equal_of_same, same_of_equal}
+use Rattle.item_tree_db.specs.declared.place.Place.{Place}
+use Rattle.item_tree_db.specs.State.{State, present, unfolding_of, unfolding_at, change_number}
+use Rattle.item_tree_db.specs.Edits.{EditView}
+use Rattle.item_tree_db.specs.History.{sets, last_some, last_below, present_after, unfolding_after, moves, changed_after, IsChangeNumber, IsAfter}
+use Rattle.item_tree_db.specs.Table.{Table, after, after_all, state_of, IsSound}
+use Rattle.item_tree_db.proofs.Runs.{same_crates, same_skipped}
+use Rattle.item_tree_db.proofs.Steps.{present_step, change_step, sound_step, start_step, number_step}
+
+or_else : {A : Type 0} (a b : Option A) (d : A) → unwrap_or a (unwrap_or b d) ≡ unwrap_or (option_or a b) d
+or_else None b d = refl
+or_else (Some x) b d = refl
+
+-- the last number that passes, with one more in front
+last_front : (p : ℕ → Bool) (n : ℕ) → last_below p (suc n) ≡ option_or (option_map suc (last_below (λ k. p (suc k)) n)) (cond (p zero) (Some zero) None)
+last_front p zero = refl
+last_front p (suc n) = elim (p (suc n)) as (λ b. cond b (Some (suc n)) (last_below p (suc n)) ≡ option_or (option_map suc (cond b (Some n) (last_below (λ k. p (suc k)) n))) (cond (p zero) (Some zero) None)) [ true ↦ refl | false ↦ last_front p n ]
+
+-- ---- the history from after the first edit on is the history from before it
+
+front_present : (t : Table) (e : EditView) (es : List EditView) (place : Place) → present_after (state_of (after t e)) es place ≡ present_after (state_of t) (e ∷ es) place
+front_present t e es place = ap (unwrap_or (last_some (sets place) es)) (present_step t e place) ∙ or_else (last_some (sets place) es) (sets place e) (present (state_of t) place)
+
+front_unfolding : (t : Table) (e : EditView) (es : List EditView) (place : Place) (i : ℕ) → unfolding_after (state_of (after t e)) es place i ≡ unfolding_after (state_of t) (e ∷ es) place i
+front_unfolding t e es place i j = unfolding_of (same_skipped t e j) place (slice_get (same_crates t e j) i) (front_present t e es place j)
+
+front_moves : (t : Table) (e : EditView) (es : List EditView) (place : Place) (i : ℕ) → moves (state_of (after t e)) es place i ≡ (λ k. moves (state_of t) (e ∷ es) place i (suc k))
+front_moves t e es place i j k = not (same unfolding_code (front_unfolding t e (take k es) place i j) (front_unfolding t e (take (suc k) es) place i j))
+
+-- the number of the last edit that moved it
+numbers : (m m' : ℕ) (o : Option ℕ) (b : Bool) (now then : ℕ) → m' ≡ m + 1 → then ≡ cond b now (m + 1)
+    → unwrap_or (option_map (λ n. m' + n + 1) o) then ≡ unwrap_or (option_map (λ n. m + n + 1) (option_or (option_map suc o) (cond (not b) (Some zero) None))) now
+numbers m m' None true now then e h = h
+numbers m m' None false now then e h = let q : m + 1 ≡ m + 0 + 1 = omega arith in h ∙ q
+numbers m m' (Some n) b now then e h = omega arith
+
+front_changed : (t : Table) (e : EditView) (es : List EditView) (place : Place) (i : ℕ) → IsSound t → i < length t.crates → changed_after (state_of (after t e)) es place i ≡ changed_after (state_of t) (e ∷ es) place i
+front_changed t e es place i h p =
+    let s = state_of t in
+    let all = moves s (e ∷ es) place i in
+    let same_now : Bool = same unfolding_code (unfolding_at s place i) (unfolding_after s (e ∷ []) place i) in
+    let step : change_number (state_of (after t e)) place i ≡ cond same_now (change_number s place i) (t.number + 1) =
+    change_step t e place i h p ∙ ap (λ (x : Unfolding). cond (same unfolding_code (unfolding_at s place i) x) (change_number s place i) (t.number + 1)) (front_unfolding t e [] place i) in
+    ap (λ (m : ℕ → Bool). unwrap_or (option_map (λ n. (after t e).number + n + 1) (last_below m (length es))) (change_number (state_of (after t e)) place i)) (front_moves t e es place i)
+    ∙ numbers t.number (after t e).number (last_below (λ k. all (suc k)) (length es)) same_now (change_number s place i) (change_number (state_of (after t e)) place i) (number_step t e) step
+    ∙ ap (λ (o : Option ℕ). unwrap_or (option_map (λ n. t.number + n + 1) o) (change_number s place i)) (sym (last_front all (length es)))
+
+-- ---- the last edit that moved it, without the tests
+
+none_of : (b : Bool) (n : ℕ) (o : Option ℕ) → cond b (Some n) o ≡ None → (b ≡ false) × (o ≡ None)
+none_of true n o h = cc
+none_of false n o h = (refl, h)
+
+eq_or_below : (k n : ℕ) → k < suc n → (k ≡ n) ⊎ (k < n)
+eq_or_below k n h = elim (eq-or-lt_of_le (le_of_suc-le-suc h)) as (λ _. (k ≡ n) ⊎ (k < n)) [ inl e ↦ inl e | inr l ↦ inr l ]
+
+not_true : (b : Bool) → not b ≡ false → b ≡ true
+not_true true h = refl
+not_true false h = cc
+
+not_false : (b : Bool) → not b ≡ true → b ≡ true → ⊥
+not_false true h g = true≢false (sym h)
+not_false false h g = true≢false (sym g)
+
+pub record IsLast (p : ℕ → Bool) (n m : ℕ) : Type 0 where
+  pub below : m < n
+  pub passes : p m ≡ true
+  pub later : (k : ℕ) → m < k → k < n → p k ≡ false
+
+last_is : (p : ℕ → Bool) (n m : ℕ) → last_below p n ≡ Some m → IsLast p n m
+last_is p zero m e = absurd (none-some m e)
+last_is p (suc n) m e = elim (p n) as (λ b. p n ≡ b → cond b (Some n) (last_below p n) ≡ Some m → IsLast p (suc n) m) [
+  | true ↦ λ t g. let same : n ≡ m = same_Some n m g in subst (λ (k : ℕ). IsLast p (suc n) k) same (record { below = omega arith; passes = t; later = λ k a b. absurd (omega arith) })
+  | false ↦ λ t g. let r = last_is p n m g in record {
+    below = let q = r.below in omega arith;
+    passes = r.passes;
+    later = λ k a b. elim (eq_or_below k n b) as (λ _. p k ≡ false) [ inl q ↦ ap p q ∙ t | inr q ↦ r.later k a q ];
+  }
+] refl e
+
+none_is : (p : ℕ → Bool) (n : ℕ) → last_below p n ≡ None → (k : ℕ) → k < n → p k ≡ false
+none_is p zero e k h = absurd (omega arith)
+none_is p (suc n) e k h =
+    let parts = none_of (p n) n (last_below p n) e in
+    elim (eq_or_below k n h) as (λ _. p k ≡ false) [ inl q ↦ ap p q ∙ parts.0 | inr q ↦ none_is p n parts.1 k q ]
+
+unmoved : (s : State) (es : List EditView) (place : Place) (i m : ℕ) → moves s es place i m ≡ false → unfolding_after s (take m es) place i ≡ unfolding_after s (take (suc m) es) place i
+unmoved s es place i m h = equal_of_same unfolding_code (unfolding_after s (take m es) place i) (unfolding_after s (take (suc m) es) place i) (not_true _ h)
+
+moved : (s : State) (es : List EditView) (place : Place) (i m : ℕ) → moves s es place i m ≡ true → unfolding_after s (take m es) place i ≢ unfolding_after s (take (suc m) es) place i
+moved s es place i m h e = not_false _ h (same_of_equal unfolding_code (unfolding_after s (take m es) place i) (unfolding_after s (take (suc m) es) place i) e)
+
+change_number_by : (s : State) (es : List EditView) (place : Place) (i : ℕ) → IsChangeNumber s es place i (changed_after s es place i)
+change_number_by s es place i = elim (last_below (moves s es place i) (length es)) as (λ o. last_below (moves s es place i) (length es) ≡ o → IsChangeNumber s es place i (unwrap_or (option_map (λ n. s.number + n + 1) o) (change_number s place i))) [
+  | None ↦ λ e. inl (record { number = refl; still = λ m h. unmoved s es place i m (none_is (moves s es place i) (length es) e m h) })
+  | Some n ↦ λ e. let r = last_is (moves s es place i) (length es) n e in inr (
+    n,
+    record {
+      in_list = r.below;
+      number = refl;
+      moved = moved s es place i n r.passes;
+      still = λ m a b. unmoved s es place i m (r.later m a b);
+    },
+  )
+] refl
+
+-- ---- the table after all edits is the one that the history tells of
+
+pub history : (t : Table) (es : List EditView) → IsSound t → IsSound (after_all t es) × IsAfter (state_of t) es (state_of (after_all t es))
+history t [] h = (
+  h,
+  record {
+    number = omega arith;
+    start = refl;
+    crates = refl;
+    skipped = refl;
+    syntaxes = λ place. refl;
+    unfoldings = λ place i p. refl;
+    changes = λ place i p. refl;
+    last_changes = λ place i p. change_number_by (state_of t) [] place i;
+  },
+)
+history t (e ∷ es) h =
+    let many = ap (λ (crates : List CrateView). length crates) (same_crates t e) in
+    let rest = history (after t e) es (sound_step t e h) in
+    let r = rest.1 in (
+      rest.0,
+      record {
+        number = let a = r.number in let b = number_step t e in omega arith;
+        start = r.start ∙ start_step t e;
+        crates = r.crates ∙ same_crates t e;
+        skipped = r.skipped ∙ same_skipped t e;
+        syntaxes = λ place. r.syntaxes place ∙ front_present t e es place;
+        unfoldings = λ place i p. r.unfoldings place i (rw many p) ∙ front_unfolding t e es place i;
+        changes = λ place i p. r.changes place i (rw many p) ∙ front_changed t e es place i h p;
+        last_changes = λ place i p. subst (λ (c : ℕ). IsChangeNumber (state_of t) (e ∷ es) place i c) (sym (r.changes place i (rw many p) ∙ front_changed t e es place i h p)) (change_number_by (state_of t) (e ∷ es) place i);
+      },
+    )

@@ -1,0 +1,9 @@
+pub mod Searched
+pub mod Lowered
+pub mod Counts
+pub mod Views
+pub mod Runs
+pub mod Steps
+pub mod Histories
+pub mod BodyTexts
+pub mod Outcomes

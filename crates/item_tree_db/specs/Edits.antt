@@ -1,0 +1,14 @@
+-- Edits as plain data.
+use Rattle.std.specs.Prelude.{ℕ}
+use Rattle.hir_input.specs.Syntax.{SyntaxView, syntax_view}
+use Rattle.item_tree_db.specs.declared.edit.Edit.{Edit}
+use Rattle.item_tree_db.specs.declared.edit.Edit.TheVariants.{SetFile, RemoveFile}
+
+-- an edit, with the number of its file
+pub data EditView : Type 0 where
+  set_file : ℕ → SyntaxView → EditView
+  remove_file : ℕ → EditView
+
+abbrev pub edit_view : Edit → EditView
+edit_view (SetFile file syntax) = set_file file.0 (syntax_view syntax)
+edit_view (RemoveFile file) = remove_file file.0

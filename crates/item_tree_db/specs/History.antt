@@ -1,0 +1,83 @@
+-- Whole histories: what stands after a list of edits.
+use Rattle.std.specs.Prelude.{◌≡◌, ◌≢◌, ◌⊎◌, ℕ, zero, suc, ◌+◌, ◌<◌, ◌==◌, List, [], ◌∷◌, length, take, Option, None, Some, Bool, not, if◌then◌else◌, option_map, slice_get}
+use Rattle.std.specs.Option.{option_or, unwrap_or}
+use Rattle.hir_input.specs.Syntax.{SyntaxView}
+use Rattle.hir_input.specs.Bodies.{without_bodies}
+use Rattle.item_tree.specs.Node.{Unfolding}
+use Rattle.item_tree.specs.NodeCode.{unfolding_code}
+use Rattle.item_tree.specs.Same.{same}
+use Rattle.item_tree_db.specs.declared.place.Place.{Place}
+use Rattle.item_tree_db.specs.declared.place.Place.TheVariants.{File, Block}
+use Rattle.item_tree_db.specs.State.{State, file_at, present, unfolding_of, unfolding_at, change_number}
+use Rattle.item_tree_db.specs.Edits.{EditView, set_file, remove_file}
+
+-- what the last element has that has any
+abbrev pub last_some : {A B : Type 0} → (A → Option B) → List A → Option B
+last_some f [] = None
+last_some f (x ∷ xs) = option_or (last_some f xs) (f x)
+
+-- the last number below n that passes
+abbrev pub last_below : (ℕ → Bool) → ℕ → Option ℕ
+last_below p zero = None
+last_below p (suc n) = if p n then Some n else last_below p n
+
+-- the syntax that an edit leaves at a place, if it sets or removes that place
+abbrev pub sets : Place → EditView → Option (Option SyntaxView)
+sets (File file) (set_file k syntax) = if k == file.0 then Some (Some syntax) else None
+sets (File file) (remove_file k) = if k == file.0 then Some None else None
+sets (Block block) edit = None
+
+-- ---- after the edits
+
+-- the present syntax of a place: what the last edit leaves that sets or removes the place
+abbrev pub present_after : State → List EditView → Place → Option SyntaxView
+present_after s edits place = unwrap_or (last_some (sets place) edits) (present s place)
+
+-- what its tree in crate i unfolds to
+abbrev pub unfolding_after : State → List EditView → Place → ℕ → Unfolding
+unfolding_after s edits place i = unfolding_of s.skipped place (slice_get s.crates i) (present_after s edits place)
+
+-- whether the edit at position n, counted from 0, made the unfolding another
+abbrev pub moves : State → List EditView → Place → ℕ → ℕ → Bool
+moves s edits place i n = not (same unfolding_code (unfolding_after s (take n edits) place i) (unfolding_after s (take (suc n) edits) place i))
+
+-- the number of the last edit that did, or else what it was; the edit at position n has the table's number and n + 1
+abbrev pub changed_after : State → List EditView → Place → ℕ → ℕ
+changed_after s edits place i = unwrap_or (option_map (λ n. s.number + n + 1) (last_below (moves s edits place i) (length edits))) (change_number s place i)
+
+-- ---- the change number without a test
+
+-- c is the number of the edit at position n, the last one at which the unfolding became another
+pub record IsLastMove (s : State) (edits : List EditView) (place : Place) (i c n : ℕ) : Type 0 where
+  pub in_list : n < length edits
+  pub number : c ≡ s.number + n + 1
+  pub moved : unfolding_after s (take n edits) place i ≢ unfolding_after s (take (suc n) edits) place i
+  pub still : (m : ℕ) → n < m → m < length edits → unfolding_after s (take m edits) place i ≡ unfolding_after s (take (suc m) edits) place i
+
+-- c is what it was, and the unfolding became another at no edit
+pub record IsUnmoved (s : State) (edits : List EditView) (place : Place) (i c : ℕ) : Type 0 where
+  pub number : c ≡ change_number s place i
+  pub still : (m : ℕ) → m < length edits → unfolding_after s (take m edits) place i ≡ unfolding_after s (take (suc m) edits) place i
+
+abbrev pub IsChangeNumber : State → List EditView → Place → ℕ → ℕ → Type 0
+IsChangeNumber s edits place i c = IsUnmoved s edits place i c ⊎ ((n : ℕ) × IsLastMove s edits place i c n)
+
+-- ---- tables
+
+-- the edits lead from the table s to the table u
+pub record IsAfter (s : State) (edits : List EditView) (u : State) : Type 0 where
+  pub number : u.number ≡ s.number + length edits
+  pub start : u.start ≡ s.start
+  pub crates : u.crates ≡ s.crates
+  pub skipped : u.skipped ≡ s.skipped
+  pub syntaxes : (place : Place) → present u place ≡ present_after s edits place
+  pub unfoldings : (place : Place) (i : ℕ) → i < length s.crates → unfolding_at u place i ≡ unfolding_after s edits place i
+  pub changes : (place : Place) (i : ℕ) → i < length s.crates → change_number u place i ≡ changed_after s edits place i
+  pub last_changes : (place : Place) (i : ℕ) → i < length s.crates → IsChangeNumber s edits place i (change_number u place i)
+
+-- an edit that leads from s to u and sets a file to its present syntax with other body texts moves no change number of it
+abbrev pub IgnoresBodies : State → EditView → State → Type 0
+IgnoresBodies s (set_file k syntax) u =
+    option_map without_bodies (present s (file_at k)) ≡ Some (without_bodies syntax)
+    → (i : ℕ) → i < length s.crates → change_number u (file_at k) i ≡ change_number s (file_at k) i
+IgnoresBodies s (remove_file k) u = Unit {0}

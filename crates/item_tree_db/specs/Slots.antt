@@ -1,0 +1,61 @@
+-- Within the crate: a map as the list of its entries, in the order of their numbers.
+use Rattle.std.specs.Prelude.{◌≡◌, ℕ, ◌<◌, ◌≤◌, List, length, replicate, slice_get, slice_set, slice_index_or, Option, Some, None, IsTrue}
+use Rattle.std.specs.List.{insert, AllByRecursion}
+use Rattle.std.specs.Option.{option_and_then}
+use Rattle.std.specs.Ordering.{nat_cmp}
+use Rattle.std.specs.FinMap as map
+use Rattle.item_tree_db.specs.declared.rows.Row.{Row}
+use Rattle.item_tree_db.specs.State.{find}
+use Rattle.item_tree_db.specs.Settled.{settled, cleared, empty_row}
+
+-- what a place has whose syntax is an S
+pub record Placed (S : Type 0) : Type 0 where
+  -- its present syntax
+  pub syntax : Option S
+  -- its tree and change number in each crate
+  pub rows : List Row
+
+-- the numbers rise
+abbrev pub IsRising : {X : Type 0} → List (ℕ × X) → Type 0
+IsRising l = IsTrue (map.is_sorted nat_cmp l)
+
+-- the list with this at the number, in its place
+abbrev pub put : {X : Type 0} → List (ℕ × X) → ℕ → X → List (ℕ × X)
+put l k v = map.put nat_cmp k v l
+
+-- the entry of the number is at this place
+pub record IsAt {X : Type 0} (l : List (ℕ × X)) (k at : ℕ) : Type 0 where
+  pub in_range : at < length l
+  pub has : (d : ℕ × X) → (slice_index_or l at d).0 ≡ k
+  pub found : (d : ℕ × X) → find l k ≡ Some (slice_index_or l at d).1
+  pub puts : (v : X) → put l k v ≡ slice_set l at (k, v)
+  pub rises : (v : X) → IsRising (put l k v)
+
+-- the number has no entry, and its place is this
+pub record IsGap {X : Type 0} (l : List (ℕ × X)) (k at : ℕ) : Type 0 where
+  pub in_range : at ≤ length l
+  pub absent : find l k ≡ None
+  pub puts : (v : X) → put l k v ≡ insert l at (k, v)
+  pub rises : (v : X) → IsRising (put l k v)
+
+-- each entry has a row for each crate
+abbrev pub HasRows : {S : Type 0} → ℕ → List (ℕ × Placed S) → Type 0
+HasRows count = AllByRecursion (λ slot. length slot.1.rows ≡ count)
+
+-- what a place has, or has if it was never set
+abbrev pub placed_or_nothing : {S : Type 0} → ℕ → ℕ → Option (Placed S) → Placed S
+placed_or_nothing start count None = record { syntax = None; rows = replicate count (empty_row start) }
+placed_or_nothing start count (Some place) = place
+
+-- edit n sets the syntax, which brings these trees
+abbrev pub set_to : {S : Type 0} → ℕ → Option S → List Row → Placed S → Placed S
+set_to n syntax fresh place = record { syntax = syntax; rows = settled n place.rows fresh }
+
+-- edit n removes the syntax
+abbrev pub removed : {S : Type 0} → ℕ → List (ℕ × Placed S) → ℕ → Option (Placed S) → List (ℕ × Placed S)
+removed n l k None = l
+removed n l k (Some place) = put l k (record { syntax = None; rows = cleared n place.rows })
+
+-- the row of a crate, if the number has an entry
+abbrev pub row_in : {S : Type 0} → List (ℕ × Placed S) → ℕ → ℕ → Option Row
+row_in l k i = option_and_then (λ place. slice_get place.rows i) (find l k)

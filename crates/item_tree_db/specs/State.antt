@@ -1,0 +1,79 @@
+-- What callers see of a table: no trees, since the present syntaxes fix them.
+use Rattle.std.specs.Prelude.{ℕ, ◌^◌, ◌<◌, ◌==◌, Bool, false, List, [], length, take, Option, None, Some, slice_get}
+use Rattle.std.specs.Option.{option_and_then, unwrap_or}
+use Rattle.std.specs.Ordering.{nat_cmp}
+use Rattle.std.specs.FinMap as map
+use Rattle.hir_input.specs.declared.ids.Crate.{Crate}
+use Rattle.hir_input.specs.Syntax.{SyntaxView}
+use Rattle.item_tree.specs.CrateView.{CrateView}
+use Rattle.item_tree.specs.Node.{Unfolding, nothing}
+use Rattle.item_tree.specs.Kept.{kept_syntax}
+use Rattle.item_tree_db.specs.declared.place.Place.{Place}
+use Rattle.item_tree_db.specs.declared.place.Place.TheVariants.{File, Block}
+
+-- what is held of a place that was ever set
+pub record Held : Type 0 where
+  -- its present syntax
+  pub syntax : Option SyntaxView
+  -- its change number in each crate
+  pub changed : List ℕ
+
+pub record State : Type 0 where
+  -- in the order of their numbers, from 0
+  pub crates : List CrateView
+  -- the names of attributes that no tree has
+  pub skipped : List (List ℕ)
+  -- the number before the first edit
+  pub start : ℕ
+  -- the number of the last edit
+  pub number : ℕ
+  -- the files that were ever set, in the order of their numbers
+  pub files : List (ℕ × Held)
+
+-- how many crates have a number
+abbrev pub crate_limit : ℕ
+crate_limit = 2 ^ 32
+
+-- nothing set
+abbrev pub new_table : List CrateView → List (List ℕ) → ℕ → State
+new_table crates skipped start = record { crates = take crate_limit crates; skipped = skipped; start = start; number = start; files = [] }
+
+-- the crate is of the list
+abbrev pub IsKnown : State → Crate → Type 0
+IsKnown s krate = krate.0 < length s.crates
+
+-- what a list of entries has at a number
+abbrev pub find : {X : Type 0} → List (ℕ × X) → ℕ → Option X
+find l k = map.find nat_cmp k l
+
+-- the place of a file
+abbrev pub file_at : ℕ → Place
+file_at k = File (record { 0 = k })
+
+-- of a place; no block is ever set
+abbrev pub held_at : State → Place → Option Held
+held_at s (File file) = find s.files file.0
+held_at s (Block block) = None
+
+-- the present syntax of a place
+abbrev pub present : State → Place → Option SyntaxView
+present s place = option_and_then (λ held. held.syntax) (held_at s place)
+
+-- the place is the crate's root file
+abbrev pub is_root_of : CrateView → Place → Bool
+is_root_of krate (File file) = file.0 == krate.root.0
+is_root_of krate (Block block) = false
+
+-- what a crate keeps of a place's present syntax, under its own options: nothing where there is none
+abbrev pub unfolding_of : List (List ℕ) → Place → Option CrateView → Option SyntaxView → Unfolding
+unfolding_of skipped place krate None = nothing
+unfolding_of skipped place None (Some syntax) = nothing
+unfolding_of skipped place (Some krate) (Some syntax) = kept_syntax (is_root_of krate place) krate skipped syntax
+
+-- what the tree of a place unfolds to in crate i
+abbrev pub unfolding_at : State → Place → ℕ → Unfolding
+unfolding_at s place i = unfolding_of s.skipped place (slice_get s.crates i) (present s place)
+
+-- the number of the last edit at which it became another, or the start
+abbrev pub change_number : State → Place → ℕ → ℕ
+change_number s place i = unwrap_or (option_and_then (λ held. slice_get held.changed i) (held_at s place)) s.start

@@ -1,0 +1,30 @@
+//! Edits of a table, and their refusals.
+use hir_input::HirFileId;
+use hir_input::ast::Syntax;
+use item_tree::EditFault;
+use thiserror::Error;
+
+/// A change of a table.
+#[derive(Debug, Drop)]
+pub enum Edit {
+    /// The file has this syntax from now on.
+    SetFile { file: HirFileId, syntax: Syntax },
+    /// The file has no syntax from now on. It may be one that was never set.
+    RemoveFile { file: HirFileId },
+}
+
+/// A refused edit, handed back, and why it was refused.
+#[derive(Debug, Drop, Error)]
+#[error("edit refused: {cause}")]
+pub struct EditRefused {
+    pub edit: Edit,
+    pub cause: EditFault,
+}
+
+/// The first refused edit of a list, and its place in the list, counted from 0.
+#[derive(Debug, Drop, Error)]
+#[error("edit {place} refused: {}", .refused.cause)]
+pub struct AllRefused {
+    pub place: usize,
+    pub refused: EditRefused,
+}

@@ -1,0 +1,15 @@
+//! A table of item trees: for each place that was set its syntax and, in each crate, its tree, kept under edits.
+#![tactic(auto)]
+
+pub mod edit;
+pub mod place;
+mod rows;
+mod shelf;
+pub mod sources;
+mod store;
+#[cfg(test)]
+mod tests;
+
+pub use edit::{AllRefused, Edit, EditRefused};
+pub use place::Place;
+pub use sources::{Sources, file_item_tree};

@@ -1,0 +1,123 @@
+//! The trees of one place, one for each crate, with their change numbers.
+ghost use Rattle.std.specs.Prelude.{◌≡◌, All, IfErr, IfOk, length, map, replicate};
+ghost use Rattle.hir_input.specs.Syntax.{syntax_view};
+ghost use Rattle.item_tree.specs.CrateView.{crate_view};
+ghost use Rattle.item_tree.specs.Size.{Fits, IsTooLarge};
+ghost use Rattle.item_tree_db.specs.State.{file_at};
+ghost use Rattle.item_tree_db.specs.Refusal.{IsPassed};
+ghost use Rattle.item_tree_db.specs.Settled.{settled, settled_row, empty_row, cleared, brought};
+
+use hir_input::ast::Syntax;
+use hir_input::{HirFileId, Name};
+use item_tree::{CrateData, ItemTree, LowerError, lower_syntax};
+use std::alloc::{AllocError, Global};
+use std::mem;
+
+/// A crate's tree of a place, and the number of the last edit at which it became another.
+#[derive(Drop)]
+pub struct Row {
+    pub tree: ItemTree,
+    pub changed: u64,
+}
+
+// Takes the new tree, with the number, unless it is equal to the old one.
+fn settle_row(row: &mut Row, fresh: &mut Row, number: u64)
+    ensures { row.new ≡ settled_row number row.old fresh.old }
+{
+    if row.tree != fresh.tree {
+        mem::swap(&mut row.tree, &mut fresh.tree);
+        row.changed = number;
+    }
+}
+
+/// Replaces each tree that is not equal to the new one. An equal tree stays, with its number.
+pub fn settle(rows: &mut [Row], mut fresh: Vec<Row>, number: u64)
+    requires { length fresh.items ≡ length rows.old }
+    ensures { rows.new ≡ settled number rows.old fresh.items }
+{
+    for i in 0..rows.len() {
+        settle_row(&mut rows[i], &mut fresh[i], number);
+    }
+}
+
+/// Replaces each tree that is not empty by the empty one. Takes no memory.
+pub fn clear(rows: &mut [Row], alloc: Global, number: u64)
+    ensures { rows.new ≡ cleared number rows.old }
+{
+    for row in rows.iter_mut() {
+        let mut none = Row {
+            tree: ItemTree::empty(alloc),
+            changed: number,
+        };
+        settle_row(row, &mut none, number);
+    }
+}
+
+// The rows of a place that was never set.
+fn empty_rows(alloc: Global, count: usize, start: u64) -> Result<Vec<Row>, AllocError>
+    ensures { IfOk result (λ rows. rows.items ≡ replicate count (empty_row start)) }
+{
+    let mut rows = Vec::new(alloc);
+    for _ in 0..count {
+        rows.push(Row {
+            tree: ItemTree::empty(alloc),
+            changed: start,
+        })?;
+    }
+    Ok(rows)
+}
+
+/// The rows of a place that is set for the first time.
+pub fn first_rows(
+    alloc: Global,
+    fresh: Vec<Row>,
+    start: u64,
+    number: u64,
+) -> Result<Vec<Row>, AllocError>
+    ensures { IfOk result (λ rows. rows.items ≡ settled number (replicate (length fresh.items) (empty_row start)) fresh.items) }
+{
+    let mut rows = empty_rows(alloc, fresh.len(), start)?;
+    settle(&mut rows, fresh, number);
+    Ok(rows)
+}
+
+// The syntax of a file lowered for one crate, under its own options.
+fn lower_row(
+    alloc: Global,
+    krate: &CrateData,
+    skipped: &[Name],
+    file: HirFileId,
+    syntax: &Syntax,
+    number: u64,
+) -> Result<Row, LowerError>
+    ensures row { IfOk result (λ row. row ≡ brought number skipped.now (file_at file.0) (syntax_view syntax.now) (crate_view krate.now)) }
+    ensures fits { IfOk result (λ row. Fits row.tree) }
+    ensures refused { IfErr result (IsTooLarge (brought number skipped.now (file_at file.0) (syntax_view syntax.now) (crate_view krate.now)).tree) }
+{
+    let tree = lower_syntax(alloc, syntax, file == krate.root, krate, skipped)?;
+    Ok(Row {
+        tree,
+        changed: number,
+    })
+}
+
+/// The syntax of a file lowered for every crate, under its own options.
+pub fn lower_all(
+    alloc: Global,
+    crates: &[CrateData],
+    skipped: &[Name],
+    file: HirFileId,
+    syntax: &Syntax,
+    number: u64,
+) -> Result<Vec<Row>, LowerError>
+    ensures rows { IfOk result (λ rows. rows.items ≡ map (λ krate. brought number skipped.now (file_at file.0) (syntax_view syntax.now) (crate_view krate)) crates.now) }
+    ensures fits { IfOk result (λ rows. All (λ row. Fits row.tree) rows.items) }
+    ensures refused { IfErr result (IsPassed (map crate_view crates.now) skipped.now (file_at file.0) (syntax_view syntax.now)) }
+{
+    let mut rows = Vec::new(alloc);
+    for krate in crates {
+        let row = lower_row(alloc, krate, skipped, file, syntax, number)?;
+        rows.push(row)?;
+    }
+    Ok(rows)
+}

@@ -1,0 +1,171 @@
+//! The entries of places of one kind, in the order of their numbers.
+ghost use Rattle.std.specs.Prelude.{◌≡◌, [], length, Some, None, option_copied, IfOk, IfErr, IfSome, OnOk, OnErr};
+ghost use Rattle.item_tree_db.specs.State.{find};
+ghost use Rattle.item_tree_db.specs.Settled.{settled, cleared};
+ghost use Rattle.item_tree_db.specs.Slots.{put, IsAt, IsGap, set_to, removed, placed_or_nothing, row_in};
+
+use crate::rows::{Row, clear, first_rows, settle};
+use std::alloc::Global;
+use std::marker::Model;
+
+/// What a place has: its present syntax, and a tree and a change number for each crate.
+#[derive(Drop)]
+pub struct Entry<S> {
+    syntax: Option<S>,
+    rows: Vec<Row>,
+}
+
+impl<S> Model for Entry<S> {
+    ghost use Rattle.item_tree_db.specs.Slots.{Placed};
+    ghost use Rattle.item_tree_db.specs.Codes.{placed_code};
+
+    ghost Value = { Placed S };
+
+    ghost coded = { placed_code S.code };
+
+    ghost view = { λ a. record { syntax = a.syntax; rows = a.rows.items } };
+}
+
+impl<S> Entry<S> {
+    fn new(syntax: S, rows: Vec<Row>) -> Self
+        ensures { result ≡ record { syntax = Some syntax; rows = rows.items } }
+    {
+        Entry {
+            syntax: Some(syntax),
+            rows,
+        }
+    }
+
+    pub fn syntax(&self) -> Option<&S>
+        ensures { option_copied result ≡ self.now.syntax }
+    {
+        self.syntax.as_ref()
+    }
+
+    fn rows(&self) -> &[Row]
+        ensures { result.now ≡ self.now.rows }
+    {
+        &self.rows
+    }
+}
+
+impl<S: Drop> Entry<S> {
+    fn set(&mut self, syntax: S, fresh: Vec<Row>, number: u64)
+        requires { length fresh.items ≡ length self.old.rows }
+        ensures { self.new ≡ record { syntax = Some syntax; rows = settled number self.old.rows fresh.items } }
+    {
+        self.syntax = Some(syntax);
+        settle(&mut self.rows, fresh, number);
+    }
+
+    fn remove(&mut self, alloc: Global, number: u64)
+        ensures { self.new ≡ record { syntax = None; rows = cleared number self.old.rows } }
+    {
+        self.syntax = None;
+        clear(&mut self.rows, alloc, number);
+    }
+}
+
+/// Entries by number.
+#[derive(Drop)]
+pub struct Shelf<S> {
+    slots: Vec<(u32, Entry<S>)>,
+}
+
+impl<S> Model for Shelf<S> {
+    ghost use Rattle.std.specs.Prelude.{ℕ, List};
+    ghost use Rattle.item_tree_db.specs.Slots.{Placed, IsRising};
+    ghost use Rattle.item_tree_db.specs.Codes.{slots_code};
+
+    ghost Value = { List (ℕ × Placed S) };
+
+    ghost coded = { slots_code S.code };
+
+    ghost view = { λ a. a.slots.items };
+
+    ghost invariant = { λ a. IsRising a.slots.items };
+}
+
+impl<S> Shelf<S> {
+    pub fn new(alloc: Global) -> Self
+        ensures { result ≡ [] }
+    {
+        Shelf {
+            slots: Vec::new(alloc),
+        }
+    }
+
+    // Where the number is, or where it would go.
+    fn search(&self, key: u32) -> Result<usize, usize>
+        ensures found { IfOk result (IsAt self.now key) }
+        ensures absent { IfErr result (IsGap self.now key) }
+    {
+        self.slots.binary_search_by_key(&key, |slot| slot.0)
+    }
+
+    pub fn get(&self, key: u32) -> Option<&Entry<S>>
+        ensures { option_copied result ≡ find self.now key }
+    {
+        match self.search(key) {
+            Ok(at) => Some(&self.slots[at].1),
+            Err(_) => None,
+        }
+    }
+
+    pub fn row(&self, key: u32, index: usize) -> Option<&Row>
+        ensures { option_copied result ≡ row_in self.now key index }
+    {
+        match self.get(key) {
+            Some(entry) => entry.rows().get(index),
+            None => None,
+        }
+    }
+}
+
+impl<S: Drop> Shelf<S> {
+    /// Sets the syntax of a number, with what it brings to each crate. All growth comes before the first change.
+    pub fn set(
+        &mut self,
+        alloc: Global,
+        key: u32,
+        syntax: S,
+        fresh: Vec<Row>,
+        start: u64,
+        number: u64,
+    ) -> Result<(), S>
+        requires { IfSome (find self.old key) (λ entry. length fresh.items ≡ length entry.rows) }
+        ensures ok { OnOk result (self.new ≡ put self.old key (set_to number (Some syntax) fresh.items (placed_or_nothing start (length fresh.items) (find self.old key)))) }
+        ensures err { OnErr result (self.new ≡ self.old) }
+        ensures returned { IfErr result (λ back. back ≡ syntax) }
+    {
+        match self.search(key) {
+            Ok(at) => {
+                let entry = &mut self.slots[at].1;
+                entry.set(syntax, fresh, number);
+                Ok(())
+            }
+            Err(at) => {
+                let Ok(rows) = first_rows(alloc, fresh, start, number) else {
+                    return Err(syntax);
+                };
+                let Ok(()) = self.slots.reserve(1) else {
+                    return Err(syntax);
+                };
+                self.slots
+                    .insert(at, (key, Entry::new(syntax, rows)))
+                    .unwrap();
+                Ok(())
+            }
+        }
+    }
+
+    /// Removes the syntax of a number. Takes no memory.
+    pub fn remove(&mut self, alloc: Global, key: u32, number: u64)
+        ensures { self.new ≡ removed number self.old key (find self.old key) }
+    {
+        if let Ok(at) = self.search(key) {
+            let entry = &mut self.slots[at].1;
+            entry.remove(alloc, number);
+        }
+    }
+}

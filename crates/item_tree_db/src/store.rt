@@ -1,0 +1,208 @@
+//! The table with its trees as its value.
+ghost use Rattle.std.specs.Prelude.{◌≡◌, ◌+◌, ◌<◌, ◌↔◌, ◌^◌, [], All, length, map, take, slice_get, option_map, option_copied, Some, IsTrue, IfOk, IfErr, OnOk, OnErr, IsErrAnd};
+ghost use Rattle.hir_input.specs.Syntax.{syntax_view};
+ghost use Rattle.item_tree.specs.declared.fault.EditFault.TheVariants.{TooManyEdits};
+ghost use Rattle.item_tree.specs.CrateView.{crate_view};
+ghost use Rattle.item_tree_db.specs.State.{crate_limit, file_at};
+ghost use Rattle.item_tree_db.specs.Edits.{edit_view, set_file as sets, remove_file as removes};
+ghost use Rattle.item_tree_db.specs.Refusal.{last_number, SyntaxFits, EditFits, IsPassed, IsCause};
+ghost use Rattle.item_tree_db.specs.Table.{after, after_all, state_of, syntax_at, row_found, row_at};
+
+use crate::edit::{AllRefused, Edit, EditRefused};
+use crate::place::Place;
+use crate::rows::{Row, lower_all};
+use crate::shelf::Shelf;
+use hir_input::ast::Syntax;
+use hir_input::{Crate, HirFileId, Name};
+use item_tree::{CrateData, EditFault, ItemTree, LowerError};
+use std::alloc::Global;
+use std::marker::Model;
+
+/// The trees of every place and crate.
+#[derive(Drop)]
+pub struct Store {
+    alloc: Global,
+    crates: Vec<CrateData>,
+    skipped: Vec<Name>,
+    start: u64,
+    number: u64,
+    files: Shelf<Syntax>,
+    empty: ItemTree,
+}
+
+impl Model for Store {
+    ghost use Rattle.std.specs.Prelude.{◌≡◌, length, map};
+    ghost use Rattle.item_tree.specs.Node.{nothing};
+    ghost use Rattle.item_tree.specs.CrateView.{crate_view};
+    ghost use Rattle.item_tree_db.specs.Slots.{HasRows};
+    ghost use Rattle.item_tree_db.specs.Table.{Table, places_view};
+    ghost use Rattle.item_tree_db.specs.Codes.{table_code};
+
+    ghost Value = { Table };
+
+    ghost coded = { table_code };
+
+    ghost view = { λ a. record { crates = map crate_view a.crates.items; skipped = a.skipped.items; start = a.start; number = a.number; files = places_view a.files } };
+
+    ghost invariant = { λ a. record { files : HasRows (length a.crates.items) a.files; empty : a.empty ≡ nothing } };
+}
+
+// A refused syntax, handed back.
+#[derive(Drop)]
+struct SyntaxRefused {
+    syntax: Syntax,
+    cause: LowerError,
+}
+
+impl Store {
+    /// Nothing set, and the crates that have a number.
+    pub fn new(alloc: Global, mut crates: Vec<CrateData>, skipped: Vec<Name>, start: u64) -> Store
+        ensures { result ≡ record { crates = take crate_limit (map crate_view crates.items); skipped = skipped.items; start = start; number = start; files = [] } }
+    {
+        crates.truncate(u32::MAX as usize + 1);
+        Store {
+            alloc,
+            crates,
+            skipped,
+            start,
+            number: start,
+            files: Shelf::new(alloc),
+            empty: ItemTree::empty(alloc),
+        }
+    }
+
+    fn set_file(&mut self, file: HirFileId, syntax: Syntax) -> Result<(), SyntaxRefused>
+        requires { self.old.number + 1 < 2 ^ 64 }
+        ensures ok { OnOk result (self.new ≡ after self.old (sets file.0 (syntax_view syntax))) }
+        ensures err { OnErr result (self.new ≡ self.old) }
+        ensures returned { IfErr result (λ refused. refused.syntax ≡ syntax) }
+        ensures fits { OnOk result (SyntaxFits self.old.crates self.old.skipped (file_at file.0) (syntax_view syntax)) }
+        ensures refused { IfErr result (λ refused. IsPassed self.old.crates self.old.skipped (file_at file.0) (syntax_view syntax) refused.cause) }
+    {
+        let number = self.number + 1;
+        let fresh = match lower_all(
+            self.alloc,
+            &self.crates,
+            &self.skipped,
+            file,
+            &syntax,
+            number,
+        ) {
+            Ok(fresh) => fresh,
+            Err(cause) => return Err(SyntaxRefused { syntax, cause }),
+        };
+        if let Err(syntax) = self
+            .files
+            .set(self.alloc, file.0, syntax, fresh, self.start, number)
+        {
+            let cause = LowerError::OutOfMemory;
+            return Err(SyntaxRefused { syntax, cause });
+        }
+        self.number = number;
+        Ok(())
+    }
+
+    fn remove_file(&mut self, file: HirFileId)
+        requires { self.old.number + 1 < 2 ^ 64 }
+        ensures { self.new ≡ after self.old (removes file.0) }
+    {
+        let number = self.number + 1;
+        self.files.remove(self.alloc, file.0, number);
+        self.number = number;
+    }
+
+    /// Makes an edit, and gives its number. A refusal changes nothing, and hands the edit back.
+    pub fn edit(&mut self, edit: Edit) -> Result<u64, EditRefused>
+        ensures ok { OnOk result (self.new ≡ after self.old (edit_view edit)) }
+        ensures number { IfOk result (λ number. number ≡ self.new.number) }
+        ensures fits { OnOk result (EditFits self.old.crates self.old.skipped (edit_view edit)) }
+        ensures err { OnErr result (self.new ≡ self.old) }
+        ensures returned { IfErr result (λ refused. refused.edit ≡ edit) }
+        ensures cause { IfErr result (λ refused. IsCause (state_of self.old) (edit_view edit) refused.cause) }
+        ensures full { (self.old.number ≡ last_number) ↔ IsErrAnd result (λ refused. refused.cause ≡ TooManyEdits) }
+    {
+        if self.number == u64::MAX {
+            let cause = EditFault::TooManyEdits;
+            return Err(EditRefused { edit, cause });
+        }
+        match edit {
+            Edit::SetFile { file, syntax } => {
+                if let Err(SyntaxRefused { syntax, cause }) = self.set_file(file, syntax) {
+                    let edit = Edit::SetFile { file, syntax };
+                    let cause = EditFault::Lower(cause);
+                    return Err(EditRefused { edit, cause });
+                }
+            }
+            Edit::RemoveFile { file } => self.remove_file(file),
+        }
+        Ok(self.number)
+    }
+
+    /// Makes edits up to the first refused one, and gives the number after the last.
+    pub fn edit_all(&mut self, edits: Vec<Edit>) -> Result<u64, AllRefused>
+        ensures ok { OnOk result (self.new ≡ after_all self.old (map edit_view edits.items)) }
+        ensures number { IfOk result (λ number. number ≡ self.new.number) }
+        ensures fits { OnOk result (All (EditFits self.old.crates self.old.skipped) (map edit_view edits.items)) }
+        ensures refused { IfErr result (λ all. self.new ≡ after_all self.old (take all.place (map edit_view edits.items))) }
+        ensures fits_before { IfErr result (λ all. All (EditFits self.old.crates self.old.skipped) (take all.place (map edit_view edits.items))) }
+        ensures place { IfErr result (λ all. slice_get edits.items all.place ≡ Some all.refused.edit) }
+        ensures cause { IfErr result (λ all. IsCause (state_of self.new) (edit_view all.refused.edit) all.refused.cause) }
+        ensures full { IfErr result (λ all. self.new.number ≡ last_number → all.refused.cause ≡ TooManyEdits) }
+    {
+        for (place, edit) in edits.into_iter().enumerate() {
+            if let Err(refused) = self.edit(edit) {
+                return Err(AllRefused { place, refused });
+            }
+        }
+        Ok(self.number)
+    }
+
+    pub fn number(&self) -> u64
+        ensures { result ≡ self.now.number }
+    {
+        self.number
+    }
+
+    pub fn knows(&self, krate: Crate) -> bool
+        ensures { IsTrue result ↔ (krate.0 < length self.now.crates) }
+    {
+        (krate.0 as usize) < self.crates.len()
+    }
+
+    pub fn file_syntax(&self, file: HirFileId) -> Option<&Syntax>
+        ensures { option_map syntax_view (option_copied result) ≡ syntax_at self.now (Place.File file) }
+    {
+        match self.files.get(file.0) {
+            Some(entry) => entry.syntax(),
+            None => None,
+        }
+    }
+
+    // Of a place that was ever set. No edit sets a block.
+    fn row(&self, place: Place, krate: Crate) -> Option<&Row>
+        ensures { option_copied result ≡ row_found self.now place krate.0 }
+    {
+        match place {
+            Place::File(file) => self.files.row(file.0, krate.0 as usize),
+            Place::Block(_) => None,
+        }
+    }
+
+    pub fn changed(&self, place: Place, krate: Crate) -> u64
+        ensures { result ≡ (row_at self.now place krate.0).changed }
+    {
+        match self.row(place, krate) {
+            Some(row) => row.changed,
+            None => self.start,
+        }
+    }
+
+    pub fn tree(&self, place: Place, krate: Crate) -> &ItemTree
+        ensures { result.now ≡ (row_at self.now place krate.0).tree }
+    {
+        match self.row(place, krate) {
+            Some(row) => &row.tree,
+            None => &self.empty,
+        }
+    }
+}
