@@ -1,0 +1,10 @@
+pub mod Attrs
+pub mod Inside
+pub mod Items
+pub mod Laws
+pub mod Lists
+pub mod Made
+pub mod Names
+pub mod Outputs
+pub mod Served
+pub mod Spans

@@ -1,0 +1,12 @@
+-- A form that holds forms of its own kind.
+use Rattle.std.specs.Prelude.{ℕ, zero, suc, Option, None}
+use Rattle.serde_json.specs.Data.{Data, depth}
+
+-- by a form over the reading of those inside, down to this many within one another
+abbrev pub nested_at : {A : Type 0} → ((Data → Option A) → Data → Option A) → ℕ → Data → Option A
+nested_at form zero d = None
+nested_at form (suc n) d = form (nested_at form n) d
+
+-- down to the last
+unfoldable pub nested : {A : Type 0} → ((Data → Option A) → Data → Option A) → Data → Option A
+nested form d = nested_at form (suc (depth d)) d

@@ -1,0 +1,54 @@
+//! Editions, read from their forms.
+ghost use Rattle.std.specs.Prelude.{◌≡◌, codes};
+ghost use Rattle.serde_json.specs.View.{view};
+ghost use Rattle.hir_input.specs.declared.edition.EditionYear.TheVariants.{E2024};
+ghost use Rattle.item_tree_tool.specs.Editions.{edition as edition_form, edition_view, latest, year as year_form};
+ghost use Rattle.item_tree_tool.specs.Forms.{field as field_of, optional};
+ghost use Rattle.item_tree_tool.specs.Reads.{Reads};
+
+use crate::request::fault::Fault;
+use crate::request::member::{field, list_at};
+use crate::request::name::names_of;
+use hir_input::{Edition, EditionYear};
+use serde_json::Value;
+use std::alloc::Global;
+
+// The latest year where it is absent.
+fn year_at(value: &Value) -> Result<EditionYear, Fault>
+    ensures { Reads (λ year. year) result (optional E2024 year_form (field_of (codes "year") (view value.now))) }
+{
+    let Some(year) = field(value, "year") else {
+        return Ok(EditionYear::E2024);
+    };
+    match year.as_u64() {
+        Some(2015) => Ok(EditionYear::E2015),
+        Some(2018) => Ok(EditionYear::E2018),
+        Some(2021) => Ok(EditionYear::E2021),
+        Some(2024) => Ok(EditionYear::E2024),
+        _ => Err(Fault::NotRequest),
+    }
+}
+
+fn edition_of(alloc: Global, value: &Value) -> Result<Edition, Fault>
+    ensures { Reads edition_view result (edition_form (view value.now)) }
+{
+    if !value.is_object() {
+        return Err(Fault::NotRequest);
+    }
+    let year = year_at(value)?;
+    let reserved = names_of(alloc, list_at(value, "reserved")?)?;
+    Ok(Edition { year, reserved })
+}
+
+// The latest edition, without reserved words, where it is absent.
+pub(crate) fn edition_at(alloc: Global, value: &Value) -> Result<Edition, Fault>
+    ensures { Reads edition_view result (optional latest edition_form (field_of (codes "edition") (view value.now))) }
+{
+    match field(value, "edition") {
+        Some(edition) => edition_of(alloc, edition),
+        None => Ok(Edition {
+            year: EditionYear::E2024,
+            reserved: Vec::new(alloc),
+        }),
+    }
+}
