@@ -1,5 +1,5 @@
 -- `==` at attributes decides whether they are one.
-use Rattle.std.proofs.Common.{◌≡◌, ℕ, Bool, true, Option, None, Some, refl, ap, rules}
+use Rattle.std.proofs.Common.{◌≡◌, Bool, Option, None, Some, refl, ap}
 use Rattle.std.specs.Bool.{Decides}
 use Rattle.std.specs.Option.{option_eq}
 use Rattle.std.proofs.lemmas.Bool.Decides.{Decides-eqb}

@@ -1,5 +1,5 @@
 -- `==` at conditions decides whether their plain data are one.
-use Rattle.std.proofs.Common.{◌≡◌, ℕ, Bool, true, false, ◌&&◌, List, [], ◌∷◌, map, Vec, Box, Global, Option, None, Some, refl, sym, ap, ◌∙◌, subst}
+use Rattle.std.proofs.Common.{◌≡◌, Bool, true, false, ◌&&◌, List, [], ◌∷◌, map, refl, sym, ap, ◌∙◌, subst}
 use Rattle.std.specs.Bool.{Decides}
 use Rattle.std.specs.Cmp.{first_so, second_so}
 use Rattle.std.specs.Cmp.Lexicographic.{pointwise}
@@ -11,7 +11,7 @@ use Rattle.hir_input.specs.declared.cfg.CfgExpr.TheOpen.{CfgExpr-F}
 use Rattle.hir_input.specs.contracts.cfg.CfgAtomPartialEq.TheImpl as atoms
 use Rattle.hir_input.specs.contracts.cfg.CfgExprPartialEq.TheImpl as cfgs
 use Rattle.hir_input.specs.contracts.cfg.CfgExprPartialEq.TheImpl.Laws as cfg_laws
-use Rattle.hir_input.specs.Cfg.{CfgView, CfgViews, no_cfgs, cfg_and, invalid, atom, all_of, any_of, not_of, cfgs_from, cfg_step, cfg_view}
+use Rattle.hir_input.specs.Cfg.{CfgView, cfg_and, atom, all_of, any_of, not_of, cfgs_from, cfg_step, cfg_view}
 
 -- two tests together, and a fact that says the same
 pub pair_decides : {P Q : Type 0} (p q : Bool) → Decides p P → Decides q Q → Decides (p && q) (P × Q)

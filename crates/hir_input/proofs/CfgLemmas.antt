@@ -1,7 +1,7 @@
 -- The equations of a condition's plain data, of its text and of its truth.
-use Rattle.std.proofs.Common.{◌≡◌, ℕ, ◌<◌, List, [], ◌∷◌, ◌++◌, map, codes, not, Vec, Box, Global, Option, None, Some, option_map, sym, ap, ◌∙◌, refl, length, arith}
+use Rattle.std.proofs.Common.{◌≡◌, ℕ, ◌<◌, List, [], ◌∷◌, ◌++◌, map, codes, not, Vec, Box, Global, None, Some, option_map, sym, ap, ◌∙◌, refl, length, arith}
 use Rattle.std.proofs.lemmas.Grind.{common_steps, flat_map-append}
-use Rattle.hir_input.specs.Cfg.{CfgView, CfgViews, invalid, atom, all_of, any_of, not_of, cfgs_from, cfg_step, cfg_view, by_commas, shown_atom, shown_cfg, shown_cfgs, holds, all_answer, any_answer, truth, truths}
+use Rattle.hir_input.specs.Cfg.{CfgView, invalid, atom, all_of, any_of, not_of, cfgs_from, cfg_step, cfg_view, by_commas, shown_atom, shown_cfg, shown_cfgs, holds, all_answer, any_answer, truth, truths}
 use Rattle.hir_input.specs.declared.cfg.CfgAtom.{CfgAtom}
 use Rattle.hir_input.specs.declared.cfg.CfgExpr.{CfgExpr, CfgExpr-F, fold-roll-CfgExpr}
 use Rattle.hir_input.specs.declared.cfg.CfgExpr.TheVariants.{Invalid, Atom, All, Any, Not, rolls-Invalid, rolls-Atom, rolls-All, rolls-Any, rolls-Not}

@@ -1,7 +1,11 @@
 pub mod AttrEq
 pub mod CfgEq
 pub mod CfgLemmas
+pub mod Joining
 pub mod MetaLemmas
 pub mod PathEq
 pub mod PathLemmas
+pub mod Reading
 pub mod SyntaxViews
+pub mod UseTreeNodes
+pub mod UseTreeViews

@@ -1,8 +1,9 @@
 -- What a node that is made is seen as.
-use Rattle.std.proofs.Common.{◌≡◌, Bool, ℕ, List, Option, Some, None, option_map, map, string_bytes, refl, ap, sym, ◌∙◌, Vec, String, Global, rules}
+use Rattle.std.proofs.Common.{◌≡◌, Bool, ℕ, List, Option, Some, None, option_map, map, string_bytes, refl, ap, ◌∙◌, Vec, String, Global, rules}
 use Rattle.hir_input.specs.declared.ast.Fn as ast_fn
 use Rattle.hir_input.specs.declared.ast.Struct as ast_struct
 use Rattle.hir_input.specs.declared.ast.Module as ast_module
+use Rattle.hir_input.specs.declared.ast.Use as ast_use
 use Rattle.hir_input.specs.declared.ast.Visibility.{Visibility}
 use Rattle.hir_input.specs.declared.ast.Item as Item
 use Rattle.hir_input.specs.declared.ast.Item.{Item, the_lemmas}
@@ -11,13 +12,16 @@ use Rattle.hir_input.specs.declared.ast.Item.TheFolds.{fold_out-Module}
 use Rattle.hir_input.specs.declared.ast.Item.TheShapes.{former-Module-items}
 use Rattle.hir_input.specs.declared.attr.Meta.{Meta}
 use Rattle.hir_input.specs.Attr.{meta_view}
-use Rattle.hir_input.specs.Syntax.{ItemView, item_step, module_step, item_view, module_view, module_from, fn_item, fn_view, struct_item, struct_view}
+use Rattle.hir_input.specs.Syntax.{ItemView, item_step, module_step, item_view, module_view, module_from, fn_item, fn_view, struct_item, struct_view, use_item, use_view}
 
 pub item_view-Fn : (f : ast_fn.Fn) → item_view (Item.Fn f) ≡ fn_item (fn_view f)
 item_view-Fn f = search (rules, the_lemmas)
 
 pub item_view-Struct : (s : ast_struct.Struct) → item_view (Item.Struct s) ≡ struct_item (struct_view s) s.kind
 item_view-Struct s = search (rules, the_lemmas)
+
+pub item_view-Use : (u : ast_use.Use) → item_view (Item.Use u) ≡ use_item (use_view u)
+item_view-Use u = search (rules, the_lemmas)
 
 pub item_view-Module : (m : ast_module.Module) → item_view (Item.Module m) ≡ module_view m
 item_view-Module m = search (rules, the_lemmas)

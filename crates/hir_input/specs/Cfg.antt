@@ -1,5 +1,5 @@
 -- Conditions as plain data: how they are displayed, and whether they are true.
-use Rattle.std.specs.Prelude.{ℕ, List, [], ◌∷◌, ◌++◌, map, codes, Bool, true, false, not, Option, Some, None, option_map, unwrap_or, nat_eq, if◌then◌else◌, ◌||◌}
+use Rattle.std.specs.Prelude.{ℕ, List, [], ◌∷◌, ◌++◌, codes, Bool, true, false, not, Option, Some, None, option_map, unwrap_or, nat_eq, if◌then◌else◌}
 use Rattle.std.specs.List.{join_by, find, list_any}
 use Rattle.std.specs.Cmp.Lexicographic.{pointwise}
 use Rattle.hir_input.specs.declared.cfg.CfgAtom.{CfgAtom}

@@ -3,6 +3,7 @@ use Rattle.std.specs.Prelude.{ℕ, List, [], ◌∷◌, Bool, Option, Some, None
 use Rattle.hir_input.specs.declared.ast.Fn as ast_fn
 use Rattle.hir_input.specs.declared.ast.Struct as ast_struct
 use Rattle.hir_input.specs.declared.ast.Module as ast_module
+use Rattle.hir_input.specs.declared.ast.Use as ast_use
 use Rattle.hir_input.specs.declared.ast.StructKind.{StructKind}
 use Rattle.hir_input.specs.declared.ast.Visibility.{Visibility}
 use Rattle.hir_input.specs.declared.ast.Syntax.{Syntax}
@@ -11,6 +12,7 @@ use Rattle.hir_input.specs.declared.ast.Item.{Item}
 use Rattle.hir_input.specs.declared.ast.Item.TheOpen.{Item-F, Module-F}
 use Rattle.hir_input.specs.declared.ast.Item.TheFolds.{fold-Item, fold-Module}
 use Rattle.hir_input.specs.Attr.{MetaView, meta_view}
+use Rattle.hir_input.specs.UseTreeView.{UseTreeView, use_tree_view}
 
 -- what every node has
 pub record NodeView : Type 0 where
@@ -25,6 +27,12 @@ pub record NamedView : Type 0 where
   pub name : Option (List ℕ)
   pub visibility : Option Visibility
 
+-- a use may have a use tree, and has no name
+pub record UseView : Type 0 where
+  pub node : NodeView
+  pub visibility : Option Visibility
+  pub use_tree : Option UseTreeView
+
 -- an item; a module may have a semicolon, and may have a list of items
 mutual
   pub data ItemView : Type 0 where
@@ -32,6 +40,7 @@ mutual
     struct_item : NamedView → StructKind → ItemView
     bare_module : NamedView → Bool → ItemView
     listed_module : NamedView → Bool → ItemViews → ItemView
+    use_item : UseView → ItemView
 
   pub data ItemViews : Type 0 where
     no_items : ItemViews
@@ -59,6 +68,9 @@ fn_view f = record { node = record { hash = f.hash; number = f.number; attrs = m
 abbrev pub struct_view : ast_struct.Struct → NamedView
 struct_view s = record { node = record { hash = s.hash; number = s.number; attrs = map meta_view s.attrs.items; body = string_bytes s.body }; name = s.name; visibility = s.visibility }
 
+abbrev pub use_view : ast_use.Use → UseView
+use_view u = record { node = record { hash = u.hash; number = u.number; attrs = map meta_view u.attrs.items; body = string_bytes u.body }; visibility = u.visibility; use_tree = option_map use_tree_view u.use_tree }
+
 -- a module, with each of its items seen in its place
 abbrev pub module_step : Module-F ItemView ItemView → ItemView
 module_step m = module_from (record { node = record { hash = m.hash; number = m.number; attrs = map meta_view m.attrs.items; body = string_bytes m.body }; name = m.name; visibility = m.visibility }) m.semicolon (option_map (λ v. v.items) m.items)
@@ -67,6 +79,7 @@ abbrev pub item_step : Item-F ItemView ItemView → ItemView
 item_step (Item-F.Fn f) = fn_item (fn_view f)
 item_step (Item-F.Struct s) = struct_item (struct_view s) s.kind
 item_step (Item-F.Module m) = m
+item_step (Item-F.Use u) = use_item (use_view u)
 
 abbrev pub item_view : Item → ItemView
 item_view = fold-Item ItemView ItemView item_step module_step

@@ -22,6 +22,7 @@ pub enum Item {
     Fn(Fn),
     Struct(Struct),
     Module(Module),
+    Use(Use),
 }
 
 /// A function.
@@ -66,6 +67,32 @@ pub struct Module {
     pub semicolon: bool,
     pub items: Option<Vec<Item>>,
     pub body: String,
+}
+
+/// A use.
+#[derive(Debug, Drop)]
+pub struct Use {
+    pub hash: u16,
+    pub number: u32,
+    pub attrs: Vec<Meta>,
+    pub visibility: Option<Visibility>,
+    pub use_tree: Option<UseTree>,
+    pub body: String,
+}
+
+/// A use tree: a path, a star, a rename and a list of use trees, each of them written or not.
+#[derive(Debug, Drop)]
+pub struct UseTree {
+    pub path: Option<PathNode>,
+    pub star: bool,
+    pub rename: Option<Rename>,
+    pub list: Option<Vec<UseTree>>,
+}
+
+/// A rename, to a name or to `_`.
+#[derive(Debug, Drop)]
+pub struct Rename {
+    pub name: Option<Name>,
 }
 
 /// A visibility as it is written.

@@ -13,6 +13,7 @@ pub mod span;
 #[cfg(test)]
 mod tests;
 pub mod text;
+mod use_trees;
 
 pub use attr::{Attr, AttrId, AttrInput, Literal, Meta, TokenTree};
 pub use cfg::{CfgAtom, CfgExpr, CfgOptions};

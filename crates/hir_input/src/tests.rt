@@ -1,2 +1,3 @@
 mod attributes;
 mod names;
+mod use_trees;

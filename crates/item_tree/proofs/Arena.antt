@@ -8,7 +8,7 @@ use Rattle.hir_input.specs.Path.{Path}
 use Rattle.item_tree.specs.declared.visibility.VisibilityExplicitness.{VisibilityExplicitness}
 use Rattle.item_tree.specs.declared.visibility.RawVisibility.{RawVisibility}
 use Rattle.item_tree.specs.declared.visibility.RawVisibility.TheVariants.{Module, PubSelf, PubCrate, Public}
-use Rattle.item_tree.specs.Node.{Ctor, no_ctor, ctor_with, Leaf, function, struct_item, outline, Trunk, inline, Node, Forest, leaf, parent, empty, more}
+use Rattle.item_tree.specs.Node.{Ctor, no_ctor, ctor_with, Leaf, function, struct_item, outline, use_item, Trunk, inline, Node, Forest, leaf, parent, empty, more}
 use Rattle.item_tree.specs.Layout.{same, place, place_of, vis_id, meet, or_public, vis_value, value_at, plain_vis, ctor_map, leaf_map, trunk_map, ctor_vis, leaf_vis, trunk_vis, meet_all, node_met, met}
 use Rattle.item_tree.proofs.VisibilityEq.{same-sound, same-itself}
 
@@ -216,6 +216,7 @@ ctor_map-agree f g (ctor_with v) h = ap ctor_with h.0
 pub leaf_map-agree : {A B : Type 0} (f g : A → B) (l : Leaf A) → Agree f g (leaf_vis l) → leaf_map f l ≡ leaf_map g l
 leaf_map-agree f g (function n v) h = ap (function n) h.0
 leaf_map-agree f g (outline n v) h = ap (outline n) h.0
+leaf_map-agree f g (use_item v t) h = ap (λ u. use_item u t) h.0
 leaf_map-agree f g (struct_item n v s c) h = λ i. struct_item n (h.0 i) s (ctor_map-agree f g c h.1 i)
 
 pub trunk_map-agree : {A B : Type 0} (f g : A → B) (t : Trunk A) → Agree f g (trunk_vis t) → trunk_map f t ≡ trunk_map g t
@@ -228,6 +229,7 @@ ctor_map-map f g (ctor_with v) = refl
 pub leaf_map-map : {A B C : Type 0} (f : B → C) (g : A → B) (l : Leaf A) → leaf_map f (leaf_map g l) ≡ leaf_map (λ v. f (g v)) l
 leaf_map-map f g (function n v) = refl
 leaf_map-map f g (outline n v) = refl
+leaf_map-map f g (use_item v t) = refl
 leaf_map-map f g (struct_item n v s c) = ap (struct_item n (f (g v)) s) (ctor_map-map f g c)
 
 pub trunk_map-map : {A B C : Type 0} (f : B → C) (g : A → B) (t : Trunk A) → trunk_map f (trunk_map g t) ≡ trunk_map (λ v. f (g v)) t
@@ -240,6 +242,7 @@ ctor_map-itself (ctor_with v) = refl
 pub leaf_map-itself : {A : Type 0} (l : Leaf A) → leaf_map (λ v. v) l ≡ l
 leaf_map-itself (function n v) = refl
 leaf_map-itself (outline n v) = refl
+leaf_map-itself (use_item v t) = refl
 leaf_map-itself (struct_item n v s c) = ap (struct_item n v s) (ctor_map-itself c)
 
 pub trunk_map-itself : {A : Type 0} (t : Trunk A) → trunk_map (λ v. v) t ≡ t

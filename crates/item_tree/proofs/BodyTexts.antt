@@ -2,7 +2,7 @@
 use Rattle.std.proofs.Common.{◌≡◌, ℕ, Bool, List, refl, ap}
 use Rattle.std.specs.Prelude.{option_map}
 use Rattle.hir_input.specs.declared.cfg.CfgAtom.{CfgAtom}
-use Rattle.hir_input.specs.Syntax.{ItemView, ItemViews, fn_item, struct_item, bare_module, listed_module, no_items, item_and, SyntaxView, source_file, error}
+use Rattle.hir_input.specs.Syntax.{ItemView, ItemViews, fn_item, struct_item, bare_module, listed_module, use_item, no_items, item_and, SyntaxView, source_file, error}
 use Rattle.hir_input.specs.Bodies.{item_without_bodies, items_without_bodies, without_bodies}
 use Rattle.item_tree.specs.CrateView.{CrateView}
 use Rattle.item_tree.specs.Visibility.{read_visibility}
@@ -17,6 +17,7 @@ module _ (options : List CfgAtom) (skipped : List (List ℕ)) where
     kept-item_without_bodies (bare_module n semicolon) = refl
     kept-item_without_bodies (listed_module n semicolon is) =
         ap (λ f. option_map (λ name. module_node semicolon (head_of options skipped n.node) name (read_visibility n.visibility) f) n.name) (kept_all-items_without_bodies is)
+    kept-item_without_bodies (use_item u) = refl
 
     pub kept_all-items_without_bodies : (is : ItemViews) → kept_all options skipped (items_without_bodies is) ≡ kept_all options skipped is
     kept_all-items_without_bodies no_items = refl

@@ -30,7 +30,7 @@ use Rattle.item_tree.specs.declared.items.StructValueNsCtor.{StructValueNsCtor}
 use Rattle.item_tree.specs.declared.items.StructValueNsCtor.TheVariants.{NoValueNsCtor, ValueNsCtorWithVis}
 use Rattle.item_tree.specs.contracts.items.StructValueNsCtorPartialEq.TheImpl as ctor_eqs
 use Rattle.item_tree.specs.declared.items.ModItem.{ModItem}
-use Rattle.item_tree.specs.declared.items.ModItem.TheVariants.{Function, Struct, Mod}
+use Rattle.item_tree.specs.declared.items.ModItem.TheVariants.{Function, Struct, Mod, Use}
 use Rattle.item_tree.specs.contracts.items.ModItemPartialEq.TheImpl as item_eqs
 use Rattle.item_tree.specs.declared.items.ModKind.{ModKind}
 use Rattle.item_tree.specs.declared.items.ModKind.TheVariants.{Inline, Outline}
@@ -38,11 +38,14 @@ use Rattle.item_tree.specs.contracts.items.ModKindPartialEq.TheImpl as kind_eqs
 use Rattle.item_tree.specs.declared.rows.AstKey.{AstKey}
 use Rattle.item_tree.specs.contracts.rows.AstKeyPartialEq.TheImpl as key_eqs
 use Rattle.item_tree.specs.declared.rows.Rows.{Rows}
-use Rattle.item_tree.specs.Node.{Ctor, no_ctor, ctor_with, Leaf, function, struct_item, outline, Trunk, inline, Head, Unfolding}
+use Rattle.item_tree.specs.Node.{Ctor, no_ctor, ctor_with, Leaf, function, struct_item, outline, use_item, Trunk, inline, Head, Unfolding}
 use Rattle.item_tree.specs.NodeCode.{unfolding_code}
 use Rattle.item_tree.specs.Layout.{same as same_vis, VisId, fixed, place, plain_vis, leaf_map, trunk_map, leaf_vis, trunk_vis, RowItem, leaf_row, parent_row, layout}
 use Rattle.item_tree.specs.Same.{same, same_of_equal, equal_of_same, agree}
 use Rattle.item_tree.specs.Shown.{ctor_ids}
+use Rattle.item_tree.specs.Tree.{Tree, glob}
+use Rattle.item_tree.specs.TreeCode.{use_item_code}
+use Rattle.item_tree.specs.UseItem.{UseItem}
 use Rattle.item_tree.specs.Stored.{leaf_plain, parent_plain, module_row, item_row, key_in, tables_of}
 use Rattle.item_tree.proofs.VisibilityEq.{same-sound, same-itself}
 use Rattle.item_tree.proofs.Arena.{bool_cases, Agree, leaf_map-map, trunk_map-map, leaf_map-agree, trunk_map-agree, leaf_map-itself, trunk_map-itself}
@@ -195,17 +198,20 @@ item-sound (Mod f) (Mod g) h =
     let p = and_parts (numbers_eq f.name g.name) (f.visibility == g.visibility && mod_eq f.kind g.kind) q in
     let r = and_parts (f.visibility == g.visibility) (mod_eq f.kind g.kind) p.1 in
     kind-sound f.name g.name f.visibility g.visibility f.kind g.kind (numbers-sound f.name g.name p.0) (eqb-true f.visibility g.visibility r.0) r.1
+item-sound (Use f) (Use g) h = ap (λ (x : UseItem). leaf_plain (use_item x.visibility x.tree)) (equal_of_same use_item_code f g h)
 item-sound _ _ h = cc
 
 abbrev leaf_name : Leaf ℕ → List ℕ
 leaf_name (function n v) = n
 leaf_name (struct_item n v s c) = n
 leaf_name (outline n v) = n
+leaf_name (use_item v t) = []
 
 abbrev leaf_visibility : Leaf ℕ → ℕ
 leaf_visibility (function n v) = v
 leaf_visibility (struct_item n v s c) = v
 leaf_visibility (outline n v) = v
+leaf_visibility (use_item v t) = v
 
 abbrev leaf_shape : Leaf ℕ → FieldsShape
 leaf_shape (struct_item n v s c) = s
@@ -214,6 +220,10 @@ leaf_shape _ = shape.Record
 abbrev leaf_ctor : Leaf ℕ → Ctor ℕ
 leaf_ctor (struct_item n v s c) = c
 leaf_ctor _ = no_ctor
+
+abbrev leaf_tree : Leaf ℕ → Tree
+leaf_tree (use_item v t) = t
+leaf_tree _ = glob None
 
 abbrev trunk_name : Trunk ℕ → List ℕ
 trunk_name (inline n v) = n
@@ -227,6 +237,7 @@ form (leaf_row (function n v)) = 0
 form (leaf_row (struct_item n v s c)) = 1
 form (leaf_row (outline n v)) = 2
 form (parent_row (inline n v) is) = 3
+form (leaf_row (use_item v t)) = 4
 
 kind-complete : (n m : List ℕ) (i j : ℕ) (x y : ModKind) → module_row n i x ≡ module_row m j y → (n ≡ m) × (i ≡ j) × (mod_eq x y ≡ true)
 kind-complete n m i j (Inline v) (Inline w) h =
@@ -243,6 +254,7 @@ abbrev sort : ModItem → ℕ
 sort (Function f) = 0
 sort (Struct f) = 1
 sort (Mod f) = 2
+sort (Use f) = 4
 
 abbrev sort_of : ℕ → ℕ
 sort_of k = if k == 3 then 2 else k
@@ -255,6 +267,7 @@ sort-is : (x : ModItem) → sort_of (form (item_row x)) ≡ sort x
 sort-is (Function f) = refl
 sort-is (Struct f) = refl
 sort-is (Mod f) = sort-mod f.name f.visibility f.kind
+sort-is (Use f) = refl
 
 pub item-complete : (x y : ModItem) → item_row x ≡ item_row y → item_eqs.ghosts.eq x y ≡ true
 item-complete (Function f) (Function g) h =
@@ -270,6 +283,9 @@ item-complete (Mod f) (Mod g) h =
     let p = kind-complete f.name g.name f.visibility g.visibility f.kind g.kind h in
     and_from (numbers_eq f.name g.name) (f.visibility == g.visibility && mod_eq f.kind g.kind) (numbers-complete f.name g.name p.0)
     (and_from (f.visibility == g.visibility) (mod_eq f.kind g.kind) (eq-eqb f.visibility g.visibility p.1) p.2)
+item-complete (Use f) (Use g) h =
+    let p = leaf-injective (use_item f.visibility f.tree) (use_item g.visibility g.tree) h in
+    same_of_equal use_item_code f g (λ i. record { visibility = leaf_visibility (p i); tree = leaf_tree (p i) })
 item-complete x y h = let e : sort x ≡ sort y = sym (sort-is x) ∙ ap (λ z. sort_of (form z)) h ∙ sort-is y in absurd (omega arith)
 
 -- ---- visibilities, tags and keys
@@ -390,7 +406,3 @@ module _ (u w : Unfolding) (is js : List ℕ) (m n : ℕ) (s t : Rows) (cs : lay
     } in layout-injective u w (cs ∙ q ∙ sym ct)),
     (λ x. all-complete same_vis same-complete s.arena.keys t.arena.keys (ap (λ z. z.arena) (tables-same x))),
   )
-
--- what decides whether two unfoldings are one is the test by their codes
-pub tells : (u w : Unfolding) (b : Bool) → Decides b (u ≡ w) → b ≡ same unfolding_code u w
-tells u w b d = agree b (same unfolding_code u w) (λ h. same_of_equal unfolding_code u w (d.0 h)) (λ h. d.1 (equal_of_same unfolding_code u w h))

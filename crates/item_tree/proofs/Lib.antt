@@ -1,3 +1,14 @@
+pub mod TreeLemmas
+pub mod UseEq
+pub mod UseTexts
+pub mod WrittenNodes
+pub mod KeptCounts
+pub mod KeptPlaces
+pub mod LeavesFound
+pub mod Joins
+pub mod Chains
+pub mod CallLemmas
+pub mod Calling
 pub mod VisibilityEq
 pub mod Arena
 pub mod Column

@@ -13,16 +13,20 @@ use Rattle.std.specs.Prelude.{max}
 use Rattle.item_tree_attrs.specs.Collected.{Collected, collected, collected_from, attr_limit}
 use Rattle.item_tree.specs.declared.items.FieldsShape.{FieldsShape}
 use Rattle.item_tree.specs.declared.fault.LowerError.{LowerError}
-use Rattle.item_tree.specs.declared.fault.LowerError.TheVariants.{TooManyItems, TooManyVisibilities, TooManyAttributes, OutOfMemory}
+use Rattle.item_tree.specs.declared.fault.LowerError.TheVariants.{TooManyItems, TooManyVisibilities, TooManyUseTrees, TooManyAttributes, TooManySupers, OutOfMemory}
 use Rattle.item_tree.specs.declared.rows.Rows.{Rows}
-use Rattle.item_tree.specs.Node.{Ctor, ctor_with, Leaf, Trunk, trunk_kind, leaf_kind, Head, Node, Forest, leaf, parent, empty, more, add, function, struct_item, outline, inline, node_count, count, Unfolding}
+use Rattle.item_tree.specs.Node.{Ctor, ctor_with, Leaf, Trunk, trunk_kind, leaf_kind, Head, Node, Forest, leaf, parent, empty, more, add, function, struct_item, outline, use_item, inline, node_count, count, Unfolding}
 use Rattle.item_tree.specs.Visibility.{read_visibility}
 use Rattle.item_tree.specs.Kept.{head_of, shape_of, ctor_of, module_node, kept, kept_all}
 use Rattle.item_tree.specs.Layout.{VisId, vis_id, plain_vis, meet, ctor_map, leaf_map, trunk_map, ctor_vis, leaf_vis, trunk_vis, meet_all, met, node_met, arena_of, node_walk, walk, node_id, ids, Row, leaf_row, parent_row, head_of_key, row_tag, row_key, row_attrs, row_item, kind_bit, node_rows, rows_of, layout, unfold_tables}
 use Rattle.item_tree.specs.Column.{is_empty, unless, some_unless, column_of, places_from, plain_place}
-use Rattle.item_tree.specs.Size.{item_limit, visibility_limit, node_most_attrs, most_attrs, Fits, IsTooLarge}
+use Rattle.item_tree.specs.Imports.{most_supers, super_limit}
+use Rattle.item_tree.specs.Tree.{Tree}
+use Rattle.item_tree.specs.UseItem.{UseFits}
+use Rattle.item_tree.specs.KeptUse.{use_tree_limit}
+use Rattle.item_tree.specs.Size.{item_limit, visibility_limit, node_most_attrs, most_attrs, leaf_supers, node_supers, forest_supers, item_written, items_written, Fits, IsTooLarge}
 use Rattle.item_tree.specs.Stored.{item_row, key_in, keys_in, items_in, places_in, column_in, tables_of, AreSound}
-use Rattle.item_tree.specs.Growth.{ctor_id_of, kept_below, row_count, IsWithinLimits, Adds, Lowers, to_list, LowersOne, IsFault, IsAttrFault, Meets, IsUnmet, Puts, Pushes, IsFull}
+use Rattle.item_tree.specs.Growth.{ctor_id_of, kept_below, written_below, row_count, IsWithinLimits, Adds, Lowers, to_list, LowersOne, IsFault, IsAttrFault, Meets, IsUnmet, Puts, Pushes, IsFull}
 use Rattle.item_tree.proofs.Arena.{V, Extends, Extends-met, KnowsAll, KnowsAll-meet_all, KnowsForest, KnowsNode, Knows-met, leaf-stable, trunk-stable, meet-twice, bool_cases}
 use Rattle.item_tree.proofs.Column.{column-append, places-append}
 use Rattle.item_tree.proofs.Canon.{unfold-layout}
@@ -42,6 +46,10 @@ count-join (more n f) g = omega (arith, count-join f g)
 pub most_attrs-join : (f g : Forest) → most_attrs (join f g) ≡ max (most_attrs f) (most_attrs g)
 most_attrs-join empty g = omega arith
 most_attrs-join (more n f) g = omega (arith, most_attrs-join f g)
+
+pub forest_supers-join : (f g : Forest) → forest_supers (join f g) ≡ max (forest_supers f) (forest_supers g)
+forest_supers-join empty g = omega arith
+forest_supers-join (more n f) g = omega (arith, forest_supers-join f g)
 
 pub met-join : (f g : Forest) (xs : List V) → met (join f g) xs ≡ met g (met f xs)
 met-join empty g xs = refl
@@ -121,17 +129,17 @@ Meets-adds {a} {b} h =
       column = ap (λ z. map collected z.items) h.column_kept ∙ n.column;
     }
 
-pub Lowers-count : {old new : Rows} {f : Forest} {is : List ℕ} → Lowers old new f is → row_count new ≡ row_count old + count f
-Lowers-count {old} {new} {f} h = Adds-count h.added ∙ ap (λ z. row_count old + z) (length-rows new.arena.keys f (row_count old) ∙ length-walk f)
+pub Lowers-count : {old new : Rows} {w : ℕ} {f : Forest} {is : List ℕ} → Lowers old new w f is → row_count new ≡ row_count old + count f
+Lowers-count {old} {new} {w} {f} h = Adds-count h.added ∙ ap (λ z. row_count old + z) (length-rows new.arena.keys f (row_count old) ∙ length-walk f)
 
-pub Lowers-extends : {old new : Rows} {f : Forest} {is : List ℕ} → Lowers old new f is → Extends old.arena.keys new.arena.keys
-Lowers-extends {old} {new} {f} h = subst (λ z. Extends old.arena.keys z) (sym h.arena_met) (Extends-met f old.arena.keys)
+pub Lowers-extends : {old new : Rows} {w : ℕ} {f : Forest} {is : List ℕ} → Lowers old new w f is → Extends old.arena.keys new.arena.keys
+Lowers-extends {old} {new} {w} {f} h = subst (λ z. Extends old.arena.keys z) (sym h.arena_met) (Extends-met f old.arena.keys)
 
-pub Lowers-knows : {old new : Rows} {f : Forest} {is : List ℕ} → Lowers old new f is → KnowsForest f new.arena.keys
-Lowers-knows {old} {new} {f} h = subst (λ z. KnowsForest f z) (sym h.arena_met) (Knows-met f old.arena.keys)
+pub Lowers-knows : {old new : Rows} {w : ℕ} {f : Forest} {is : List ℕ} → Lowers old new w f is → KnowsForest f new.arena.keys
+Lowers-knows {old} {new} {w} {f} h = subst (λ z. KnowsForest f z) (sym h.arena_met) (Knows-met f old.arena.keys)
 
-pub Lowers-join : {a b c : Rows} {f g : Forest} {is js : List ℕ} → Lowers a b f is → Lowers b c g js → Lowers a c (join f g) (is ++ js)
-Lowers-join {a} {b} {c} {f} {g} {is} {js} h k =
+pub Lowers-join : {a b c : Rows} {v w : ℕ} {f g : Forest} {is js : List ℕ} → Lowers a b v f is → Lowers b c w g js → Lowers a c (max v w) (join f g) (is ++ js)
+Lowers-join {a} {b} {c} {v} {w} {f} {g} {is} {js} h k =
     let n = Lowers-count h ∙ ap (λ z. row_count a + z) (sym (length-walk f)) in
     let s : rows_of b.arena.keys f (row_count a) ≡ rows_of c.arena.keys f (row_count a) = sym (rows-stable b.arena.keys c.arena.keys (Lowers-extends k) f (row_count a) (Lowers-knows h)) in
     let r : rows_of c.arena.keys (join f g) (row_count a) ≡ rows_of c.arena.keys f (row_count a) ++ rows_of c.arena.keys g (row_count b) =
@@ -140,7 +148,9 @@ Lowers-join {a} {b} {c} {f} {g} {is} {js} h k =
       given = rw (ids-join f g (row_count a), ← n, h.given, k.given) refl;
       arena_met = k.arena_met ∙ ap (met g) h.arena_met ∙ sym (met-join f g a.arena.keys);
       added = subst (λ z. Adds a c z) (sym r) (Adds-join (subst (λ z. Adds a b z) s h.added) k.added);
+      use_trees = omega (arith, h.use_trees, k.use_trees);
       attributes = omega (arith, most_attrs-join f g, h.attributes, k.attributes);
+      supers = omega (arith, forest_supers-join f g, h.supers, k.supers);
       within = k.within;
     }
 
@@ -151,10 +161,10 @@ length-Extends xs ys h = omega (arith, ap length h.1, length-append xs h.0)
 
 -- a node without children, whose visibilities were met
 pub Lowers-leaf :
-    {o a b : Rows} {i : ℕ} (h k : Head) (l : Leaf V) (r : Leaf VisId) → Adds o a [] →
-    a.arena.keys ≡ meet_all o.arena.keys (leaf_vis l) → r ≡ leaf_map (vis_id a.arena.keys) l → k ≡ h → length h.attrs.attrs ≤ attr_limit →
-    Pushes a b (k, leaf_row r) i → Lowers o b (more (leaf h l) empty) (i ∷ [])
-Lowers-leaf {o} {a} {b} {i} h k l r s m e q w p =
+    {o a b : Rows} {i w : ℕ} (h k : Head) (l : Leaf V) (r : Leaf VisId) → Adds o a [] →
+    a.arena.keys ≡ meet_all o.arena.keys (leaf_vis l) → r ≡ leaf_map (vis_id a.arena.keys) l → k ≡ h → length h.attrs.attrs ≤ attr_limit → leaf_supers l ≤ super_limit → w ≤ use_tree_limit →
+    Pushes a b (k, leaf_row r) i → Lowers o b w (more (leaf h l) empty) (i ∷ [])
+Lowers-leaf {o} {a} {b} {i} {w} h k l r s m e q short few fits p =
     let n : row_count a ≡ row_count o = omega (arith, Adds-count s) in
     let x : r ≡ leaf_map (vis_id b.arena.keys) l = e ∙ ap (λ z. leaf_map (vis_id z) l) (sym p.arena_kept) in
     let z : (k, leaf_row r) ∷ [] ≡ rows_of b.arena.keys (more (leaf h l) empty) (row_count o) = λ j. (q j, leaf_row (x j)) ∷ [] in
@@ -162,79 +172,93 @@ Lowers-leaf {o} {a} {b} {i} h k l r s m e q w p =
       given = ap (λ v. v ∷ []) (p.given ∙ (λ j. 2 * n j + kind_bit (leaf_kind (e j))) ∙ ap (λ v. 2 * row_count o + kind_bit v) (sym (leaf_kind-map (vis_id a.arena.keys) l)));
       arena_met = p.arena_kept ∙ m;
       added = subst (λ v. Adds o b v) z (Adds-join s p.added);
-      attributes = omega (arith, w);
+      use_trees = fits;
+      attributes = omega (arith, short);
+      supers = omega (arith, few);
       within = p.within;
     }
 
 -- a node with children, whose visibilities were met before theirs
 pub Lowers-parent :
-    {o a b c : Rows} {f : Forest} {is : List ℕ} {i : ℕ} (h k : Head) (t : Trunk V) (r : Trunk VisId) → Adds o a [] →
+    {o a b c : Rows} {w : ℕ} {f : Forest} {is : List ℕ} {i : ℕ} (h k : Head) (t : Trunk V) (r : Trunk VisId) → Adds o a [] →
     a.arena.keys ≡ meet_all o.arena.keys (trunk_vis t) → r ≡ trunk_map (vis_id a.arena.keys) t → k ≡ h → length h.attrs.attrs ≤ attr_limit →
-    Lowers a b f is → Pushes b c (k, parent_row r is) i → Lowers o c (more (parent h t f) empty) (i ∷ [])
-Lowers-parent {o} {a} {b} {c} {f} {is} {i} h k t r s m e q few l p =
+    Lowers a b w f is → Pushes b c (k, parent_row r is) i → Lowers o c w (more (parent h t f) empty) (i ∷ [])
+Lowers-parent {o} {a} {b} {c} {w} {f} {is} {i} h k t r s m e q few l p =
     let n : row_count a ≡ row_count o = omega (arith, Adds-count s) in
     let d : row_count b ≡ row_count o + length (walk f) = omega (arith, Lowers-count l, length-walk f, n) in
     let known : KnowsAll a.arena.keys (trunk_vis t) = subst (λ z. KnowsAll z (trunk_vis t)) (sym m) (KnowsAll-meet_all o.arena.keys (trunk_vis t)) in
     let x : r ≡ trunk_map (vis_id c.arena.keys) t =
     e ∙ sym (trunk-stable a.arena.keys b.arena.keys t (Lowers-extends l) known) ∙ ap (λ z. trunk_map (vis_id z) t) (sym p.arena_kept) in
     let y : rows_of b.arena.keys f (row_count a) ≡ rows_of c.arena.keys f (row_count o) = λ j. rows_of (sym p.arena_kept j) f (n j) in
-    let w : is ≡ ids (row_count o) f = l.given ∙ ap (λ z. ids z f) n in
-    let z : (k, parent_row r is) ≡ (h, parent_row (trunk_map (vis_id c.arena.keys) t) (ids (row_count o) f)) = λ j. (q j, parent_row (x j) (w j)) in
+    let given : is ≡ ids (row_count o) f = l.given ∙ ap (λ z. ids z f) n in
+    let z : (k, parent_row r is) ≡ (h, parent_row (trunk_map (vis_id c.arena.keys) t) (ids (row_count o) f)) = λ j. (q j, parent_row (x j) (given j)) in
     let goal_rows : rows_of b.arena.keys f (row_count a) ++ (k, parent_row r is) ∷ [] ≡ rows_of c.arena.keys (more (parent h t f) empty) (row_count o) =
     (λ j. y j ++ z j ∷ []) ∙ sym (append-nil (rows_of c.arena.keys f (row_count o) ++ (h, parent_row (trunk_map (vis_id c.arena.keys) t) (ids (row_count o) f)) ∷ [])) in
     record {
       given = ap (λ v. v ∷ []) (p.given ∙ (λ j. 2 * d j + kind_bit (trunk_kind (e j))) ∙ ap (λ v. 2 * (row_count o + length (walk f)) + kind_bit v) (sym (trunk_kind-map (vis_id a.arena.keys) t)));
       arena_met = p.arena_kept ∙ l.arena_met ∙ ap (met f) m;
       added = subst (λ v. Adds o c v) goal_rows (Adds-join s (Adds-join l.added p.added));
+      use_trees = l.use_trees;
       attributes = omega (arith, few, l.attributes);
+      supers = omega (arith, l.supers);
       within = p.within;
     }
 
 -- ---- faults
 
 pub IsFull-parent :
-    {o a b : Rows} {f : Forest} {is : List ℕ} (h : Head) (t : Trunk V) (e : LowerError) → Adds o a [] →
-    Lowers a b f is → IsFull b e → IsFault o (more (parent h t f) empty) e
-IsFull-parent {o} {a} {b} {f} h t TooManyItems s l q = omega (arith, q, Adds-count s, Lowers-count l)
-IsFull-parent {o} {a} {b} {f} h t TooManyVisibilities s l q = absurd q
-IsFull-parent {o} {a} {b} {f} h t TooManyAttributes s l q = absurd q
-IsFull-parent h t OutOfMemory s l q = tt
+    {o a b : Rows} {v : ℕ} {f : Forest} {is : List ℕ} (w : ℕ) (h : Head) (t : Trunk V) (e : LowerError) → Adds o a [] →
+    Lowers a b v f is → IsFull b e → IsFault o w (more (parent h t f) empty) e
+IsFull-parent {o} {a} {b} w h t TooManyItems s l q = omega (arith, q, Adds-count s, Lowers-count l)
+IsFull-parent {o} {a} {b} w h t TooManyVisibilities s l q = absurd q
+IsFull-parent {o} {a} {b} w h t TooManyUseTrees s l q = absurd q
+IsFull-parent {o} {a} {b} w h t TooManyAttributes s l q = absurd q
+IsFull-parent {o} {a} {b} w h t TooManySupers s l q = absurd q
+IsFull-parent w h t OutOfMemory s l q = tt
 
 -- an item's own attributes are too many, where it has no children
-pub IsAttrFault-leaf : (o : Rows) (h : Head) (l : Leaf V) (e : LowerError) → IsAttrFault h.attrs e → IsFault o (more (leaf h l) empty) e
-IsAttrFault-leaf o h l TooManyItems q = absurd q
-IsAttrFault-leaf o h l TooManyVisibilities q = absurd q
-IsAttrFault-leaf o h l TooManyAttributes q = omega (arith, q)
-IsAttrFault-leaf o h l OutOfMemory q = tt
+pub IsAttrFault-leaf : (w : ℕ) (o : Rows) (h : Head) (l : Leaf V) (e : LowerError) → IsAttrFault h.attrs e → IsFault o w (more (leaf h l) empty) e
+IsAttrFault-leaf w o h l TooManyItems q = absurd q
+IsAttrFault-leaf w o h l TooManyVisibilities q = absurd q
+IsAttrFault-leaf w o h l TooManyUseTrees q = absurd q
+IsAttrFault-leaf w o h l TooManyAttributes q = omega (arith, q)
+IsAttrFault-leaf w o h l TooManySupers q = absurd q
+IsAttrFault-leaf w o h l OutOfMemory q = tt
 
 -- the same where it has
-pub IsAttrFault-parent : (o : Rows) (h : Head) (t : Trunk V) (f : Forest) (e : LowerError) → IsAttrFault h.attrs e → IsFault o (more (parent h t f) empty) e
-IsAttrFault-parent o h t f TooManyItems q = absurd q
-IsAttrFault-parent o h t f TooManyVisibilities q = absurd q
-IsAttrFault-parent o h t f TooManyAttributes q = omega (arith, q)
-IsAttrFault-parent o h t f OutOfMemory q = tt
+pub IsAttrFault-parent : (w : ℕ) (o : Rows) (h : Head) (t : Trunk V) (f : Forest) (e : LowerError) → IsAttrFault h.attrs e → IsFault o w (more (parent h t f) empty) e
+IsAttrFault-parent w o h t f TooManyItems q = absurd q
+IsAttrFault-parent w o h t f TooManyVisibilities q = absurd q
+IsAttrFault-parent w o h t f TooManyUseTrees q = absurd q
+IsAttrFault-parent w o h t f TooManyAttributes q = omega (arith, q)
+IsAttrFault-parent w o h t f TooManySupers q = absurd q
+IsAttrFault-parent w o h t f OutOfMemory q = tt
 
 -- a fault among the children
-pub IsFault-parent : {o a : Rows} (h : Head) (t : Trunk V) (f : Forest) (e : LowerError) → Adds o a [] → a.arena.keys ≡ meet_all o.arena.keys (trunk_vis t) → IsFault a f e → IsFault o (more (parent h t f) empty) e
-IsFault-parent {o} {a} h t f TooManyItems s m q = omega (arith, q, Adds-count s)
-IsFault-parent {o} {a} h t f TooManyVisibilities s m q = subst (λ z. visibility_limit < length (met f z)) m q
-IsFault-parent h t f TooManyAttributes s m q = omega (arith, q)
-IsFault-parent h t f OutOfMemory s m q = tt
+pub IsFault-parent : {o a : Rows} (w : ℕ) (h : Head) (t : Trunk V) (f : Forest) (e : LowerError) → Adds o a [] → a.arena.keys ≡ meet_all o.arena.keys (trunk_vis t) → IsFault a w f e → IsFault o w (more (parent h t f) empty) e
+IsFault-parent {o} {a} w h t f TooManyItems s m q = omega (arith, q, Adds-count s)
+IsFault-parent {o} {a} w h t f TooManyVisibilities s m q = subst (λ z. visibility_limit < length (met f z)) m q
+IsFault-parent w h t f TooManyUseTrees s m q = q
+IsFault-parent w h t f TooManyAttributes s m q = omega (arith, q)
+IsFault-parent w h t f TooManySupers s m q = omega (arith, q)
+IsFault-parent w h t f OutOfMemory s m q = tt
 
 -- the rows are full before a node without children
-pub IsFull-leaf : {o a : Rows} (h : Head) (l : Leaf V) (e : LowerError) → Adds o a [] → IsFull a e → IsFault o (more (leaf h l) empty) e
-IsFull-leaf {o} {a} h l TooManyItems s q = omega (arith, q, Adds-count s)
-IsFull-leaf h l TooManyVisibilities s q = absurd q
-IsFull-leaf h l TooManyAttributes s q = absurd q
-IsFull-leaf h l OutOfMemory s q = tt
+pub IsFull-leaf : {o a : Rows} (w : ℕ) (h : Head) (l : Leaf V) (e : LowerError) → Adds o a [] → IsFull a e → IsFault o w (more (leaf h l) empty) e
+IsFull-leaf {o} {a} w h l TooManyItems s q = omega (arith, q, Adds-count s)
+IsFull-leaf w h l TooManyVisibilities s q = absurd q
+IsFull-leaf w h l TooManyUseTrees s q = absurd q
+IsFull-leaf w h l TooManyAttributes s q = absurd q
+IsFull-leaf w h l TooManySupers s q = absurd q
+IsFull-leaf w h l OutOfMemory s q = tt
 
 -- ---- functions
 
 pub Lowers-function :
     {o a b : Rows} {i u : ℕ} (h k : Head) (n p : List ℕ) (v : V) → Meets o a v u → p ≡ n → k ≡ h → length h.attrs.attrs ≤ attr_limit →
-    Pushes a b (k, leaf_row (function p (plain_vis u))) i → Lowers o b (more (leaf h (function n v)) empty) (i ∷ [])
+    Pushes a b (k, leaf_row (function p (plain_vis u))) i → Lowers o b 0 (more (leaf h (function n v)) empty) (i ∷ [])
 Lowers-function {o} {a} {b} {i} {u} h k n p v m e q few w =
-    Lowers-leaf h k (function n v) (function p (plain_vis u)) (Meets-adds m) m.met (λ j. function (e j) (m.given j)) q few w
+    Lowers-leaf h k (function n v) (function p (plain_vis u)) (Meets-adds m) m.met (λ j. function (e j) (m.given j)) q few (omega arith) (omega arith) w
 
 -- ---- structs
 
@@ -248,17 +272,27 @@ ctor-ids xs written.Unit i v e = ap ctor_with e
 
 pub Lowers-struct :
     {o a b : Rows} {i u : ℕ} (h q : Head) (n p : List ℕ) (v : V) (k : StructKind) (s : FieldsShape) (c : Ctor ℕ) → Meets o a v u → p ≡ n → s ≡ shape_of k → c ≡ ctor_id_of k u → q ≡ h → length h.attrs.attrs ≤ attr_limit →
-    Pushes a b (q, leaf_row (leaf_map plain_vis (struct_item p u s c))) i → Lowers o b (more (leaf h (struct_item n v (shape_of k) (ctor_of k v))) empty) (i ∷ [])
+    Pushes a b (q, leaf_row (leaf_map plain_vis (struct_item p u s c))) i → Lowers o b 0 (more (leaf h (struct_item n v (shape_of k) (ctor_of k v))) empty) (i ∷ [])
 Lowers-struct {o} {a} {b} {i} {u} h q n p v k s c m e d g is few w =
     let x : ctor_map plain_vis c ≡ ctor_map (vis_id a.arena.keys) (ctor_of k v) = ap (ctor_map plain_vis) g ∙ ctor-ids a.arena.keys k u v m.given in
     Lowers-leaf h q (struct_item n v (shape_of k) (ctor_of k v)) (leaf_map plain_vis (struct_item p u s c)) (Meets-adds m)
-    (m.met ∙ sym (meet_all-struct o.arena.keys k v)) (λ j. struct_item (e j) (m.given j) (d j) (x j)) is few w
+    (m.met ∙ sym (meet_all-struct o.arena.keys k v)) (λ j. struct_item (e j) (m.given j) (d j) (x j)) is few (omega arith) (omega arith) w
 
-pub IsUnmet-struct : (o : Rows) (h : Head) (n : List ℕ) (v : V) (k : StructKind) (e : LowerError) → IsUnmet o v e → IsFault o (more (leaf h (struct_item n v (shape_of k) (ctor_of k v))) empty) e
+pub IsUnmet-struct : (o : Rows) (h : Head) (n : List ℕ) (v : V) (k : StructKind) (e : LowerError) → IsUnmet o v e → IsFault o 0 (more (leaf h (struct_item n v (shape_of k) (ctor_of k v))) empty) e
 IsUnmet-struct o h n v k TooManyItems q = absurd q
 IsUnmet-struct o h n v k TooManyVisibilities q = rw (meet_all-struct o.arena.keys k v) q
+IsUnmet-struct o h n v k TooManyUseTrees q = absurd q
 IsUnmet-struct o h n v k TooManyAttributes q = absurd q
+IsUnmet-struct o h n v k TooManySupers q = absurd q
 IsUnmet-struct o h n v k OutOfMemory q = tt
+
+-- ---- uses
+
+pub Lowers-use :
+    {o a b : Rows} {i u n : ℕ} (h q : Head) (s t : Tree) (v : V) → Meets o a v u → s ≡ t → q ≡ h → length h.attrs.attrs ≤ attr_limit → UseFits s → n ≤ use_tree_limit →
+    Pushes a b (q, leaf_row (use_item (plain_vis u) s)) i → Lowers o b n (more (leaf h (use_item v t)) empty) (i ∷ [])
+Lowers-use {o} {a} {b} {i} {u} h q s t v m e is few fits written w =
+    Lowers-leaf h q (use_item v t) (use_item (plain_vis u) s) (Meets-adds m) m.met (λ j. use_item (m.given j) (e j)) is few (subst (λ z. most_supers 0 z ≤ super_limit) e fits.supers) written w
 
 -- ---- modules
 
@@ -276,6 +310,12 @@ module _ (options : List CfgAtom) (skipped : List (List ℕ)) (m : ast_module.Mo
   abbrev pub below : Forest
   below = kept_below options skipped (module_view m)
 
+  abbrev pub module_written : ℕ
+  module_written = item_written (module_view m)
+
+  abbrev pub inside : ℕ
+  inside = written_below (module_view m)
+
   abbrev pub kept_module : Forest
   kept_module = add (kept options skipped (module_view m)) empty
 
@@ -283,6 +323,22 @@ module _ (options : List CfgAtom) (skipped : List (List ℕ)) (m : ast_module.Mo
       kept options skipped (module_from n s o) ≡ option_map (λ name. module_node s (head_of options skipped n.node) name (read_visibility n.visibility) (kept_below options skipped (module_from n s o))) n.name
   kept-module_from n s None = refl
   kept-module_from n s (Some is) = refl
+
+  written-module_from : (named : NamedView) (o : Option (List ItemView)) (n : List ℕ) → named.name ≡ Some n →
+      (item_written (module_from named false o) ≡ written_below (module_from named false o)) × (item_written (module_from named true o) ≡ 0)
+  written-module_from named None n e = (refl, refl)
+  written-module_from named (Some is) n e = rw e (refl, refl)
+
+  written-inline : (n : List ℕ) → m.name ≡ Some n → m.semicolon ≡ false → module_written ≡ inside
+  written-inline n e h =
+      let items = option_map (λ v. map item_view v.items) m.items in
+      let v : module_view m ≡ module_from (named m) false items = module_view-fields m ∙ ap (λ b. module_from (named m) b items) h in
+      ap item_written v ∙ (written-module_from (named m) items n e).0 ∙ ap written_below (sym v)
+
+  written-outline : (n : List ℕ) → m.name ≡ Some n → m.semicolon ≡ true → module_written ≡ 0
+  written-outline n e h =
+      let items = option_map (λ v. map item_view v.items) m.items in
+      ap item_written (module_view-fields m ∙ ap (λ b. module_from (named m) b items) h) ∙ (written-module_from (named m) items n e).1
 
   kept-module : (n : List ℕ) → m.name ≡ Some n → kept options skipped (module_view m) ≡ Some (module_node m.semicolon head n (value m) below)
   kept-module n e =
@@ -297,26 +353,26 @@ module _ (options : List CfgAtom) (skipped : List (List ℕ)) (m : ast_module.Mo
 
   pub Lowers-outline :
       {o a b : Rows} {i u : ℕ} (k : Head) (n p : List ℕ) → m.name ≡ Some n → m.semicolon ≡ true → p ≡ n → k ≡ head → length head.attrs.attrs ≤ attr_limit → Meets o a (value m) u →
-      Pushes a b (k, leaf_row (outline p (plain_vis u))) i → Lowers o b kept_module (i ∷ [])
+      Pushes a b (k, leaf_row (outline p (plain_vis u))) i → Lowers o b module_written kept_module (i ∷ [])
   Lowers-outline {o} {a} {b} {i} {u} k n p e s q d few v w =
-      rw (kept-outline n e s)
-      (Lowers-leaf head k (outline n (value m)) (outline p (plain_vis u)) (Meets-adds v) v.met (λ j. outline (q j) (v.given j)) d few w)
+      rw (kept-outline n e s, written-outline n e s)
+      (Lowers-leaf head k (outline n (value m)) (outline p (plain_vis u)) (Meets-adds v) v.met (λ j. outline (q j) (v.given j)) d few (omega arith) (omega arith) w)
 
   pub Lowers-inline :
       {o a b c : Rows} {is : List ℕ} {i u : ℕ} (k : Head) (n p : List ℕ) → m.name ≡ Some n → m.semicolon ≡ false → p ≡ n → k ≡ head → length head.attrs.attrs ≤ attr_limit → Meets o a (value m) u →
-      Lowers a b below is → Pushes b c (k, parent_row (inline p (plain_vis u)) is) i → Lowers o c kept_module (i ∷ [])
+      Lowers a b inside below is → Pushes b c (k, parent_row (inline p (plain_vis u)) is) i → Lowers o c module_written kept_module (i ∷ [])
   Lowers-inline {o} {a} {b} {c} {is} {i} {u} k n p e s q d few v h w =
-      rw (kept-inline n e s)
+      rw (kept-inline n e s, written-inline n e s)
       (Lowers-parent head k (inline n (value m)) (inline p (plain_vis u)) (Meets-adds v) v.met (λ j. inline (q j) (v.given j)) d few h w)
 
-  pub IsAttrFault-module : (o : Rows) (n : List ℕ) (e : LowerError) → m.name ≡ Some n → IsAttrFault head.attrs e → IsFault o kept_module e
+  pub IsAttrFault-module : (o : Rows) (n : List ℕ) (e : LowerError) → m.name ≡ Some n → IsAttrFault head.attrs e → IsFault o module_written kept_module e
   IsAttrFault-module o n e q h =
       elim (bool_cases m.semicolon) [
-        | inl s ↦ rw (kept-outline n q s) (IsAttrFault-leaf o head (outline n (value m)) e h)
-        | inr s ↦ rw (kept-inline n q s) (IsAttrFault-parent o head (inline n (value m)) below e h)
+        | inl s ↦ rw (kept-outline n q s) (IsAttrFault-leaf module_written o head (outline n (value m)) e h)
+        | inr s ↦ rw (kept-inline n q s) (IsAttrFault-parent module_written o head (inline n (value m)) below e h)
       ]
 
-  pub IsUnmet-module : (o : Rows) (n : List ℕ) (e : LowerError) → m.name ≡ Some n → IsUnmet o (value m) e → IsFault o kept_module e
+  pub IsUnmet-module : (o : Rows) (n : List ℕ) (e : LowerError) → m.name ≡ Some n → IsUnmet o (value m) e → IsFault o module_written kept_module e
   IsUnmet-module o n TooManyItems q h = absurd h
   IsUnmet-module o n TooManyVisibilities q h =
       elim (bool_cases m.semicolon) [
@@ -324,21 +380,23 @@ module _ (options : List CfgAtom) (skipped : List (List ℕ)) (m : ast_module.Mo
         | inr s ↦ rw (kept-inline n q s)
             (omega (arith, h, length-Extends (meet o.arena.keys (value m)) (met below (meet o.arena.keys (value m))) (Extends-met below (meet o.arena.keys (value m)))))
       ]
+  IsUnmet-module o n TooManyUseTrees q h = absurd h
   IsUnmet-module o n TooManyAttributes q h = absurd h
+  IsUnmet-module o n TooManySupers q h = absurd h
   IsUnmet-module o n OutOfMemory q h = tt
 
   pub IsFull-outline :
-      {o a : Rows} {u : ℕ} (n : List ℕ) (e : LowerError) → m.name ≡ Some n → m.semicolon ≡ true → Meets o a (value m) u → IsFull a e → IsFault o kept_module e
-  IsFull-outline n e q s v f = rw (kept-outline n q s) (IsFull-leaf head (outline n (value m)) e (Meets-adds v) f)
+      {o a : Rows} {u : ℕ} (n : List ℕ) (e : LowerError) → m.name ≡ Some n → m.semicolon ≡ true → Meets o a (value m) u → IsFull a e → IsFault o module_written kept_module e
+  IsFull-outline n e q s v f = rw (kept-outline n q s) (IsFull-leaf module_written head (outline n (value m)) e (Meets-adds v) f)
 
   pub IsFault-inline :
-      {o a : Rows} {u : ℕ} (n : List ℕ) (e : LowerError) → m.name ≡ Some n → m.semicolon ≡ false → Meets o a (value m) u → IsFault a below e → IsFault o kept_module e
-  IsFault-inline n e q s v f = rw (kept-inline n q s) (IsFault-parent head (inline n (value m)) below e (Meets-adds v) v.met f)
+      {o a : Rows} {u : ℕ} (n : List ℕ) (e : LowerError) → m.name ≡ Some n → m.semicolon ≡ false → Meets o a (value m) u → IsFault a inside below e → IsFault o module_written kept_module e
+  IsFault-inline n e q s v f = rw (kept-inline n q s, written-inline n q s) (IsFault-parent inside head (inline n (value m)) below e (Meets-adds v) v.met f)
 
   pub IsFull-inline :
       {o a b : Rows} {is : List ℕ} {u : ℕ} (n : List ℕ) (e : LowerError) → m.name ≡ Some n → m.semicolon ≡ false → Meets o a (value m) u →
-      Lowers a b below is → IsFull b e → IsFault o kept_module e
-  IsFull-inline n e q s v h f = rw (kept-inline n q s) (IsFull-parent head (inline n (value m)) e (Meets-adds v) h f)
+      Lowers a b inside below is → IsFull b e → IsFault o module_written kept_module e
+  IsFull-inline n e q s v h f = rw (kept-inline n q s) (IsFull-parent module_written head (inline n (value m)) e (Meets-adds v) h f)
 
 -- ---- several items
 
@@ -365,17 +423,38 @@ module _ (options : List CfgAtom) (skipped : List (List ℕ)) where
       let t : take (i + 1) xs ≡ take i xs ++ x ∷ [] = take_more xs i x h ∙ ap (λ z. take i xs ++ z ∷ []) (sym e) in
       ap kept_list t ∙ kept_list-append (take i xs) (x ∷ [])
 
+  written-append : (us vs : List ItemView) → items_written (items_from (us ++ vs)) ≡ max (items_written (items_from us)) (items_written (items_from vs))
+  written-append [] vs = omega arith
+  written-append (u ∷ us) vs = omega (arith, written-append us vs)
+
+  abbrev written_list : List Item → ℕ
+  written_list xs = items_written (items_view xs)
+
+  written_list-append : (us vs : List Item) → written_list (us ++ vs) ≡ max (written_list us) (written_list vs)
+  written_list-append us vs = ap (λ z. items_written (items_from z)) (map-append item_view us vs) ∙ written-append (map item_view us) (map item_view vs)
+
+  written_list-push : (xs : List Item) (i : ℕ) (x : Item) → x ≡ get_or xs i x → i < length xs → written_list (take (i + 1) xs) ≡ max (written_list (take i xs)) (item_written (item_view x))
+  written_list-push xs i x e h =
+      let t : take (i + 1) xs ≡ take i xs ++ x ∷ [] = take_more xs i x h ∙ ap (λ z. take i xs ++ z ∷ []) (sym e) in
+      let one : written_list (x ∷ []) ≡ item_written (item_view x) = omega arith in
+      ap written_list t ∙ written_list-append (take i xs) (x ∷ []) ∙ ap (max (written_list (take i xs))) one
+
+  written_list-split : (xs : List Item) (i : ℕ) → written_list xs ≡ max (written_list (take i xs)) (written_list (drop i xs))
+  written_list-split xs i = ap written_list (sym (take-append-drop i xs)) ∙ written_list-append (take i xs) (drop i xs)
+
   kept_list-split : (xs : List Item) (i : ℕ) → kept_list xs ≡ join (kept_list (take i xs)) (kept_list (drop i xs))
   kept_list-split xs i = ap kept_list (sym (take-append-drop i xs)) ∙ kept_list-append (take i xs) (drop i xs)
 
   pub Lowers-step :
       {a b c : Rows} {is js : List ℕ} (xs : List Item) (i : ℕ) (x : Item) → x ≡ get_or xs i x → i < length xs →
-      Lowers a b (kept_all options skipped (items_view (take i xs))) is → Lowers b c (add (kept options skipped (item_view x)) empty) js → Lowers a c (kept_all options skipped (items_view (take (i + 1) xs))) (is ++ js)
-  Lowers-step {a} {b} {c} {is} {js} xs i x e h p q = rw (kept_list-push xs i x e h) (Lowers-join p q)
+      Lowers a b (items_written (items_view (take i xs))) (kept_all options skipped (items_view (take i xs))) is → Lowers b c (item_written (item_view x)) (add (kept options skipped (item_view x)) empty) js →
+      Lowers a c (items_written (items_view (take (i + 1) xs))) (kept_all options skipped (items_view (take (i + 1) xs))) (is ++ js)
+  Lowers-step {a} {b} {c} {is} {js} xs i x e h p q = rw (kept_list-push xs i x e h, written_list-push xs i x e h) (Lowers-join p q)
 
   pub IsFault-step :
       {a b : Rows} {is : List ℕ} (xs : List Item) (i : ℕ) (x : Item) (e : LowerError) → x ≡ get_or xs i x → i < length xs →
-      Lowers a b (kept_all options skipped (items_view (take i xs))) is → IsFault b (add (kept options skipped (item_view x)) empty) e → IsFault a (kept_all options skipped (items_view xs)) e
+      Lowers a b (items_written (items_view (take i xs))) (kept_all options skipped (items_view (take i xs))) is → IsFault b (item_written (item_view x)) (add (kept options skipped (item_view x)) empty) e →
+      IsFault a (items_written (items_view xs)) (kept_all options skipped (items_view xs)) e
   IsFault-step {a} {b} xs i x TooManyItems q h p f =
       omega (arith, f, ap count (kept_list-split xs (i + 1)), count-join (kept_list (take (i + 1) xs)) (kept_list (drop (i + 1) xs)), Lowers-count p, ap count (kept_list-push xs i x q h), count-join (kept_list (take i xs)) (kept_one x))
   IsFault-step {a} {b} xs i x TooManyVisibilities q h p f =
@@ -385,17 +464,20 @@ module _ (options : List CfgAtom) (skipped : List (List ℕ)) where
       ap (λ z. met z a.arena.keys) (kept_list-split xs (i + 1)) ∙ met-join (kept_list (take (i + 1) xs)) rest a.arena.keys
       ∙ ap (met rest) (ap (λ z. met z a.arena.keys) (kept_list-push xs i x q h) ∙ met-join (kept_list (take i xs)) (kept_one x) a.arena.keys ∙ ap (met (kept_one x)) (sym p.arena_met)) in
       omega (arith, f, ap length m, length-Extends here (met rest here) (Extends-met rest here))
+  IsFault-step xs i x TooManyUseTrees q h p f = omega (arith, f, written_list-split xs (i + 1), written_list-push xs i x q h)
   IsFault-step xs i x TooManyAttributes q h p f =
       omega (arith, f, ap most_attrs (kept_list-split xs (i + 1)), most_attrs-join (kept_list (take (i + 1) xs)) (kept_list (drop (i + 1) xs)), ap most_attrs (kept_list-push xs i x q h), most_attrs-join (kept_list (take i xs)) (kept_one x))
+  IsFault-step xs i x TooManySupers q h p f =
+      omega (arith, f, ap forest_supers (kept_list-split xs (i + 1)), forest_supers-join (kept_list (take (i + 1) xs)) (kept_list (drop (i + 1) xs)), ap forest_supers (kept_list-push xs i x q h), forest_supers-join (kept_list (take i xs)) (kept_one x))
   IsFault-step xs i x OutOfMemory q h p f = tt
 
 -- ---- the tables of a tree whose rows were made from nothing
 
 module _
-    (old new whole : Rows) (f : Forest) (c : Collected) (top : List ℕ) (place : ℕ)
+    (old new whole : Rows) {w : ℕ} (f : Forest) (c : Collected) (top : List ℕ) (place : ℕ)
     (tags_empty : old.tags.items ≡ []) (keys_empty : old.keys.items ≡ []) (items_empty : old.items.items ≡ [])
     (places_empty : old.places.items ≡ []) (column_empty : old.column.items ≡ []) (arena_empty : old.arena.keys ≡ [])
-    (few : length c.attrs ≤ attr_limit) (h : Lowers old new f top) (k : Puts new.column whole.column c place) (same : whole ≡ record new { column = whole.column }) where
+    (few : length c.attrs ≤ attr_limit) (h : Lowers old new w f top) (k : Puts new.column whole.column c place) (same : whole ≡ record new { column = whole.column }) where
   abbrev u : Unfolding
   u = record { top_attrs = c; forest = f }
 
@@ -433,6 +515,7 @@ module _
     items = omega (arith, h.within.items, Lowers-count h, ap length items_empty);
     visibilities = omega (arith, h.within.visibilities, ap length arena_is);
     attributes = omega (arith, few, h.attributes);
+    supers = h.supers;
   }
 
   pub tables-sound : AreSound (tables_of top place whole)

@@ -11,12 +11,14 @@ use Rattle.item_tree_attrs.specs.Collected.{Collected, collected, attr_limit}
 use Rattle.item_tree.specs.declared.visibility.RawVisibility.{RawVisibility}
 use Rattle.item_tree.specs.declared.rows.Rows.{Rows}
 use Rattle.item_tree.specs.declared.fault.LowerError.{LowerError}
-use Rattle.item_tree.specs.declared.fault.LowerError.TheVariants.{TooManyItems, TooManyVisibilities, TooManyAttributes, OutOfMemory}
+use Rattle.item_tree.specs.declared.fault.LowerError.TheVariants.{TooManyItems, TooManyVisibilities, TooManyUseTrees, TooManyAttributes, TooManySupers, OutOfMemory}
 use Rattle.item_tree.specs.Node.{Ctor, no_ctor, ctor_with, Node, Forest, empty, add, count}
 use Rattle.item_tree.specs.Kept.{kept_all}
 use Rattle.item_tree.specs.Column.{is_empty, unless, some_unless, column_of, places_from, plain_place}
 use Rattle.item_tree.specs.Layout.{vis_id, meet, plain_vis, met, kind_bit, ids, Row, row_tag, row_key, row_attrs, row_item, rows_of}
-use Rattle.item_tree.specs.Size.{item_limit, visibility_limit, most_attrs}
+use Rattle.item_tree.specs.Imports.{super_limit}
+use Rattle.item_tree.specs.KeptUse.{use_tree_limit}
+use Rattle.item_tree.specs.Size.{item_limit, visibility_limit, most_attrs, forest_supers, items_written}
 use Rattle.item_tree.specs.Stored.{keys_in, items_in, places_in, column_in}
 
 -- the constructor of a struct whose own visibility has this id
@@ -28,6 +30,11 @@ ctor_id_of written.Unit i = ctor_with i
 abbrev pub kept_below : List CfgAtom → List (List ℕ) → ItemView → Forest
 kept_below options skipped (listed_module n semicolon is) = kept_all options skipped is
 kept_below options skipped i = empty
+
+-- how many use trees are written in one of them at most
+abbrev pub written_below : ItemView → ℕ
+written_below (listed_module n semicolon is) = items_written is
+written_below i = 0
 
 abbrev pub row_count : Rows → ℕ
 row_count r = length r.items.items
@@ -46,12 +53,14 @@ pub record Adds (old new : Rows) (rows : List Row) : Type 0 where
   pub places : places_in new ≡ places_in old ++ places_from (length (column_in old)) (map row_attrs rows)
   pub column : column_in new ≡ column_in old ++ column_of (map row_attrs rows)
 
--- the rows of the forest were added, and these are the ids of its nodes
-pub record Lowers (old new : Rows) (f : Forest) (is : List ℕ) : Type 0 where
+-- the rows of the forest were added, and these are the ids of its nodes; of its use trees w at most are written in one
+pub record Lowers (old new : Rows) (w : ℕ) (f : Forest) (is : List ℕ) : Type 0 where
   pub given : is ≡ ids (row_count old) f
   pub arena_met : new.arena.keys ≡ met f old.arena.keys
   pub added : Adds old new (rows_of new.arena.keys f (row_count old))
+  pub use_trees : w ≤ use_tree_limit
   pub attributes : most_attrs f ≤ attr_limit
+  pub supers : forest_supers f ≤ super_limit
   pub within : IsWithinLimits new
 
 abbrev pub to_list : Option ℕ → List ℕ
@@ -59,21 +68,26 @@ to_list None = []
 to_list (Some i) = i ∷ []
 
 -- the same of one node, or of none
-abbrev pub LowersOne : Rows → Rows → Option Node → Option ℕ → Type 0
-LowersOne old new n i = Lowers old new (add n empty) (to_list i)
+abbrev pub LowersOne : Rows → Rows → ℕ → Option Node → Option ℕ → Type 0
+LowersOne old new w n i = Lowers old new w (add n empty) (to_list i)
 
--- the error names a size that the rows with those of the forest pass, or want of memory
-abbrev pub IsFault : Rows → Forest → LowerError → Type 0
-IsFault old f TooManyItems = item_limit < row_count old + count f
-IsFault old f TooManyVisibilities = visibility_limit < length (met f old.arena.keys)
-IsFault old f TooManyAttributes = attr_limit < most_attrs f
-IsFault old f OutOfMemory = Unit {0}
+-- the error names a size that the rows with those of the forest pass, or the use trees of which w are written in one at
+-- most, or want of memory
+abbrev pub IsFault : Rows → ℕ → Forest → LowerError → Type 0
+IsFault old w f TooManyItems = item_limit < row_count old + count f
+IsFault old w f TooManyVisibilities = visibility_limit < length (met f old.arena.keys)
+IsFault old w f TooManyUseTrees = use_tree_limit < w
+IsFault old w f TooManyAttributes = attr_limit < most_attrs f
+IsFault old w f TooManySupers = super_limit < forest_supers f
+IsFault old w f OutOfMemory = Unit {0}
 
 -- the error names that an owner collects too many attributes, or want of memory
 abbrev pub IsAttrFault : Collected → LowerError → Type 0
 IsAttrFault c TooManyItems = ⊥
 IsAttrFault c TooManyVisibilities = ⊥
+IsAttrFault c TooManyUseTrees = ⊥
 IsAttrFault c TooManyAttributes = attr_limit < length c.attrs
+IsAttrFault c TooManySupers = ⊥
 IsAttrFault c OutOfMemory = Unit {0}
 
 -- the visibility was met, and this is its id
@@ -90,7 +104,9 @@ pub record Meets (old new : Rows) (v : RawVisibility) (i : ℕ) : Type 0 where
 abbrev pub IsUnmet : Rows → RawVisibility → LowerError → Type 0
 IsUnmet old v TooManyItems = ⊥
 IsUnmet old v TooManyVisibilities = visibility_limit < length (meet old.arena.keys v)
+IsUnmet old v TooManyUseTrees = ⊥
 IsUnmet old v TooManyAttributes = ⊥
+IsUnmet old v TooManySupers = ⊥
 IsUnmet old v OutOfMemory = Unit {0}
 
 -- the value stands at the end of the column, unless it is enabled and empty, and this is its place
@@ -108,5 +124,7 @@ pub record Pushes (old new : Rows) (r : Row) (i : ℕ) : Type 0 where
 abbrev pub IsFull : Rows → LowerError → Type 0
 IsFull old TooManyItems = item_limit ≤ row_count old
 IsFull old TooManyVisibilities = ⊥
+IsFull old TooManyUseTrees = ⊥
 IsFull old TooManyAttributes = ⊥
+IsFull old TooManySupers = ⊥
 IsFull old OutOfMemory = Unit {0}

@@ -1,5 +1,6 @@
 -- The kept items of a syntax.
 use Rattle.std.specs.Prelude.{ℕ, List, Bool, true, false, Option, None, option_map}
+use Rattle.std.specs.Option.{option_and_then}
 use Rattle.hir_input.specs.declared.ast.StructKind.{StructKind}
 use Rattle.hir_input.specs.declared.ast.StructKind.TheVariants as written
 use Rattle.hir_input.specs.declared.cfg.CfgAtom.{CfgAtom}
@@ -11,7 +12,8 @@ use Rattle.item_tree.specs.declared.visibility.RawVisibility.{RawVisibility}
 use Rattle.item_tree.specs.declared.items.FieldsShape.{FieldsShape}
 use Rattle.item_tree.specs.declared.items.FieldsShape.TheVariants as shape
 use Rattle.item_tree.specs.CrateView.{CrateView}
-use Rattle.item_tree.specs.Node.{Ctor, no_ctor, ctor_with, Head, Node, Forest, leaf, parent, empty, add, function, struct_item, outline, inline, Unfolding, nothing}
+use Rattle.item_tree.specs.Node.{Ctor, no_ctor, ctor_with, Head, Node, Forest, leaf, parent, empty, add, function, struct_item, outline, use_item, inline, Unfolding, nothing}
+use Rattle.item_tree.specs.KeptUse.{kept_tree}
 use Rattle.item_tree.specs.Visibility.{read_visibility}
 
 abbrev pub shape_of : StructKind → FieldsShape
@@ -34,13 +36,14 @@ module _ (options : List CfgAtom) (skipped : List (List ℕ)) where
   abbrev pub head_of : NodeView → Head
   head_of n = record { hash = n.hash; number = n.number; attrs = collected_from options skipped n.attrs }
 
-  -- what is kept of an item: nothing where its name is missing
+  -- what is kept of an item: nothing where its name is missing, or nothing is kept of the use tree
   abbrev mutual
     pub kept : ItemView → Option Node
     kept (fn_item n) = option_map (λ name. leaf (head_of n.node) (function name (read_visibility n.visibility))) n.name
     kept (syntax.struct_item n k) = option_map (λ name. leaf (head_of n.node) (struct_item name (read_visibility n.visibility) (shape_of k) (ctor_of k (read_visibility n.visibility)))) n.name
     kept (bare_module n semicolon) = option_map (λ name. module_node semicolon (head_of n.node) name (read_visibility n.visibility) empty) n.name
     kept (listed_module n semicolon is) = option_map (λ name. module_node semicolon (head_of n.node) name (read_visibility n.visibility) (kept_all is)) n.name
+    kept (syntax.use_item u) = option_map (λ t. leaf (head_of u.node) (use_item (read_visibility u.visibility) t)) (option_and_then kept_tree u.use_tree)
 
     -- of several items, in order
     pub kept_all : ItemViews → Forest

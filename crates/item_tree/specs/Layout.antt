@@ -8,7 +8,7 @@ use Rattle.item_tree.specs.declared.visibility.RawVisibility.{RawVisibility}
 use Rattle.item_tree.specs.declared.visibility.RawVisibility.TheVariants.{Module, PubSelf, PubCrate, Public}
 use Rattle.item_tree.specs.declared.visibility.VisibilityExplicitness.TheVariants.{Explicit, Implicit}
 use Rattle.item_tree.specs.contracts.visibility.RawVisibilityPartialEq.TheImpl as raw
-use Rattle.item_tree.specs.Node.{Ctor, no_ctor, ctor_with, Leaf, function, struct_item, outline, Trunk, inline, leaf_kind, trunk_kind, Head, Node, Forest, leaf, parent, empty, more, add, node_kind, Unfolding}
+use Rattle.item_tree.specs.Node.{Ctor, no_ctor, ctor_with, Leaf, function, struct_item, outline, use_item, Trunk, inline, leaf_kind, trunk_kind, Head, Node, Forest, leaf, parent, empty, more, add, node_kind, Unfolding}
 use Rattle.item_tree.specs.Column.{is_empty, unless, some_unless, column_of, places_from, attrs_stored}
 
 -- ---- visibilities, and the arena
@@ -61,6 +61,7 @@ module _ {V W : Type 0} (f : V → W) where
   leaf_map (function n v) = function n (f v)
   leaf_map (struct_item n v s c) = struct_item n (f v) s (ctor_map c)
   leaf_map (outline n v) = outline n (f v)
+  leaf_map (use_item v t) = use_item (f v) t
 
   abbrev pub trunk_map : Trunk V → Trunk W
   trunk_map (inline n v) = inline n (f v)
@@ -74,6 +75,7 @@ abbrev pub leaf_vis : {V : Type 0} → Leaf V → List V
 leaf_vis (function n v) = v ∷ []
 leaf_vis (struct_item n v s c) = v ∷ ctor_vis c
 leaf_vis (outline n v) = v ∷ []
+leaf_vis (use_item v t) = v ∷ []
 
 abbrev pub trunk_vis : {V : Type 0} → Trunk V → List V
 trunk_vis (inline n v) = v ∷ []

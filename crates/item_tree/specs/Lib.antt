@@ -2,6 +2,15 @@ pub mod Visibility
 pub mod Items
 pub mod CrateView
 pub mod CrateCode
+pub mod Tree
+pub mod KeptUse
+pub mod Imports
+pub mod Leaves
+pub mod Calls
+pub mod Expanding
+pub mod UseItem
+pub mod TreeCode
+pub mod UseText
 pub mod Node
 pub mod NodeCode
 pub mod Kept

@@ -6,6 +6,7 @@ use Rattle.hir_input.specs.declared.ids.FileAstId.{FileAstId}
 use Rattle.item_tree_attrs.specs.Collected.{Collected, nothing as no_attrs}
 use Rattle.item_tree.specs.declared.visibility.RawVisibility.{RawVisibility}
 use Rattle.item_tree.specs.declared.items.FieldsShape.{FieldsShape}
+use Rattle.item_tree.specs.Tree.{Tree}
 
 -- the constructor of a struct, over what stands for a visibility
 pub data Ctor (V : Type 0) : Type 0 where
@@ -17,6 +18,7 @@ pub data Leaf (V : Type 0) : Type 0 where
   function : List ℕ → V → Leaf V
   struct_item : List ℕ → V → FieldsShape → Ctor V → Leaf V
   outline : List ℕ → V → Leaf V
+  use_item : V → Tree → Leaf V
 
 -- an item that has children, without them
 pub data Trunk (V : Type 0) : Type 0 where
@@ -64,6 +66,7 @@ abbrev pub leaf_kind : {V : Type 0} → Leaf V → AstIdKind
 leaf_kind (function name v) = kind.Fn
 leaf_kind (struct_item name v shape c) = kind.Struct
 leaf_kind (outline name v) = kind.Module
+leaf_kind (use_item v t) = kind.Use
 
 abbrev pub trunk_kind : {V : Type 0} → Trunk V → AstIdKind
 trunk_kind (inline name v) = kind.Module

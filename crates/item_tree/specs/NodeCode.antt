@@ -9,7 +9,9 @@ use Rattle.item_tree.specs.declared.visibility.RawVisibility.{RawVisibility}
 use Rattle.item_tree.specs.contracts.visibility.RawVisibility as raw
 use Rattle.item_tree.specs.declared.items.FieldsShape.{FieldsShape}
 use Rattle.item_tree.specs.contracts.items.FieldsShape as shape
-use Rattle.item_tree.specs.Node.{Ctor, no_ctor, ctor_with, Leaf, function, struct_item, outline, Trunk, inline, Head, Node, leaf, parent, Forest, empty, more, Unfolding}
+use Rattle.item_tree.specs.Tree.{Tree}
+use Rattle.item_tree.specs.TreeCode.{tree_code}
+use Rattle.item_tree.specs.Node.{Ctor, no_ctor, ctor_with, Leaf, function, struct_item, outline, use_item, Trunk, inline, Head, Node, leaf, parent, Forest, empty, more, Unfolding}
 
 -- ---- an item without its children, as a sum
 
@@ -43,25 +45,28 @@ abbrev pub ctor_code : Coded (Ctor RawVisibility)
 ctor_code = code_by (Unit {0} ⊎ RawVisibility) (coded⊎ coded_unit raw.the_row.coded) ctor_to ctor_from ctor_from-to
 
 abbrev pub LeafSum : Type 0
-LeafSum = Named ⊎ ((Named × (FieldsShape × Ctor RawVisibility)) ⊎ Named)
+LeafSum = Named ⊎ ((Named × (FieldsShape × Ctor RawVisibility)) ⊎ (Named ⊎ (RawVisibility × Tree)))
 
 abbrev pub leaf_to : Leaf RawVisibility → LeafSum
 leaf_to (function n v) = inl (n, v)
 leaf_to (struct_item n v s c) = inr (inl ((n, v), (s, c)))
-leaf_to (outline n v) = inr (inr (n, v))
+leaf_to (outline n v) = inr (inr (inl (n, v)))
+leaf_to (use_item v t) = inr (inr (inr (v, t)))
 
 abbrev pub leaf_from : LeafSum → Leaf RawVisibility
 leaf_from (inl p) = function p.0 p.1
 leaf_from (inr (inl p)) = struct_item p.0.0 p.0.1 p.1.0 p.1.1
-leaf_from (inr (inr p)) = outline p.0 p.1
+leaf_from (inr (inr (inl p))) = outline p.0 p.1
+leaf_from (inr (inr (inr p))) = use_item p.0 p.1
 
 pub leaf_from-to : (l : Leaf RawVisibility) → leaf_from (leaf_to l) ≡ l
 leaf_from-to (function n v) = refl
 leaf_from-to (struct_item n v s c) = refl
 leaf_from-to (outline n v) = refl
+leaf_from-to (use_item v t) = refl
 
 abbrev pub leaf_code : Coded (Leaf RawVisibility)
-leaf_code = code_by LeafSum (coded⊎ named_code (coded⊎ (coded× named_code (coded× shape.the_row.coded ctor_code)) named_code)) leaf_to leaf_from leaf_from-to
+leaf_code = code_by LeafSum (coded⊎ named_code (coded⊎ (coded× named_code (coded× shape.the_row.coded ctor_code)) (coded⊎ named_code (coded× raw.the_row.coded tree_code)))) leaf_to leaf_from leaf_from-to
 
 abbrev pub trunk_to : Trunk RawVisibility → Named
 trunk_to (inline n v) = (n, v)

@@ -14,7 +14,9 @@ use Rattle.item_tree.specs.declared.visibility.RawVisibility.{RawVisibility}
 use Rattle.item_tree.specs.declared.visibility.RawVisibility.TheVariants.{Module, PubSelf, PubCrate, Public}
 use Rattle.item_tree.specs.Column.{is_empty, unless}
 use Rattle.item_tree.specs.Line.{Line, text, blank, text_of, lines_of_text}
-use Rattle.item_tree.specs.Node.{Leaf, function, struct_item, outline, Trunk, inline, leaf_kind, trunk_kind, Node, leaf, parent, Forest, empty, more, node_head, file_id, Unfolding}
+use Rattle.item_tree.specs.Tree.{Tree}
+use Rattle.item_tree.specs.UseText.{shown_tree}
+use Rattle.item_tree.specs.Node.{Leaf, function, struct_item, outline, use_item, Trunk, inline, leaf_kind, trunk_kind, Node, leaf, parent, Forest, empty, more, node_head, file_id, Unfolding}
 
 -- lists of lines with one blank between each two
 abbrev pub with_blanks : List (List Line) → List Line
@@ -80,10 +82,14 @@ module _ (reserved : List (List ℕ)) where
   unfoldable pub inline_header : List ℕ → RawVisibility → List ℕ
   inline_header name v = shown_visibility v ++ codes "mod " ++ shown_name reserved name ++ codes " {"
 
+  unfoldable pub use_header : RawVisibility → Tree → List ℕ
+  use_header v t = shown_visibility v ++ codes "use " ++ shown_tree reserved t ++ codes ";"
+
   abbrev pub leaf_header : Leaf RawVisibility → List ℕ
   leaf_header (function name v) = function_header name v
   leaf_header (struct_item name v shape ctor) = struct_header name v
   leaf_header (outline name v) = outline_header name v
+  leaf_header (use_item v t) = use_header v t
 
   abbrev pub trunk_header : Trunk RawVisibility → List ℕ
   trunk_header (inline name v) = inline_header name v

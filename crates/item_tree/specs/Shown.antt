@@ -9,8 +9,8 @@ use Rattle.item_tree.specs.declared.items.StructValueNsCtor.TheVariants.{NoValue
 use Rattle.item_tree.specs.declared.items.ModKind.{ModKind}
 use Rattle.item_tree.specs.declared.items.ModKind.TheVariants.{Inline, Outline}
 use Rattle.item_tree.specs.declared.tree.ModItemKind.{ModItemKind}
-use Rattle.item_tree.specs.declared.tree.ModItemKind.TheVariants.{Function, Struct, Mod}
-use Rattle.item_tree.specs.Node.{Ctor, no_ctor, ctor_with, Leaf, function, struct_item, outline, Trunk, inline, leaf_kind, trunk_kind, Head, Forest, leaf, parent, nodes, node_head, file_id, Unfolding}
+use Rattle.item_tree.specs.declared.tree.ModItemKind.TheVariants.{Function, Struct, Mod, Use}
+use Rattle.item_tree.specs.Node.{Ctor, no_ctor, ctor_with, Leaf, function, struct_item, outline, use_item, Trunk, inline, leaf_kind, trunk_kind, Head, Forest, leaf, parent, nodes, node_head, file_id, Unfolding}
 use Rattle.item_tree.specs.Column.{is_empty, some_unless}
 use Rattle.item_tree.specs.Layout.{leaf_map, trunk_map, node_at, vis_at}
 
@@ -66,3 +66,4 @@ abbrev pub IsShown : Unfolding → ℕ → ModItemKind → Type 0
 IsShown u i (Function a x) = IsLeaf u i a (function x.now.name x.now.visibility)
 IsShown u i (Struct a x) = IsLeaf u i a (struct_item x.now.name x.now.visibility x.now.shape (ctor_ids x.now.value_ns_ctor))
 IsShown u i (Mod a x) = IsModule u i a x.now.name x.now.visibility x.now.kind
+IsShown u i (Use a x) = IsLeaf u i a (use_item x.now.visibility x.now.tree)

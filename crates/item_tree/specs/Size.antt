@@ -1,11 +1,16 @@
 -- The sizes that a tree may have.
-use Rattle.std.specs.Prelude.{ℕ, ◌<◌, ◌≤◌, ◌-◌, ◌^◌, max, length}
+use Rattle.std.specs.Prelude.{ℕ, ◌<◌, ◌≤◌, ◌-◌, ◌^◌, max, length, Option, Some, None, if◌then◌else◌}
+use Rattle.hir_input.specs.Syntax.{ItemView, fn_item, struct_item, bare_module, listed_module, ItemViews, no_items, item_and, SyntaxView, source_file, error}
+use Rattle.hir_input.specs.Syntax as syntax
+use Rattle.hir_input.specs.UseTreeView.{UseTreeView, written_count}
 use Rattle.item_tree_attrs.specs.declared.collect.AttrError.{AttrError}
 use Rattle.item_tree_attrs.specs.declared.collect.AttrError.TheVariants as attrs
 use Rattle.item_tree_attrs.specs.Collected.{attr_limit}
 use Rattle.item_tree.specs.declared.fault.LowerError.{LowerError}
-use Rattle.item_tree.specs.declared.fault.LowerError.TheVariants.{TooManyItems, TooManyVisibilities, TooManyAttributes, OutOfMemory}
-use Rattle.item_tree.specs.Node.{Node, leaf, parent, Forest, empty, more, count, Unfolding}
+use Rattle.item_tree.specs.declared.fault.LowerError.TheVariants.{TooManyItems, TooManyVisibilities, TooManyUseTrees, TooManyAttributes, TooManySupers, OutOfMemory}
+use Rattle.item_tree.specs.Imports.{most_supers, super_limit}
+use Rattle.item_tree.specs.KeptUse.{kept_tree, use_tree_limit}
+use Rattle.item_tree.specs.Node.{Leaf, use_item, Node, leaf, parent, Forest, empty, more, count, Unfolding}
 use Rattle.item_tree.specs.Layout.{arena_of}
 
 -- the most items of a tree
@@ -30,6 +35,48 @@ abbrev mutual
 abbrev pub all_most_attrs : Unfolding → ℕ
 all_most_attrs u = max (length u.top_attrs.attrs) (most_attrs u.forest)
 
+-- the most times that `super` stands in the paths from the root of a use tree to one of its nodes, at every depth
+abbrev pub leaf_supers : {V : Type 0} → Leaf V → ℕ
+leaf_supers (use_item v t) = most_supers 0 t
+leaf_supers l = 0
+
+abbrev mutual
+  pub node_supers : Node → ℕ
+  node_supers (leaf h l) = leaf_supers l
+  node_supers (parent h t f) = forest_supers f
+
+  pub forest_supers : Forest → ℕ
+  forest_supers empty = 0
+  forest_supers (more n f) = max (node_supers n) (forest_supers f)
+
+-- a number, where something is kept
+abbrev pub if_some : {A : Type 0} → Option A → ℕ → ℕ
+if_some None n = 0
+if_some (Some a) n = n
+
+-- how many nodes are written of a use tree of which something is kept
+abbrev pub tree_written : Option UseTreeView → ℕ
+tree_written None = 0
+tree_written (Some w) = if_some (kept_tree w) (written_count w)
+
+-- the most of them, of an item and of several, at every depth
+abbrev mutual
+  pub item_written : ItemView → ℕ
+  item_written (fn_item n) = 0
+  item_written (struct_item n k) = 0
+  item_written (bare_module n semicolon) = 0
+  item_written (listed_module n semicolon is) = if_some n.name (if semicolon then 0 else items_written is)
+  item_written (syntax.use_item u) = tree_written u.use_tree
+
+  pub items_written : ItemViews → ℕ
+  items_written no_items = 0
+  items_written (item_and i is) = max (item_written i) (items_written is)
+
+-- of a whole syntax
+abbrev pub most_written : SyntaxView → ℕ
+most_written (source_file attrs is) = items_written is
+most_written error = 0
+
 -- an error of attributes as one of lowering
 abbrev pub fault_of : AttrError → LowerError
 fault_of attrs.TooMany = TooManyAttributes
@@ -40,10 +87,18 @@ pub record Fits (u : Unfolding) : Type 0 where
   pub items : count u.forest ≤ item_limit
   pub visibilities : length (arena_of u.forest) ≤ visibility_limit
   pub attributes : all_most_attrs u ≤ attr_limit
+  pub supers : forest_supers u.forest ≤ super_limit
 
--- the error names a size that is passed, or want of memory
-abbrev pub IsTooLarge : Unfolding → LowerError → Type 0
-IsTooLarge u TooManyItems = item_limit < count u.forest
-IsTooLarge u TooManyVisibilities = visibility_limit < length (arena_of u.forest)
-IsTooLarge u TooManyAttributes = attr_limit < all_most_attrs u
-IsTooLarge u OutOfMemory = Unit {0}
+-- the same of what is kept of a syntax, and of the syntax
+pub record FitsWith (s : SyntaxView) (u : Unfolding) : Type 0 where
+  pub tree : Fits u
+  pub use_trees : most_written s ≤ use_tree_limit
+
+-- the error names a size that a syntax passes, or what is kept of it, or want of memory
+abbrev pub IsTooLarge : SyntaxView → Unfolding → LowerError → Type 0
+IsTooLarge s u TooManyItems = item_limit < count u.forest
+IsTooLarge s u TooManyVisibilities = visibility_limit < length (arena_of u.forest)
+IsTooLarge s u TooManyUseTrees = use_tree_limit < most_written s
+IsTooLarge s u TooManyAttributes = attr_limit < all_most_attrs u
+IsTooLarge s u TooManySupers = super_limit < forest_supers u.forest
+IsTooLarge s u OutOfMemory = Unit {0}

@@ -3,12 +3,12 @@ use Rattle.std.specs.Prelude.{◌≡◌, ℕ, List, map, Option}
 use Rattle.item_tree_attrs.specs.Collected.{Collected, collected}
 use Rattle.item_tree.specs.declared.items.StructValueNsCtor.{StructValueNsCtor}
 use Rattle.item_tree.specs.declared.items.ModItem.{ModItem}
-use Rattle.item_tree.specs.declared.items.ModItem.TheVariants.{Function, Struct, Mod}
+use Rattle.item_tree.specs.declared.items.ModItem.TheVariants.{Function, Struct, Mod, Use}
 use Rattle.item_tree.specs.declared.items.ModKind.{ModKind}
 use Rattle.item_tree.specs.declared.items.ModKind.TheVariants.{Inline, Outline}
 use Rattle.item_tree.specs.declared.rows.AstKey.{AstKey}
 use Rattle.item_tree.specs.declared.rows.Rows.{Rows}
-use Rattle.item_tree.specs.Node.{Leaf, function, struct_item, outline, Trunk, inline}
+use Rattle.item_tree.specs.Node.{Leaf, function, struct_item, outline, use_item, Trunk, inline}
 use Rattle.item_tree.specs.Column.{plain_place}
 use Rattle.item_tree.specs.Layout.{leaf_map, trunk_map, plain_vis, Key, RowItem, leaf_row, parent_row, Tables, layout, unfold_tables}
 use Rattle.item_tree.specs.Shown.{ctor_ids}
@@ -29,6 +29,7 @@ abbrev pub item_row : ModItem → RowItem
 item_row (Function x) = leaf_plain (function x.name x.visibility)
 item_row (Struct x) = leaf_plain (struct_item x.name x.visibility x.shape (ctor_ids x.value_ns_ctor))
 item_row (Mod x) = module_row x.name x.visibility x.kind
+item_row (Use x) = leaf_plain (use_item x.visibility x.tree)
 
 abbrev pub key_in : AstKey → Key
 key_in k = record { hash = k.hash; number = k.number }

@@ -13,9 +13,15 @@ pub enum LowerError {
     /// More than 2^32 - 4 distinct visibilities in modules.
     #[error("too many visibilities")]
     TooManyVisibilities,
+    /// More than 2^32 - 1 use trees written in one of which something is kept.
+    #[error("too many use trees")]
+    TooManyUseTrees,
     /// More than 2^32 - 1 attributes that an item or the top collects.
     #[error("too many attributes")]
     TooManyAttributes,
+    /// More than 2^32 - 1 times `super` in the paths from the root of a use tree to one of its nodes.
+    #[error("too many supers")]
+    TooManySupers,
     #[error("out of memory")]
     OutOfMemory,
 }

@@ -3,7 +3,10 @@ ghost use Rattle.std.specs.Prelude.{◌≡◌, ◌↔◌, ◌≢◌, ◌+◌, �
 ghost use Rattle.item_tree.specs.declared.items.FieldsShape.TheVariants.{Record};
 ghost use Rattle.item_tree.specs.Layout.{kind_bit, row_kind};
 ghost use Rattle.item_tree.specs.Stored.{item_row};
+ghost use Rattle.item_tree.specs.Tree.{tree_of};
+ghost use Rattle.item_tree.specs.UseItem.{UseFits};
 
+use crate::use_tree::UseTree;
 use crate::visibility::RawVisibilityId;
 use hir_input::{AstIdKind, Name};
 use std::alloc::AllocError;
@@ -128,6 +131,87 @@ pub enum ModKind {
     Outline,
 }
 
+/// A use. The number of its use trees, and that of the times that `super` stands in the paths from the root to one of
+/// them, are less than 2^32.
+#[derive(Debug, Drop)]
+pub struct Use {
+    visibility: RawVisibilityId,
+    tree: UseTree,
+}
+
+impl Model for Use {
+    ghost use Rattle.item_tree.specs.Tree.{tree_of};
+    ghost use Rattle.item_tree.specs.TreeCode.{use_item_code};
+    ghost use Rattle.item_tree.specs.UseItem.{UseItem, UseFits};
+
+    ghost Value = { UseItem };
+
+    ghost coded = { use_item_code };
+
+    ghost view = { λ u. record { visibility = u.visibility; tree = tree_of u.tree } };
+
+    ghost invariant = { λ u. UseFits (tree_of u.tree) };
+}
+
+impl Use {
+    // The use of this visibility and use tree.
+    pub(crate) fn new(visibility: RawVisibilityId, tree: UseTree) -> Use
+        requires { UseFits (tree_of tree) }
+        ensures { result ≡ record { visibility = visibility; tree = tree_of tree } }
+    {
+        Use { visibility, tree }
+    }
+
+    /// The id of its visibility.
+    pub fn visibility(&self) -> RawVisibilityId
+        ensures { result ≡ self.now.visibility }
+    {
+        self.visibility
+    }
+
+    /// Lends its use tree.
+    pub fn use_tree(&self) -> &UseTree
+        ensures value { tree_of result.now ≡ self.now.tree }
+        ensures fits { UseFits self.now.tree }
+    {
+        &self.tree
+    }
+}
+
+impl Clone for Use {
+    ghost is_clone = { λ item copy. copy ≡ item };
+
+    fn clone(&self) -> Result<Use, AllocError> {
+        let visibility = self.visibility;
+        let tree = self.tree.clone()?;
+        Ok(Use { visibility, tree })
+    }
+}
+
+impl PartialEq for Use {
+    ghost use Rattle.std.specs.Prelude.{◌≡◌, ◌↔◌, IsTrue};
+    ghost use Rattle.std.specs.Cmp.{partial_equiv_from_equiv};
+    ghost use Rattle.item_tree.specs.Same.{same, same_is_equivalence};
+    ghost use Rattle.item_tree.specs.TreeCode.{use_item_code};
+
+    ghost eq = { same use_item_code };
+
+    ghost laws = { partial_equiv_from_equiv (same_is_equivalence _) };
+
+    fn eq(&self, other: &Use) -> bool
+        ensures decides { IsTrue result ↔ (self.now ≡ other.now) }
+        ensures gives { result ≡ same use_item_code self.now other.now }
+    {
+        self.visibility == other.visibility && self.tree == other.tree
+    }
+}
+
+impl Eq for Use {
+    ghost use Rattle.item_tree.specs.Same.{same_is_equivalence};
+
+    ghost laws = { same_is_equivalence _ };
+}
+
 impl ItemTreeNode for Function {
     const KIND: AstIdKind = AstIdKind::Fn;
 }
@@ -140,12 +224,17 @@ impl ItemTreeNode for Mod {
     const KIND: AstIdKind = AstIdKind::Module;
 }
 
+impl ItemTreeNode for Use {
+    const KIND: AstIdKind = AstIdKind::Use;
+}
+
 /// An item of a row.
 #[derive(Debug, Drop, PartialEq, Eq)]
 pub(crate) enum ModItem {
     Function(Function),
     Struct(Struct),
     Mod(Mod),
+    Use(Use),
 }
 
 impl ModItem {
@@ -157,6 +246,7 @@ impl ModItem {
             ModItem::Function(_) => Function::KIND,
             ModItem::Struct(_) => Struct::KIND,
             ModItem::Mod(_) => Mod::KIND,
+            ModItem::Use(_) => Use::KIND,
         }
     }
 }

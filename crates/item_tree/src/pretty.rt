@@ -2,14 +2,14 @@
 ghost use Rattle.std.specs.Prelude.{◌≡◌, ◌+◌, ◌<◌, ◌^◌, ◌∷◌, [], IfOk, OnOk, string_bytes};
 ghost use Rattle.std.specs.List.{sum_by};
 ghost use Rattle.item_tree.specs.Line.{text};
-ghost use Rattle.item_tree.specs.Page.{shown_visibility, id_text, function_header, struct_header, outline_header, inline_header, page};
+ghost use Rattle.item_tree.specs.Page.{shown_visibility, id_text, function_header, struct_header, outline_header, inline_header, use_header, page};
 ghost use Rattle.item_tree.specs.PageByIds.{Gains, gap, item_lines, own_lines_at, lines_at, list_lines};
 ghost use Rattle.item_tree.specs.Shown.{IsContained};
 ghost use Rattle.item_tree.specs.Walk.{AreContained, count_at};
 
 mod attrs;
 
-use crate::items::{Function, Mod, ModItemId, ModKind, Struct};
+use crate::items::{Function, Mod, ModItemId, ModKind, Struct, Use};
 use crate::line::{push_blank, push_indent, push_line};
 use crate::tree::{ItemTree, ModItemKind};
 use crate::visibility::RawVisibility;
@@ -157,6 +157,27 @@ impl Printer<'_> {
     }
 }
 
+impl Printer<'_> {
+    #[tactic(auto, unfolding(crate::specs::Page::use_header))]
+    fn push_use(
+        self,
+        out: &mut String,
+        ast_id: FileAstId,
+        item: &Use,
+        visibility: &RawVisibility,
+    ) -> Result<(), AllocError>
+        ensures { let reserved = self.entry.edition.now.reserved.items in
+            let header = use_header reserved visibility.now item.now.tree in
+            OnOk result (Gains out.old out.new (item_lines self.entry.level ast_id header)) }
+    {
+        let visibility = visibility.display(self.edition);
+        let tree = item.use_tree().display(self.edition);
+        self.push_id(out, ast_id)?;
+        push_indent(out, self.level)?;
+        writeln!(out, "{visibility}use {tree};")
+    }
+}
+
 // A blank between the top attributes and the items, or alone where there is neither.
 fn push_gap(out: &mut String, has_attrs: bool, has_items: bool) -> Result<(), AllocError>
     ensures { OnOk result (Gains out.old out.new (gap has_attrs has_items)) }
@@ -195,6 +216,9 @@ impl ItemTree {
             }
             ModItemKind::Struct(ast_id, item) => {
                 printer.push_struct(out, ast_id, item, &self[item.visibility])
+            }
+            ModItemKind::Use(ast_id, item) => {
+                printer.push_use(out, ast_id, item, &self[item.visibility()])
             }
             ModItemKind::Mod(ast_id, item) => match &item.kind {
                 ModKind::Outline => {

@@ -8,7 +8,7 @@ ghost use Rattle.item_tree.specs.Size.{Fits};
 ghost use Rattle.item_tree.specs.Stats.{stats_of, kind_is};
 ghost use Rattle.item_tree.specs.Stored.{AreSound, tables_of};
 
-use crate::items::{Function, Mod, ModItem, ModItemId, Struct};
+use crate::items::{Function, Mod, ModItem, ModItemId, Struct, Use};
 use crate::rows::{NO_ATTRS, Rows};
 use crate::visibility::{FixedVisibilities, PUB_CRATE, RawVisibility, RawVisibilityId};
 use hir_input::{AstIdKind, FileAstId};
@@ -51,6 +51,7 @@ pub enum ModItemKind<'a> {
     Function(FileAstId, &'a Function),
     Struct(FileAstId, &'a Struct),
     Mod(FileAstId, &'a Mod),
+    Use(FileAstId, &'a Use),
 }
 
 /// How many items of a few kinds a tree has, at every depth.
@@ -144,6 +145,7 @@ impl ItemTree {
             ModItem::Function(item) => ModItemKind::Function(ast_id, item),
             ModItem::Struct(item) => ModItemKind::Struct(ast_id, item),
             ModItem::Mod(item) => ModItemKind::Mod(ast_id, item),
+            ModItem::Use(item) => ModItemKind::Use(ast_id, item),
         }
     }
 

@@ -3,40 +3,21 @@ use Rattle.std.proofs.Common.{◌≡◌, ℕ, zero, ◌+◌, Bool, true, not, Li
 use Rattle.std.specs.Option.{option_map, unwrap_or}
 use Rattle.std.proofs.lemmas.Option.{same_Some, none-some}
 use Rattle.std.proofs.lemmas.Bool.Decides.{nat_tests}
-use Rattle.hir_input.specs.declared.cfg.CfgAtom.{CfgAtom}
-use Rattle.hir_input.specs.Syntax.{ItemView, ItemViews, fn_item, struct_item, bare_module, listed_module, no_items, item_and, SyntaxView, source_file, error}
-use Rattle.hir_input.specs.Bodies.{item_without_bodies, items_without_bodies, without_bodies}
+use Rattle.hir_input.specs.Syntax.{SyntaxView}
+use Rattle.hir_input.specs.Bodies.{without_bodies}
 use Rattle.item_tree.specs.CrateView.{CrateView}
-use Rattle.item_tree.specs.Node.{add}
 use Rattle.item_tree.specs.NodeCode.{unfolding_code}
 use Rattle.item_tree.specs.Same.{same, same_of_equal}
-use Rattle.item_tree.specs.Visibility.{read_visibility}
-use Rattle.item_tree.specs.Kept.{head_of, module_node, kept, kept_all, top_attrs_of, kept_syntax}
+use Rattle.item_tree.specs.Kept.{kept_syntax}
+use Rattle.item_tree.proofs.BodyTexts.{kept_without_bodies}
 use Rattle.item_tree_db.specs.declared.place.Place.{Place}
 use Rattle.item_tree_db.specs.State.{State, file_at, is_root_of, present, unfolding_of, unfolding_at, change_number}
 use Rattle.item_tree_db.specs.Edits.{EditView, set_file, remove_file}
 use Rattle.item_tree_db.specs.History.{unfolding_after, changed_after, IsAfter, IgnoresBodies}
 
--- under these options and skipped names
-module _ (options : List CfgAtom) (skipped : List (List ℕ)) where
-  mutual
-    kept_item : (i : ItemView) → kept options skipped (item_without_bodies i) ≡ kept options skipped i
-    kept_item (fn_item n) = refl
-    kept_item (struct_item n k) = refl
-    kept_item (bare_module n semicolon) = refl
-    kept_item (listed_module n semicolon is) = λ j. option_map (λ name. module_node semicolon (head_of options skipped n.node) name (read_visibility n.visibility) (kept_items is j)) n.name
-
-    kept_items : (is : ItemViews) → kept_all options skipped (items_without_bodies is) ≡ kept_all options skipped is
-    kept_items no_items = refl
-    kept_items (item_and i is) = λ j. add (kept_item i j) (kept_items is j)
-
-kept_without : (is_root : Bool) (krate : CrateView) (skipped : List (List ℕ)) (s : SyntaxView) → kept_syntax is_root krate skipped (without_bodies s) ≡ kept_syntax is_root krate skipped s
-kept_without is_root krate skipped (source_file attrs is) = λ j. record { top_attrs = top_attrs_of is_root krate skipped attrs; forest = kept_items krate.options skipped is j }
-kept_without is_root krate skipped error = refl
-
 -- two syntaxes that differ in body texts alone unfold alike
 pub kept_alike : (is_root : Bool) (krate : CrateView) (skipped : List (List ℕ)) (a b : SyntaxView) → without_bodies a ≡ without_bodies b → kept_syntax is_root krate skipped a ≡ kept_syntax is_root krate skipped b
-kept_alike is_root krate skipped a b e = sym (kept_without is_root krate skipped a) ∙ ap (kept_syntax is_root krate skipped) e ∙ kept_without is_root krate skipped b
+kept_alike is_root krate skipped a b e = sym (kept_without_bodies is_root krate skipped a) ∙ ap (kept_syntax is_root krate skipped) e ∙ kept_without_bodies is_root krate skipped b
 
 unfolding_alike : (skipped : List (List ℕ)) (place : Place) (krate : Option CrateView) (a b : SyntaxView) → without_bodies a ≡ without_bodies b → unfolding_of skipped place krate (Some a) ≡ unfolding_of skipped place krate (Some b)
 unfolding_alike skipped place None a b e = refl

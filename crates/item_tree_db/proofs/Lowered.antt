@@ -6,7 +6,7 @@ use Rattle.std.proofs.lemmas.List.{length-map}
 use Rattle.hir_input.specs.Syntax.{SyntaxView}
 use Rattle.item_tree.specs.declared.crate_data.CrateData.{CrateData}
 use Rattle.item_tree.specs.declared.fault.LowerError.{LowerError}
-use Rattle.item_tree.specs.declared.fault.LowerError.TheVariants.{TooManyItems, TooManyVisibilities, TooManyAttributes, OutOfMemory}
+use Rattle.item_tree.specs.declared.fault.LowerError.TheVariants.{TooManyItems, TooManyVisibilities, TooManyUseTrees, TooManyAttributes, TooManySupers, OutOfMemory}
 use Rattle.item_tree.specs.CrateView.{crate_view}
 use Rattle.item_tree.specs.Size.{IsTooLarge}
 use Rattle.item_tree_db.specs.declared.place.Place.{Place}
@@ -27,8 +27,10 @@ any_at f P xs i x e p h = (i, f x, rw (length-map xs f) p, get_or-map f xs i x �
 
 -- the crate at a place does not take the syntax
 pub passed_at : (crates : List CrateData) (skipped : List (List ℕ)) (place : Place) (syntax : SyntaxView) (i : ℕ) (krate : CrateData) (error : LowerError) → krate ≡ get_or crates i krate → i < length crates
-    → IsTooLarge (unfolding_of skipped place (Some (crate_view krate)) (Some syntax)) error → IsPassed (map crate_view crates) skipped place syntax error
+    → IsTooLarge syntax (unfolding_of skipped place (Some (crate_view krate)) (Some syntax)) error → IsPassed (map crate_view crates) skipped place syntax error
 passed_at crates skipped place syntax i krate TooManyItems e p h = any_at crate_view _ crates i krate e p h
 passed_at crates skipped place syntax i krate TooManyVisibilities e p h = any_at crate_view _ crates i krate e p h
+passed_at crates skipped place syntax i krate TooManyUseTrees e p h = any_at crate_view _ crates i krate e p h
 passed_at crates skipped place syntax i krate TooManyAttributes e p h = any_at crate_view _ crates i krate e p h
+passed_at crates skipped place syntax i krate TooManySupers e p h = any_at crate_view _ crates i krate e p h
 passed_at crates skipped place syntax i krate OutOfMemory e p h = tt

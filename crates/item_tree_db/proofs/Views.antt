@@ -11,7 +11,7 @@ use Rattle.hir_input.specs.declared.ids.HirFileId.{HirFileId}
 use Rattle.hir_input.specs.Syntax.{SyntaxView, syntax_view}
 use Rattle.item_tree.specs.declared.crate_data.CrateData.{CrateData}
 use Rattle.item_tree.specs.CrateView.{CrateView, crate_view}
-use Rattle.item_tree.specs.Size.{Fits}
+use Rattle.item_tree.specs.Size.{FitsWith}
 use Rattle.item_tree_db.specs.declared.place.Place.{Place}
 use Rattle.item_tree_db.specs.declared.place.Place.TheVariants.{File}
 use Rattle.item_tree_db.specs.declared.rows.Row.{Row}
@@ -65,10 +65,10 @@ pub map_views : (f : CrateView → Row) (crates : List CrateData) → map (λ kr
 map_views f [] = refl
 map_views f (c ∷ crates) = ap (λ (rows : List Row). f (crate_view c) ∷ rows) (map_views f crates)
 
-pub fits_all : (n : ℕ) (skipped : List (List ℕ)) (place : Place) (s : SyntaxView) (crates : List CrateView) (rows : List Row) → rows ≡ map (brought n skipped place s) crates → All (λ row. Fits row.tree) rows → SyntaxFits crates skipped place s
+pub fits_all : (n : ℕ) (skipped : List (List ℕ)) (place : Place) (s : SyntaxView) (crates : List CrateView) (rows : List Row) → rows ≡ map (brought n skipped place s) crates → All (λ row. FitsWith s row.tree) rows → SyntaxFits crates skipped place s
 fits_all n skipped place s crates rows e h k d p =
     let f = brought n skipped place s in
-    subst (λ (row : Row). Fits row.tree) (ap (λ (l : List Row). get_or l k (f d)) e ∙ get_or-map f crates k d) (h k (f d) (rw (e, length-map crates f) p))
+    subst (λ (row : Row). FitsWith s row.tree) (ap (λ (l : List Row). get_or l k (f d)) e ∙ get_or-map f crates k d) (h k (f d) (rw (e, length-map crates f) p))
 
 pub take_crates : (n : ℕ) (crates : List CrateData) → map crate_view (take n crates) ≡ take n (map crate_view crates)
 take_crates zero crates = refl

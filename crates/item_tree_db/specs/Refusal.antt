@@ -3,11 +3,11 @@ use Rattle.std.specs.Prelude.{◌≡◌, ℕ, ◌-◌, ◌^◌, List, Some, All}
 use Rattle.std.specs.List.{Any}
 use Rattle.hir_input.specs.Syntax.{SyntaxView}
 use Rattle.item_tree.specs.declared.fault.LowerError.{LowerError}
-use Rattle.item_tree.specs.declared.fault.LowerError.TheVariants.{TooManyItems, TooManyVisibilities, TooManyAttributes, OutOfMemory}
+use Rattle.item_tree.specs.declared.fault.LowerError.TheVariants.{TooManyItems, TooManyVisibilities, TooManyUseTrees, TooManyAttributes, TooManySupers, OutOfMemory}
 use Rattle.item_tree.specs.declared.fault.EditFault.{EditFault}
 use Rattle.item_tree.specs.declared.fault.EditFault.TheVariants.{TooManyEdits, Lower}
 use Rattle.item_tree.specs.CrateView.{CrateView}
-use Rattle.item_tree.specs.Size.{Fits, IsTooLarge}
+use Rattle.item_tree.specs.Size.{FitsWith, IsTooLarge}
 use Rattle.item_tree_db.specs.declared.place.Place.{Place}
 use Rattle.item_tree_db.specs.State.{State, file_at, unfolding_of}
 use Rattle.item_tree_db.specs.Edits.{EditView, set_file, remove_file}
@@ -18,7 +18,7 @@ last_number = 2 ^ 64 - 1
 
 -- the syntax of a place passes no size in any crate
 abbrev pub SyntaxFits : List CrateView → List (List ℕ) → Place → SyntaxView → Type 0
-SyntaxFits crates skipped place syntax = All (λ krate. Fits (unfolding_of skipped place (Some krate) (Some syntax))) crates
+SyntaxFits crates skipped place syntax = All (λ krate. FitsWith syntax (unfolding_of skipped place (Some krate) (Some syntax))) crates
 
 -- a removal lowers nothing
 abbrev pub EditFits : List CrateView → List (List ℕ) → EditView → Type 0
@@ -27,10 +27,8 @@ EditFits crates skipped (remove_file k) = Unit {0}
 
 -- the syntax of a place passes this size in some crate, or memory is wanting
 abbrev pub IsPassed : List CrateView → List (List ℕ) → Place → SyntaxView → LowerError → Type 0
-IsPassed crates skipped place syntax TooManyItems = Any (λ krate. IsTooLarge (unfolding_of skipped place (Some krate) (Some syntax)) TooManyItems) crates
-IsPassed crates skipped place syntax TooManyVisibilities = Any (λ krate. IsTooLarge (unfolding_of skipped place (Some krate) (Some syntax)) TooManyVisibilities) crates
-IsPassed crates skipped place syntax TooManyAttributes = Any (λ krate. IsTooLarge (unfolding_of skipped place (Some krate) (Some syntax)) TooManyAttributes) crates
 IsPassed crates skipped place syntax OutOfMemory = Unit {0}
+IsPassed crates skipped place syntax error = Any (λ krate. IsTooLarge syntax (unfolding_of skipped place (Some krate) (Some syntax)) error) crates
 
 -- the table s may refuse the edit for this cause; a removal for no other than its number
 abbrev pub IsCause : State → EditView → EditFault → Type 0

@@ -2,7 +2,7 @@
 ghost use Rattle.std.specs.Prelude.{◌≡◌, All, IfErr, IfOk, length, map, replicate};
 ghost use Rattle.hir_input.specs.Syntax.{syntax_view};
 ghost use Rattle.item_tree.specs.CrateView.{crate_view};
-ghost use Rattle.item_tree.specs.Size.{Fits, IsTooLarge};
+ghost use Rattle.item_tree.specs.Size.{FitsWith, IsTooLarge};
 ghost use Rattle.item_tree_db.specs.State.{file_at};
 ghost use Rattle.item_tree_db.specs.Refusal.{IsPassed};
 ghost use Rattle.item_tree_db.specs.Settled.{settled, settled_row, empty_row, cleared, brought};
@@ -91,8 +91,8 @@ fn lower_row(
     number: u64,
 ) -> Result<Row, LowerError>
     ensures row { IfOk result (λ row. row ≡ brought number skipped.now (file_at file.0) (syntax_view syntax.now) (crate_view krate.now)) }
-    ensures fits { IfOk result (λ row. Fits row.tree) }
-    ensures refused { IfErr result (IsTooLarge (brought number skipped.now (file_at file.0) (syntax_view syntax.now) (crate_view krate.now)).tree) }
+    ensures fits { IfOk result (λ row. FitsWith (syntax_view syntax.now) row.tree) }
+    ensures refused { IfErr result (IsTooLarge (syntax_view syntax.now) (brought number skipped.now (file_at file.0) (syntax_view syntax.now) (crate_view krate.now)).tree) }
 {
     let tree = lower_syntax(alloc, syntax, file == krate.root, krate, skipped)?;
     Ok(Row {
@@ -111,7 +111,7 @@ pub fn lower_all(
     number: u64,
 ) -> Result<Vec<Row>, LowerError>
     ensures rows { IfOk result (λ rows. rows.items ≡ map (λ krate. brought number skipped.now (file_at file.0) (syntax_view syntax.now) (crate_view krate)) crates.now) }
-    ensures fits { IfOk result (λ rows. All (λ row. Fits row.tree) rows.items) }
+    ensures fits { IfOk result (λ rows. All (λ row. FitsWith (syntax_view syntax.now) row.tree) rows.items) }
     ensures refused { IfErr result (IsPassed (map crate_view crates.now) skipped.now (file_at file.0) (syntax_view syntax.now)) }
 {
     let mut rows = Vec::new(alloc);

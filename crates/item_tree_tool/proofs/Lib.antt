@@ -1,4 +1,5 @@
 pub mod Attrs
+pub mod ImportLists
 pub mod Inside
 pub mod Items
 pub mod Laws
@@ -8,3 +9,4 @@ pub mod Names
 pub mod Outputs
 pub mod Served
 pub mod Spans
+pub mod UseTrees

@@ -6,7 +6,7 @@ use Rattle.hir_input.specs.Syntax.{SyntaxView}
 use Rattle.item_tree.specs.declared.fault.EditFault.{EditFault}
 use Rattle.item_tree.specs.declared.fault.EditFault.TheVariants.{TooManyEdits, Lower}
 use Rattle.item_tree.specs.declared.fault.LowerError.{LowerError}
-use Rattle.item_tree.specs.declared.fault.LowerError.TheVariants.{TooManyItems, TooManyVisibilities, TooManyAttributes, OutOfMemory}
+use Rattle.item_tree.specs.declared.fault.LowerError.TheVariants.{TooManyItems, TooManyVisibilities, TooManyUseTrees, TooManyAttributes, TooManySupers, OutOfMemory}
 use Rattle.item_tree_db.specs.State.{State, file_at}
 use Rattle.item_tree_db.specs.Edits.{EditView, set_file, remove_file}
 use Rattle.item_tree_db.specs.History.{IsAfter}
@@ -38,7 +38,9 @@ tree_passes : (u : State) (edit : EditView) (error : LowerError) (place : ℕ) (
     → u.crates ≡ s.crates → u.skipped ≡ s.skipped → slice_get edits place ≡ Some edit → NonePasses s edits place → IsCause u edit (Lower error) → IsUnmade s edits (refusal_of place (Lower error))
 tree_passes u (set_file k syntax) TooManyItems place s edits same names found none cause = (none, (set_file k syntax, found, passed_in u s k syntax TooManyItems same names cause))
 tree_passes u (set_file k syntax) TooManyVisibilities place s edits same names found none cause = (none, (set_file k syntax, found, passed_in u s k syntax TooManyVisibilities same names cause))
+tree_passes u (set_file k syntax) TooManyUseTrees place s edits same names found none cause = (none, (set_file k syntax, found, passed_in u s k syntax TooManyUseTrees same names cause))
 tree_passes u (set_file k syntax) TooManyAttributes place s edits same names found none cause = (none, (set_file k syntax, found, passed_in u s k syntax TooManyAttributes same names cause))
+tree_passes u (set_file k syntax) TooManySupers place s edits same names found none cause = (none, (set_file k syntax, found, passed_in u s k syntax TooManySupers same names cause))
 tree_passes u (set_file k syntax) OutOfMemory place s edits same names found none cause = tt
 tree_passes u (remove_file k) error place s edits same names found none cause = absurd cause
 

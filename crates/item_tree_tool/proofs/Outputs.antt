@@ -11,8 +11,9 @@ use Rattle.item_tree_db.specs.Edits.{EditView}
 use Rattle.item_tree_db.specs.History.{IsAfter}
 use Rattle.item_tree_tool.specs.declared.request.show.Show.{Show}
 use Rattle.item_tree_tool.specs.declared.request.show.ShowKind.{ShowKind}
-use Rattle.item_tree_tool.specs.declared.request.show.ShowKind.TheVariants.{Page, Tree}
-use Rattle.item_tree_tool.specs.Outputs.{heading, page_text, shown, shown_as}
+use Rattle.item_tree_tool.specs.declared.request.show.ShowKind.TheVariants.{Page, Tree, Imports}
+use Rattle.item_tree_tool.specs.ImportLines.{import_lines}
+use Rattle.item_tree_tool.specs.Outputs.{heading, page_text, imports_text, shown, shown_as}
 use Rattle.item_tree_tool.specs.Seen.{NamesCrate}
 
 -- the show names a crate of the table
@@ -23,6 +24,10 @@ page_text-after : (reserved : List (List ℕ)) (s u : State) (edits : List EditV
 unfolding page_text
 page_text-after reserved s u edits show after known = ap (page reserved) (after.unfoldings (File show.file) show.krate.0 known)
 
+imports_text-after : (reserved : List (List ℕ)) (s u : State) (edits : List EditView) (show : Show) → IsAfter s edits u → Knows s show → imports_text reserved u [] show ≡ imports_text reserved s edits show
+unfolding imports_text
+imports_text-after reserved s u edits show after known = ap (λ v. import_lines reserved v.forest) (after.unfoldings (File show.file) show.krate.0 known)
+
 heading-after : (s u : State) (edits : List EditView) (show : Show) → IsAfter s edits u → Knows s show → heading u [] show ≡ heading s edits show
 unfolding heading
 heading-after s u edits show after known =
@@ -32,6 +37,7 @@ shown_as-after : (kind : ShowKind) (reserved : List (List ℕ)) (s u : State) (e
 shown_as-after Page reserved s u edits show after known = page_text-after reserved s u edits show after known
 shown_as-after Tree reserved s u edits show after known =
     ap (λ text. text ++ page_text reserved u [] show) (heading-after s u edits show after known) ∙ ap (λ text. heading s edits show ++ text) (page_text-after reserved s u edits show after known)
+shown_as-after Imports reserved s u edits show after known = imports_text-after reserved s u edits show after known
 
 pub output-after : (reserved : List (List ℕ)) (s u : State) (edits : List EditView) (shows : List Show) → IsAfter s edits u → All (Knows s) shows → flat_map (shown reserved u []) shows ≡ flat_map (shown reserved s edits) shows
 output-after reserved s u edits [] after known = refl

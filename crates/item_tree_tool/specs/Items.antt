@@ -4,11 +4,12 @@ use Rattle.serde_json.specs.Data.{Data}
 use Rattle.serde_json.specs.Find.{as_str, as_bool}
 use Rattle.hir_input.specs.declared.ast.StructKind.{StructKind}
 use Rattle.hir_input.specs.declared.ast.StructKind.TheVariants.{Record, Unit as UnitStruct}
-use Rattle.hir_input.specs.Syntax.{NodeView, NamedView, ItemView, fn_item, struct_item, module_from, items_from, SyntaxView, source_file, error}
+use Rattle.hir_input.specs.Syntax.{NodeView, NamedView, ItemView, fn_item, struct_item, module_from, use_item, items_from, SyntaxView, source_file, error}
 use Rattle.item_tree_tool.specs.Forms.{field, required, optional, maybe, on_word, whole, name, list_of, list_at, ◌>>=◌}
 use Rattle.item_tree_tool.specs.Metas.{attrs_at}
 use Rattle.item_tree_tool.specs.Nested.{nested}
 use Rattle.item_tree_tool.specs.Paths.{visibility}
+use Rattle.item_tree_tool.specs.UseTrees.{use_tree}
 
 -- the keys of every item
 abbrev pub node : Data → Option NodeView
@@ -47,13 +48,22 @@ module_form item d = do
   items ← maybe (list_of item) (field (codes "items") d)
   Some (module_from n semicolon items)
 
+-- a use, with its use tree, which may be absent
+abbrev pub use_form : Data → Option ItemView
+use_form d = do
+  n ← node d
+  vis ← maybe visibility (field (codes "vis") d)
+  tree ← maybe use_tree (field (codes "tree") d)
+  Some (use_item (record { node = n; visibility = vis; use_tree = tree }))
+
 -- by the word of an item's kind
 abbrev pub item_by : List ℕ → (Data → Option ItemView) → Data → Option ItemView
 item_by word item d =
     on_word word (codes "fn") (option_map fn_item (named d))
     (on_word word (codes "struct") (struct_form d)
     (on_word word (codes "module") (module_form item d)
-    None))
+    (on_word word (codes "use") (use_form d)
+    None)))
 
 -- an item, over the reading of those inside
 abbrev pub item_with : (Data → Option ItemView) → Data → Option ItemView

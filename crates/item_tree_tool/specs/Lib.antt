@@ -4,11 +4,14 @@ pub mod Paths
 pub mod Cfgs
 pub mod Literals
 pub mod Metas
+pub mod UseTrees
 pub mod Items
 pub mod Editions
 pub mod Edits
 pub mod Shows
 pub mod Requests
+pub mod ImportLines
+pub mod ImportsByIds
 pub mod Outputs
 pub mod Streams
 pub mod Runs

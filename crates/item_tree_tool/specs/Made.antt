@@ -32,8 +32,5 @@ IsUnmade s edits Write = ⊥
 
 -- want of memory in an edit is want of memory; all else refuses the edit
 abbrev pub refusal_of : ℕ → EditFault → RunError
-refusal_of place TooManyEdits = Refused place TooManyEdits
-refusal_of place (Lower lowering.TooManyItems) = Refused place (Lower lowering.TooManyItems)
-refusal_of place (Lower lowering.TooManyVisibilities) = Refused place (Lower lowering.TooManyVisibilities)
-refusal_of place (Lower lowering.TooManyAttributes) = Refused place (Lower lowering.TooManyAttributes)
 refusal_of place (Lower lowering.OutOfMemory) = OutOfMemory
+refusal_of place cause = Refused place cause

@@ -2,18 +2,13 @@
 use Rattle.std.specs.Prelude.{ℕ, List, codes, Option, Some, None}
 use Rattle.serde_json.specs.Data.{Data}
 use Rattle.serde_json.specs.Find.{get, as_str}
-use Rattle.hir_input.specs.declared.ast.PathNode.{PathNode}
 use Rattle.hir_input.specs.Cfg.{CfgView, invalid}
 use Rattle.hir_input.specs.Attr.{MetaView, path_meta, key_value_meta, token_tree_meta, cfg_meta, cfg_attr_meta, unsafe_meta, metas_from}
 use Rattle.item_tree_tool.specs.Cfgs.{cfg}
 use Rattle.item_tree_tool.specs.Forms.{field, required, optional, maybe, list_at, on_word, ◌>>=◌}
 use Rattle.item_tree_tool.specs.Literals.{context_at, literal}
 use Rattle.item_tree_tool.specs.Nested.{nested}
-use Rattle.item_tree_tool.specs.Paths.{path}
-
--- the path of a meta, which may be absent
-abbrev pub path_at : Data → Option (Option PathNode)
-path_at d = maybe path (field (codes "path") d)
+use Rattle.item_tree_tool.specs.Paths.{path_at}
 
 -- the condition of a meta, which cannot be read where it is absent or null
 abbrev pub condition_at : Data → Option CfgView

@@ -5,7 +5,7 @@ use Rattle.item_tree.specs.Page.{page}
 use Rattle.item_tree.specs.declared.fault.EditFault.{EditFault}
 use Rattle.item_tree.specs.declared.fault.EditFault.TheVariants.{TooManyEdits, Lower}
 use Rattle.item_tree.specs.declared.fault.LowerError.{LowerError}
-use Rattle.item_tree.specs.declared.fault.LowerError.TheVariants.{TooManyItems, TooManyVisibilities, TooManyAttributes, OutOfMemory}
+use Rattle.item_tree.specs.declared.fault.LowerError.TheVariants.{OutOfMemory}
 use Rattle.item_tree_db.specs.declared.place.Place.TheVariants.{File}
 use Rattle.item_tree_db.specs.State.{State, file_at, new_table}
 use Rattle.item_tree_db.specs.Edits.{EditView, set_file, remove_file}
@@ -13,7 +13,8 @@ use Rattle.item_tree_db.specs.History.{unfolding_after, changed_after}
 use Rattle.item_tree_db.specs.Refusal.{last_number, EditFits, IsPassed}
 use Rattle.item_tree_tool.specs.declared.request.show.Show.{Show}
 use Rattle.item_tree_tool.specs.declared.request.show.ShowKind.{ShowKind}
-use Rattle.item_tree_tool.specs.declared.request.show.ShowKind.TheVariants.{Page, Tree}
+use Rattle.item_tree_tool.specs.declared.request.show.ShowKind.TheVariants.{Page, Tree, Imports}
+use Rattle.item_tree_tool.specs.ImportLines.{import_lines}
 use Rattle.item_tree_tool.specs.Requests.{Request}
 
 -- the table before the first edit
@@ -29,10 +30,15 @@ heading s edits show =
 unfoldable pub page_text : List (List ℕ) → State → List EditView → Show → List ℕ
 page_text reserved s edits show = page reserved (unfolding_after s edits (File show.file) show.krate.0)
 
+-- the lines of its imports
+unfoldable pub imports_text : List (List ℕ) → State → List EditView → Show → List ℕ
+imports_text reserved s edits show = import_lines reserved (unfolding_after s edits (File show.file) show.krate.0).forest
+
 -- of a tree the line and the page
 abbrev pub shown_as : ShowKind → List (List ℕ) → State → List EditView → Show → List ℕ
 shown_as Page reserved s edits show = page_text reserved s edits show
 shown_as Tree reserved s edits show = heading s edits show ++ page_text reserved s edits show
+shown_as Imports reserved s edits show = imports_text reserved s edits show
 
 -- the text of a show
 abbrev pub shown : List (List ℕ) → State → List EditView → Show → List ℕ
@@ -51,10 +57,8 @@ pub record NonePasses (s : State) (edits : List EditView) (n : ℕ) : Type 0 whe
 
 -- the tree of an edit passes this size in some crate
 abbrev pub TreePasses : State → EditView → LowerError → Type 0
-TreePasses s (set_file k syntax) TooManyItems = IsPassed s.crates s.skipped (file_at k) syntax TooManyItems
-TreePasses s (set_file k syntax) TooManyVisibilities = IsPassed s.crates s.skipped (file_at k) syntax TooManyVisibilities
-TreePasses s (set_file k syntax) TooManyAttributes = IsPassed s.crates s.skipped (file_at k) syntax TooManyAttributes
 TreePasses s (set_file k syntax) OutOfMemory = ⊥
+TreePasses s (set_file k syntax) error = IsPassed s.crates s.skipped (file_at k) syntax error
 TreePasses s (remove_file k) error = ⊥
 
 -- the edit at this place, counted from 0, passes this size: its number is past the last, or its tree is too large

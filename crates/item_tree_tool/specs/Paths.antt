@@ -8,7 +8,7 @@ use Rattle.hir_input.specs.declared.ast.PathNode.{PathNode}
 use Rattle.hir_input.specs.declared.ast.PathNode.TheVariants.{Readable, Unreadable}
 use Rattle.hir_input.specs.declared.ast.Visibility.{Visibility}
 use Rattle.hir_input.specs.declared.ast.Visibility.TheVariants.{Pub, PubCrate, PubSuper, PubSelf, InPath}
-use Rattle.item_tree_tool.specs.Forms.{field, required, by_first, on_word, whole, name, each, ◌>>=◌}
+use Rattle.item_tree_tool.specs.Forms.{field, required, maybe, by_first, on_word, whole, name, each, ◌>>=◌}
 
 -- a path of a kind with these names; a plain path has a name
 abbrev pub path_from : PathKind → List (List ℕ) → Option PathNode
@@ -59,6 +59,10 @@ path_word word = on_word word (codes "unreadable") (Some Unreadable) None
 -- a path: a text or a list
 abbrev pub path : Data → Option PathNode
 path d = by_first (as_str d) path_word (option_and_then listed_path (as_array d))
+
+-- the path of a meta or of a use tree, which may be absent
+abbrev pub path_at : Data → Option (Option PathNode)
+path_at d = maybe path (field (codes "path") d)
 
 -- the words for a visibility
 abbrev pub visibility_word : List ℕ → Option Visibility

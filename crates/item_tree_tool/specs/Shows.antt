@@ -4,12 +4,12 @@ use Rattle.serde_json.specs.Data.{Data}
 use Rattle.serde_json.specs.Find.{as_str}
 use Rattle.item_tree_tool.specs.declared.request.show.Show.{Show}
 use Rattle.item_tree_tool.specs.declared.request.show.ShowKind.{ShowKind}
-use Rattle.item_tree_tool.specs.declared.request.show.ShowKind.TheVariants.{Page, Tree}
+use Rattle.item_tree_tool.specs.declared.request.show.ShowKind.TheVariants.{Page, Tree, Imports}
 use Rattle.item_tree_tool.specs.Forms.{field, required, on_word, id_at, below, ◌>>=◌}
 
 -- the words for what is shown
 abbrev pub show_kind : List ℕ → Option ShowKind
-show_kind word = on_word word (codes "page") (Some Page) (on_word word (codes "tree") (Some Tree) None)
+show_kind word = on_word word (codes "page") (Some Page) (on_word word (codes "tree") (Some Tree) (on_word word (codes "imports") (Some Imports) None))
 
 -- a show of one of this many crates, which are numbered from 0
 abbrev pub show : ℕ → Data → Option Show

@@ -1,8 +1,9 @@
-//! Reads edits of files as JSON from standard input, and writes the pages of their item trees.
+//! Reads edits of files as JSON from standard input, and writes the pages of their item trees and the imports of their uses.
 #![tactic(auto)]
 
 mod answer;
 pub mod error;
+mod imports;
 mod request;
 pub mod run;
 mod show;

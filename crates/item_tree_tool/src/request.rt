@@ -21,6 +21,7 @@ pub(crate) mod name;
 pub(crate) mod path;
 pub(crate) mod show;
 pub(crate) mod syntax;
+pub(crate) mod use_tree;
 pub(crate) mod visibility;
 
 use crate::request::crates::crates_at;

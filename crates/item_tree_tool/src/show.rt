@@ -2,8 +2,9 @@
 ghost use Rattle.std.specs.Prelude.{◌≡◌, ◌++◌, [], All, IfOk, OnOk, string_bytes};
 ghost use Rattle.std.specs.List.{flat_map};
 ghost use Rattle.item_tree_db.specs.State.{IsKnown};
-ghost use Rattle.item_tree_tool.specs.Outputs.{heading, page_text, shown};
+ghost use Rattle.item_tree_tool.specs.Outputs.{heading, page_text, imports_text, shown};
 
+use crate::imports::push_imports;
 use crate::request::show::{Show, ShowKind};
 use hir_input::Edition;
 use item_tree_db::{Place, Sources, file_item_tree};
@@ -24,6 +25,21 @@ fn push_page(
     let page = tree.pretty_print(alloc, edition)?;
     text.push_str(&page)?;
     Ok(())
+}
+
+#[tactic(auto, unfolding(crate::specs::Outputs::imports_text))]
+fn push_tree_imports(
+    alloc: Global,
+    sources: &Sources,
+    edition: &Edition,
+    show: Show,
+    text: &mut String,
+) -> Result<(), AllocError>
+    requires { IsKnown sources.now show.krate }
+    ensures { OnOk result (string_bytes text.new ≡ string_bytes text.old ++ imports_text edition.now.reserved.items sources.now [] show) }
+{
+    let tree = file_item_tree(sources, show.file, show.krate);
+    push_imports(alloc, tree, edition, text)
 }
 
 #[tactic(auto, unfolding(crate::specs::Outputs::heading))]
@@ -53,6 +69,7 @@ fn push_show(
             push_heading(sources, show, text)?;
             push_page(alloc, sources, edition, show, text)
         }
+        ShowKind::Imports => push_tree_imports(alloc, sources, edition, show, text),
     }
 }
 

@@ -9,7 +9,7 @@ ghost use Rattle.item_tree.specs.Kept.{kept_syntax};
 ghost use Rattle.item_tree.specs.Layout.{node_at};
 ghost use Rattle.item_tree.specs.Node.{node_ast, count};
 ghost use Rattle.item_tree.specs.Shown.{IsContained, StandFor};
-ghost use Rattle.item_tree.specs.Size.{Fits, IsTooLarge};
+ghost use Rattle.item_tree.specs.Size.{FitsWith, IsTooLarge};
 ghost use Rattle.item_tree.specs.Walk.{AreContained, count_at};
 ghost use Rattle.tree_walk.specs.Preorder.{children_at, preorder, Adds, preorder_at};
 
@@ -130,10 +130,13 @@ pub fn is_same_tree(
     ensures decided { let kept = kept_syntax false (crate_view krate.now) skipped.now in
         IfOk result (λ same. IsTrue same ↔ (kept (syntax_view left.now) ≡ kept (syntax_view right.now))) }
     ensures fit { let kept = kept_syntax false (crate_view krate.now) skipped.now in
-        OnOk result (Fits (kept (syntax_view left.now)) × Fits (kept (syntax_view right.now))) }
+        let one = syntax_view left.now in
+        let other = syntax_view right.now in
+        OnOk result (FitsWith one (kept one) × FitsWith other (kept other)) }
     ensures too_large { let kept = kept_syntax false (crate_view krate.now) skipped.now in
-        IfErr result (λ e. IsTooLarge (kept (syntax_view left.now)) e
-        ⊎ (Fits (kept (syntax_view left.now)) × IsTooLarge (kept (syntax_view right.now)) e)) }
+        let one = syntax_view left.now in
+        let other = syntax_view right.now in
+        IfErr result (λ e. IsTooLarge one (kept one) e ⊎ (FitsWith one (kept one) × IsTooLarge other (kept other) e)) }
 {
     let left = lower_syntax(alloc, left, false, krate, skipped)?;
     let right = lower_syntax(alloc, right, false, krate, skipped)?;

@@ -222,6 +222,7 @@ fn clones_are_made(rt: HostRuntime) -> Result<(), Fail> {
             ModItem::Function(item) => assert!(rt; item.clone()? == *item),
             ModItem::Struct(item) => assert!(rt; item.clone()? == *item),
             ModItem::Mod(item) => assert!(rt; item.clone()? == *item),
+            ModItem::Use(item) => assert!(rt; item.clone()? == *item),
         }
     }
     Ok(())

@@ -4,7 +4,7 @@ ghost use Rattle.serde_json.specs.Find.{as_str};
 ghost use Rattle.serde_json.specs.View.{view};
 ghost use Rattle.hir_input.specs.Syntax.{fn_view, item_view};
 ghost use Rattle.item_tree_tool.specs.Forms.{field as field_of, required, maybe, list_of};
-ghost use Rattle.item_tree_tool.specs.Items.{node as node_form, named as named_form, struct_form, struct_kind, module_form, item as item_form, item_with};
+ghost use Rattle.item_tree_tool.specs.Items.{node as node_form, named as named_form, struct_form, struct_kind, use_form, module_form, item as item_form, item_with};
 ghost use Rattle.item_tree_tool.specs.Reads.{Reads};
 ghost use Rattle.item_tree_tool.specs.Seen.{node_view, named_view};
 
@@ -12,8 +12,9 @@ use crate::request::fault::Fault;
 use crate::request::member::{field, flag_at, text_at, u16_at, u32_at, word_at};
 use crate::request::meta::attrs_at;
 use crate::request::name::name_at;
+use crate::request::use_tree::use_tree_at;
 use crate::request::visibility::visibility_at;
-use hir_input::ast::{Fn, Item, Module, Struct, StructKind, Visibility};
+use hir_input::ast::{Fn, Item, Module, Struct, StructKind, Use, Visibility};
 use hir_input::{Meta, Name};
 use serde_json::Value;
 use std::alloc::Global;
@@ -126,6 +127,29 @@ fn struct_of(alloc: Global, value: &Value) -> Result<Item, Fault>
     }))
 }
 
+#[tactic(auto, using(crate::proofs::Items::item_view_use))]
+fn use_of(alloc: Global, value: &Value) -> Result<Item, Fault>
+    ensures { Reads item_view result (use_form (view value.now)) }
+{
+    let node = node_at(alloc, value)?;
+    let visibility = visibility_at(alloc, value)?;
+    let use_tree = use_tree_at(alloc, value)?;
+    let Node {
+        hash,
+        number,
+        attrs,
+        body,
+    } = node;
+    Ok(Item::Use(Use {
+        hash,
+        number,
+        attrs,
+        visibility,
+        use_tree,
+        body,
+    }))
+}
+
 #[cycle(items)]
 #[tactic(auto, using(crate::proofs::Items::item_reads_itself))]
 pub(crate) fn item_of(alloc: Global, value: &Value) -> Result<Item, Fault>
@@ -143,6 +167,7 @@ fn item_in(alloc: Global, value: &Value) -> Result<Item, Fault>
         "fn" => Ok(Item::Fn(fn_of(alloc, value)?)),
         "struct" => struct_of(alloc, value),
         "module" => module_of(alloc, value),
+        "use" => use_of(alloc, value),
         _ => Err(Fault::NotRequest),
     }
 }

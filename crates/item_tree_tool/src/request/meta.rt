@@ -3,7 +3,7 @@ ghost use Rattle.std.specs.Prelude.{◌≡◌, map};
 ghost use Rattle.serde_json.specs.View.{view};
 ghost use Rattle.hir_input.specs.Attr.{meta_view};
 ghost use Rattle.item_tree_tool.specs.Forms.{list_at as each_at};
-ghost use Rattle.item_tree_tool.specs.Metas.{meta as meta_form, meta_with, path_at as path_at_form, path_form, key_value_form, tokens_form, cfg_form, cfg_attr_form, unsafe_form, attrs_at as attrs_form};
+ghost use Rattle.item_tree_tool.specs.Metas.{meta as meta_form, meta_with, path_form, key_value_form, tokens_form, cfg_form, cfg_attr_form, unsafe_form, attrs_at as attrs_form};
 ghost use Rattle.item_tree_tool.specs.Reads.{Reads};
 
 use crate::request::cfg::condition_at;
@@ -11,20 +11,10 @@ use crate::request::context::context_at;
 use crate::request::fault::Fault;
 use crate::request::literal::{literal_at, required_text_at};
 use crate::request::member::{field, list_at, word_at};
-use crate::request::path::path_of;
-use hir_input::ast::PathNode;
+use crate::request::path::path_at;
 use hir_input::{Meta, TokenTree};
 use serde_json::Value;
 use std::alloc::Global;
-
-fn path_at(alloc: Global, value: &Value) -> Result<Option<PathNode>, Fault>
-    ensures { Reads (λ path. path) result (path_at_form (view value.now)) }
-{
-    match field(value, "path") {
-        Some(found) => Ok(Some(path_of(alloc, found)?)),
-        None => Ok(None),
-    }
-}
 
 #[tactic(auto, using(hir_input::proofs::MetaLemmas::meta_views))]
 fn path_meta_of(alloc: Global, value: &Value) -> Result<Meta, Fault>

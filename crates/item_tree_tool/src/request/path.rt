@@ -1,11 +1,11 @@
 //! Paths, read from their forms.
 ghost use Rattle.std.specs.Prelude.{◌≡◌};
 ghost use Rattle.serde_json.specs.View.{view, items_view};
-ghost use Rattle.item_tree_tool.specs.Paths.{path as path_form, listed_path as listed_form, names_behind, super_path as super_form, dollar_path as dollar_form};
+ghost use Rattle.item_tree_tool.specs.Paths.{path as path_form, path_at as path_at_form, listed_path as listed_form, names_behind, super_path as super_form, dollar_path as dollar_form};
 ghost use Rattle.item_tree_tool.specs.Reads.{Reads};
 
 use crate::request::fault::Fault;
-use crate::request::member::u32_of;
+use crate::request::member::{field, u32_of};
 use crate::request::name::names_of;
 use hir_input::ast::PathNode;
 use hir_input::{Crate, ModPath, PathKind};
@@ -63,5 +63,15 @@ pub(crate) fn path_of(alloc: Global, value: &Value) -> Result<PathNode, Fault>
         Some("unreadable") => Ok(PathNode::Unreadable),
         Some(_) => Err(Fault::NotRequest),
         None => listed_path(alloc, value.as_array().ok_or(Fault::NotRequest)?),
+    }
+}
+
+// The path of a meta or of a use tree.
+pub(crate) fn path_at(alloc: Global, value: &Value) -> Result<Option<PathNode>, Fault>
+    ensures { Reads (λ path. path) result (path_at_form (view value.now)) }
+{
+    match field(value, "path") {
+        Some(found) => Ok(Some(path_of(alloc, found)?)),
+        None => Ok(None),
     }
 }

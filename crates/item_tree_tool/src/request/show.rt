@@ -19,6 +19,8 @@ pub(crate) enum ShowKind {
     Page,
     // A line on the tree, and its page.
     Tree,
+    // The imports of its uses.
+    Imports,
 }
 
 // A crate's tree of a file that is to be shown.
@@ -35,6 +37,7 @@ fn kind_at(value: &Value) -> Result<ShowKind, Fault>
     match word_at(value, "show")? {
         "page" => Ok(ShowKind::Page),
         "tree" => Ok(ShowKind::Tree),
+        "imports" => Ok(ShowKind::Imports),
         _ => Err(Fault::NotRequest),
     }
 }

@@ -5,6 +5,7 @@ use Rattle.hir_input.specs.Syntax.{items_view}
 use Rattle.item_tree_attrs.specs.Collected.{collected_from, attr_limit}
 use Rattle.item_tree.specs.Visibility.{read_visibility}
 use Rattle.item_tree.specs.Kept.{kept_all}
+use Rattle.item_tree.specs.Size.{items_written}
 use Rattle.item_tree.specs.Growth.{Meets, IsUnmet, Lowers, to_list}
 use Rattle.item_tree.proofs.Lowering.{IsUnmet-module, Lowers-step, IsFault-step, Lowers-inline, IsFull-inline}
 use Rattle.item_tree.proofs.lower.+lower.Goals as goal
@@ -19,7 +20,7 @@ lower_items-returns-in_err-id-clause-fault t c =
 pub lower_items-loop-item-preserved : goal.lower_items-loop-item-preserved
 lower_items-loop-item-preserved t c =
     let s = Lowers-step c.args.options.now c.args.skipped.now c.args.items.now c.loop-item.item-index c.item-item.result c.item-item.is c.loop-item-test.true c.loop-item.invariant c.in_ok-id.ensures.lowered in
-    let into = λ (js : _) (e : c.loop-item.ids.items ++ to_list c.in_ok-id.field-0 ≡ js). subst (λ zs. Lowers c.args.rows.now c.lower_item.new.rows (kept_all c.args.options.now c.args.skipped.now (items_view (take (c.loop-item.item-index + 1) c.args.items.now))) zs) e s in
+    let into = λ (js : _) (e : c.loop-item.ids.items ++ to_list c.in_ok-id.field-0 ≡ js). subst (λ zs. Lowers c.args.rows.now c.lower_item.new.rows (items_written (items_view (take (c.loop-item.item-index + 1) c.args.items.now))) (kept_all c.args.options.now c.args.skipped.now (items_view (take (c.loop-item.item-index + 1) c.args.items.now))) zs) e s in
     elim c.match-branch-2.branch [
       | lower_items-in-Some+in_ok-push w ↦
           into c.match-branch-2.ids.items (ap (λ z. c.loop-item.ids.items ++ to_list z) w.in-Some.is ∙ sym w.in_ok-push.ensures.items ∙ sym (ap (λ v. v.items) w.ids-is))

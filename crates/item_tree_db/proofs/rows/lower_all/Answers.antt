@@ -1,7 +1,7 @@
 use Rattle.std.proofs.Common.{map, drop, ◌+◌, ◌∙◌, ap, List, ◌++◌}
 use Rattle.std.proofs.lemmas.List.Elements.{All-push}
 use Rattle.std.proofs.lemmas.Result.{err_from_is_err_and}
-use Rattle.item_tree.specs.Size.{Fits}
+use Rattle.item_tree.specs.Size.{FitsWith}
 use Rattle.hir_input.specs.Syntax.{syntax_view}
 use Rattle.item_tree.specs.declared.crate_data.CrateData.{CrateData}
 use Rattle.item_tree.specs.CrateView.{crate_view}
@@ -23,5 +23,5 @@ loop-krate-preserved c =
       rows = ap (λ (rows : List Row). rows ++ map f (drop (c.loop-krate.krate-index + 1) c.args.crates.now)) c.in_ok-push.ensures.items
           ∙ one_more f c.loop-krate.rows.items c.args.crates.now c.loop-krate.krate-index c.krate-item.result c.in_ok-row.row c.krate-item.is c.in_ok-row.ensures.row c.loop-krate-test.true
           ∙ c.loop-krate.invariant.rows;
-      fits = rw c.in_ok-push.ensures.items (All-push (λ (row : Row). Fits row.tree) c.loop-krate.rows.items c.in_ok-row.row c.loop-krate.invariant.fits c.in_ok-row.ensures.fits);
+      fits = rw c.in_ok-push.ensures.items (All-push (λ (row : Row). FitsWith (syntax_view c.args.syntax.now) row.tree) c.loop-krate.rows.items c.in_ok-row.row c.loop-krate.invariant.fits c.in_ok-row.ensures.fits);
     }

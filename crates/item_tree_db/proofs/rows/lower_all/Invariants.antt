@@ -2,7 +2,7 @@ use Rattle.std.proofs.Common.{◌≡◌, ◌++◌, map, drop, All}
 use Rattle.hir_input.specs.Syntax.{syntax_view}
 use Rattle.item_tree.specs.declared.crate_data.CrateData.{CrateData}
 use Rattle.item_tree.specs.CrateView.{crate_view}
-use Rattle.item_tree.specs.Size.{Fits}
+use Rattle.item_tree.specs.Size.{FitsWith}
 use Rattle.item_tree_db.specs.declared.rows.Row.{Row}
 use Rattle.item_tree_db.specs.State.{file_at}
 use Rattle.item_tree_db.specs.Settled.{brought}
@@ -13,5 +13,5 @@ invariant-loop-krate l =
     let f : CrateData → Row = λ krate. brought l.number l.skipped (file_at l.file.0) (syntax_view l.syntax) (crate_view krate) in
     record {
       rows : l.rows.items ++ map f (drop l.krate-index l.crates) ≡ map f l.crates;
-      fits : All (λ row. Fits row.tree) l.rows.items;
+      fits : All (λ row. FitsWith (syntax_view l.syntax) row.tree) l.rows.items;
     }

@@ -1,5 +1,5 @@
 use Rattle.std.proofs.Common.{◌≡◌, subst, ◌/◌}
-use Rattle.item_tree.specs.Node.{function, struct_item}
+use Rattle.item_tree.specs.Node.{function, struct_item, use_item}
 use Rattle.item_tree.specs.Layout.{layout}
 use Rattle.item_tree.specs.Shown.{ctor_ids}
 use Rattle.item_tree.specs.Stored.{tables_of, item_row}
@@ -40,3 +40,11 @@ returns-in-Mod c =
     let r = subst (λ z. IsRowShown c.args.self.now c.args.id c.ast_id-ast_id.result (item_row z)) c.in-Mod.is s in
     let x = c.in-Mod.item in
     IsModule-row c.args.self.now c.args.id c.ast_id-ast_id.result x.name x.visibility x.kind r
+
+pub returns-in-Use : goal.returns-in-Use
+returns-in-Use c =
+    let k = canon (goal.at.returns-in-Use c).After-self in
+    let g = rw c.row.ensures at c.index.ensures in
+    let s = shown c.args.self.now c.self.inside.top_level.items c.self.inside.top_place c.self.inside.rows k c.args.id c.ast_id-ast_id.result c.index.result.now c.requires c.ast_id-ast_id.ensures g in
+    let r = subst (λ z. IsRowShown c.args.self.now c.args.id c.ast_id-ast_id.result (item_row z)) c.in-Use.is s in
+    IsLeaf-row c.args.self.now c.args.id c.ast_id-ast_id.result (use_item c.in-Use.item.visibility c.in-Use.item.tree) r

@@ -1,0 +1,7 @@
+use Rattle.std.proofs.Common.{◌≡◌, ◌+◌, length, take}
+use Rattle.std.specs.List.{flat_map}
+use Rattle.hir_input.specs.UseTreeView.{use_tree_view, written_nodes}
+use Rattle.hir_input.proofs.use_trees.+find.Given as goal
+
+abbrev pub invariant-find_in-loop-tree : goal.invariant-find_in-loop-tree
+invariant-find_in-loop-tree l = l.fn.left ≡ l.left + length (flat_map (λ t. written_nodes (use_tree_view t)) (take l.tree-index l.trees))

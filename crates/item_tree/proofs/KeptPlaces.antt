@@ -1,0 +1,108 @@
+-- At the places of the kept nodes stand the written nodes that they are kept from.
+use Rattle.std.proofs.Common.{◌≡◌, ◌≤◌, ℕ, suc, ◌+◌, Bool, true, false, List, [], ◌∷◌, ◌++◌, length, map, Option, Some, None, refl, sym, ap, ◌∙◌, arith, add-zero, length-append}
+use Rattle.std.specs.Option.{option_to_list}
+use Rattle.std.specs.Prelude.{slice_get, option_map, option_and_then}
+use Rattle.std.proofs.lemmas.List.{map-append}
+use Rattle.hir_input.specs.Path.{Path}
+use Rattle.hir_input.specs.declared.ast.PathNode.{PathNode}
+use Rattle.hir_input.specs.declared.ast.PathNode.TheVariants.{Readable, Unreadable}
+use Rattle.hir_input.specs.declared.ast.Rename.{Rename}
+use Rattle.hir_input.specs.UseTreeView.{UseTreeView, UseTreeViews, bare_tree, listed_tree, no_trees, tree_and, written_nodes, all_written_nodes, written_count}
+use Rattle.item_tree.specs.Tree.{Tree, prefixed, branches_from, tree_nodes, branch_nodes, tree_count}
+use Rattle.item_tree.specs.KeptUse.{kept_bare, kept_prefix, with_kept, kept_tree, kept_trees, if_kept, kept_places, all_kept_places, ArePlacesOf}
+
+-- ys stands in xs from the place k on
+abbrev pub HasFrom : {A : Type 0} → List A → ℕ → List A → Type 0
+HasFrom xs k [] = Unit {0}
+HasFrom xs k (y ∷ ys) = (slice_get xs k ≡ Some y) × HasFrom xs (k + 1) ys
+
+pub HasFrom-left : {A : Type 0} (xs : List A) (k : ℕ) (us vs : List A) → HasFrom xs k (us ++ vs) → HasFrom xs k us
+HasFrom-left xs k [] vs h = tt
+HasFrom-left xs k (u ∷ us) vs h = (h.0, HasFrom-left xs (k + 1) us vs h.1)
+
+pub HasFrom-right : {A : Type 0} (xs : List A) (k : ℕ) (us vs : List A) → HasFrom xs k (us ++ vs) → HasFrom xs (k + length us) vs
+HasFrom-right xs k [] vs h = rw add-zero h
+HasFrom-right xs k (u ∷ us) vs h =
+    let e : k + suc (length us) ≡ (k + 1) + length us = omega arith in
+    rw e (HasFrom-right xs (k + 1) us vs h.1)
+
+HasFrom-more : {A : Type 0} (x : A) (xs : List A) (k : ℕ) (ys : List A) → HasFrom xs k ys → HasFrom (x ∷ xs) (k + 1) ys
+HasFrom-more x xs k [] h = tt
+HasFrom-more x xs k (y ∷ ys) h = (let e : k + 1 ≡ suc k = omega arith in rw e h.0, HasFrom-more x xs (k + 1) ys h.1)
+
+pub HasFrom-all : {A : Type 0} (xs : List A) → HasFrom xs 0 xs
+HasFrom-all [] = tt
+HasFrom-all (x ∷ xs) = (refl, HasFrom-more x xs 0 xs (HasFrom-all xs))
+
+abbrev kept_nodes : Option Tree → List Tree
+kept_nodes None = []
+kept_nodes (Some t) = tree_nodes t
+
+kept_nodes-bare : (path : Option PathNode) (star : Bool) (rename : Option Rename) → kept_nodes (kept_bare path star rename) ≡ option_to_list (kept_bare path star rename)
+kept_nodes-bare (Some Unreadable) star rename = refl
+kept_nodes-bare None true (Some r) = refl
+kept_nodes-bare None true None = refl
+kept_nodes-bare None false rename = refl
+kept_nodes-bare (Some (Readable p)) true (Some r) = refl
+kept_nodes-bare (Some (Readable p)) true None = refl
+kept_nodes-bare (Some (Readable p)) false rename = refl
+
+kept_nodes-with : (t : Option Tree) (ts : List Tree) → branch_nodes (branches_from (with_kept t ts)) ≡ kept_nodes t ++ branch_nodes (branches_from ts)
+kept_nodes-with None ts = refl
+kept_nodes-with (Some t) ts = refl
+
+-- what is kept of the node at a place
+abbrev kept_at : List UseTreeView → ℕ → Option Tree
+kept_at ws place = option_and_then kept_tree (slice_get ws place)
+
+at_bare : (ws : List UseTreeView) (k : ℕ) (t : Option Tree) → kept_at ws k ≡ t → map (kept_at ws) (if_kept t (k ∷ [])) ≡ map Some (option_to_list t)
+at_bare ws k None e = refl
+at_bare ws k (Some t) e = ap (λ o. o ∷ []) e
+
+at_listed : (ws : List UseTreeView) (k : ℕ) (prefix : Option (Option Path)) (places : List ℕ) (ts : List Tree) → kept_at ws k ≡ option_map (λ p. prefixed p (branches_from ts)) prefix → map (kept_at ws) places ≡ map Some (branch_nodes (branches_from ts)) → map (kept_at ws) (if_kept prefix (k ∷ places)) ≡ map Some (kept_nodes (option_map (λ p. prefixed p (branches_from ts)) prefix))
+at_listed ws k None places ts e below = refl
+at_listed ws k (Some p) places ts e below = ap (λ o. o ∷ map (kept_at ws) places) e ∙ ap (λ os. Some (prefixed p (branches_from ts)) ∷ os) below
+
+mutual
+  at_places : (ws : List UseTreeView) (k : ℕ) (w : UseTreeView) → HasFrom ws k (written_nodes w) → map (kept_at ws) (kept_places k w) ≡ map Some (kept_nodes (kept_tree w))
+  at_places ws k (bare_tree n) h = at_bare ws k (kept_bare n.path n.star n.rename) (ap (option_and_then kept_tree) h.0) ∙ ap (map Some) (sym (kept_nodes-bare n.path n.star n.rename))
+  at_places ws k (listed_tree n us) h = at_listed ws k (kept_prefix n.path) (all_kept_places (k + 1) us) (kept_trees us) (ap (option_and_then kept_tree) h.0) (at_all_places ws (k + 1) us h.1)
+
+  at_all_places : (ws : List UseTreeView) (k : ℕ) (us : UseTreeViews) → HasFrom ws k (all_written_nodes us) → map (kept_at ws) (all_kept_places k us) ≡ map Some (branch_nodes (branches_from (kept_trees us)))
+  at_all_places ws k no_trees h = refl
+  at_all_places ws k (tree_and u us) h =
+      let first = at_places ws k u (HasFrom-left ws k (written_nodes u) (all_written_nodes us) h) in
+      let rest = at_all_places ws (k + written_count u) us (HasFrom-right ws k (written_nodes u) (all_written_nodes us) h) in
+      rw (map-append, first, rest, kept_nodes-with (kept_tree u) (kept_trees us), map-append) refl
+
+pub places_stand : (w : UseTreeView) (places : List ℕ) (t : Tree) → places ≡ kept_places 0 w → kept_tree w ≡ Some t → ArePlacesOf w places t
+places_stand w places t e kept =
+    ap (map (kept_at (written_nodes w))) e
+    ∙ at_places (written_nodes w) 0 w (HasFrom-all (written_nodes w))
+    ∙ ap (λ o. map Some (kept_nodes o)) kept
+
+-- ---- no more nodes are kept than written
+
+one_at_most : (t : Option Tree) → length (option_to_list t) ≤ 1
+one_at_most None = omega arith
+one_at_most (Some t) = omega arith
+
+listed_at_most : (prefix : Option (Option Path)) (ts : List Tree) (n : ℕ) → length (branch_nodes (branches_from ts)) ≤ n → length (kept_nodes (option_map (λ p. prefixed p (branches_from ts)) prefix)) ≤ suc n
+listed_at_most None ts n h = omega arith
+listed_at_most (Some p) ts n h = omega arith
+
+mutual
+  kept_at_most : (w : UseTreeView) → length (kept_nodes (kept_tree w)) ≤ written_count w
+  kept_at_most (bare_tree n) = rw (kept_nodes-bare n.path n.star n.rename) (one_at_most (kept_bare n.path n.star n.rename))
+  kept_at_most (listed_tree n us) = listed_at_most (kept_prefix n.path) (kept_trees us) (length (all_written_nodes us)) (all_kept_at_most us)
+
+  all_kept_at_most : (us : UseTreeViews) → length (branch_nodes (branches_from (kept_trees us))) ≤ length (all_written_nodes us)
+  all_kept_at_most no_trees = omega arith
+  all_kept_at_most (tree_and u us) =
+      let first = kept_at_most u in
+      let rest = all_kept_at_most us in
+      rw (kept_nodes-with (kept_tree u) (kept_trees us))
+      (omega (arith, length-append (kept_nodes (kept_tree u)) (branch_nodes (branches_from (kept_trees us))), length-append (written_nodes u) (all_written_nodes us)))
+
+pub kept_no_more : (w : UseTreeView) (t : Tree) → kept_tree w ≡ Some t → tree_count t ≤ written_count w
+kept_no_more w t e = let h = kept_at_most w in rw e at h

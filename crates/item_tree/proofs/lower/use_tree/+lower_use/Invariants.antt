@@ -1,0 +1,12 @@
+use Rattle.std.proofs.Common.{◌≡◌, ◌+◌, ◌++◌, drop, map, length}
+use Rattle.hir_input.specs.UseTreeView.{use_trees_view, all_written_nodes}
+use Rattle.item_tree.specs.KeptUse.{kept_trees, all_kept_places}
+use Rattle.item_tree.specs.Tree.{tree_of}
+use Rattle.item_tree.proofs.lower.use_tree.+lower_use.Given as goal
+
+abbrev pub invariant-lower_list-loop-node : goal.invariant-lower_list-loop-node
+invariant-lower_list-loop-node l = record {
+  counted : l.next + length (all_written_nodes (use_trees_view (drop l.node-index l.nodes))) ≡ l.fn.next + length (all_written_nodes (use_trees_view l.nodes));
+  kept : map tree_of l.trees.items ++ kept_trees (use_trees_view (drop l.node-index l.nodes)) ≡ kept_trees (use_trees_view l.nodes);
+  placed : l.places.items ++ all_kept_places l.next (use_trees_view (drop l.node-index l.nodes)) ≡ l.fn.places.items ++ all_kept_places l.fn.next (use_trees_view l.nodes);
+}

@@ -1,0 +1,6 @@
+use Rattle.item_tree.specs.TreeCode.{tree_code}
+use Rattle.item_tree.proofs.UseEq.{tells}
+use Rattle.item_tree.proofs.use_tree.equal.UseTreePartialEq.eq.Goals as goal
+
+pub returns-clause-gives : goal.returns-clause-gives
+returns-clause-gives c = tells tree_code _ _ _ c.same_tree.ensures

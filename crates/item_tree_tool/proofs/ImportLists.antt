@@ -1,0 +1,69 @@
+-- The lines of imports by the ids of items.
+use Rattle.std.proofs.Common.{◌≡◌, ℕ, Bool, true, false, Some, List, [], ◌∷◌, ◌++◌, Option, refl, sym, ap, ◌∙◌, append_assoc, append-nil}
+use Rattle.std.specs.List.{flat_map}
+use Rattle.std.proofs.lemmas.Grind.{flat_map-append}
+use Rattle.hir_input.specs.declared.ids.AstIdKind.TheVariants as kind
+use Rattle.hir_input.specs.declared.ids.FileAstId.{FileAstId}
+use Rattle.item_tree.specs.Calls.{CalledAtAll}
+use Rattle.item_tree.specs.declared.visibility.RawVisibility.{RawVisibility}
+use Rattle.item_tree.specs.Layout.{leaf_map, vis_at}
+use Rattle.item_tree.specs.Tree.{Tree}
+use Rattle.item_tree.specs.Node.{Leaf, function, struct_item, outline, use_item, Trunk, leaf_kind, file_id, Head, Node, leaf, parent, Forest, empty, more, nodes, Unfolding}
+use Rattle.item_tree.specs.Shown.{StandFor, IsLeaf, IsParent}
+use Rattle.item_tree.proofs.Calling.{calls_keep}
+use Rattle.item_tree.proofs.Lookup.{leaf_kind-map}
+use Rattle.item_tree.proofs.Walking.{flat_map_of_id, leaf_of_id, parent_of_id}
+use Rattle.item_tree_tool.specs.ImportLines.{use_lines, leaf_lines, node_lines, import_lines}
+use Rattle.item_tree_tool.specs.ImportsByIds.{lines_at}
+
+-- a closure that adds what it is called at to a text, as long as nothing is refused
+pub calls_add : {F A B : Type 0} (step : F → A → F → Type 0) (Whole : F → Type 0) (text : F → List B) (shown : A → List B) (f : F) (xs : List A) (g : F)
+    → ((k : F) (x : A) (h : F) → step k x h → Whole h → Whole k × (text h ≡ text k ++ shown x))
+    → CalledAtAll step f xs g → Whole g → text g ≡ text f ++ flat_map shown xs
+calls_add step Whole text shown f xs g adds c =
+    calls_keep step (λ ys k. Whole k → text k ≡ text f ++ flat_map shown ys) f xs g
+    (λ ys k x h e s w.
+      let m = adds k x h s w in
+      m.1 ∙ ap (λ zs. zs ++ shown x) (e m.0) ∙ append_assoc (text f) (flat_map shown ys) (shown x)
+      ∙ ap (λ zs. text f ++ zs) (ap (λ zs. flat_map shown ys ++ zs) (sym (append-nil (shown x))) ∙ sym (flat_map-append shown ys (x ∷ []))))
+    (λ w. sym (append-nil (text f))) c
+
+abbrev pub is_use : {V : Type 0} → Leaf V → Bool
+is_use (use_item v t) = true
+is_use l = false
+
+no_lines : {V : Type 0} (reserved : List (List ℕ)) (h : Head) (l : Leaf V) → is_use l ≡ false → leaf_lines reserved h l ≡ []
+no_lines reserved h (function n v) e = refl
+no_lines reserved h (struct_item n v s c) e = refl
+no_lines reserved h (outline n v) e = refl
+no_lines reserved h (use_item v t) e = cc
+
+module _ (reserved : List (List ℕ)) (u : Unfolding) where
+  flat_map-nodes : (f : Forest) → flat_map (node_lines reserved) (nodes f) ≡ import_lines reserved f
+  flat_map-nodes empty = refl
+  flat_map-nodes (more n f) = ap (λ lines. node_lines reserved n ++ lines) (flat_map-nodes f)
+
+  pub top_lines : (is : List ℕ) (f : Forest) → StandFor u is f → flat_map (lines_at reserved u) is ≡ import_lines reserved f
+  top_lines is f e = flat_map_of_id u (node_lines reserved) is (nodes f) e ∙ flat_map-nodes f
+
+  -- an item without items in it, by the numbers of its visibilities
+  same_lines : (h : Head) (l : Leaf ℕ) (m : Leaf RawVisibility) → leaf_map (vis_at u.forest) l ≡ leaf_map Some m → leaf_lines reserved h m ≡ leaf_lines reserved h l
+  same_lines h (function n v) (function o w) e = refl
+  same_lines h (struct_item n v s c) (struct_item o w r d) e = refl
+  same_lines h (outline n v) (outline o w) e = refl
+  same_lines h (use_item v t) (use_item w r) e = let q : t ≡ r = cc in ap (use_lines reserved (file_id kind.Use h)) (sym q)
+  same_lines h _ _ e = cc
+
+  leaf_shows : (i : ℕ) (a : FileAstId) (l : Leaf ℕ) (p : IsLeaf u i a l) → lines_at reserved u i ≡ leaf_lines reserved p.head l
+  leaf_shows i a l p = leaf_of_id u [] (node_lines reserved) i a l p ∙ same_lines p.head l p.item p.visible
+
+  pub use_shows : {i : ℕ} {a : FileAstId} {v : ℕ} {t : Tree} → IsLeaf u i a (use_item v t) → lines_at reserved u i ≡ use_lines reserved a t
+  use_shows {i} {a} {v} {t} p =
+      let kinds : kind.Use ≡ leaf_kind p.item = leaf_kind-map (vis_at u.forest) (use_item v t) ∙ ap leaf_kind p.visible ∙ sym (leaf_kind-map Some p.item) in
+      leaf_shows i a (use_item v t) p ∙ ap (λ b. use_lines reserved b t) (ap (λ k. file_id k p.head) kinds ∙ sym p.ast_id)
+
+  pub other_shows : {i : ℕ} {a : FileAstId} {l : Leaf ℕ} → IsLeaf u i a l → is_use l ≡ false → lines_at reserved u i ≡ []
+  other_shows {i} {a} {l} p other = leaf_shows i a l p ∙ no_lines reserved p.head l other
+
+  pub module_shows : {i : ℕ} {a : FileAstId} {t : Trunk ℕ} {is : List ℕ} → IsParent u i a t is → lines_at reserved u i ≡ flat_map (lines_at reserved u) is
+  module_shows {i} {a} {t} {is} p = parent_of_id u [] (node_lines reserved) i a t is p ∙ sym (top_lines is p.below p.children)
