@@ -10,6 +10,7 @@ use Rattle.item_tree.specs.Node.{Node, Forest, leaf, parent, empty, more, node_k
 use Rattle.item_tree.specs.Layout.{vis_id, trunk_map, Row, parent_row, row_key, row_attrs, row_item, arena_of, node_walk, walk, node_id, ids, node_rows, rows_of, kind_bit, layout, at, gather, row_node, build, zip_rows, tables_from, unfold_tables}
 use Rattle.item_tree.specs.Column.{is_empty, unless, column_of, places_from, attrs_stored}
 use Rattle.item_tree.proofs.Column.{get-at-seam, value-back, values-back}
+use Rattle.item_tree.proofs.Pieces.{HasFrom, HasFrom-left, HasFrom-right, HasFrom-append, HasFrom-all}
 
 pub kind_bit-small : (k : AstIdKind) → kind_bit k < 2
 kind_bit-small kind.ExternCrate = omega arith
@@ -25,29 +26,6 @@ at-id ns k n h =
     let d : (2 * k + b) / 2 ≡ k = omega arith in
     let m : (2 * k + b) % 2 ≡ b = omega arith in
     rw (d, m, h, eq-eqb b b refl) refl
-
--- ns stands in the list from the place k on
-abbrev pub HasFrom : List Node → ℕ → List Node → Type 0
-HasFrom xs k [] = Unit {0}
-HasFrom xs k (n ∷ ns) = (slice_get xs k ≡ Some n) × HasFrom xs (k + 1) ns
-
-pub HasFrom-left : (xs : List Node) (k : ℕ) (us vs : List Node) → HasFrom xs k (us ++ vs) → HasFrom xs k us
-HasFrom-left xs k [] vs h = tt
-HasFrom-left xs k (u ∷ us) vs h = (h.0, HasFrom-left xs (k + 1) us vs h.1)
-
-pub HasFrom-right : (xs : List Node) (k : ℕ) (us vs : List Node) → HasFrom xs k (us ++ vs) → HasFrom xs (k + length us) vs
-HasFrom-right xs k [] vs h = rw add-zero h
-HasFrom-right xs k (u ∷ us) vs h =
-    let e : k + suc (length us) ≡ (k + 1) + length us = omega arith in
-    rw e (HasFrom-right xs (k + 1) us vs h.1)
-
-pub HasFrom-append : (us vs ws : List Node) → HasFrom (us ++ (vs ++ ws)) (length us) vs
-HasFrom-append us [] ws = tt
-HasFrom-append us (v ∷ vs) ws =
-    let h : HasFrom ((us ++ v ∷ []) ++ (vs ++ ws)) (length (us ++ v ∷ [])) vs = HasFrom-append (us ++ v ∷ []) vs ws in
-    let e : length (us ++ v ∷ []) ≡ length us + 1 = omega (arith, length-append us (v ∷ [])) in
-    let a : (us ++ v ∷ []) ++ (vs ++ ws) ≡ us ++ v ∷ (vs ++ ws) = append_assoc us (v ∷ []) (vs ++ ws) in
-    (get-at-seam us v (vs ++ ws), subst (λ k. HasFrom (us ++ v ∷ (vs ++ ws)) k vs) e (subst (λ zs. HasFrom zs (length (us ++ v ∷ [])) vs) a h))
 
 pub at-node_id : (ns : List Node) (b : ℕ) (n : Node) → HasFrom ns b (node_walk n) → at ns (node_id b n) ≡ Some n
 at-node_id ns b (leaf h l) w = at-id ns b (leaf h l) w.0
@@ -85,7 +63,7 @@ module _ (arena : List RawVisibility) where
         ∙ rw r (q ∙ append_assoc ns (node_walk n) (walk f))
 
 pub has_walk : (f : Forest) → HasFrom (walk f) 0 (walk f)
-has_walk f = subst (λ zs. HasFrom zs 0 (walk f)) (append-nil (walk f)) (HasFrom-append [] (walk f) [])
+has_walk f = HasFrom-all (walk f)
 
 -- the columns give the rows back
 pub zip-columns : (rs : List Row) → zip_rows (map row_key rs) (map row_attrs rs) (map row_item rs) ≡ rs

@@ -9,30 +9,8 @@ use Rattle.hir_input.specs.declared.ast.PathNode.TheVariants.{Readable, Unreadab
 use Rattle.hir_input.specs.declared.ast.Rename.{Rename}
 use Rattle.hir_input.specs.UseTreeView.{UseTreeView, UseTreeViews, bare_tree, listed_tree, no_trees, tree_and, written_nodes, all_written_nodes, written_count}
 use Rattle.item_tree.specs.Tree.{Tree, prefixed, branches_from, tree_nodes, branch_nodes, tree_count}
+use Rattle.item_tree.proofs.Pieces.{HasFrom, HasFrom-left, HasFrom-right, HasFrom-all}
 use Rattle.item_tree.specs.KeptUse.{kept_bare, kept_prefix, with_kept, kept_tree, kept_trees, if_kept, kept_places, all_kept_places, ArePlacesOf}
-
--- ys stands in xs from the place k on
-abbrev pub HasFrom : {A : Type 0} → List A → ℕ → List A → Type 0
-HasFrom xs k [] = Unit {0}
-HasFrom xs k (y ∷ ys) = (slice_get xs k ≡ Some y) × HasFrom xs (k + 1) ys
-
-pub HasFrom-left : {A : Type 0} (xs : List A) (k : ℕ) (us vs : List A) → HasFrom xs k (us ++ vs) → HasFrom xs k us
-HasFrom-left xs k [] vs h = tt
-HasFrom-left xs k (u ∷ us) vs h = (h.0, HasFrom-left xs (k + 1) us vs h.1)
-
-pub HasFrom-right : {A : Type 0} (xs : List A) (k : ℕ) (us vs : List A) → HasFrom xs k (us ++ vs) → HasFrom xs (k + length us) vs
-HasFrom-right xs k [] vs h = rw add-zero h
-HasFrom-right xs k (u ∷ us) vs h =
-    let e : k + suc (length us) ≡ (k + 1) + length us = omega arith in
-    rw e (HasFrom-right xs (k + 1) us vs h.1)
-
-HasFrom-more : {A : Type 0} (x : A) (xs : List A) (k : ℕ) (ys : List A) → HasFrom xs k ys → HasFrom (x ∷ xs) (k + 1) ys
-HasFrom-more x xs k [] h = tt
-HasFrom-more x xs k (y ∷ ys) h = (let e : k + 1 ≡ suc k = omega arith in rw e h.0, HasFrom-more x xs (k + 1) ys h.1)
-
-pub HasFrom-all : {A : Type 0} (xs : List A) → HasFrom xs 0 xs
-HasFrom-all [] = tt
-HasFrom-all (x ∷ xs) = (refl, HasFrom-more x xs 0 xs (HasFrom-all xs))
 
 abbrev kept_nodes : Option Tree → List Tree
 kept_nodes None = []

@@ -12,7 +12,7 @@ use Rattle.item_tree.specs.Tree.{Tree, Branches, single, glob, prefixed, no_bran
 use Rattle.item_tree.specs.KeptUse.{kept_prefix, kept_tree, kept_trees, ArePlacesOf}
 use Rattle.item_tree.specs.Imports.{Import, import_of, imports_from, all_imports_from, imports}
 use Rattle.item_tree.specs.Leaves.{ComesFrom}
-use Rattle.item_tree.proofs.KeptPlaces.{HasFrom, HasFrom-left, HasFrom-right, HasFrom-all}
+use Rattle.item_tree.proofs.Pieces.{HasFrom, HasFrom-left, HasFrom-right, HasFrom-all}
 
 abbrev IsLeaf : Tree → Type 0
 IsLeaf (single p alias) = Unit {0}

@@ -12,6 +12,7 @@ pub mod Calling
 pub mod VisibilityEq
 pub mod Arena
 pub mod Column
+pub mod Pieces
 pub mod Canon
 pub mod Lookup
 pub mod Walking

@@ -21,7 +21,8 @@ use Rattle.item_tree.specs.Shown.{IsContained, IsLeaf, IsParent, IsModule, lent_
 use Rattle.item_tree.specs.Stored.{item_row, leaf_plain, parent_plain, module_row, key_in, column_in, tables_of}
 use Rattle.item_tree.proofs.Arena.{KnowsNode, KnowsForest, Knows-met, leaf-at, trunk-at, leaf_map-map, trunk_map-map, bool_cases}
 use Rattle.item_tree.proofs.Column.{lent-back, lent-each, places-length}
-use Rattle.item_tree.proofs.Canon.{at-node_id, has_walk, HasFrom, HasFrom-left, HasFrom-right}
+use Rattle.item_tree.proofs.Canon.{at-node_id, has_walk}
+use Rattle.item_tree.proofs.Pieces.{HasFrom, HasFrom-left, HasFrom-right}
 
 -- the ids of a forest stand for its nodes
 pub map-at-ids : (ns : List Node) (b : ℕ) (f : Forest) → HasFrom ns b (walk f) → map (at ns) (ids b f) ≡ map Some (nodes f)
