@@ -58,3 +58,6 @@ pub fn list_imports(alloc: Global, item: &Use) -> Result<Vec<Listed>, AllocError
     }
     Ok(list)
 }
+
+#[cfg(test)]
+mod tests;

@@ -157,5 +157,3 @@ fn count_nodes(tree: &UseTree) -> u32
     }
 }
 
-#[cfg(test)]
-mod tests;
