@@ -23,9 +23,9 @@ pub calls_add : {F A B : Type 0} (step : F → A → F → Type 0) (Whole : F �
 calls_add step Whole text shown f xs g adds c =
     calls_keep step (λ ys k. Whole k → text k ≡ text f ++ flat_map shown ys) f xs g
     (λ ys k x h e s w.
-      let m = adds k x h s w in
-      m.1 ∙ ap (λ zs. zs ++ shown x) (e m.0) ∙ append_assoc (text f) (flat_map shown ys) (shown x)
-      ∙ ap (λ zs. text f ++ zs) (ap (λ zs. flat_map shown ys ++ zs) (sym (append-nil (shown x))) ∙ sym (flat_map-append shown ys (x ∷ []))))
+    let m = adds k x h s w in
+    m.1 ∙ ap (λ zs. zs ++ shown x) (e m.0) ∙ append_assoc (text f) (flat_map shown ys) (shown x)
+    ∙ ap (λ zs. text f ++ zs) (ap (λ zs. flat_map shown ys ++ zs) (sym (append-nil (shown x))) ∙ sym (flat_map-append shown ys (x ∷ []))))
     (λ w. sym (append-nil (text f))) c
 
 abbrev pub is_use : {V : Type 0} → Leaf V → Bool

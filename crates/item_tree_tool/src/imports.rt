@@ -65,8 +65,14 @@ fn lines_of_use(
             × (string_bytes text.exit ≡ string_bytes text.entry ++ import_line edition.entry.now.reserved.items (import index path kind alias)) }
     {
         if !is_refused {
-            is_refused =
-                push_import(&mut text, edition, index, &path, kind, alias.as_ref()).is_err();
+            is_refused = push_import(
+                &mut text,
+                edition,
+                index,
+                &path,
+                kind,
+                alias.as_ref(),
+            ).is_err();
         }
     };
     item.expand(alloc, &mut visit)?;

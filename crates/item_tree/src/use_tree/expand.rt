@@ -156,4 +156,3 @@ fn count_nodes(tree: &UseTree) -> u32
         UseTreeKind::Prefixed { list, .. } => 1 + count_all(list),
     }
 }
-
