@@ -3,7 +3,8 @@
 
 ghost use Rattle.std.specs.Prelude.{◌≡◌, ◌+◌, ◌<◌, ◌^◌, ◌++◌, [], ◌∷◌, false, length, map, IfOk};
 ghost use Rattle.item_tree.specs.Imports.{imports};
-ghost use Rattle.import_lister.specs.Listed.{import, import_of};
+ghost use Rattle.item_tree.specs.Calls.{import};
+ghost use Rattle.import_lister.specs.Listed.{import_of};
 
 use hir_input::ModPath;
 use item_tree::{ImportAlias, ImportKind, Use, UseTreeIdx};

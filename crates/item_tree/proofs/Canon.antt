@@ -1,5 +1,5 @@
 -- The tables of a forest give the forest back.
-use Rattle.std.proofs.Common.{◌≡◌, ℕ, suc, ◌+◌, ◌*◌, ◌/◌, ◌%◌, ◌<◌, eq-eqb, List, [], ◌∷◌, ◌++◌, length, map, Some, refl, ap, sym, ◌∙◌, subst, arith, add-zero, append_assoc, append-nil, length-append}
+use Rattle.std.proofs.Common.{◌≡◌, ℕ, ◌+◌, ◌*◌, ◌/◌, ◌%◌, ◌<◌, eq-eqb, List, [], ◌∷◌, ◌++◌, length, map, Some, refl, ap, sym, ◌∙◌, subst, arith, append_assoc, append-nil, length-append}
 use Rattle.std.specs.Prelude.{slice_get}
 use Rattle.hir_input.specs.declared.ids.AstIdKind.{AstIdKind}
 use Rattle.hir_input.specs.declared.ids.AstIdKind.TheVariants as kind
@@ -8,8 +8,8 @@ use Rattle.item_tree_attrs.specs.Collected.{Collected}
 use Rattle.item_tree.proofs.Arena.{KnowsNode, KnowsForest, Knows-met, leaf-back, trunk-back}
 use Rattle.item_tree.specs.Node.{Node, Forest, leaf, parent, empty, more, node_kind, Unfolding}
 use Rattle.item_tree.specs.Layout.{vis_id, trunk_map, Row, parent_row, row_key, row_attrs, row_item, arena_of, node_walk, walk, node_id, ids, node_rows, rows_of, kind_bit, layout, at, gather, row_node, build, zip_rows, tables_from, unfold_tables}
-use Rattle.item_tree.specs.Column.{is_empty, unless, column_of, places_from, attrs_stored}
-use Rattle.item_tree.proofs.Column.{get-at-seam, value-back, values-back}
+use Rattle.item_tree.specs.Column.{is_empty, unless, column_of, attrs_stored}
+use Rattle.item_tree.proofs.Column.{value-back, values-back}
 use Rattle.item_tree.proofs.Pieces.{HasFrom, HasFrom-left, HasFrom-right, HasFrom-append, HasFrom-all}
 
 pub kind_bit-small : (k : AstIdKind) → kind_bit k < 2

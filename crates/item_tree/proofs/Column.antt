@@ -1,5 +1,5 @@
 -- What stands in the column of attributes at the places.
-use Rattle.std.proofs.Common.{◌≡◌, ℕ, ◌+◌, ◌<◌, eqb, Bool, true, false, List, [], ◌∷◌, ◌++◌, length, map, suc, Option, Some, None, refl, ap, sym, ◌∙◌, subst, arith, add-zero, append_assoc, append-nil, length-append, inl, inr}
+use Rattle.std.proofs.Common.{◌≡◌, ℕ, ◌+◌, ◌<◌, eqb, Bool, true, false, List, [], ◌∷◌, ◌++◌, length, map, suc, Option, Some, None, refl, ap, sym, ◌∙◌, arith, add-zero, append_assoc, length-append, inl, inr}
 use Rattle.std.specs.Prelude.{slice_get, ◌↔◌, IsTrue}
 use Rattle.std.proofs.lemmas.Bool.{eqb-true, false≢true}
 use Rattle.hir_input.specs.declared.attr.Attr.{Attr}

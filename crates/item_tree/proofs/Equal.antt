@@ -7,13 +7,12 @@ use denote.Enum.Bare.{same_true}
 use Rattle.hir_input.specs.contracts.ids.AstIdKind.{the_type}
 use Rattle.std.proofs.lemmas.Bool.{eqb-true, and_parts, and_from}
 use Rattle.hir_input.specs.declared.ids.AstIdKind.{AstIdKind}
-use Rattle.hir_input.specs.declared.ids.AstIdKind.TheVariants as kind
 use Rattle.hir_input.specs.contracts.ids.AstIdKindPartialEq.TheImpl as tag_eqs
 use Rattle.hir_input.specs.contracts.ids.AstIdKindEq.TheImpl.Laws as tag_laws
 use Rattle.item_tree_attrs.specs.declared.collect.AttrsOrCfg.{AttrsOrCfg}
 use Rattle.item_tree_attrs.specs.declared.collect.AttrsOrCfg.TheVariants.{Enabled, CfgDisabled}
 use Rattle.item_tree_attrs.specs.contracts.collect.AttrsOrCfgPartialEq.TheImpl as attrs_eqs
-use Rattle.item_tree_attrs.specs.Collected.{Collected, collected}
+use Rattle.item_tree_attrs.specs.Collected.{collected}
 use Rattle.hir_input.specs.declared.attr.Attr.{Attr}
 use Rattle.hir_input.specs.contracts.attr.AttrPartialEq.TheImpl as attr_eqs
 use Rattle.hir_input.specs.contracts.cfg.CfgExprPartialEq.TheImpl as cfg_eqs
@@ -38,10 +37,9 @@ use Rattle.item_tree.specs.contracts.items.ModKindPartialEq.TheImpl as kind_eqs
 use Rattle.item_tree.specs.declared.rows.AstKey.{AstKey}
 use Rattle.item_tree.specs.contracts.rows.AstKeyPartialEq.TheImpl as key_eqs
 use Rattle.item_tree.specs.declared.rows.Rows.{Rows}
-use Rattle.item_tree.specs.Node.{Ctor, no_ctor, ctor_with, Leaf, function, struct_item, outline, use_item, Trunk, inline, Head, Unfolding}
-use Rattle.item_tree.specs.NodeCode.{unfolding_code}
+use Rattle.item_tree.specs.Node.{Ctor, no_ctor, ctor_with, Leaf, function, struct_item, outline, use_item, Trunk, inline, Unfolding}
 use Rattle.item_tree.specs.Layout.{same as same_vis, VisId, fixed, place, plain_vis, leaf_map, trunk_map, leaf_vis, trunk_vis, RowItem, leaf_row, parent_row, layout}
-use Rattle.item_tree.specs.Same.{same, same_of_equal, equal_of_same, agree}
+use Rattle.item_tree.specs.Same.{same_of_equal, equal_of_same}
 use Rattle.item_tree.specs.Shown.{ctor_ids}
 use Rattle.item_tree.specs.Tree.{Tree, glob}
 use Rattle.item_tree.specs.TreeCode.{use_item_code}

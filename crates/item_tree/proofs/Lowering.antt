@@ -15,18 +15,18 @@ use Rattle.item_tree.specs.declared.items.FieldsShape.{FieldsShape}
 use Rattle.item_tree.specs.declared.fault.LowerError.{LowerError}
 use Rattle.item_tree.specs.declared.fault.LowerError.TheVariants.{TooManyItems, TooManyVisibilities, TooManyUseTrees, TooManyAttributes, TooManySupers, OutOfMemory}
 use Rattle.item_tree.specs.declared.rows.Rows.{Rows}
-use Rattle.item_tree.specs.Node.{Ctor, ctor_with, Leaf, Trunk, trunk_kind, leaf_kind, Head, Node, Forest, leaf, parent, empty, more, add, function, struct_item, outline, use_item, inline, node_count, count, Unfolding}
+use Rattle.item_tree.specs.Node.{Ctor, ctor_with, Leaf, Trunk, trunk_kind, leaf_kind, Head, Node, Forest, leaf, parent, empty, more, add, function, struct_item, outline, use_item, inline, count, Unfolding}
 use Rattle.item_tree.specs.Visibility.{read_visibility}
 use Rattle.item_tree.specs.Kept.{head_of, shape_of, ctor_of, module_node, kept, kept_all}
-use Rattle.item_tree.specs.Layout.{VisId, vis_id, plain_vis, meet, ctor_map, leaf_map, trunk_map, ctor_vis, leaf_vis, trunk_vis, meet_all, met, node_met, arena_of, node_walk, walk, node_id, ids, Row, leaf_row, parent_row, head_of_key, row_tag, row_key, row_attrs, row_item, kind_bit, node_rows, rows_of, layout, unfold_tables}
+use Rattle.item_tree.specs.Layout.{VisId, vis_id, plain_vis, meet, ctor_map, leaf_map, trunk_map, ctor_vis, leaf_vis, trunk_vis, meet_all, met, node_met, arena_of, node_walk, walk, node_id, ids, Row, leaf_row, parent_row, row_tag, row_key, row_attrs, row_item, kind_bit, node_rows, rows_of, layout, unfold_tables}
 use Rattle.item_tree.specs.Column.{is_empty, unless, some_unless, column_of, places_from, plain_place}
 use Rattle.item_tree.specs.Imports.{most_supers, super_limit}
 use Rattle.item_tree.specs.Tree.{Tree}
 use Rattle.item_tree.specs.UseItem.{UseFits}
 use Rattle.item_tree.specs.KeptUse.{use_tree_limit}
-use Rattle.item_tree.specs.Size.{item_limit, visibility_limit, node_most_attrs, most_attrs, leaf_supers, node_supers, forest_supers, item_written, items_written, Fits, IsTooLarge}
+use Rattle.item_tree.specs.Size.{visibility_limit, most_attrs, leaf_supers, forest_supers, item_written, items_written, Fits}
 use Rattle.item_tree.specs.Stored.{item_row, key_in, keys_in, items_in, places_in, column_in, tables_of, AreSound}
-use Rattle.item_tree.specs.Growth.{ctor_id_of, kept_below, written_below, row_count, IsWithinLimits, Adds, Lowers, to_list, LowersOne, IsFault, IsAttrFault, Meets, IsUnmet, Puts, Pushes, IsFull}
+use Rattle.item_tree.specs.Growth.{ctor_id_of, kept_below, written_below, row_count, Adds, Lowers, IsFault, IsAttrFault, Meets, IsUnmet, Puts, Pushes, IsFull}
 use Rattle.item_tree.proofs.Arena.{V, Extends, Extends-met, KnowsAll, KnowsAll-meet_all, KnowsForest, KnowsNode, Knows-met, leaf-stable, trunk-stable, meet-twice, bool_cases}
 use Rattle.item_tree.proofs.Column.{column-append, places-append}
 use Rattle.item_tree.proofs.Canon.{unfold-layout}

@@ -23,6 +23,10 @@ pub record CalledAtSome {F A : Type 0} (step : F → A → F → Type 0) (f : F)
   pub is_front : done ++ left ≡ xs
   pub calls : FoldsTo step f done g
 
+-- an import by the arguments of a call for it
+abbrev pub import : UseTreeIdx → Path → ImportKind → Option ImportAlias → Import
+import index path kind alias = record { index = index.0; path = path; kind = kind; alias = alias }
+
 -- a call of a closure of four arguments at an import
 abbrev pub at_import : {F : Type 0} → (F → UseTreeIdx → Path → ImportKind → Option ImportAlias → Type 0) → F → Import → Type 0
 at_import pre f x = pre f (record { 0 = x.index }) x.path x.kind x.alias

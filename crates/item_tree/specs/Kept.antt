@@ -1,5 +1,5 @@
 -- The kept items of a syntax.
-use Rattle.std.specs.Prelude.{ℕ, List, Bool, true, false, Option, None, option_map}
+use Rattle.std.specs.Prelude.{ℕ, List, Bool, true, false, Option, option_map}
 use Rattle.std.specs.Option.{option_and_then}
 use Rattle.hir_input.specs.declared.ast.StructKind.{StructKind}
 use Rattle.hir_input.specs.declared.ast.StructKind.TheVariants as written

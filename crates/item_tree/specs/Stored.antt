@@ -1,7 +1,6 @@
 -- The tables of a tree as they stand in memory. Only private contracts speak of them.
 use Rattle.std.specs.Prelude.{◌≡◌, ℕ, List, map, Option}
 use Rattle.item_tree_attrs.specs.Collected.{Collected, collected}
-use Rattle.item_tree.specs.declared.items.StructValueNsCtor.{StructValueNsCtor}
 use Rattle.item_tree.specs.declared.items.ModItem.{ModItem}
 use Rattle.item_tree.specs.declared.items.ModItem.TheVariants.{Function, Struct, Mod, Use}
 use Rattle.item_tree.specs.declared.items.ModKind.{ModKind}

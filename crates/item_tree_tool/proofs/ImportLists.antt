@@ -1,32 +1,17 @@
 -- The lines of imports by the ids of items.
-use Rattle.std.proofs.Common.{◌≡◌, ℕ, Bool, true, false, Some, List, [], ◌∷◌, ◌++◌, Option, refl, sym, ap, ◌∙◌, append_assoc, append-nil}
+use Rattle.std.proofs.Common.{◌≡◌, ℕ, Bool, true, false, Some, List, [], ◌++◌, refl, sym, ap, ◌∙◌}
 use Rattle.std.specs.List.{flat_map}
-use Rattle.std.proofs.lemmas.Grind.{flat_map-append}
 use Rattle.hir_input.specs.declared.ids.AstIdKind.TheVariants as kind
 use Rattle.hir_input.specs.declared.ids.FileAstId.{FileAstId}
-use Rattle.item_tree.specs.Calls.{CalledAtAll}
 use Rattle.item_tree.specs.declared.visibility.RawVisibility.{RawVisibility}
 use Rattle.item_tree.specs.Layout.{leaf_map, vis_at}
 use Rattle.item_tree.specs.Tree.{Tree}
-use Rattle.item_tree.specs.Node.{Leaf, function, struct_item, outline, use_item, Trunk, leaf_kind, file_id, Head, Node, leaf, parent, Forest, empty, more, nodes, Unfolding}
+use Rattle.item_tree.specs.Node.{Leaf, function, struct_item, outline, use_item, Trunk, leaf_kind, file_id, Head, Forest, empty, more, nodes, Unfolding}
 use Rattle.item_tree.specs.Shown.{StandFor, IsLeaf, IsParent}
-use Rattle.item_tree.proofs.Calling.{calls_keep}
 use Rattle.item_tree.proofs.Lookup.{leaf_kind-map}
 use Rattle.item_tree.proofs.Walking.{flat_map_of_id, leaf_of_id, parent_of_id}
 use Rattle.item_tree_tool.specs.ImportLines.{use_lines, leaf_lines, node_lines, import_lines}
 use Rattle.item_tree_tool.specs.ImportsByIds.{lines_at}
-
--- a closure that adds what it is called at to a text, as long as nothing is refused
-pub calls_add : {F A B : Type 0} (step : F → A → F → Type 0) (Whole : F → Type 0) (text : F → List B) (shown : A → List B) (f : F) (xs : List A) (g : F)
-    → ((k : F) (x : A) (h : F) → step k x h → Whole h → Whole k × (text h ≡ text k ++ shown x))
-    → CalledAtAll step f xs g → Whole g → text g ≡ text f ++ flat_map shown xs
-calls_add step Whole text shown f xs g adds c =
-    calls_keep step (λ ys k. Whole k → text k ≡ text f ++ flat_map shown ys) f xs g
-    (λ ys k x h e s w.
-    let m = adds k x h s w in
-    m.1 ∙ ap (λ zs. zs ++ shown x) (e m.0) ∙ append_assoc (text f) (flat_map shown ys) (shown x)
-    ∙ ap (λ zs. text f ++ zs) (ap (λ zs. flat_map shown ys ++ zs) (sym (append-nil (shown x))) ∙ sym (flat_map-append shown ys (x ∷ []))))
-    (λ w. sym (append-nil (text f))) c
 
 abbrev pub is_use : {V : Type 0} → Leaf V → Bool
 is_use (use_item v t) = true

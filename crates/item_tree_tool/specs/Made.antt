@@ -1,7 +1,7 @@
 -- What making the edits of a request and serving it leads to, for the crate's own functions.
 use Rattle.std.specs.Prelude.{◌≡◌, ℕ, List, length}
 use Rattle.item_tree.specs.declared.fault.EditFault.{EditFault}
-use Rattle.item_tree.specs.declared.fault.EditFault.TheVariants.{TooManyEdits, Lower}
+use Rattle.item_tree.specs.declared.fault.EditFault.TheVariants.{Lower}
 use Rattle.item_tree.specs.declared.fault.LowerError.TheVariants as lowering
 use Rattle.item_tree_db.specs.State.{State}
 use Rattle.item_tree_db.specs.Edits.{EditView}

@@ -1,10 +1,11 @@
 //! The imports of a tree, as text.
 ghost use Rattle.std.specs.Prelude.{◌≡◌, ◌++◌, false, IfOk, OnOk, option_copied, string_bytes};
 ghost use Rattle.std.specs.List.{flat_map};
+ghost use Rattle.item_tree.specs.Calls.{import};
 ghost use Rattle.item_tree.specs.Shown.{IsContained};
 ghost use Rattle.item_tree.specs.Walk.{AreContained, of_id};
 ghost use Rattle.item_tree_tool.specs.ImportLines.{kind_word, import_line, use_lines, import_lines};
-ghost use Rattle.item_tree_tool.specs.ImportsByIds.{import, lines_at};
+ghost use Rattle.item_tree_tool.specs.ImportsByIds.{lines_at};
 
 use hir_input::{Edition, FileAstId, ModPath};
 use item_tree::{

@@ -1,4 +1,4 @@
-use Rattle.std.proofs.Common.{◌≡◌, ◌++◌, ap, ◌∙◌, map, string_bytes, lit<}
+use Rattle.std.proofs.Common.{◌++◌, ap, ◌∙◌, map, string_bytes, lit<}
 use Rattle.std.proofs.lemmas.Iterator.Splits.{YieldsList-from_str_split}
 use Rattle.std.proofs.lemmas.Iterator.Consumers.{YieldsList-end}
 use Rattle.item_tree.specs.Line.{text, text_of}

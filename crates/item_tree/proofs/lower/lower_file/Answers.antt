@@ -1,4 +1,4 @@
-use Rattle.std.proofs.Common.{◌≡◌, ◌∙◌, refl}
+use Rattle.std.proofs.Common.{◌∙◌, refl}
 use Rattle.hir_input.specs.Syntax.{items_view}
 use Rattle.item_tree_attrs.specs.Collected.{collected}
 use Rattle.item_tree.specs.Kept.{kept_all}

@@ -1,4 +1,4 @@
-use Rattle.std.proofs.Common.{◌≡◌, ◌≤◌, length, map, subst, ◌∙◌, ap}
+use Rattle.std.proofs.Common.{◌≤◌, length, map, subst, ◌∙◌, ap}
 use Rattle.hir_input.specs.Attr.{meta_view}
 use Rattle.item_tree_attrs.specs.Collected.{collected_from, attr_limit}
 use Rattle.item_tree.specs.Visibility.{read_visibility}

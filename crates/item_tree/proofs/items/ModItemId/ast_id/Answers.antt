@@ -1,4 +1,4 @@
-use Rattle.std.proofs.Common.{◌≡◌, subst, ◌∙◌, ap, Some, ◌/◌, ◌<◌}
+use Rattle.std.proofs.Common.{◌≡◌, subst}
 use Rattle.item_tree.specs.Layout.{layout}
 use Rattle.item_tree.specs.Stored.{tables_of}
 use Rattle.item_tree.proofs.Lookup.{ast-read, keys-len, tags-len, within}

@@ -1,4 +1,4 @@
-use Rattle.std.proofs.Common.{◌≡◌, ◌≤◌, ◌++◌, Some, option_map, ap, sym, ◌∙◌, arith, rules}
+use Rattle.std.proofs.Common.{◌≤◌, ◌++◌, option_map, ap, sym, ◌∙◌, arith, rules}
 use Rattle.hir_input.specs.UseTreeView.{use_tree_view, written_count}
 use Rattle.item_tree.specs.Tree.{tree_of}
 use Rattle.item_tree.specs.KeptUse.{kept_places, use_tree_limit}

@@ -1,4 +1,4 @@
-use Rattle.std.proofs.Common.{◌≡◌, ◌<◌, refl, ap, ◌∙◌, subst}
+use Rattle.std.proofs.Common.{◌<◌, refl, ap, ◌∙◌, subst}
 use Rattle.item_tree.specs.Layout.{plain_vis}
 use Rattle.item_tree.proofs.Arena.{inserted, inserted-fits}
 use Rattle.item_tree.proofs.rows.Rows.alloc_visibility.Goals as goal

@@ -1,4 +1,4 @@
-use Rattle.std.proofs.Common.{◌≡◌, ◌∙◌, subst, sym}
+use Rattle.std.proofs.Common.{◌≡◌, ◌∙◌, subst}
 use Rattle.item_tree.specs.Layout.{layout}
 use Rattle.item_tree.specs.Stored.{tables_of}
 use Rattle.item_tree.proofs.Lookup.{attrs-read, places-len, within}

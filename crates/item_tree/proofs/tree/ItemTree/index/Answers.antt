@@ -1,4 +1,4 @@
-use Rattle.std.proofs.Common.{◌≡◌, subst, ◌/◌}
+use Rattle.std.proofs.Common.{◌≡◌, subst}
 use Rattle.item_tree.specs.Node.{function, struct_item, use_item}
 use Rattle.item_tree.specs.Layout.{layout}
 use Rattle.item_tree.specs.Shown.{ctor_ids}

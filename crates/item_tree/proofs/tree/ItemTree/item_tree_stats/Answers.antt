@@ -4,7 +4,7 @@ use Rattle.hir_input.specs.declared.ids.AstIdKind.{AstIdKind}
 use Rattle.hir_input.specs.declared.ids.AstIdKind.TheVariants as kind
 use Rattle.item_tree.specs.Layout.{layout}
 use Rattle.item_tree.specs.Stored.{tables_of}
-use Rattle.item_tree.specs.Stats.{kind_is, count_of}
+use Rattle.item_tree.specs.Stats.{kind_is}
 use Rattle.item_tree.proofs.Counted.{tags-count}
 use Rattle.item_tree.proofs.tree.ItemTree.item_tree_stats.Goals as goal
 

@@ -1,4 +1,4 @@
-use Rattle.std.proofs.Common.{◌≡◌, ◌++◌, ◌∙◌, ap, sym, subst, string_bytes, length}
+use Rattle.std.proofs.Common.{◌≡◌, ◌++◌, ◌∙◌, ap, sym, subst, length}
 use Rattle.std.specs.Prelude.{◌==◌, not, is_some}
 use Rattle.item_tree_attrs.specs.Collected.{collected}
 use Rattle.item_tree.specs.Line.{text_of}

@@ -1,4 +1,4 @@
-use Rattle.std.proofs.Common.{◌≡◌, subst, sym, ap, ◌∙◌}
+use Rattle.std.proofs.Common.{◌≡◌, subst, sym, ◌∙◌}
 use lib.Pointwise.{pointwise}
 use Rattle.std.specs.Bool.{Decides}
 use Rattle.item_tree.specs.NodeCode.{unfolding_code}
