@@ -1,14 +1,18 @@
-//! Tests that cross crates: what stands where a request for memory is refused.
+//! Tests that cross crates: what stands where a request for memory or an edit is refused, and which uses tell trees apart.
 //!
-//! A plain run refuses none, and compares each answer. `tests/refused_memory.sh` runs these tests once for each
-//! request that they make, with that one refused.
+//! A plain run refuses no memory, and compares each answer. `tests/refused_memory.sh` runs the tests whose names hold
+//! `when_memory_is_refused` once for each request that they make, with that one refused.
 #![tactic(auto)]
 
+#[cfg(test)]
+mod supers;
 #[cfg(test)]
 mod syntax;
 #[cfg(test)]
 mod table;
 #[cfg(test)]
 mod tree;
+#[cfg(test)]
+mod uses;
 #[cfg(test)]
 mod values;

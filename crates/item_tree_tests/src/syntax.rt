@@ -1,5 +1,7 @@
 //! Syntaxes that the tests lower.
-use hir_input::ast::{Fn, Item, Module, PathNode, Struct, StructKind, Syntax, Visibility};
+use hir_input::ast::{
+    Fn, Item, Module, PathNode, Rename, Struct, StructKind, Syntax, Use, UseTree, Visibility,
+};
 use hir_input::{
     CfgAtom, CfgExpr, CfgOptions, EditionYear, HirFileId, Meta, ModPath, Name, PathKind,
     SyntaxContext,
@@ -115,5 +117,79 @@ pub fn nested(alloc: Global) -> Result<Syntax, AllocError> {
     Ok(Syntax::SourceFile {
         attrs: Vec::new(alloc),
         items,
+    })
+}
+
+// A use tree without a list: a path, which is none where it would be plain and without names, and a star behind it or not.
+pub fn bare(alloc: Global, kind: PathKind, text: &str, star: bool) -> Result<UseTree, AllocError> {
+    Ok(UseTree {
+        path: path(alloc, kind, text)?.map(PathNode::Readable),
+        star,
+        rename: None,
+        list: None,
+    })
+}
+
+pub fn leaf(alloc: Global, kind: PathKind, text: &str) -> Result<UseTree, AllocError> {
+    bare(alloc, kind, text, false)
+}
+
+pub fn renamed(alloc: Global, tree: UseTree, text: &str) -> Result<UseTree, AllocError> {
+    let UseTree { path, star, .. } = tree;
+    Ok(UseTree {
+        path,
+        star,
+        rename: Some(Rename {
+            name: name(alloc, text)?,
+        }),
+        list: None,
+    })
+}
+
+// `?`
+pub fn unreadable() -> UseTree {
+    UseTree {
+        path: Some(PathNode::Unreadable),
+        star: false,
+        rename: None,
+        list: None,
+    }
+}
+
+// A use tree with a list, below a path as of `bare`.
+pub fn below(
+    alloc: Global,
+    kind: PathKind,
+    text: &str,
+    list: Vec<UseTree>,
+) -> Result<UseTree, AllocError> {
+    Ok(UseTree {
+        path: path(alloc, kind, text)?.map(PathNode::Readable),
+        star: false,
+        rename: None,
+        list: Some(list),
+    })
+}
+
+pub fn use_item(alloc: Global, visibility: Option<Visibility>, tree: UseTree) -> Item {
+    Item::Use(Use {
+        hash: 1,
+        number: 0,
+        attrs: Vec::new(alloc),
+        visibility,
+        use_tree: Some(tree),
+        body: String::new(alloc),
+    })
+}
+
+// `use TREE;`
+pub fn one_use(
+    alloc: Global,
+    visibility: Option<Visibility>,
+    tree: UseTree,
+) -> Result<Syntax, AllocError> {
+    Ok(Syntax::SourceFile {
+        attrs: Vec::new(alloc),
+        items: vec![in alloc; use_item(alloc, visibility, tree)]?,
     })
 }
