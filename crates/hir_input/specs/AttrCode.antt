@@ -17,12 +17,12 @@ use Rattle.hir_input.specs.Cfg.{CfgView, CfgViews, invalid, atom, all_of, any_of
 use Rattle.hir_input.specs.Attr.{MetaView, MetaViews, path_meta, key_value_meta, token_tree_meta, cfg_meta, cfg_attr_meta, unsafe_meta, no_metas, meta_and}
 
 -- the two parts of a code
-abbrev front : Gv → Gv
+abbrev pub front : Gv → Gv
 front gnil = gnil
 front (gnum n) = gnil
 front (gcons a b) = a
 
-abbrev behind : Gv → Gv
+abbrev pub behind : Gv → Gv
 behind gnil = gnil
 behind (gnum n) = gnil
 behind (gcons a b) = b

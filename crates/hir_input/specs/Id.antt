@@ -1,9 +1,14 @@
--- How ids are displayed.
+-- How ids, contexts and what a macro call expands to are displayed.
 use Rattle.std.specs.Prelude.{ℕ, ◌/◌, ◌%◌, List, [], ◌∷◌, ◌++◌, codes, decimal, true}
 use Rattle.std.specs.Fmt.{digit_glyph}
 use Rattle.hir_input.specs.declared.ids.AstIdKind.{AstIdKind}
 use Rattle.hir_input.specs.declared.ids.AstIdKind.TheVariants.{Const, Enum, ExternBlock, ExternCrate, Fn, Impl, MacroDef, MacroCall, MacroRules, Module, Static, Struct, Trait, TypeAlias, Union, Use}
 use Rattle.hir_input.specs.declared.ids.FileAstId.{FileAstId}
+use Rattle.hir_input.specs.declared.ids.SyntaxContext.{SyntaxContext}
+use Rattle.hir_input.specs.declared.ids.SyntaxContext.TheVariants.{Root, Expanded}
+use Rattle.hir_input.specs.declared.edition.EditionYear.TheVariants.{E2015, E2018, E2021, E2024}
+use Rattle.hir_input.specs.declared.expand_to.ExpandTo.{ExpandTo}
+use Rattle.hir_input.specs.declared.expand_to.ExpandTo.TheVariants as expand_to
 
 -- a kind's word
 abbrev pub shown_kind : AstIdKind → List ℕ
@@ -35,3 +40,19 @@ shown_hash hash = hex_digit (hash / 4096) ∷ hex_digit (hash / 256 % 16) ∷ he
 -- the kind, and in brackets the hash and the number
 abbrev pub shown_id : FileAstId → List ℕ
 shown_id id = shown_kind id.kind ++ codes "[" ++ shown_hash id.hash ++ codes ", " ++ decimal id.number ++ codes "]"
+
+-- the year of a root, or the number of an expansion
+abbrev pub shown_context : SyntaxContext → List ℕ
+shown_context (Root E2015) = codes "ROOT2015"
+shown_context (Root E2018) = codes "ROOT2018"
+shown_context (Root E2021) = codes "ROOT2021"
+shown_context (Root E2024) = codes "ROOT2024"
+shown_context (Expanded number) = decimal number
+
+-- the word for what a macro call expands to
+abbrev pub shown_expand_to : ExpandTo → List ℕ
+shown_expand_to expand_to.Statements = codes "Statements"
+shown_expand_to expand_to.Items = codes "Items"
+shown_expand_to expand_to.Pattern = codes "Pattern"
+shown_expand_to expand_to.Ty = codes "Type"
+shown_expand_to expand_to.Expr = codes "Expr"

@@ -1,13 +1,37 @@
 -- The syntax as plain data, of which every contract on a syntax speaks.
-use Rattle.std.specs.Prelude.{ℕ, List, [], ◌∷◌, Bool, Option, Some, None, option_map, map, string_bytes}
+use Rattle.std.specs.Prelude.{ℕ, List, [], ◌∷◌, Bool, Option, Some, None, option_map, map, string_bytes, String}
+use Rattle.std.specs.declared.alloc.Global.{Global}
+use Rattle.hir_input.specs.declared.ids.AstIdKind.{AstIdKind}
+use Rattle.hir_input.specs.declared.ids.AstIdKind.TheVariants as kind
+use Rattle.hir_input.specs.declared.ids.SyntaxContext.{SyntaxContext}
+use Rattle.hir_input.specs.declared.expand_to.ExpandTo.{ExpandTo}
+use Rattle.hir_input.specs.declared.attr.Meta.{Meta}
+use Rattle.hir_input.specs.declared.ast.AsmExpr as ast_asm
+use Rattle.hir_input.specs.declared.ast.Const as ast_const
+use Rattle.hir_input.specs.declared.ast.Enum as ast_enum
+use Rattle.hir_input.specs.declared.ast.ExternBlock as ast_extern_block
+use Rattle.hir_input.specs.declared.ast.ExternCrate as ast_extern_crate
 use Rattle.hir_input.specs.declared.ast.Fn as ast_fn
-use Rattle.hir_input.specs.declared.ast.Struct as ast_struct
+use Rattle.hir_input.specs.declared.ast.Impl as ast_impl
+use Rattle.hir_input.specs.declared.ast.MacroCall as ast_macro_call
+use Rattle.hir_input.specs.declared.ast.MacroDef as ast_macro_def
+use Rattle.hir_input.specs.declared.ast.MacroRules as ast_macro_rules
 use Rattle.hir_input.specs.declared.ast.Module as ast_module
+use Rattle.hir_input.specs.declared.ast.Static as ast_static
+use Rattle.hir_input.specs.declared.ast.Struct as ast_struct
+use Rattle.hir_input.specs.declared.ast.Trait as ast_trait
+use Rattle.hir_input.specs.declared.ast.TypeAlias as ast_type_alias
+use Rattle.hir_input.specs.declared.ast.Union as ast_union
 use Rattle.hir_input.specs.declared.ast.Use as ast_use
 use Rattle.hir_input.specs.declared.ast.StructKind.{StructKind}
+use Rattle.hir_input.specs.declared.ast.StructKind.TheVariants as written
+use Rattle.hir_input.specs.declared.ast.PathNode.{PathNode}
+use Rattle.hir_input.specs.declared.ast.Rename.{Rename}
 use Rattle.hir_input.specs.declared.ast.Visibility.{Visibility}
 use Rattle.hir_input.specs.declared.ast.Syntax.{Syntax}
 use Rattle.hir_input.specs.declared.ast.Syntax.TheVariants.{SourceFile, Error}
+use Rattle.hir_input.specs.declared.ast.ExternItem.{ExternItem}
+use Rattle.hir_input.specs.declared.ast.ExternItem.TheVariants as external
 use Rattle.hir_input.specs.declared.ast.Item.{Item}
 use Rattle.hir_input.specs.declared.ast.Item.TheOpen.{Item-F, Module-F}
 use Rattle.hir_input.specs.declared.ast.Item.TheFolds.{fold-Item, fold-Module}
@@ -33,14 +57,55 @@ pub record UseView : Type 0 where
   pub visibility : Option Visibility
   pub use_tree : Option UseTreeView
 
--- an item; a module may have a semicolon, and may have a list of items
+-- a macro call may have a path, and has neither name nor visibility
+pub record CallView : Type 0 where
+  pub node : NodeView
+  pub path : Option PathNode
+  pub expand_to : ExpandTo
+  pub ctxt : SyntaxContext
+
+-- the kinds of items that differ in nothing but the kind: each may have a name and a visibility
+pub data PlainKind : Type 0 where
+  fn_kind : PlainKind
+  union_kind : PlainKind
+  enum_kind : PlainKind
+  static_kind : PlainKind
+  trait_kind : PlainKind
+  type_alias_kind : PlainKind
+  macro_def_kind : PlainKind
+
+-- the kind of their ids
+abbrev pub ast_kind : PlainKind → AstIdKind
+ast_kind fn_kind = kind.Fn
+ast_kind union_kind = kind.Union
+ast_kind enum_kind = kind.Enum
+ast_kind static_kind = kind.Static
+ast_kind trait_kind = kind.Trait
+ast_kind type_alias_kind = kind.TypeAlias
+ast_kind macro_def_kind = kind.MacroDef
+
+-- the fields of a struct; each of a tuple struct may have a visibility
+pub data FieldsView : Type 0 where
+  record_fields : FieldsView
+  tuple_fields : List (Option Visibility) → FieldsView
+  no_fields : FieldsView
+
+-- an item; a module may have a semicolon, and a module and an extern block may have a list of items
 mutual
   pub data ItemView : Type 0 where
-    fn_item : NamedView → ItemView
-    struct_item : NamedView → StructKind → ItemView
+    plain_item : PlainKind → NamedView → ItemView
+    const_item : NamedView → ItemView
+    struct_item : NamedView → FieldsView → ItemView
     bare_module : NamedView → Bool → ItemView
     listed_module : NamedView → Bool → ItemViews → ItemView
     use_item : UseView → ItemView
+    extern_crate : NamedView → Option Rename → ItemView
+    bare_extern_block : NodeView → ItemView
+    listed_extern_block : NodeView → ItemViews → ItemView
+    impl_item : NodeView → Bool → ItemView
+    macro_call : CallView → ItemView
+    macro_rules : NodeView → Option (List ℕ) → ItemView
+    asm_item : NodeView → ItemView
 
   pub data ItemViews : Type 0 where
     no_items : ItemViews
@@ -60,26 +125,101 @@ abbrev pub module_from : NamedView → Bool → Option (List ItemView) → ItemV
 module_from n semicolon None = bare_module n semicolon
 module_from n semicolon (Some is) = listed_module n semicolon (items_from is)
 
+-- an extern block with or without a list
+abbrev pub extern_block_from : NodeView → Option (List ItemView) → ItemView
+extern_block_from n None = bare_extern_block n
+extern_block_from n (Some is) = listed_extern_block n (items_from is)
+
 -- ---- what each node of a syntax is seen as
 
+abbrev pub node_from : ℕ → ℕ → List Meta → String Global → NodeView
+node_from hash number attrs body = record { hash = hash; number = number; attrs = map meta_view attrs; body = string_bytes body }
+
+abbrev pub named_from : ℕ → ℕ → List Meta → Option (List ℕ) → Option Visibility → String Global → NamedView
+named_from hash number attrs name visibility body = record { node = node_from hash number attrs body; name = name; visibility = visibility }
+
 abbrev pub fn_view : ast_fn.Fn → NamedView
-fn_view f = record { node = record { hash = f.hash; number = f.number; attrs = map meta_view f.attrs.items; body = string_bytes f.body }; name = f.name; visibility = f.visibility }
+fn_view n = named_from n.hash n.number n.attrs.items n.name n.visibility n.body
+
+abbrev pub union_view : ast_union.Union → NamedView
+union_view n = named_from n.hash n.number n.attrs.items n.name n.visibility n.body
+
+abbrev pub enum_view : ast_enum.Enum → NamedView
+enum_view n = named_from n.hash n.number n.attrs.items n.name n.visibility n.body
+
+abbrev pub static_view : ast_static.Static → NamedView
+static_view n = named_from n.hash n.number n.attrs.items n.name n.visibility n.body
+
+abbrev pub trait_view : ast_trait.Trait → NamedView
+trait_view n = named_from n.hash n.number n.attrs.items n.name n.visibility n.body
+
+abbrev pub type_alias_view : ast_type_alias.TypeAlias → NamedView
+type_alias_view n = named_from n.hash n.number n.attrs.items n.name n.visibility n.body
+
+abbrev pub macro_def_view : ast_macro_def.MacroDef → NamedView
+macro_def_view n = named_from n.hash n.number n.attrs.items n.name n.visibility n.body
+
+abbrev pub const_view : ast_const.Const → NamedView
+const_view n = named_from n.hash n.number n.attrs.items n.name n.visibility n.body
 
 abbrev pub struct_view : ast_struct.Struct → NamedView
-struct_view s = record { node = record { hash = s.hash; number = s.number; attrs = map meta_view s.attrs.items; body = string_bytes s.body }; name = s.name; visibility = s.visibility }
+struct_view n = named_from n.hash n.number n.attrs.items n.name n.visibility n.body
+
+abbrev pub extern_crate_view : ast_extern_crate.ExternCrate → NamedView
+extern_crate_view n = named_from n.hash n.number n.attrs.items n.name n.visibility n.body
+
+abbrev pub impl_view : ast_impl.Impl → NodeView
+impl_view n = node_from n.hash n.number n.attrs.items n.body
+
+abbrev pub macro_rules_view : ast_macro_rules.MacroRules → NodeView
+macro_rules_view n = node_from n.hash n.number n.attrs.items n.body
+
+abbrev pub asm_view : ast_asm.AsmExpr → NodeView
+asm_view n = node_from n.hash n.number n.attrs.items n.body
 
 abbrev pub use_view : ast_use.Use → UseView
-use_view u = record { node = record { hash = u.hash; number = u.number; attrs = map meta_view u.attrs.items; body = string_bytes u.body }; visibility = u.visibility; use_tree = option_map use_tree_view u.use_tree }
+use_view n = record { node = node_from n.hash n.number n.attrs.items n.body; visibility = n.visibility; use_tree = option_map use_tree_view n.use_tree }
+
+abbrev pub call_view : ast_macro_call.MacroCall → CallView
+call_view n = record { node = node_from n.hash n.number n.attrs.items n.body; path = n.path; expand_to = n.expand_to; ctxt = n.ctxt }
+
+abbrev pub fields_view : StructKind → FieldsView
+fields_view written.Record = record_fields
+fields_view (written.Tuple fields) = tuple_fields (map (λ f. f.visibility) fields.items)
+fields_view written.Unit = no_fields
+
+-- an item of an extern block
+abbrev pub extern_item_view : ExternItem → ItemView
+extern_item_view (external.Fn n) = plain_item fn_kind (fn_view n)
+extern_item_view (external.MacroCall n) = macro_call (call_view n)
+extern_item_view (external.Static n) = plain_item static_kind (static_view n)
+extern_item_view (external.TypeAlias n) = plain_item type_alias_kind (type_alias_view n)
+
+abbrev pub extern_block_view : ast_extern_block.ExternBlock → ItemView
+extern_block_view n = extern_block_from (node_from n.hash n.number n.attrs.items n.body) (option_map (λ v. map extern_item_view v.items) n.items)
 
 -- a module, with each of its items seen in its place
 abbrev pub module_step : Module-F ItemView ItemView → ItemView
-module_step m = module_from (record { node = record { hash = m.hash; number = m.number; attrs = map meta_view m.attrs.items; body = string_bytes m.body }; name = m.name; visibility = m.visibility }) m.semicolon (option_map (λ v. v.items) m.items)
+module_step m = module_from (named_from m.hash m.number m.attrs.items m.name m.visibility m.body) m.semicolon (option_map (λ v. v.items) m.items)
 
 abbrev pub item_step : Item-F ItemView ItemView → ItemView
-item_step (Item-F.Fn f) = fn_item (fn_view f)
-item_step (Item-F.Struct s) = struct_item (struct_view s) s.kind
+item_step (Item-F.AsmExpr n) = asm_item (asm_view n)
+item_step (Item-F.Const n) = const_item (const_view n)
+item_step (Item-F.Enum n) = plain_item enum_kind (enum_view n)
+item_step (Item-F.ExternBlock n) = extern_block_view n
+item_step (Item-F.ExternCrate n) = extern_crate (extern_crate_view n) n.rename
+item_step (Item-F.Fn n) = plain_item fn_kind (fn_view n)
+item_step (Item-F.Impl n) = impl_item (impl_view n) n.is_trait_impl
+item_step (Item-F.MacroCall n) = macro_call (call_view n)
+item_step (Item-F.MacroDef n) = plain_item macro_def_kind (macro_def_view n)
+item_step (Item-F.MacroRules n) = macro_rules (macro_rules_view n) n.name
 item_step (Item-F.Module m) = m
-item_step (Item-F.Use u) = use_item (use_view u)
+item_step (Item-F.Static n) = plain_item static_kind (static_view n)
+item_step (Item-F.Struct n) = struct_item (struct_view n) (fields_view n.kind)
+item_step (Item-F.Trait n) = plain_item trait_kind (trait_view n)
+item_step (Item-F.TypeAlias n) = plain_item type_alias_kind (type_alias_view n)
+item_step (Item-F.Union n) = plain_item union_kind (union_view n)
+item_step (Item-F.Use n) = use_item (use_view n)
 
 abbrev pub item_view : Item → ItemView
 item_view = fold-Item ItemView ItemView item_step module_step

@@ -1,17 +1,28 @@
 -- A code of the syntax's view, which the model of a type that holds syntaxes asks for. No contract says more by it.
-use Rattle.std.specs.Prelude.{◌≡◌, ◌⊎◌, ℕ, List, [], ◌∷◌, Bool, Option, refl}
-use Rattle.std.specs.Coded.{Coded, code_by, coded×, coded⊎, coded_list, coded_option, coded_bool, coded_ℕ}
-use Rattle.std.proofs.Common.{inl, inr, ap}
-use base.Stored.{coded_unit}
-use Rattle.hir_input.specs.declared.ast.StructKind.{StructKind}
+use Rattle.std.specs.Prelude.{◌≡◌, ℕ, List, Bool, Option, refl}
+use Rattle.std.specs.Coded.{Coded, code_by, coded×, coded_list, coded_option, coded_bool, coded_ℕ}
+use Rattle.std.proofs.Common.{ap, arith}
+use base.Stored.{Gv, gnil, gnum, gcons}
+use Rattle.hir_input.specs.declared.ids.AstIdKind.{AstIdKind}
+use Rattle.hir_input.specs.declared.ids.AstIdKind.TheVariants as kind
+use Rattle.hir_input.specs.declared.ids.SyntaxContext.{SyntaxContext}
+use Rattle.hir_input.specs.declared.expand_to.ExpandTo.{ExpandTo}
+use Rattle.hir_input.specs.declared.ast.PathNode.{PathNode}
+use Rattle.hir_input.specs.declared.ast.Rename.{Rename}
 use Rattle.hir_input.specs.declared.ast.Visibility.{Visibility}
-use Rattle.hir_input.specs.contracts.ast.StructKind as struct_kind
+use Rattle.hir_input.specs.contracts.ids.AstIdKind as ast_id_kind
+use Rattle.hir_input.specs.contracts.ids.SyntaxContext as context
+use Rattle.hir_input.specs.contracts.expand_to.ExpandTo as expand_to
+use Rattle.hir_input.specs.contracts.ast.PathNode as path_node
+use Rattle.hir_input.specs.contracts.ast.Rename as rename
 use Rattle.hir_input.specs.contracts.ast.Visibility as visibility
 use Rattle.hir_input.specs.Attr.{MetaView}
-use Rattle.hir_input.specs.AttrCode.{attrs_code}
+use Rattle.hir_input.specs.AttrCode.{front, behind, attrs_code}
 use Rattle.hir_input.specs.UseTreeView.{UseTreeView}
 use Rattle.hir_input.specs.UseTreeCode.{use_tree_code}
-use Rattle.hir_input.specs.Syntax.{NodeView, NamedView, UseView, ItemView, fn_item, struct_item, bare_module, listed_module, use_item, ItemViews, no_items, item_and, SyntaxView, source_file, error}
+use Rattle.hir_input.specs.Syntax.{NodeView, NamedView, UseView, CallView, PlainKind, fn_kind, union_kind, enum_kind, static_kind, trait_kind, type_alias_kind, macro_def_kind, ast_kind, FieldsView, record_fields, tuple_fields, no_fields, ItemView, plain_item, const_item, struct_item, bare_module, listed_module, use_item, extern_crate, bare_extern_block, listed_extern_block, impl_item, macro_call, macro_rules, asm_item, ItemViews, no_items, item_and, SyntaxView, source_file, error}
+
+-- ---- nodes without the items in them
 
 abbrev pub node_code : Coded NodeView
 node_code =
@@ -21,10 +32,16 @@ node_code =
     (λ p. record { hash = p.0; number = p.1.0; attrs = p.1.1.0; body = p.1.1.1 })
     (λ _. refl)
 
+abbrev pub name_code : Coded (Option (List ℕ))
+name_code = coded_option (coded_list coded_ℕ)
+
+abbrev pub visibility_code : Coded (Option Visibility)
+visibility_code = coded_option visibility.the_row.coded
+
 abbrev pub named_code : Coded NamedView
 named_code =
     code_by (NodeView × (Option (List ℕ) × Option Visibility))
-    (coded× node_code (coded× (coded_option (coded_list coded_ℕ)) (coded_option visibility.the_row.coded)))
+    (coded× node_code (coded× name_code visibility_code))
     (λ n. (n.node, (n.name, n.visibility)))
     (λ p. record { node = p.0; name = p.1.0; visibility = p.1.1 })
     (λ _. refl)
@@ -32,87 +49,146 @@ named_code =
 abbrev pub use_code : Coded UseView
 use_code =
     code_by (NodeView × (Option Visibility × Option UseTreeView))
-    (coded× node_code (coded× (coded_option visibility.the_row.coded) (coded_option use_tree_code)))
+    (coded× node_code (coded× visibility_code (coded_option use_tree_code)))
     (λ u. (u.node, (u.visibility, u.use_tree)))
     (λ p. record { node = p.0; visibility = p.1.0; use_tree = p.1.1 })
     (λ _. refl)
 
--- one step of items written out: their end, or an item without the items in it
-abbrev pub Step : Type 0
-Step = Unit {0} ⊎ (NamedView ⊎ ((NamedView × StructKind) ⊎ ((NamedView × Bool) ⊎ ((NamedView × Bool) ⊎ UseView))))
+abbrev pub call_code : Coded CallView
+call_code =
+    code_by (NodeView × (Option PathNode × (ExpandTo × SyntaxContext)))
+    (coded× node_code (coded× (coded_option path_node.the_row.coded) (coded× expand_to.the_row.coded context.the_row.coded)))
+    (λ c. (c.node, (c.path, (c.expand_to, c.ctxt))))
+    (λ p. record { node = p.0; path = p.1.0; expand_to = p.1.1.0; ctxt = p.1.1.1 })
+    (λ _. refl)
 
--- the steps of items, before more of them
+abbrev pub plain_kind : AstIdKind → PlainKind
+plain_kind kind.Union = union_kind
+plain_kind kind.Enum = enum_kind
+plain_kind kind.Static = static_kind
+plain_kind kind.Trait = trait_kind
+plain_kind kind.TypeAlias = type_alias_kind
+plain_kind kind.MacroDef = macro_def_kind
+plain_kind _ = fn_kind
+
+pub plain_kind-ast_kind : (k : PlainKind) → plain_kind (ast_kind k) ≡ k
+plain_kind-ast_kind fn_kind = refl
+plain_kind-ast_kind union_kind = refl
+plain_kind-ast_kind enum_kind = refl
+plain_kind-ast_kind static_kind = refl
+plain_kind-ast_kind trait_kind = refl
+plain_kind-ast_kind type_alias_kind = refl
+plain_kind-ast_kind macro_def_kind = refl
+
+abbrev pub plain_kind_code : Coded PlainKind
+plain_kind_code = code_by AstIdKind ast_id_kind.the_row.coded ast_kind plain_kind plain_kind-ast_kind
+
+abbrev pub fields_to : FieldsView → Gv
+fields_to record_fields = gnum 0
+fields_to (tuple_fields fields) = gcons gnil ((coded_list visibility_code).code fields)
+fields_to no_fields = gnum 1
+
+pub fields_inj : (x y : FieldsView) → fields_to x ≡ fields_to y → x ≡ y
+fields_inj record_fields record_fields h = refl
+fields_inj (tuple_fields xs) (tuple_fields ys) h = ap tuple_fields ((coded_list visibility_code).inj xs ys (ap behind h))
+fields_inj no_fields no_fields h = refl
+fields_inj _ _ h = cc
+
+abbrev pub fields_code : Coded FieldsView
+fields_code = record { code = fields_to; inj = fields_inj }
+
+-- ---- what items are made of
+
+abbrev pub plain_code : Coded (PlainKind × NamedView)
+plain_code = coded× plain_kind_code named_code
+
+abbrev pub struct_code : Coded (NamedView × FieldsView)
+struct_code = coded× named_code fields_code
+
+abbrev pub module_code : Coded (NamedView × Bool)
+module_code = coded× named_code coded_bool
+
+abbrev pub extern_crate_code : Coded (NamedView × Option Rename)
+extern_crate_code = coded× named_code (coded_option rename.the_row.coded)
+
+abbrev pub impl_code : Coded (NodeView × Bool)
+impl_code = coded× node_code coded_bool
+
+abbrev pub macro_rules_code : Coded (NodeView × Option (List ℕ))
+macro_rules_code = coded× node_code name_code
+
+-- ---- items
+
+-- the number in front of a code
+abbrev pub number_of : Gv → ℕ
+number_of gnil = 0
+number_of (gnum n) = n
+number_of (gcons a b) = number_of a
+
 abbrev mutual
-  pub write_item : ItemView → List Step → List Step
-  write_item (fn_item n) rest = inr (inl n) ∷ rest
-  write_item (struct_item n k) rest = inr (inr (inl (n, k))) ∷ rest
-  write_item (bare_module n b) rest = inr (inr (inr (inl (n, b)))) ∷ rest
-  write_item (listed_module n b is) rest = inr (inr (inr (inr (inl (n, b))))) ∷ write is rest
-  write_item (use_item u) rest = inr (inr (inr (inr (inr u)))) ∷ rest
+  pub item_to : ItemView → Gv
+  item_to (plain_item k n) = gcons (gnum 0) (plain_code.code (k, n))
+  item_to (const_item n) = gcons (gnum 1) (named_code.code n)
+  item_to (struct_item n fields) = gcons (gnum 2) (struct_code.code (n, fields))
+  item_to (bare_module n b) = gcons (gnum 3) (module_code.code (n, b))
+  item_to (listed_module n b is) = gcons (gnum 4) (gcons (module_code.code (n, b)) (items_to is))
+  item_to (use_item u) = gcons (gnum 5) (use_code.code u)
+  item_to (extern_crate n r) = gcons (gnum 6) (extern_crate_code.code (n, r))
+  item_to (bare_extern_block n) = gcons (gnum 7) (node_code.code n)
+  item_to (listed_extern_block n is) = gcons (gnum 8) (gcons (node_code.code n) (items_to is))
+  item_to (impl_item n b) = gcons (gnum 9) (impl_code.code (n, b))
+  item_to (macro_call c) = gcons (gnum 10) (call_code.code c)
+  item_to (macro_rules n name) = gcons (gnum 11) (macro_rules_code.code (n, name))
+  item_to (asm_item n) = gcons (gnum 12) (node_code.code n)
 
-  pub write : ItemViews → List Step → List Step
-  write no_items rest = inl tt ∷ rest
-  write (item_and i is) rest = write_item i (write is rest)
-
-abbrev pub put : ItemView → List ItemViews → List ItemViews
-put i [] = []
-put i (is ∷ rest) = item_and i is ∷ rest
-
-abbrev pub put_listed : NamedView → Bool → List ItemViews → List ItemViews
-put_listed n b [] = []
-put_listed n b (is ∷ rest) = put (listed_module n b is) rest
-
-abbrev pub take_step : Step → List ItemViews → List ItemViews
-take_step (inl _) rest = no_items ∷ rest
-take_step (inr (inl n)) rest = put (fn_item n) rest
-take_step (inr (inr (inl p))) rest = put (struct_item p.0 p.1) rest
-take_step (inr (inr (inr (inl p)))) rest = put (bare_module p.0 p.1) rest
-take_step (inr (inr (inr (inr (inl p))))) rest = put_listed p.0 p.1 rest
-take_step (inr (inr (inr (inr (inr u))))) rest = put (use_item u) rest
-
--- the items that the steps write
-abbrev pub read : List Step → List ItemViews
-read [] = []
-read (s ∷ ss) = take_step s (read ss)
+  pub items_to : ItemViews → Gv
+  items_to no_items = gnil
+  items_to (item_and i is) = gcons (item_to i) (items_to is)
 
 mutual
-  read-write_item : (i : ItemView) (is : ItemViews) (rest : List Step) (done : List ItemViews) → read rest ≡ is ∷ done → read (write_item i rest) ≡ item_and i is ∷ done
-  read-write_item (fn_item n) is rest done e = Prim.rw e refl
-  read-write_item (struct_item n k) is rest done e = Prim.rw e refl
-  read-write_item (bare_module n b) is rest done e = Prim.rw e refl
-  read-write_item (listed_module n b inner) is rest done e = Prim.rw (read-write inner rest, e) refl
-  read-write_item (use_item u) is rest done e = Prim.rw e refl
+  pub item_inj : (i j : ItemView) → item_to i ≡ item_to j → i ≡ j
+  item_inj (plain_item k n) (plain_item l m) h = ap (λ p. plain_item p.0 p.1) (plain_code.inj (k, n) (l, m) (ap behind h))
+  item_inj (const_item n) (const_item m) h = ap const_item (named_code.inj n m (ap behind h))
+  item_inj (struct_item n x) (struct_item m y) h = ap (λ p. struct_item p.0 p.1) (struct_code.inj (n, x) (m, y) (ap behind h))
+  item_inj (bare_module n b) (bare_module m c) h = ap (λ p. bare_module p.0 p.1) (module_code.inj (n, b) (m, c) (ap behind h))
+  item_inj (listed_module n b is) (listed_module m c js) h =
+      let p = module_code.inj (n, b) (m, c) (ap (λ g. front (behind g)) h) in
+      let q = items_inj is js (ap (λ g. behind (behind g)) h) in
+      λ k. listed_module (p k).0 (p k).1 (q k)
+  item_inj (use_item u) (use_item v) h = ap use_item (use_code.inj u v (ap behind h))
+  item_inj (extern_crate n r) (extern_crate m s) h = ap (λ p. extern_crate p.0 p.1) (extern_crate_code.inj (n, r) (m, s) (ap behind h))
+  item_inj (bare_extern_block n) (bare_extern_block m) h = ap bare_extern_block (node_code.inj n m (ap behind h))
+  item_inj (listed_extern_block n is) (listed_extern_block m js) h =
+      let p = node_code.inj n m (ap (λ g. front (behind g)) h) in
+      let q = items_inj is js (ap (λ g. behind (behind g)) h) in
+      λ k. listed_extern_block (p k) (q k)
+  item_inj (impl_item n b) (impl_item m c) h = ap (λ p. impl_item p.0 p.1) (impl_code.inj (n, b) (m, c) (ap behind h))
+  item_inj (macro_call c) (macro_call d) h = ap macro_call (call_code.inj c d (ap behind h))
+  item_inj (macro_rules n x) (macro_rules m y) h = ap (λ p. macro_rules p.0 p.1) (macro_rules_code.inj (n, x) (m, y) (ap behind h))
+  item_inj (asm_item n) (asm_item m) h = ap asm_item (node_code.inj n m (ap behind h))
+  item_inj i j h = let e : number_of (item_to i) ≡ number_of (item_to j) = ap number_of h in absurd (omega arith)
 
-  read-write : (is : ItemViews) (rest : List Step) → read (write is rest) ≡ is ∷ read rest
-  read-write no_items rest = refl
-  read-write (item_and i is) rest = read-write_item i is (write is rest) (read rest) (read-write is rest)
-
-abbrev pub first : List ItemViews → ItemViews
-first [] = no_items
-first (is ∷ rest) = is
-
-pub first-read-write : (is : ItemViews) → first (read (write is [])) ≡ is
-first-read-write is = ap first (read-write is [])
+  pub items_inj : (is js : ItemViews) → items_to is ≡ items_to js → is ≡ js
+  items_inj no_items no_items h = refl
+  items_inj (item_and i is) (item_and j js) h = λ k. item_and (item_inj i j (ap front h) k) (items_inj is js (ap behind h) k)
+  items_inj _ _ h = cc
 
 abbrev pub items_code : Coded ItemViews
-items_code =
-    code_by (List Step)
-    (coded_list (coded⊎ coded_unit (coded⊎ named_code (coded⊎ (coded× named_code struct_kind.the_row.coded) (coded⊎ (coded× named_code coded_bool) (coded⊎ (coded× named_code coded_bool) use_code))))))
-    (λ is. write is [])
-    (λ ss. first (read ss))
-    first-read-write
+items_code = record { code = items_to; inj = items_inj }
 
-abbrev pub to_sum : SyntaxView → Unit {0} ⊎ (List MetaView × ItemViews)
-to_sum error = inl tt
-to_sum (source_file attrs is) = inr (attrs, is)
+-- ---- syntaxes
 
-abbrev pub from_sum : Unit {0} ⊎ (List MetaView × ItemViews) → SyntaxView
-from_sum (inl _) = error
-from_sum (inr p) = source_file p.0 p.1
+abbrev pub source_code : Coded (List MetaView × ItemViews)
+source_code = coded× attrs_code items_code
 
-pub from_sum-to_sum : (s : SyntaxView) → from_sum (to_sum s) ≡ s
-from_sum-to_sum error = refl
-from_sum-to_sum (source_file attrs is) = refl
+abbrev pub syntax_to : SyntaxView → Gv
+syntax_to error = gnum 0
+syntax_to (source_file attrs is) = gcons gnil (source_code.code (attrs, is))
+
+pub syntax_inj : (s t : SyntaxView) → syntax_to s ≡ syntax_to t → s ≡ t
+syntax_inj error error h = refl
+syntax_inj (source_file attrs is) (source_file others js) h = ap (λ p. source_file p.0 p.1) (source_code.inj (attrs, is) (others, js) (ap behind h))
+syntax_inj _ _ h = cc
 
 abbrev pub syntax_code : Coded SyntaxView
-syntax_code = code_by (Unit {0} ⊎ (List MetaView × ItemViews)) (coded⊎ coded_unit (coded× attrs_code items_code)) to_sum from_sum from_sum-to_sum
+syntax_code = record { code = syntax_to; inj = syntax_inj }

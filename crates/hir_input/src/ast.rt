@@ -4,6 +4,8 @@
 //! the text of its `body`, which no item tree depends on.
 
 use crate::attr::Meta;
+use crate::expand_to::ExpandTo;
+use crate::ids::SyntaxContext;
 use crate::mod_path::ModPath;
 use crate::name::Name;
 
@@ -19,15 +21,158 @@ pub enum Syntax {
 #[derive(Debug, Drop)]
 #[cycle(ast)]
 pub enum Item {
+    AsmExpr(AsmExpr),
+    Const(Const),
+    Enum(Enum),
+    ExternBlock(ExternBlock),
+    ExternCrate(ExternCrate),
     Fn(Fn),
-    Struct(Struct),
+    Impl(Impl),
+    MacroCall(MacroCall),
+    MacroDef(MacroDef),
+    MacroRules(MacroRules),
     Module(Module),
+    Static(Static),
+    Struct(Struct),
+    Trait(Trait),
+    TypeAlias(TypeAlias),
+    Union(Union),
     Use(Use),
+}
+
+/// An item of an extern block.
+#[derive(Debug, Drop)]
+pub enum ExternItem {
+    Fn(Fn),
+    MacroCall(MacroCall),
+    Static(Static),
+    TypeAlias(TypeAlias),
+}
+
+/// Assembly at the place of an item, which no item tree keeps.
+#[derive(Debug, Drop)]
+pub struct AsmExpr {
+    pub hash: u16,
+    pub number: u32,
+    pub attrs: Vec<Meta>,
+    pub body: String,
+}
+
+/// A constant; its name may be `_`, which is none.
+#[derive(Debug, Drop)]
+pub struct Const {
+    pub hash: u16,
+    pub number: u32,
+    pub attrs: Vec<Meta>,
+    pub name: Option<Name>,
+    pub visibility: Option<Visibility>,
+    pub body: String,
+}
+
+/// An enum.
+#[derive(Debug, Drop)]
+pub struct Enum {
+    pub hash: u16,
+    pub number: u32,
+    pub attrs: Vec<Meta>,
+    pub name: Option<Name>,
+    pub visibility: Option<Visibility>,
+    pub body: String,
+}
+
+/// An extern block, with a list of items or without one.
+#[derive(Debug, Drop)]
+pub struct ExternBlock {
+    pub hash: u16,
+    pub number: u32,
+    pub attrs: Vec<Meta>,
+    pub items: Option<Vec<ExternItem>>,
+    pub body: String,
+}
+
+/// An extern crate; the name may be `self`.
+#[derive(Debug, Drop)]
+pub struct ExternCrate {
+    pub hash: u16,
+    pub number: u32,
+    pub attrs: Vec<Meta>,
+    pub name: Option<Name>,
+    pub visibility: Option<Visibility>,
+    pub rename: Option<Rename>,
+    pub body: String,
 }
 
 /// A function.
 #[derive(Debug, Drop)]
 pub struct Fn {
+    pub hash: u16,
+    pub number: u32,
+    pub attrs: Vec<Meta>,
+    pub name: Option<Name>,
+    pub visibility: Option<Visibility>,
+    pub body: String,
+}
+
+/// An impl, of a trait or of the type alone.
+#[derive(Debug, Drop)]
+pub struct Impl {
+    pub hash: u16,
+    pub number: u32,
+    pub attrs: Vec<Meta>,
+    pub is_trait_impl: bool,
+    pub body: String,
+}
+
+/// A macro call at the place of an item.
+#[derive(Debug, Drop)]
+pub struct MacroCall {
+    pub hash: u16,
+    pub number: u32,
+    pub attrs: Vec<Meta>,
+    pub path: Option<PathNode>,
+    pub expand_to: ExpandTo,
+    pub ctxt: SyntaxContext,
+    pub body: String,
+}
+
+/// A macro 2.0, as in `macro m() {}`.
+#[derive(Debug, Drop)]
+pub struct MacroDef {
+    pub hash: u16,
+    pub number: u32,
+    pub attrs: Vec<Meta>,
+    pub name: Option<Name>,
+    pub visibility: Option<Visibility>,
+    pub body: String,
+}
+
+/// A macro by example, as in `macro_rules! m {}`.
+#[derive(Debug, Drop)]
+pub struct MacroRules {
+    pub hash: u16,
+    pub number: u32,
+    pub attrs: Vec<Meta>,
+    pub name: Option<Name>,
+    pub body: String,
+}
+
+/// A module: with a semicolon, with a list of items, or with neither.
+#[derive(Debug, Drop)]
+#[cycle(ast)]
+pub struct Module {
+    pub hash: u16,
+    pub number: u32,
+    pub attrs: Vec<Meta>,
+    pub name: Option<Name>,
+    pub visibility: Option<Visibility>,
+    pub semicolon: bool,
+    pub items: Option<Vec<Item>>,
+    pub body: String,
+}
+
+/// A static.
+#[derive(Debug, Drop)]
+pub struct Static {
     pub hash: u16,
     pub number: u32,
     pub attrs: Vec<Meta>,
@@ -49,23 +194,49 @@ pub struct Struct {
 }
 
 /// How the fields of a struct are written.
-#[derive(Clone, Copy, Debug)]
+#[derive(Debug, Drop)]
 pub enum StructKind {
     Record,
+    Tuple(Vec<TupleField>),
     Unit,
 }
 
-/// A module: with a semicolon, with a list of items, or with neither.
+/// A field of a tuple struct.
 #[derive(Debug, Drop)]
-#[cycle(ast)]
-pub struct Module {
+pub struct TupleField {
+    pub visibility: Option<Visibility>,
+}
+
+/// A trait.
+#[derive(Debug, Drop)]
+pub struct Trait {
     pub hash: u16,
     pub number: u32,
     pub attrs: Vec<Meta>,
     pub name: Option<Name>,
     pub visibility: Option<Visibility>,
-    pub semicolon: bool,
-    pub items: Option<Vec<Item>>,
+    pub body: String,
+}
+
+/// A type alias.
+#[derive(Debug, Drop)]
+pub struct TypeAlias {
+    pub hash: u16,
+    pub number: u32,
+    pub attrs: Vec<Meta>,
+    pub name: Option<Name>,
+    pub visibility: Option<Visibility>,
+    pub body: String,
+}
+
+/// A union.
+#[derive(Debug, Drop)]
+pub struct Union {
+    pub hash: u16,
+    pub number: u32,
+    pub attrs: Vec<Meta>,
+    pub name: Option<Name>,
+    pub visibility: Option<Visibility>,
     pub body: String,
 }
 

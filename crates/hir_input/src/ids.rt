@@ -18,11 +18,28 @@ pub struct HirFileId(pub u32);
 #[derive(Clone, Copy, Debug, PartialEq, Eq, Hash)]
 pub struct BlockId(pub u32);
 
-/// Where the tokens of a macro call come from: the root of an edition, or an expansion.
+/// Where the tokens of a macro call come from: the root of an edition, or an expansion. Displayed as `ROOT2024`, or as
+/// the expansion's number.
 #[derive(Clone, Copy, Debug, PartialEq, Eq)]
 pub enum SyntaxContext {
     Root(EditionYear),
     Expanded(u32),
+}
+
+impl fmt::Display for SyntaxContext {
+    ghost use Rattle.hir_input.specs.Id.{shown_context};
+
+    ghost output = { λ context. Some (shown_context context) };
+
+    fn fmt<W: fmt::Write>(&self, f: &mut fmt::Formatter<W>) -> fmt::Result {
+        match self {
+            SyntaxContext::Root(EditionYear::E2015) => f.write_str("ROOT2015"),
+            SyntaxContext::Root(EditionYear::E2018) => f.write_str("ROOT2018"),
+            SyntaxContext::Root(EditionYear::E2021) => f.write_str("ROOT2021"),
+            SyntaxContext::Root(EditionYear::E2024) => f.write_str("ROOT2024"),
+            SyntaxContext::Expanded(number) => write!(f, "{number}"),
+        }
+    }
 }
 
 /// The kind of a syntax node that an item is lowered from.

@@ -1,3 +1,4 @@
 mod attributes;
+mod macro_calls;
 mod names;
 mod use_trees;

@@ -1,15 +1,17 @@
 -- The arena of visibilities.
-use Rattle.std.proofs.Common.{◌≡◌, ◌⊎◌, ℕ, zero, suc, Bool, true, false, cond, List, [], ◌∷◌, ◌++◌, length, Option, Some, refl, ap, sym, ◌∙◌, subst, arith, append_assoc, append-nil, inl, inr}
+use Rattle.std.proofs.Common.{◌≡◌, ◌⊎◌, ℕ, zero, suc, Bool, true, false, cond, List, [], ◌∷◌, ◌++◌, length, map, Option, Some, refl, ap, sym, ◌∙◌, subst, arith, append_assoc, append-nil, inl, inr}
 use Rattle.std.proofs.Common.{◌<◌, ◌≤◌, eqb, length-append}
 use Rattle.std.proofs.lemmas.Bool.{eqb-true}
+use Rattle.std.proofs.lemmas.List.{map-id}
 use Rattle.std.specs.Prelude.{slice_get, ◌||◌}
 use Rattle.std.specs.List.{list_any}
 use Rattle.hir_input.specs.Path.{Path}
 use Rattle.item_tree.specs.declared.visibility.VisibilityExplicitness.{VisibilityExplicitness}
 use Rattle.item_tree.specs.declared.visibility.RawVisibility.{RawVisibility}
 use Rattle.item_tree.specs.declared.visibility.RawVisibility.TheVariants.{Module, PubSelf, PubCrate, Public}
-use Rattle.item_tree.specs.Node.{Ctor, no_ctor, ctor_with, Leaf, function, struct_item, outline, use_item, Trunk, inline, Node, Forest, leaf, parent, empty, more}
-use Rattle.item_tree.specs.Layout.{same, place, place_of, vis_id, meet, or_public, vis_value, value_at, plain_vis, ctor_map, leaf_map, trunk_map, ctor_vis, leaf_vis, trunk_vis, meet_all, node_met, met}
+use Rattle.item_tree.specs.Node.{Ctor, no_ctor, ctor_with, ctor_with_min, Leaf, plain, constant, struct_item, outline, use_item, extern_crate, impl_item, macro_call, macro_rules, Trunk, inline, extern_block, Node, Forest, leaf, parent, empty, more}
+use Rattle.item_tree.specs.Layout.{place, place_of, vis_id, or_public, vis_value, value_at, plain_vis, ctor_map, leaf_map, trunk_map, ctor_vis, leaf_vis, trunk_vis, node_met, met}
+use Rattle.item_tree.specs.Visibility.{same, meet, meet_all}
 use Rattle.item_tree.proofs.VisibilityEq.{same-sound, same-itself}
 
 pub bool_cases : (b : Bool) → (b ≡ true) ⊎ (b ≡ false)
@@ -209,44 +211,73 @@ abbrev pub Agree : {A B : Type 0} → (A → B) → (A → B) → List A → Typ
 Agree f g [] = Unit {0}
 Agree f g (v ∷ vs) = (f v ≡ g v) × Agree f g vs
 
+map-agree : {A B : Type 0} (f g : A → B) (vs : List A) → Agree f g vs → map f vs ≡ map g vs
+map-agree f g [] h = refl
+map-agree f g (v ∷ vs) h = λ i. h.0 i ∷ map-agree f g vs h.1 i
+
+map-map : {A B C : Type 0} (f : B → C) (g : A → B) (vs : List A) → map f (map g vs) ≡ map (λ v. f (g v)) vs
+map-map f g [] = refl
+map-map f g (v ∷ vs) = ap (λ z. f (g v) ∷ z) (map-map f g vs)
+
 pub ctor_map-agree : {A B : Type 0} (f g : A → B) (c : Ctor A) → Agree f g (ctor_vis c) → ctor_map f c ≡ ctor_map g c
 ctor_map-agree f g no_ctor h = refl
 ctor_map-agree f g (ctor_with v) h = ap ctor_with h.0
+ctor_map-agree f g (ctor_with_min vs) h = ap ctor_with_min (map-agree f g vs h)
 
 pub leaf_map-agree : {A B : Type 0} (f g : A → B) (l : Leaf A) → Agree f g (leaf_vis l) → leaf_map f l ≡ leaf_map g l
-leaf_map-agree f g (function n v) h = ap (function n) h.0
+leaf_map-agree f g (plain k n v) h = ap (plain k n) h.0
+leaf_map-agree f g (constant n v) h = ap (constant n) h.0
+leaf_map-agree f g (extern_crate n v a) h = ap (λ u. extern_crate n u a) h.0
+leaf_map-agree f g (impl_item of_trait) h = refl
+leaf_map-agree f g (macro_call p e x) h = refl
+leaf_map-agree f g (macro_rules n) h = refl
 leaf_map-agree f g (outline n v) h = ap (outline n) h.0
 leaf_map-agree f g (use_item v t) h = ap (λ u. use_item u t) h.0
 leaf_map-agree f g (struct_item n v s c) h = λ i. struct_item n (h.0 i) s (ctor_map-agree f g c h.1 i)
 
 pub trunk_map-agree : {A B : Type 0} (f g : A → B) (t : Trunk A) → Agree f g (trunk_vis t) → trunk_map f t ≡ trunk_map g t
 trunk_map-agree f g (inline n v) h = ap (inline n) h.0
+trunk_map-agree f g extern_block h = refl
 
 pub ctor_map-map : {A B C : Type 0} (f : B → C) (g : A → B) (c : Ctor A) → ctor_map f (ctor_map g c) ≡ ctor_map (λ v. f (g v)) c
 ctor_map-map f g no_ctor = refl
 ctor_map-map f g (ctor_with v) = refl
+ctor_map-map f g (ctor_with_min vs) = ap ctor_with_min (map-map f g vs)
 
 pub leaf_map-map : {A B C : Type 0} (f : B → C) (g : A → B) (l : Leaf A) → leaf_map f (leaf_map g l) ≡ leaf_map (λ v. f (g v)) l
-leaf_map-map f g (function n v) = refl
+leaf_map-map f g (plain k n v) = refl
+leaf_map-map f g (constant n v) = refl
+leaf_map-map f g (extern_crate n v a) = refl
+leaf_map-map f g (impl_item of_trait) = refl
+leaf_map-map f g (macro_call p e x) = refl
+leaf_map-map f g (macro_rules n) = refl
 leaf_map-map f g (outline n v) = refl
 leaf_map-map f g (use_item v t) = refl
 leaf_map-map f g (struct_item n v s c) = ap (struct_item n (f (g v)) s) (ctor_map-map f g c)
 
 pub trunk_map-map : {A B C : Type 0} (f : B → C) (g : A → B) (t : Trunk A) → trunk_map f (trunk_map g t) ≡ trunk_map (λ v. f (g v)) t
 trunk_map-map f g (inline n v) = refl
+trunk_map-map f g extern_block = refl
 
 ctor_map-itself : {A : Type 0} (c : Ctor A) → ctor_map (λ v. v) c ≡ c
 ctor_map-itself no_ctor = refl
 ctor_map-itself (ctor_with v) = refl
+ctor_map-itself (ctor_with_min vs) = ap ctor_with_min (map-id vs)
 
 pub leaf_map-itself : {A : Type 0} (l : Leaf A) → leaf_map (λ v. v) l ≡ l
-leaf_map-itself (function n v) = refl
+leaf_map-itself (plain k n v) = refl
+leaf_map-itself (constant n v) = refl
+leaf_map-itself (extern_crate n v a) = refl
+leaf_map-itself (impl_item of_trait) = refl
+leaf_map-itself (macro_call p e x) = refl
+leaf_map-itself (macro_rules n) = refl
 leaf_map-itself (outline n v) = refl
 leaf_map-itself (use_item v t) = refl
 leaf_map-itself (struct_item n v s c) = ap (struct_item n v s) (ctor_map-itself c)
 
 pub trunk_map-itself : {A : Type 0} (t : Trunk A) → trunk_map (λ v. v) t ≡ t
 trunk_map-itself (inline n v) = refl
+trunk_map-itself extern_block = refl
 
 Agree-ids : (xs ys : List V) (vs : List V) → Extends xs ys → KnowsAll xs vs → Agree (vis_id ys) (vis_id xs) vs
 Agree-ids xs ys [] h k = tt

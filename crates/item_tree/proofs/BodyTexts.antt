@@ -1,23 +1,31 @@
 -- What is kept does not depend on body texts.
 use Rattle.std.proofs.Common.{◌≡◌, ℕ, Bool, List, refl, ap}
-use Rattle.std.specs.Prelude.{option_map}
+use Rattle.std.specs.Prelude.{Some, option_map}
 use Rattle.hir_input.specs.declared.cfg.CfgAtom.{CfgAtom}
-use Rattle.hir_input.specs.Syntax.{ItemView, ItemViews, fn_item, struct_item, bare_module, listed_module, use_item, no_items, item_and, SyntaxView, source_file, error}
+use Rattle.hir_input.specs.Syntax.{ItemView, ItemViews, plain_item, const_item, struct_item, bare_module, listed_module, use_item, extern_crate, bare_extern_block, listed_extern_block, impl_item, macro_call, macro_rules, asm_item, no_items, item_and, SyntaxView, source_file, error}
 use Rattle.hir_input.specs.Bodies.{item_without_bodies, items_without_bodies, without_bodies}
 use Rattle.item_tree.specs.CrateView.{CrateView}
 use Rattle.item_tree.specs.Visibility.{read_visibility}
 use Rattle.item_tree.specs.Kept.{head_of, module_node, kept, kept_all, top_attrs_of, kept_syntax}
-use Rattle.item_tree.specs.Node.{add}
+use Rattle.item_tree.specs.Node.{parent, extern_block, add}
 
 module _ (options : List CfgAtom) (skipped : List (List ℕ)) where
   mutual
     kept-item_without_bodies : (i : ItemView) → kept options skipped (item_without_bodies i) ≡ kept options skipped i
-    kept-item_without_bodies (fn_item n) = refl
+    kept-item_without_bodies (plain_item k n) = refl
+    kept-item_without_bodies (const_item n) = refl
     kept-item_without_bodies (struct_item n k) = refl
     kept-item_without_bodies (bare_module n semicolon) = refl
     kept-item_without_bodies (listed_module n semicolon is) =
         ap (λ f. option_map (λ name. module_node semicolon (head_of options skipped n.node) name (read_visibility n.visibility) f) n.name) (kept_all-items_without_bodies is)
     kept-item_without_bodies (use_item u) = refl
+    kept-item_without_bodies (extern_crate n rename) = refl
+    kept-item_without_bodies (bare_extern_block n) = refl
+    kept-item_without_bodies (listed_extern_block n is) = ap (λ f. Some (parent (head_of options skipped n) extern_block f)) (kept_all-items_without_bodies is)
+    kept-item_without_bodies (impl_item n of_trait) = refl
+    kept-item_without_bodies (macro_call c) = refl
+    kept-item_without_bodies (macro_rules n name) = refl
+    kept-item_without_bodies (asm_item n) = refl
 
     pub kept_all-items_without_bodies : (is : ItemViews) → kept_all options skipped (items_without_bodies is) ≡ kept_all options skipped is
     kept_all-items_without_bodies no_items = refl

@@ -1,35 +1,51 @@
 -- Equal tables, by the items' own tests.
-use lib.Pointwise.{pointwise}
-use Rattle.std.proofs.Common.{◌≡◌, ℕ, Bool, true, false, List, [], ◌∷◌, map, refl, ap, sym, ◌∙◌, subst, arith, rules, eqb, eq-eqb, Option, None, Some, inl, inr}
-use Rattle.std.specs.Prelude.{◌==◌, ◌&&◌, if◌then◌else◌, not}
+use lib.Pointwise.{pointwise, pointwise_decides}
+use Rattle.std.proofs.Common.{◌≡◌, ℕ, Bool, true, false, List, [], ◌∷◌, map, refl, ap, sym, ◌∙◌, subst, rules, eqb, eq-eqb, Option, None, Some, inl, inr}
+use Rattle.std.specs.Prelude.{◌==◌, ◌&&◌, not}
 use Rattle.std.specs.Bool.{Decides}
+use Rattle.std.specs.Cmp.{booleans_Decides}
 use denote.Enum.Bare.{same_true}
-use Rattle.hir_input.specs.contracts.ids.AstIdKind.{the_type}
-use Rattle.std.proofs.lemmas.Bool.{eqb-true, and_parts, and_from}
+use Rattle.std.proofs.lemmas.Bool.{eqb-true, false≢true}
+use Rattle.std.proofs.lemmas.Bool.Decides.{Decides-and, Decides-like}
 use Rattle.hir_input.specs.declared.ids.AstIdKind.{AstIdKind}
+use Rattle.hir_input.specs.declared.ids.AstIdKind.TheVariants as kind
+use Rattle.hir_input.specs.contracts.ids.AstIdKind.{the_type as tag_type}
 use Rattle.hir_input.specs.contracts.ids.AstIdKindPartialEq.TheImpl as tag_eqs
 use Rattle.hir_input.specs.contracts.ids.AstIdKindEq.TheImpl.Laws as tag_laws
+use Rattle.hir_input.specs.declared.edition.EditionYear.{EditionYear}
+use Rattle.hir_input.specs.contracts.edition.EditionYear.{the_type as year_type}
+use Rattle.hir_input.specs.contracts.edition.EditionYearPartialEq.TheImpl as year_eqs
+use Rattle.hir_input.specs.contracts.edition.EditionYearEq.TheImpl.Laws as year_laws
+use Rattle.hir_input.specs.declared.expand_to.ExpandTo.{ExpandTo}
+use Rattle.hir_input.specs.contracts.expand_to.ExpandTo.{the_type as expand_type}
+use Rattle.hir_input.specs.contracts.expand_to.ExpandToPartialEq.TheImpl as expand_eqs
+use Rattle.hir_input.specs.contracts.expand_to.ExpandToEq.TheImpl.Laws as expand_laws
+use Rattle.hir_input.specs.declared.ids.SyntaxContext.{SyntaxContext}
+use Rattle.hir_input.specs.declared.ids.SyntaxContext.TheVariants.{Root, Expanded}
+use Rattle.hir_input.specs.contracts.ids.SyntaxContextPartialEq.TheImpl as context_eqs
+use Rattle.hir_input.specs.Syntax.{PlainKind, fn_kind, union_kind, enum_kind, static_kind, trait_kind, type_alias_kind, macro_def_kind}
 use Rattle.item_tree_attrs.specs.declared.collect.AttrsOrCfg.{AttrsOrCfg}
 use Rattle.item_tree_attrs.specs.declared.collect.AttrsOrCfg.TheVariants.{Enabled, CfgDisabled}
 use Rattle.item_tree_attrs.specs.contracts.collect.AttrsOrCfgPartialEq.TheImpl as attrs_eqs
 use Rattle.item_tree_attrs.specs.Collected.{collected}
 use Rattle.hir_input.specs.declared.attr.Attr.{Attr}
 use Rattle.hir_input.specs.contracts.attr.AttrPartialEq.TheImpl as attr_eqs
-use Rattle.hir_input.specs.contracts.cfg.CfgExprPartialEq.TheImpl as cfg_eqs
 use Rattle.hir_input.specs.Cfg.{CfgView, cfg_view}
 use Rattle.hir_input.proofs.AttrEq.{attr_decides}
 use Rattle.hir_input.proofs.CfgEq.{cfg_decides}
+use Rattle.hir_input.proofs.PathEq.{path_decides}
 use Rattle.item_tree.specs.declared.visibility.RawVisibility.{RawVisibility}
 use Rattle.item_tree.specs.declared.visibility.RawVisibility.TheVariants.{Module, PubSelf, PubCrate, Public}
 use Rattle.item_tree.specs.declared.visibility.VisibilityExplicitness.TheVariants.{Explicit, Implicit}
 use Rattle.item_tree.specs.declared.items.FieldsShape.{FieldsShape}
-use Rattle.item_tree.specs.declared.items.FieldsShape.TheVariants as shape
+use Rattle.item_tree.specs.contracts.items.FieldsShape.{the_type as shape_type}
 use Rattle.item_tree.specs.contracts.items.FieldsShapePartialEq.TheImpl as shape_eqs
+use Rattle.item_tree.specs.contracts.items.FieldsShapeEq.TheImpl.Laws as shape_laws
 use Rattle.item_tree.specs.declared.items.StructValueNsCtor.{StructValueNsCtor}
-use Rattle.item_tree.specs.declared.items.StructValueNsCtor.TheVariants.{NoValueNsCtor, ValueNsCtorWithVis}
+use Rattle.item_tree.specs.declared.items.StructValueNsCtor.TheVariants.{NoValueNsCtor, ValueNsCtorWithVis, ValueNsCtorWithMinVis}
 use Rattle.item_tree.specs.contracts.items.StructValueNsCtorPartialEq.TheImpl as ctor_eqs
 use Rattle.item_tree.specs.declared.items.ModItem.{ModItem}
-use Rattle.item_tree.specs.declared.items.ModItem.TheVariants.{Function, Struct, Mod, Use}
+use Rattle.item_tree.specs.declared.items.ModItem.TheVariants as item
 use Rattle.item_tree.specs.contracts.items.ModItemPartialEq.TheImpl as item_eqs
 use Rattle.item_tree.specs.declared.items.ModKind.{ModKind}
 use Rattle.item_tree.specs.declared.items.ModKind.TheVariants.{Inline, Outline}
@@ -37,57 +53,46 @@ use Rattle.item_tree.specs.contracts.items.ModKindPartialEq.TheImpl as kind_eqs
 use Rattle.item_tree.specs.declared.rows.AstKey.{AstKey}
 use Rattle.item_tree.specs.contracts.rows.AstKeyPartialEq.TheImpl as key_eqs
 use Rattle.item_tree.specs.declared.rows.Rows.{Rows}
-use Rattle.item_tree.specs.Node.{Ctor, no_ctor, ctor_with, Leaf, function, struct_item, outline, use_item, Trunk, inline, Unfolding}
-use Rattle.item_tree.specs.Layout.{same as same_vis, VisId, fixed, place, plain_vis, leaf_map, trunk_map, leaf_vis, trunk_vis, RowItem, leaf_row, parent_row, layout}
+use Rattle.item_tree.specs.Node.{ctor_with, ctor_with_min, Leaf, plain, constant, struct_item, outline, use_item, extern_crate, impl_item, macro_call, macro_rules, Trunk, inline, extern_block, Unfolding}
+use Rattle.item_tree.specs.Layout.{VisId, fixed, place, plain_vis, leaf_map, trunk_map, leaf_vis, trunk_vis, RowItem, leaf_row, parent_row, row_kind, layout}
+use Rattle.item_tree.specs.Visibility.{same as same_vis}
 use Rattle.item_tree.specs.Same.{same_of_equal, equal_of_same}
 use Rattle.item_tree.specs.Shown.{ctor_ids}
-use Rattle.item_tree.specs.Tree.{Tree, glob}
 use Rattle.item_tree.specs.TreeCode.{use_item_code}
 use Rattle.item_tree.specs.UseItem.{UseItem}
 use Rattle.item_tree.specs.Stored.{leaf_plain, parent_plain, module_row, item_row, key_in, tables_of}
+use Rattle.item_tree.proofs.UseEq.{option_decides, aliases_decide}
 use Rattle.item_tree.proofs.VisibilityEq.{same-sound, same-itself}
 use Rattle.item_tree.proofs.Arena.{bool_cases, Agree, leaf_map-map, trunk_map-map, leaf_map-agree, trunk_map-agree, leaf_map-itself, trunk_map-itself}
 use Rattle.item_tree.specs.Column.{plain_place}
 use Rattle.item_tree.proofs.Column.{plain_place-injective}
 use Rattle.item_tree.proofs.Canon.{layout-injective}
 
--- ---- tests of elements, lifted to lists
+-- ---- tests that decide
 
-module _ {X Y : Type 0} (E : X → X → Bool) (f : X → Y) where
-  pub pointwise-sound : ((x y : X) → E x y ≡ true → f x ≡ f y) → (xs ys : List X) → pointwise E xs ys ≡ true → map f xs ≡ map f ys
-  pointwise-sound d [] [] h = refl
-  pointwise-sound d [] (y ∷ ys) h = cc
-  pointwise-sound d (x ∷ xs) [] h = cc
-  pointwise-sound d (x ∷ xs) (y ∷ ys) h =
-      let p = and_parts (E x y) (pointwise E xs ys) h in λ i. d x y p.0 i ∷ pointwise-sound d xs ys p.1 i
+decides_by : {X : Type 0} (E : X → X → Bool) → ((x y : X) → E x y ≡ true → x ≡ y) → ((x : X) → E x x ≡ true) → (x y : X) → Decides (E x y) (x ≡ y)
+decides_by E sound itself x y = (sound x y, λ e. subst (λ z. E x z ≡ true) e (itself x))
 
-  pub pointwise-complete : ((x y : X) → f x ≡ f y → E x y ≡ true) → (xs ys : List X) → map f xs ≡ map f ys → pointwise E xs ys ≡ true
-  pointwise-complete d [] [] h = refl
-  pointwise-complete d [] (y ∷ ys) h = cc
-  pointwise-complete d (x ∷ xs) [] h = cc
-  pointwise-complete d (x ∷ xs) (y ∷ ys) h =
-      let a : f x ≡ f y = cc in let b : map f xs ≡ map f ys = cc in
-      and_from (E x y) (pointwise E xs ys) (d x y a) (pointwise-complete d xs ys b)
+never : {P : Type 0} → (P → ⊥) → Decides false P
+never f = (λ h. absurd (false≢true h), λ p. absurd (f p))
 
-map-same : {X : Type 0} (xs : List X) → map (λ (x : X). x) xs ≡ xs
-map-same [] = refl
-map-same (x ∷ xs) = ap (λ z. x ∷ z) (map-same xs)
-
-module _ {X : Type 0} (E : X → X → Bool) where
-  all-sound : ((x y : X) → E x y ≡ true → x ≡ y) → (xs ys : List X) → pointwise E xs ys ≡ true → xs ≡ ys
-  all-sound d xs ys h = sym (map-same xs) ∙ pointwise-sound E (λ (x : X). x) d xs ys h ∙ map-same ys
-
-  all-complete : ((x y : X) → x ≡ y → E x y ≡ true) → (xs ys : List X) → xs ≡ ys → pointwise E xs ys ≡ true
-  all-complete d xs ys h = pointwise-complete E (λ (x : X). x) d xs ys (ap (map (λ (x : X). x)) h)
+number_decides : (i j : ℕ) → Decides (i == j) (i ≡ j)
+number_decides i j = (eqb-true i j, eq-eqb i j)
 
 abbrev numbers_eq : List ℕ → List ℕ → Bool
 numbers_eq = pointwise ◌==◌
 
-numbers-sound : (xs ys : List ℕ) → numbers_eq xs ys ≡ true → xs ≡ ys
-numbers-sound = all-sound ◌==◌ (λ x y q. eqb-true x y q)
+numbers_decide : (xs ys : List ℕ) → Decides (numbers_eq xs ys) (xs ≡ ys)
+numbers_decide = pointwise_decides number_decides
 
-numbers-complete : (xs ys : List ℕ) → xs ≡ ys → numbers_eq xs ys ≡ true
-numbers-complete = all-complete ◌==◌ (λ x y q. eq-eqb x y q)
+-- tests of elements, lifted to lists
+module _ {X Y : Type 0} (E : X → X → Bool) (f : X → Y) (d : (x y : X) → Decides (E x y) (f x ≡ f y)) where
+  maps_decide : (xs ys : List X) → Decides (pointwise E xs ys) (map f xs ≡ map f ys)
+  maps_decide [] [] = (λ h. refl, λ e. refl)
+  maps_decide [] (y ∷ ys) = never (λ e. cc)
+  maps_decide (x ∷ xs) [] = never (λ e. cc)
+  maps_decide (x ∷ xs) (y ∷ ys) =
+      Decides-like (E x y && pointwise E xs ys) (λ p i. p.0 i ∷ p.1 i) (λ e. (cc, cc)) (Decides-and (E x y) (pointwise E xs ys) (d x y) (maps_decide xs ys))
 
 -- ---- a stored number stands for one visibility
 
@@ -128,10 +133,10 @@ trunk-raw t = trunk_map-map raw_vis plain_vis t ∙ trunk_map-agree (λ v. raw_v
 
 abbrev leaf_in : RowItem → Leaf ℕ
 leaf_in (leaf_row l) = leaf_map raw_vis l
-leaf_in (parent_row t is) = function [] 0
+leaf_in (parent_row t is) = macro_rules []
 
 abbrev trunk_in : RowItem → Trunk ℕ × List ℕ
-trunk_in (leaf_row l) = (inline [] 0, [])
+trunk_in (leaf_row l) = (extern_block, [])
 trunk_in (parent_row t is) = (trunk_map raw_vis t, is)
 
 leaf-injective : (l m : Leaf ℕ) → leaf_plain l ≡ leaf_plain m → l ≡ m
@@ -142,210 +147,152 @@ parent-injective t u is js h = (sym (trunk-raw t) ∙ ap (λ z. (trunk_in z).0) 
 
 -- ---- the parts of items
 
-abbrev shape_eq : FieldsShape → FieldsShape → Bool
-shape_eq = shape_eqs.ghosts.eq
+shape_decides : (x y : FieldsShape) → Decides (shape_eqs.ghosts.eq x y) (x ≡ y)
+shape_decides = decides_by shape_eqs.ghosts.eq (λ x y h. same_true shape_type (search rules) x y h) shape_laws.laws-law.refl
 
-shape-sound : (x y : FieldsShape) → shape_eq x y ≡ true → x ≡ y
-shape-sound shape.Record shape.Record h = refl
-shape-sound shape.Unit shape.Unit h = refl
-shape-sound _ _ h = cc
+expand_decides : (x y : ExpandTo) → Decides (expand_eqs.ghosts.eq x y) (x ≡ y)
+expand_decides = decides_by expand_eqs.ghosts.eq (λ x y h. same_true expand_type (search rules) x y h) expand_laws.laws-law.refl
 
-shape-itself : (x : FieldsShape) → shape_eq x x ≡ true
-shape-itself shape.Record = refl
-shape-itself shape.Unit = refl
+year_decides : (x y : EditionYear) → Decides (year_eqs.ghosts.eq x y) (x ≡ y)
+year_decides = decides_by year_eqs.ghosts.eq (λ x y h. same_true year_type (search rules) x y h) year_laws.laws-law.refl
 
-abbrev ctor_eq : StructValueNsCtor → StructValueNsCtor → Bool
-ctor_eq = ctor_eqs.ghosts.eq
+context_decides : (x y : SyntaxContext) → Decides (context_eqs.ghosts.eq x y) (x ≡ y)
+context_decides (Root a) (Root b) = Decides-like _ (ap Root) (λ e. cc) (year_decides a b)
+context_decides (Expanded m) (Expanded n) = Decides-like _ (ap Expanded) (λ e. cc) (number_decides m n)
+context_decides (Root a) (Expanded n) = never (λ e. cc)
+context_decides (Expanded m) (Root b) = never (λ e. cc)
 
-ctor-sound : (x y : StructValueNsCtor) → ctor_eq x y ≡ true → ctor_ids x ≡ ctor_ids y
-ctor-sound NoValueNsCtor NoValueNsCtor h = refl
-ctor-sound (ValueNsCtorWithVis i) (ValueNsCtorWithVis j) h = ap ctor_with (eqb-true i j h)
-ctor-sound _ _ h = cc
+ctor_decides : (x y : StructValueNsCtor) → Decides (ctor_eqs.ghosts.eq x y) (ctor_ids x ≡ ctor_ids y)
+ctor_decides NoValueNsCtor NoValueNsCtor = (λ h. refl, λ e. refl)
+ctor_decides (ValueNsCtorWithVis i) (ValueNsCtorWithVis j) = Decides-like _ (ap ctor_with) (λ e. cc) (number_decides i j)
+ctor_decides (ValueNsCtorWithMinVis v) (ValueNsCtorWithMinVis w) = Decides-like _ (ap ctor_with_min) (λ e. cc) (numbers_decide v.items w.items)
+ctor_decides _ _ = never (λ e. cc)
 
-ctor-complete : (x y : StructValueNsCtor) → ctor_ids x ≡ ctor_ids y → ctor_eq x y ≡ true
-ctor-complete NoValueNsCtor NoValueNsCtor h = refl
-ctor-complete (ValueNsCtorWithVis i) (ValueNsCtorWithVis j) h = let e : i ≡ j = cc in eq-eqb i j e
-ctor-complete NoValueNsCtor (ValueNsCtorWithVis j) h = cc
-ctor-complete (ValueNsCtorWithVis i) NoValueNsCtor h = cc
+-- ---- items
+
+-- what decides whether two items are one decides whether their rows are
+module _ {P : Type 0} (r : Bool) (d : Decides r P) where
+  leaf_tells : (l m : Leaf ℕ) → (P → l ≡ m) → (l ≡ m → P) → Decides r (leaf_plain l ≡ leaf_plain m)
+  leaf_tells l m to from = Decides-like r (λ p. ap leaf_plain (to p)) (λ e. from (leaf-injective l m e)) d
+
+  parent_tells : (t u : Trunk ℕ) (is js : List ℕ) → (P → (t ≡ u) × (is ≡ js)) → ((t ≡ u) × (is ≡ js) → P) → Decides r (parent_plain t is ≡ parent_plain u js)
+  parent_tells t u is js to from = Decides-like r (λ p i. parent_plain ((to p).0 i) ((to p).1 i)) (λ e. from (parent-injective t u is js e)) d
+
+plain_decides : (k : PlainKind) (n m : List ℕ) (v w : ℕ) → Decides (numbers_eq n m && v == w) (leaf_plain (plain k n v) ≡ leaf_plain (plain k m w))
+plain_decides k n m v w =
+    leaf_tells _ (Decides-and _ _ (numbers_decide n m) (number_decides v w)) (plain k n v) (plain k m w) (λ p i. plain k (p.0 i) (p.1 i)) (λ e. (cc, cc))
 
 abbrev mod_eq : ModKind → ModKind → Bool
 mod_eq = kind_eqs.ghosts.eq
 
-kind-sound : (n m : List ℕ) (i j : ℕ) (x y : ModKind) → n ≡ m → i ≡ j → mod_eq x y ≡ true → module_row n i x ≡ module_row m j y
-kind-sound n m i j (Inline v) (Inline w) a b h = let q : v.items ≡ w.items = numbers-sound v.items w.items h in λ k. parent_plain (inline (a k) (b k)) (q k)
-kind-sound n m i j Outline Outline a b h = λ k. leaf_plain (outline (a k) (b k))
-kind-sound n m i j (Inline v) Outline a b h = cc
-kind-sound n m i j Outline (Inline v) a b h = cc
+module_decides : (n m : List ℕ) (v w : ℕ) (x y : ModKind) → Decides (numbers_eq n m && (v == w && mod_eq x y)) (module_row n v x ≡ module_row m w y)
+module_decides n m v w (Inline xs) (Inline ys) =
+    parent_tells _ (Decides-and _ _ (numbers_decide n m) (Decides-and _ _ (number_decides v w) (numbers_decide xs.items ys.items)))
+    (inline n v) (inline m w) xs.items ys.items (λ p. (λ i. inline (p.0 i) (p.1.0 i), p.1.1)) (λ e. let t = e.0 in (cc, (cc, e.1)))
+module_decides n m v w Outline Outline =
+    leaf_tells _ (Decides-and _ _ (numbers_decide n m) (Decides-and _ true (number_decides v w) (λ h. h, λ h. h)))
+    (outline n v) (outline m w) (λ p i. outline (p.0 i) (p.1.0 i)) (λ e. (cc, (cc, refl)))
+module_decides n m v w (Inline xs) Outline =
+    Decides-like _ (λ p. absurd p.1.1) (λ e. absurd (cc)) (Decides-and _ _ (numbers_decide n m) (Decides-and _ _ (number_decides v w) (never {P = ⊥} (λ b. b))))
+module_decides n m v w Outline (Inline ys) =
+    Decides-like _ (λ p. absurd p.1.1) (λ e. absurd (cc)) (Decides-and _ _ (numbers_decide n m) (Decides-and _ _ (number_decides v w) (never {P = ⊥} (λ b. b))))
 
--- ---- items
+-- the kind of an item follows from its row
+abbrev item_kind : ModItem → AstIdKind
+item_kind (item.Const x) = kind.Const
+item_kind (item.Enum x) = kind.Enum
+item_kind (item.ExternBlock x) = kind.ExternBlock
+item_kind (item.ExternCrate x) = kind.ExternCrate
+item_kind (item.Function x) = kind.Fn
+item_kind (item.Impl x) = kind.Impl
+item_kind (item.Macro2 x) = kind.MacroDef
+item_kind (item.MacroCall x) = kind.MacroCall
+item_kind (item.MacroRules x) = kind.MacroRules
+item_kind (item.Mod x) = kind.Module
+item_kind (item.Static x) = kind.Static
+item_kind (item.Struct x) = kind.Struct
+item_kind (item.Trait x) = kind.Trait
+item_kind (item.TypeAlias x) = kind.TypeAlias
+item_kind (item.Union x) = kind.Union
+item_kind (item.Use x) = kind.Use
 
-pub item-sound : (x y : ModItem) → item_eqs.ghosts.eq x y ≡ true → item_row x ≡ item_row y
-item-sound (Function f) (Function g) h =
-    let q : (numbers_eq f.name g.name && f.visibility == g.visibility) ≡ true = h in
-    let p = and_parts (numbers_eq f.name g.name) (f.visibility == g.visibility) q in
-    λ i. leaf_plain (function (numbers-sound f.name g.name p.0 i) (eqb-true f.visibility g.visibility p.1 i))
-item-sound (Struct f) (Struct g) h =
-    let rest = shape_eq f.shape g.shape && ctor_eq f.value_ns_ctor g.value_ns_ctor in
-    let q : (numbers_eq f.name g.name && (f.visibility == g.visibility && rest)) ≡ true = h in
-    let p = and_parts (numbers_eq f.name g.name) (f.visibility == g.visibility && rest) q in
-    let r = and_parts (f.visibility == g.visibility) rest p.1 in
-    let s = and_parts (shape_eq f.shape g.shape) (ctor_eq f.value_ns_ctor g.value_ns_ctor) r.1 in
-    λ i. leaf_plain (struct_item (numbers-sound f.name g.name p.0 i) (eqb-true f.visibility g.visibility r.0 i) (shape-sound f.shape g.shape s.0 i) (ctor-sound f.value_ns_ctor g.value_ns_ctor s.1 i))
-item-sound (Mod f) (Mod g) h =
-    let q : (numbers_eq f.name g.name && (f.visibility == g.visibility && mod_eq f.kind g.kind)) ≡ true = h in
-    let p = and_parts (numbers_eq f.name g.name) (f.visibility == g.visibility && mod_eq f.kind g.kind) q in
-    let r = and_parts (f.visibility == g.visibility) (mod_eq f.kind g.kind) p.1 in
-    kind-sound f.name g.name f.visibility g.visibility f.kind g.kind (numbers-sound f.name g.name p.0) (eqb-true f.visibility g.visibility r.0) r.1
-item-sound (Use f) (Use g) h = ap (λ (x : UseItem). leaf_plain (use_item x.visibility x.tree)) (equal_of_same use_item_code f g h)
-item-sound _ _ h = cc
+module-kind : (n : List ℕ) (v : ℕ) (k : ModKind) → row_kind (module_row n v k) ≡ kind.Module
+module-kind n v (Inline items) = refl
+module-kind n v Outline = refl
 
-abbrev leaf_name : Leaf ℕ → List ℕ
-leaf_name (function n v) = n
-leaf_name (struct_item n v s c) = n
-leaf_name (outline n v) = n
-leaf_name (use_item v t) = []
+item-kind : (x : ModItem) → row_kind (item_row x) ≡ item_kind x
+item-kind (item.Mod x) = module-kind x.name x.visibility x.kind
+item-kind _ = refl
 
-abbrev leaf_visibility : Leaf ℕ → ℕ
-leaf_visibility (function n v) = v
-leaf_visibility (struct_item n v s c) = v
-leaf_visibility (outline n v) = v
-leaf_visibility (use_item v t) = v
-
-abbrev leaf_shape : Leaf ℕ → FieldsShape
-leaf_shape (struct_item n v s c) = s
-leaf_shape _ = shape.Record
-
-abbrev leaf_ctor : Leaf ℕ → Ctor ℕ
-leaf_ctor (struct_item n v s c) = c
-leaf_ctor _ = no_ctor
-
-abbrev leaf_tree : Leaf ℕ → Tree
-leaf_tree (use_item v t) = t
-leaf_tree _ = glob None
-
-abbrev trunk_name : Trunk ℕ → List ℕ
-trunk_name (inline n v) = n
-
-abbrev trunk_visibility : Trunk ℕ → ℕ
-trunk_visibility (inline n v) = v
-
--- a number for each form of a row's item
-abbrev form : RowItem → ℕ
-form (leaf_row (function n v)) = 0
-form (leaf_row (struct_item n v s c)) = 1
-form (leaf_row (outline n v)) = 2
-form (parent_row (inline n v) is) = 3
-form (leaf_row (use_item v t)) = 4
-
-kind-complete : (n m : List ℕ) (i j : ℕ) (x y : ModKind) → module_row n i x ≡ module_row m j y → (n ≡ m) × (i ≡ j) × (mod_eq x y ≡ true)
-kind-complete n m i j (Inline v) (Inline w) h =
-    let p = parent-injective (inline n i) (inline m j) v.items w.items h in
-    (ap trunk_name p.0, ap trunk_visibility p.0, numbers-complete v.items w.items p.1)
-kind-complete n m i j Outline Outline h =
-    let p = leaf-injective (outline n i) (outline m j) h in
-    (ap leaf_name p, ap leaf_visibility p, refl)
-kind-complete n m i j (Inline v) Outline h = let e : ◌≡◌ {A = ℕ} 3 2 = ap form h in absurd (cc)
-kind-complete n m i j Outline (Inline v) h = let e : ◌≡◌ {A = ℕ} 2 3 = ap form h in absurd (cc)
-
--- a number for each variant
-abbrev sort : ModItem → ℕ
-sort (Function f) = 0
-sort (Struct f) = 1
-sort (Mod f) = 2
-sort (Use f) = 4
-
-abbrev sort_of : ℕ → ℕ
-sort_of k = if k == 3 then 2 else k
-
-sort-mod : (n : List ℕ) (i : ℕ) (k : ModKind) → sort_of (form (module_row n i k)) ≡ 2
-sort-mod n i (Inline v) = refl
-sort-mod n i Outline = refl
-
-sort-is : (x : ModItem) → sort_of (form (item_row x)) ≡ sort x
-sort-is (Function f) = refl
-sort-is (Struct f) = refl
-sort-is (Mod f) = sort-mod f.name f.visibility f.kind
-sort-is (Use f) = refl
-
-pub item-complete : (x y : ModItem) → item_row x ≡ item_row y → item_eqs.ghosts.eq x y ≡ true
-item-complete (Function f) (Function g) h =
-    let p = leaf-injective (function f.name f.visibility) (function g.name g.visibility) h in
-    and_from (numbers_eq f.name g.name) (f.visibility == g.visibility) (numbers-complete f.name g.name (ap leaf_name p)) (eq-eqb f.visibility g.visibility (ap leaf_visibility p))
-item-complete (Struct f) (Struct g) h =
-    let p = leaf-injective (struct_item f.name f.visibility f.shape (ctor_ids f.value_ns_ctor)) (struct_item g.name g.visibility g.shape (ctor_ids g.value_ns_ctor)) h in
-    let rest = shape_eq f.shape g.shape && ctor_eq f.value_ns_ctor g.value_ns_ctor in
-    and_from (numbers_eq f.name g.name) (f.visibility == g.visibility && rest) (numbers-complete f.name g.name (ap leaf_name p))
-    (and_from (f.visibility == g.visibility) rest (eq-eqb f.visibility g.visibility (ap leaf_visibility p))
-    (and_from (shape_eq f.shape g.shape) (ctor_eq f.value_ns_ctor g.value_ns_ctor) (subst (λ z. shape_eq f.shape z ≡ true) (ap leaf_shape p) (shape-itself f.shape)) (ctor-complete f.value_ns_ctor g.value_ns_ctor (ap leaf_ctor p))))
-item-complete (Mod f) (Mod g) h =
-    let p = kind-complete f.name g.name f.visibility g.visibility f.kind g.kind h in
-    and_from (numbers_eq f.name g.name) (f.visibility == g.visibility && mod_eq f.kind g.kind) (numbers-complete f.name g.name p.0)
-    (and_from (f.visibility == g.visibility) (mod_eq f.kind g.kind) (eq-eqb f.visibility g.visibility p.1) p.2)
-item-complete (Use f) (Use g) h =
-    let p = leaf-injective (use_item f.visibility f.tree) (use_item g.visibility g.tree) h in
-    same_of_equal use_item_code f g (λ i. record { visibility = leaf_visibility (p i); tree = leaf_tree (p i) })
-item-complete x y h = let e : sort x ≡ sort y = sym (sort-is x) ∙ ap (λ z. sort_of (form z)) h ∙ sort-is y in absurd (omega arith)
+item_decides : (x y : ModItem) → Decides (item_eqs.ghosts.eq x y) (item_row x ≡ item_row y)
+item_decides (item.Function x) (item.Function y) = plain_decides fn_kind x.name y.name x.visibility y.visibility
+item_decides (item.Union x) (item.Union y) = plain_decides union_kind x.name y.name x.visibility y.visibility
+item_decides (item.Enum x) (item.Enum y) = plain_decides enum_kind x.name y.name x.visibility y.visibility
+item_decides (item.Static x) (item.Static y) = plain_decides static_kind x.name y.name x.visibility y.visibility
+item_decides (item.Trait x) (item.Trait y) = plain_decides trait_kind x.name y.name x.visibility y.visibility
+item_decides (item.TypeAlias x) (item.TypeAlias y) = plain_decides type_alias_kind x.name y.name x.visibility y.visibility
+item_decides (item.Macro2 x) (item.Macro2 y) = plain_decides macro_def_kind x.name y.name x.visibility y.visibility
+item_decides (item.Const x) (item.Const y) =
+    leaf_tells _ (Decides-and _ _ (option_decides numbers_eq numbers_decide x.name y.name) (number_decides x.visibility y.visibility))
+    (constant x.name x.visibility) (constant y.name y.visibility) (λ p i. constant (p.0 i) (p.1 i)) (λ e. (cc, cc))
+item_decides (item.Struct x) (item.Struct y) =
+    leaf_tells _ (Decides-and _ _ (numbers_decide x.name y.name) (Decides-and _ _ (number_decides x.visibility y.visibility) (Decides-and _ _ (shape_decides x.shape y.shape) (ctor_decides x.value_ns_ctor y.value_ns_ctor))))
+    (struct_item x.name x.visibility x.shape (ctor_ids x.value_ns_ctor)) (struct_item y.name y.visibility y.shape (ctor_ids y.value_ns_ctor))
+    (λ p i. struct_item (p.0 i) (p.1.0 i) (p.1.1.0 i) (p.1.1.1 i)) (λ e. (cc, (cc, (cc, cc))))
+item_decides (item.Mod x) (item.Mod y) = module_decides x.name y.name x.visibility y.visibility x.kind y.kind
+item_decides (item.Use x) (item.Use y) =
+    leaf_tells _ (equal_of_same use_item_code x y, same_of_equal use_item_code x y) (use_item x.visibility x.tree) (use_item y.visibility y.tree)
+    (ap (λ (u : UseItem). use_item u.visibility u.tree)) (λ e. let v : x.visibility ≡ y.visibility = cc in let t : x.tree ≡ y.tree = cc in λ i. record { visibility = v i; tree = t i })
+item_decides (item.ExternCrate x) (item.ExternCrate y) =
+    leaf_tells _ (Decides-and _ _ (numbers_decide x.name y.name) (Decides-and _ _ (number_decides x.visibility y.visibility) (aliases_decide x.alias y.alias _ refl)))
+    (extern_crate x.name x.visibility x.alias) (extern_crate y.name y.visibility y.alias) (λ p i. extern_crate (p.0 i) (p.1.0 i) (p.1.1 i)) (λ e. (cc, (cc, cc)))
+item_decides (item.ExternBlock x) (item.ExternBlock y) =
+    parent_tells _ (numbers_decide x.children.items y.children.items) extern_block extern_block x.children.items y.children.items (λ p. (refl, p)) (λ e. e.1)
+item_decides (item.Impl x) (item.Impl y) =
+    leaf_tells _ (booleans_Decides x.is_trait_impl y.is_trait_impl) (impl_item x.is_trait_impl) (impl_item y.is_trait_impl) (ap impl_item) (λ e. cc)
+item_decides (item.MacroCall x) (item.MacroCall y) =
+    leaf_tells _ (Decides-and _ _ (path_decides x.path y.path) (Decides-and _ _ (expand_decides x.expand_to y.expand_to) (context_decides x.ctxt y.ctxt)))
+    (macro_call x.path x.expand_to x.ctxt) (macro_call y.path y.expand_to y.ctxt) (λ p i. macro_call (p.0 i) (p.1.0 i) (p.1.1 i)) (λ e. (cc, (cc, cc)))
+item_decides (item.MacroRules x) (item.MacroRules y) =
+    leaf_tells _ (numbers_decide x.name y.name) (macro_rules x.name) (macro_rules y.name) (ap macro_rules) (λ e. cc)
+item_decides x y = never (λ e. let k : item_kind x ≡ item_kind y = sym (item-kind x) ∙ ap row_kind e ∙ item-kind y in cc)
 
 -- ---- visibilities, tags and keys
 
-same-complete : (v w : RawVisibility) → v ≡ w → same_vis v w ≡ true
-same-complete v w e = subst (λ z. same_vis v z ≡ true) e (same-itself v)
+vis_decides : (v w : RawVisibility) → Decides (same_vis v w) (v ≡ w)
+vis_decides = decides_by same_vis same-sound same-itself
 
 abbrev pub tag_eq : AstIdKind → AstIdKind → Bool
 tag_eq = tag_eqs.ghosts.eq
 
-tag-sound : (x y : AstIdKind) → tag_eq x y ≡ true → x ≡ y
-tag-sound x y h = same_true the_type (search rules) x y h
-
-tag-complete : (x y : AstIdKind) → x ≡ y → tag_eq x y ≡ true
-tag-complete x y e = subst (λ z. tag_eq x z ≡ true) e (tag_laws.laws-law.refl x)
+tag_decides : (x y : AstIdKind) → Decides (tag_eq x y) (x ≡ y)
+tag_decides = decides_by tag_eq (λ x y h. same_true tag_type (search rules) x y h) tag_laws.laws-law.refl
 
 abbrev pub key_eq : AstKey → AstKey → Bool
 key_eq = key_eqs.ghosts.eq
 
-key-sound : (x y : AstKey) → key_eq x y ≡ true → key_in x ≡ key_in y
-key-sound x y h =
-    let p = and_parts (x.hash == y.hash) (x.number == y.number) h in
-    λ i. record { hash = eqb-true x.hash y.hash p.0 i; number = eqb-true x.number y.number p.1 i }
-
-key-complete : (x y : AstKey) → key_in x ≡ key_in y → key_eq x y ≡ true
-key-complete x y e = and_from (x.hash == y.hash) (x.number == y.number) (eq-eqb x.hash y.hash (ap (λ z. z.hash) e)) (eq-eqb x.number y.number (ap (λ z. z.number) e))
+key_decides : (x y : AstKey) → Decides (key_eq x y) (key_in x ≡ key_in y)
+key_decides x y =
+    Decides-like _ (λ p i. record { hash = p.0 i; number = p.1 i }) (λ e. (ap (λ z. z.hash) e, ap (λ z. z.number) e)) (Decides-and _ _ (number_decides x.hash y.hash) (number_decides x.number y.number))
 
 -- ---- attributes
 
 abbrev attrs_eq : AttrsOrCfg → AttrsOrCfg → Bool
 attrs_eq = attrs_eqs.ghosts.eq
 
--- whether two lists of attributes are the same
-abbrev lists_eq : List Attr → List Attr → Bool
-lists_eq = pointwise attr_eqs.ghosts.eq
+lists_decide : (xs ys : List Attr) → Decides (pointwise attr_eqs.ghosts.eq xs ys) (xs ≡ ys)
+lists_decide = pointwise_decides attr_decides
 
-lists-sound : (xs ys : List Attr) → lists_eq xs ys ≡ true → xs ≡ ys
-lists-sound = all-sound attr_eqs.ghosts.eq (λ x y h. (attr_decides x y).0 h)
+attrs_decide : (x y : AttrsOrCfg) → Decides (attrs_eq x y) (collected x ≡ collected y)
+attrs_decide (Enabled a) (Enabled b) = Decides-like _ (λ p i. record { attrs = p i; false_cfg = None }) (ap (λ z. z.attrs)) (lists_decide a b)
+attrs_decide (CfgDisabled a) (CfgDisabled b) =
+    Decides-like _ (λ p i. record { attrs = p.1 i; false_cfg = Some (p.0 i) }) (λ e. let s = ap (λ z. z.false_cfg) e in (cc, ap (λ z. z.attrs) e))
+    (Decides-and _ _ (cfg_decides a.value.0 b.value.0) (lists_decide a.value.1 b.value.1))
+attrs_decide (Enabled a) (CfgDisabled b) = never (λ e. let s : ◌≡◌ {A = Option CfgView} None (Some (cfg_view b.value.0)) = ap (λ z. z.false_cfg) e in cc)
+attrs_decide (CfgDisabled a) (Enabled b) = never (λ e. let s : Some (cfg_view a.value.0) ≡ None = ap (λ z. z.false_cfg) e in cc)
 
-lists-complete : (xs ys : List Attr) → xs ≡ ys → lists_eq xs ys ≡ true
-lists-complete = all-complete attr_eqs.ghosts.eq (λ x y e. (attr_decides x y).1 e)
-
-attrs-sound : (x y : AttrsOrCfg) → attrs_eq x y ≡ true → collected x ≡ collected y
-attrs-sound (Enabled a) (Enabled b) h = λ i. record { attrs = lists-sound a b h i; false_cfg = None }
-attrs-sound (CfgDisabled a) (CfgDisabled b) h =
-    let p = and_parts (cfg_eqs.ghosts.eq a.value.0 b.value.0) (lists_eq a.value.1 b.value.1) h in
-    λ i. record { attrs = lists-sound a.value.1 b.value.1 p.1 i; false_cfg = Some ((cfg_decides a.value.0 b.value.0).0 p.0 i) }
-attrs-sound _ _ h = cc
-
-attrs-complete : (x y : AttrsOrCfg) → collected x ≡ collected y → attrs_eq x y ≡ true
-attrs-complete (Enabled a) (Enabled b) e = lists-complete a b (ap (λ z. z.attrs) e)
-attrs-complete (CfgDisabled a) (CfgDisabled b) e =
-    let same_cfg : Some (cfg_view a.value.0) ≡ Some (cfg_view b.value.0) = ap (λ z. z.false_cfg) e in
-    and_from (cfg_eqs.ghosts.eq a.value.0 b.value.0) (lists_eq a.value.1 b.value.1) ((cfg_decides a.value.0 b.value.0).1 cc) (lists-complete a.value.1 b.value.1 (ap (λ z. z.attrs) e))
-attrs-complete (Enabled a) (CfgDisabled b) e = let s : ◌≡◌ {A = Option CfgView} None (Some (cfg_view b.value.0)) = ap (λ z. z.false_cfg) e in cc
-attrs-complete (CfgDisabled a) (Enabled b) e = let s : Some (cfg_view a.value.0) ≡ None = ap (λ z. z.false_cfg) e in cc
-
-places-sound : (xs ys : List ℕ) → numbers_eq xs ys ≡ true → map plain_place xs ≡ map plain_place ys
-places-sound xs ys h = ap (map plain_place) (numbers-sound xs ys h)
-
-places-complete : (xs ys : List ℕ) → map plain_place xs ≡ map plain_place ys → numbers_eq xs ys ≡ true
-places-complete = pointwise-complete ◌==◌ plain_place (λ x y e. eq-eqb x y (plain_place-injective x y e))
+place_decides : (i j : ℕ) → Decides (i == j) (plain_place i ≡ plain_place j)
+place_decides i j = Decides-like _ (ap plain_place) (plain_place-injective i j) (number_decides i j)
 
 -- ---- trees
 
@@ -362,45 +309,46 @@ module _ (u w : Unfolding) (is js : List ℕ) (m n : ℕ) (s t : Rows) (cs : lay
   tables-same : u ≡ w → tables_of is m s ≡ tables_of js n t
   tables-same e = sym cs ∙ ap layout e ∙ ct
 
-  different : (b : Bool) → b ≡ false → (u ≡ w → b ≡ true) → Decides false (u ≡ w)
-  different b h f = ((λ q. cc), (λ e. sym h ∙ f e))
+  different : {P : Type 0} (b : Bool) → Decides b P → b ≡ false → (tables_of is m s ≡ tables_of js n t → P) → Decides false (u ≡ w)
+  different b d h f = never (λ e. false≢true (sym h ∙ d.1 (f (tables-same e))))
 
   pub top-differs : pointwise ◌==◌ is js ≡ false → Decides false (u ≡ w)
-  top-differs h = different (pointwise ◌==◌ is js) h (λ e. numbers-complete is js (ap (λ z. z.top) (tables-same e)))
+  top-differs h = different (pointwise ◌==◌ is js) (numbers_decide is js) h (ap (λ z. z.top))
 
   pub tags-differ : pointwise tag_eq s.tags.items t.tags.items ≡ false → Decides false (u ≡ w)
-  tags-differ h = different (pointwise tag_eq s.tags.items t.tags.items) h (λ e. all-complete tag_eq tag-complete s.tags.items t.tags.items (ap (λ z. z.tags) (tables-same e)))
+  tags-differ h = different (pointwise tag_eq s.tags.items t.tags.items) (pointwise_decides tag_decides s.tags.items t.tags.items) h (ap (λ z. z.tags))
 
   pub keys-differ : pointwise key_eq s.keys.items t.keys.items ≡ false → Decides false (u ≡ w)
-  keys-differ h = different (pointwise key_eq s.keys.items t.keys.items) h (λ e. pointwise-complete key_eq key_in key-complete s.keys.items t.keys.items (ap (λ z. z.keys) (tables-same e)))
+  keys-differ h = different (pointwise key_eq s.keys.items t.keys.items) (maps_decide key_eq key_in key_decides s.keys.items t.keys.items) h (ap (λ z. z.keys))
 
   pub items-differ : pointwise item_eqs.ghosts.eq s.items.items t.items.items ≡ false → Decides false (u ≡ w)
-  items-differ h = different (pointwise item_eqs.ghosts.eq s.items.items t.items.items) h (λ e. pointwise-complete item_eqs.ghosts.eq item_row item-complete s.items.items t.items.items (ap (λ z. z.items) (tables-same e)))
+  items-differ h = different (pointwise item_eqs.ghosts.eq s.items.items t.items.items) (maps_decide item_eqs.ghosts.eq item_row item_decides s.items.items t.items.items) h (ap (λ z. z.items))
 
   pub top_place-differs : (m ≡ n → ⊥) → Decides false (u ≡ w)
-  top_place-differs h = ((λ q. cc), (λ e. absurd (h (plain_place-injective m n (ap (λ z. z.top_place) (tables-same e))))))
+  top_place-differs h = never (λ e. h (plain_place-injective m n (ap (λ z. z.top_place) (tables-same e))))
 
   pub places-differ : pointwise ◌==◌ s.places.items t.places.items ≡ false → Decides false (u ≡ w)
-  places-differ h = different (pointwise ◌==◌ s.places.items t.places.items) h (λ e. places-complete s.places.items t.places.items (ap (λ z. z.places) (tables-same e)))
+  places-differ h = different (pointwise ◌==◌ s.places.items t.places.items) (maps_decide ◌==◌ plain_place place_decides s.places.items t.places.items) h (ap (λ z. z.places))
 
   pub column-differs : pointwise attrs_eq s.column.items t.column.items ≡ false → Decides false (u ≡ w)
-  column-differs h = different (pointwise attrs_eq s.column.items t.column.items) h (λ e. pointwise-complete attrs_eq collected attrs-complete s.column.items t.column.items (ap (λ z. z.column) (tables-same e)))
+  column-differs h = different (pointwise attrs_eq s.column.items t.column.items) (maps_decide attrs_eq collected attrs_decide s.column.items t.column.items) h (ap (λ z. z.column))
 
   -- where all other columns agree, the arenas decide
   pub arena-decides :
       pointwise ◌==◌ is js ≡ true → m ≡ n → pointwise tag_eq s.tags.items t.tags.items ≡ true → pointwise key_eq s.keys.items t.keys.items ≡ true →
       pointwise item_eqs.ghosts.eq s.items.items t.items.items ≡ true → pointwise ◌==◌ s.places.items t.places.items ≡ true →
       pointwise attrs_eq s.column.items t.column.items ≡ true → Decides (pointwise same_vis s.arena.keys t.arena.keys) (u ≡ w)
-  arena-decides a e b c d f g = (
-    (λ h. let q : tables_of is m s ≡ tables_of js n t = λ i. record {
-      top = numbers-sound is js a i;
-      tags = all-sound tag_eq tag-sound s.tags.items t.tags.items b i;
-      keys = pointwise-sound key_eq key_in key-sound s.keys.items t.keys.items c i;
-      items = pointwise-sound item_eqs.ghosts.eq item_row item-sound s.items.items t.items.items d i;
-      places = places-sound s.places.items t.places.items f i;
-      top_place = plain_place (e i);
-      column = pointwise-sound attrs_eq collected attrs-sound s.column.items t.column.items g i;
-      arena = all-sound same_vis same-sound s.arena.keys t.arena.keys h i;
-    } in layout-injective u w (cs ∙ q ∙ sym ct)),
-    (λ x. all-complete same_vis same-complete s.arena.keys t.arena.keys (ap (λ z. z.arena) (tables-same x))),
-  )
+  arena-decides a e b c d f g =
+      let arenas = pointwise_decides vis_decides s.arena.keys t.arena.keys in (
+        (λ h. let q : tables_of is m s ≡ tables_of js n t = λ i. record {
+          top = (numbers_decide is js).0 a i;
+          tags = (pointwise_decides tag_decides s.tags.items t.tags.items).0 b i;
+          keys = (maps_decide key_eq key_in key_decides s.keys.items t.keys.items).0 c i;
+          items = (maps_decide item_eqs.ghosts.eq item_row item_decides s.items.items t.items.items).0 d i;
+          places = (maps_decide ◌==◌ plain_place place_decides s.places.items t.places.items).0 f i;
+          top_place = plain_place (e i);
+          column = (maps_decide attrs_eq collected attrs_decide s.column.items t.column.items).0 g i;
+          arena = arenas.0 h i;
+        } in layout-injective u w (cs ∙ q ∙ sym ct)),
+        (λ x. arenas.1 (ap (λ z. z.arena) (tables-same x))),
+      )

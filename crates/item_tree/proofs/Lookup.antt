@@ -13,7 +13,7 @@ use Rattle.item_tree.specs.declared.items.ModKind.TheVariants.{Inline, Outline}
 use Rattle.item_tree.specs.declared.items.ModItem.{ModItem}
 use Rattle.item_tree.specs.declared.rows.AstKey.{AstKey}
 use Rattle.item_tree.specs.declared.rows.Rows.{Rows}
-use Rattle.item_tree.specs.Node.{Leaf, function, struct_item, outline, use_item, Trunk, inline, leaf_kind, trunk_kind, Head, Node, Forest, leaf, parent, empty, more, nodes, node_head, node_kind, node_ast, file_id, Unfolding}
+use Rattle.item_tree.specs.Node.{Leaf, plain, constant, struct_item, outline, use_item, extern_crate, impl_item, macro_call, macro_rules, Trunk, inline, extern_block, leaf_kind, trunk_kind, Head, Node, Forest, leaf, parent, empty, more, nodes, node_head, node_kind, node_ast, file_id, Unfolding}
 use Rattle.item_tree.specs.Layout.{leaf_map, trunk_map, vis_id, value_at, plain_vis, Row, RowItem, leaf_row, parent_row, row_tag, key_of, row_key, row_attrs, row_item, arena_of, node_walk, walk, ids, node_rows, rows_of, kind_bit, layout, at_row, at, node_at}
 use Rattle.item_tree.specs.Column.{is_empty, unless, some_unless, column_of, plain_place, stored_at}
 use Rattle.item_tree.specs.Shown.{IsContained, IsLeaf, IsParent, IsModule, lent_attrs, attrs_at}
@@ -60,13 +60,19 @@ module _ {X : Type 0} (R : X → Node → Type 0) where
   RowsAre-length (r ∷ rs) (n ∷ ns) h = ap suc (RowsAre-length rs ns h.1)
 
 pub leaf_kind-map : {V W : Type 0} (f : V → W) (l : Leaf V) → leaf_kind l ≡ leaf_kind (leaf_map f l)
-leaf_kind-map f (function n v) = refl
+leaf_kind-map f (plain k n v) = refl
+leaf_kind-map f (constant n v) = refl
+leaf_kind-map f (extern_crate n v a) = refl
+leaf_kind-map f (impl_item of_trait) = refl
+leaf_kind-map f (macro_call p e x) = refl
+leaf_kind-map f (macro_rules n) = refl
 leaf_kind-map f (outline n v) = refl
 leaf_kind-map f (use_item v t) = refl
 leaf_kind-map f (struct_item n v s c) = refl
 
 pub trunk_kind-map : {V W : Type 0} (f : V → W) (t : Trunk V) → trunk_kind t ≡ trunk_kind (trunk_map f t)
 trunk_kind-map f (inline n v) = refl
+trunk_kind-map f extern_block = refl
 
 -- What a row says of its node.
 module _ (arena : List RawVisibility) (ns : List Node) where

@@ -1,33 +1,30 @@
 -- What lowering adds to the rows, piece by piece.
-use Rattle.std.proofs.Common.{◌≡◌, ℕ, ◌+◌, ◌*◌, ◌<◌, ◌≤◌, Bool, true, false, List, [], ◌∷◌, ◌++◌, length, map, get_or, take, drop, Option, Some, None, option_map, string_bytes, refl, ap, sym, ◌∙◌, subst, arith, add-zero, append_assoc, append-nil, length-append, inl, inr}
+use Rattle.std.proofs.Common.{◌≡◌, ℕ, ◌+◌, ◌*◌, ◌<◌, ◌≤◌, Bool, true, false, List, [], ◌∷◌, ◌++◌, length, map, get_or, take, drop, Option, Some, None, option_map, refl, ap, sym, ◌∙◌, subst, arith, add-zero, append_assoc, append-nil, length-append, inl, inr}
 use Rattle.std.proofs.lemmas.List.{map-append, length-map, take_more, take-append-drop}
 use Rattle.hir_input.specs.declared.cfg.CfgAtom.{CfgAtom}
-use Rattle.hir_input.specs.declared.ast.Item.{Item}
-use Rattle.hir_input.specs.declared.ast.StructKind.{StructKind}
-use Rattle.hir_input.specs.declared.ast.StructKind.TheVariants as written
+use Rattle.hir_input.specs.declared.ast.ExternBlock as ast_block
+use Rattle.hir_input.specs.declared.ast.ExternItem.{ExternItem}
+use Rattle.hir_input.specs.declared.ast.ExternItem.TheVariants as external
 use Rattle.hir_input.specs.declared.ast.Module as ast_module
 use Rattle.hir_input.specs.Attr.{meta_view}
-use Rattle.hir_input.specs.Syntax.{NamedView, ItemView, module_from, items_from, item_view, items_view, module_view}
+use Rattle.hir_input.specs.Syntax.{NodeView, NamedView, ItemView, node_from, named_from, module_from, extern_block_from, items_from, item_view, module_view, extern_item_view, extern_block_view}
 use Rattle.hir_input.proofs.SyntaxViews.{module_view-fields}
 use Rattle.std.specs.Prelude.{max}
 use Rattle.item_tree_attrs.specs.Collected.{Collected, collected, collected_from, attr_limit}
-use Rattle.item_tree.specs.declared.items.FieldsShape.{FieldsShape}
 use Rattle.item_tree.specs.declared.fault.LowerError.{LowerError}
 use Rattle.item_tree.specs.declared.fault.LowerError.TheVariants.{TooManyItems, TooManyVisibilities, TooManyUseTrees, TooManyAttributes, TooManySupers, OutOfMemory}
 use Rattle.item_tree.specs.declared.rows.Rows.{Rows}
-use Rattle.item_tree.specs.Node.{Ctor, ctor_with, Leaf, Trunk, trunk_kind, leaf_kind, Head, Node, Forest, leaf, parent, empty, more, add, function, struct_item, outline, use_item, inline, count, Unfolding}
-use Rattle.item_tree.specs.Visibility.{read_visibility}
-use Rattle.item_tree.specs.Kept.{head_of, shape_of, ctor_of, module_node, kept, kept_all}
-use Rattle.item_tree.specs.Layout.{VisId, vis_id, plain_vis, meet, ctor_map, leaf_map, trunk_map, ctor_vis, leaf_vis, trunk_vis, meet_all, met, node_met, arena_of, node_walk, walk, node_id, ids, Row, leaf_row, parent_row, row_tag, row_key, row_attrs, row_item, kind_bit, node_rows, rows_of, layout, unfold_tables}
+use Rattle.item_tree.specs.Node.{Leaf, Trunk, trunk_kind, leaf_kind, Head, Node, Forest, leaf, parent, empty, more, add, outline, inline, extern_block, count, Unfolding}
+use Rattle.item_tree.specs.Visibility.{read_visibility, meet, meet_all}
+use Rattle.item_tree.specs.Kept.{head_of, module_node, kept, kept_all}
+use Rattle.item_tree.specs.Layout.{VisId, vis_id, plain_vis, leaf_map, trunk_map, leaf_vis, trunk_vis, met, node_met, arena_of, node_walk, walk, node_id, ids, Row, leaf_row, parent_row, row_tag, row_key, row_attrs, row_item, kind_bit, node_rows, rows_of, layout, unfold_tables}
 use Rattle.item_tree.specs.Column.{is_empty, unless, some_unless, column_of, places_from, plain_place}
-use Rattle.item_tree.specs.Imports.{most_supers, super_limit}
-use Rattle.item_tree.specs.Tree.{Tree}
-use Rattle.item_tree.specs.UseItem.{UseFits}
+use Rattle.item_tree.specs.Imports.{super_limit}
 use Rattle.item_tree.specs.KeptUse.{use_tree_limit}
-use Rattle.item_tree.specs.Size.{visibility_limit, most_attrs, leaf_supers, forest_supers, item_written, items_written, Fits}
+use Rattle.item_tree.specs.Size.{most_attrs, leaf_supers, forest_supers, item_written, items_written, Fits}
 use Rattle.item_tree.specs.Stored.{item_row, key_in, keys_in, items_in, places_in, column_in, tables_of, AreSound}
-use Rattle.item_tree.specs.Growth.{ctor_id_of, kept_below, written_below, row_count, Adds, Lowers, IsFault, IsAttrFault, Meets, IsUnmet, Puts, Pushes, IsFull}
-use Rattle.item_tree.proofs.Arena.{V, Extends, Extends-met, KnowsAll, KnowsAll-meet_all, KnowsForest, KnowsNode, Knows-met, leaf-stable, trunk-stable, meet-twice, bool_cases}
+use Rattle.item_tree.specs.Growth.{kept_below, written_below, row_count, Adds, Lowers, IsFault, Meets, IsUnmet, Puts, Pushes, IsFull}
+use Rattle.item_tree.proofs.Arena.{V, Extends, Extends-met, KnowsAll, KnowsAll-meet_all, KnowsForest, KnowsNode, Knows-met, leaf-stable, trunk-stable, bool_cases}
 use Rattle.item_tree.proofs.Column.{column-append, places-append}
 use Rattle.item_tree.proofs.Canon.{unfold-layout}
 use Rattle.item_tree.proofs.Lookup.{trunk_kind-map, leaf_kind-map}
@@ -191,9 +188,8 @@ Lowers-parent {o} {a} {b} {c} {w} {f} {is} {i} h k t r s m e q few l p =
     e ∙ sym (trunk-stable a.arena.keys b.arena.keys t (Lowers-extends l) known) ∙ ap (λ z. trunk_map (vis_id z) t) (sym p.arena_kept) in
     let y : rows_of b.arena.keys f (row_count a) ≡ rows_of c.arena.keys f (row_count o) = λ j. rows_of (sym p.arena_kept j) f (n j) in
     let given : is ≡ ids (row_count o) f = l.given ∙ ap (λ z. ids z f) n in
-    let z : (k, parent_row r is) ≡ (h, parent_row (trunk_map (vis_id c.arena.keys) t) (ids (row_count o) f)) = λ j. (q j, parent_row (x j) (given j)) in
     let goal_rows : rows_of b.arena.keys f (row_count a) ++ (k, parent_row r is) ∷ [] ≡ rows_of c.arena.keys (more (parent h t f) empty) (row_count o) =
-    (λ j. y j ++ z j ∷ []) ∙ sym (append-nil (rows_of c.arena.keys f (row_count o) ++ (h, parent_row (trunk_map (vis_id c.arena.keys) t) (ids (row_count o) f)) ∷ [])) in
+    (λ j. y j ++ (q j, parent_row (x j) (given j)) ∷ []) ∙ sym (append-nil (rows_of c.arena.keys f (row_count o) ++ (h, parent_row (trunk_map (vis_id c.arena.keys) t) (ids (row_count o) f)) ∷ [])) in
     record {
       given = ap (λ v. v ∷ []) (p.given ∙ (λ j. 2 * d j + kind_bit (trunk_kind (e j))) ∙ ap (λ v. 2 * (row_count o + length (walk f)) + kind_bit v) (sym (trunk_kind-map (vis_id a.arena.keys) t)));
       arena_met = p.arena_kept ∙ l.arena_met ∙ ap (met f) m;
@@ -216,89 +212,11 @@ IsFull-parent {o} {a} {b} w h t TooManyAttributes s l q = absurd q
 IsFull-parent {o} {a} {b} w h t TooManySupers s l q = absurd q
 IsFull-parent w h t OutOfMemory s l q = tt
 
--- an item's own attributes are too many, where it has no children
-pub IsAttrFault-leaf : (w : ℕ) (o : Rows) (h : Head) (l : Leaf V) (e : LowerError) → IsAttrFault h.attrs e → IsFault o w (more (leaf h l) empty) e
-IsAttrFault-leaf w o h l TooManyItems q = absurd q
-IsAttrFault-leaf w o h l TooManyVisibilities q = absurd q
-IsAttrFault-leaf w o h l TooManyUseTrees q = absurd q
-IsAttrFault-leaf w o h l TooManyAttributes q = omega (arith, q)
-IsAttrFault-leaf w o h l TooManySupers q = absurd q
-IsAttrFault-leaf w o h l OutOfMemory q = tt
-
--- the same where it has
-pub IsAttrFault-parent : (w : ℕ) (o : Rows) (h : Head) (t : Trunk V) (f : Forest) (e : LowerError) → IsAttrFault h.attrs e → IsFault o w (more (parent h t f) empty) e
-IsAttrFault-parent w o h t f TooManyItems q = absurd q
-IsAttrFault-parent w o h t f TooManyVisibilities q = absurd q
-IsAttrFault-parent w o h t f TooManyUseTrees q = absurd q
-IsAttrFault-parent w o h t f TooManyAttributes q = omega (arith, q)
-IsAttrFault-parent w o h t f TooManySupers q = absurd q
-IsAttrFault-parent w o h t f OutOfMemory q = tt
-
--- a fault among the children
-pub IsFault-parent : {o a : Rows} (w : ℕ) (h : Head) (t : Trunk V) (f : Forest) (e : LowerError) → Adds o a [] → a.arena.keys ≡ meet_all o.arena.keys (trunk_vis t) → IsFault a w f e → IsFault o w (more (parent h t f) empty) e
-IsFault-parent {o} {a} w h t f TooManyItems s m q = omega (arith, q, Adds-count s)
-IsFault-parent {o} {a} w h t f TooManyVisibilities s m q = subst (λ z. visibility_limit < length (met f z)) m q
-IsFault-parent w h t f TooManyUseTrees s m q = q
-IsFault-parent w h t f TooManyAttributes s m q = omega (arith, q)
-IsFault-parent w h t f TooManySupers s m q = omega (arith, q)
-IsFault-parent w h t f OutOfMemory s m q = tt
-
--- the rows are full before a node without children
-pub IsFull-leaf : {o a : Rows} (w : ℕ) (h : Head) (l : Leaf V) (e : LowerError) → Adds o a [] → IsFull a e → IsFault o w (more (leaf h l) empty) e
-IsFull-leaf {o} {a} w h l TooManyItems s q = omega (arith, q, Adds-count s)
-IsFull-leaf w h l TooManyVisibilities s q = absurd q
-IsFull-leaf w h l TooManyUseTrees s q = absurd q
-IsFull-leaf w h l TooManyAttributes s q = absurd q
-IsFull-leaf w h l TooManySupers s q = absurd q
-IsFull-leaf w h l OutOfMemory s q = tt
-
--- ---- functions
-
-pub Lowers-function :
-    {o a b : Rows} {i u : ℕ} (h k : Head) (n p : List ℕ) (v : V) → Meets o a v u → p ≡ n → k ≡ h → length h.attrs.attrs ≤ attr_limit →
-    Pushes a b (k, leaf_row (function p (plain_vis u))) i → Lowers o b 0 (more (leaf h (function n v)) empty) (i ∷ [])
-Lowers-function {o} {a} {b} {i} {u} h k n p v m e q few w =
-    Lowers-leaf h k (function n v) (function p (plain_vis u)) (Meets-adds m) m.met (λ j. function (e j) (m.given j)) q few (omega arith) (omega arith) w
-
--- ---- structs
-
-meet_all-struct : (xs : List V) (k : StructKind) (v : V) → meet_all xs (v ∷ ctor_vis (ctor_of k v)) ≡ meet xs v
-meet_all-struct xs written.Record v = refl
-meet_all-struct xs written.Unit v = meet-twice xs v
-
-ctor-ids : (xs : List V) (k : StructKind) (i : ℕ) (v : V) → plain_vis i ≡ vis_id xs v → ctor_map plain_vis (ctor_id_of k i) ≡ ctor_map (vis_id xs) (ctor_of k v)
-ctor-ids xs written.Record i v e = refl
-ctor-ids xs written.Unit i v e = ap ctor_with e
-
-pub Lowers-struct :
-    {o a b : Rows} {i u : ℕ} (h q : Head) (n p : List ℕ) (v : V) (k : StructKind) (s : FieldsShape) (c : Ctor ℕ) → Meets o a v u → p ≡ n → s ≡ shape_of k → c ≡ ctor_id_of k u → q ≡ h → length h.attrs.attrs ≤ attr_limit →
-    Pushes a b (q, leaf_row (leaf_map plain_vis (struct_item p u s c))) i → Lowers o b 0 (more (leaf h (struct_item n v (shape_of k) (ctor_of k v))) empty) (i ∷ [])
-Lowers-struct {o} {a} {b} {i} {u} h q n p v k s c m e d g is few w =
-    let x : ctor_map plain_vis c ≡ ctor_map (vis_id a.arena.keys) (ctor_of k v) = ap (ctor_map plain_vis) g ∙ ctor-ids a.arena.keys k u v m.given in
-    Lowers-leaf h q (struct_item n v (shape_of k) (ctor_of k v)) (leaf_map plain_vis (struct_item p u s c)) (Meets-adds m)
-    (m.met ∙ sym (meet_all-struct o.arena.keys k v)) (λ j. struct_item (e j) (m.given j) (d j) (x j)) is few (omega arith) (omega arith) w
-
-pub IsUnmet-struct : (o : Rows) (h : Head) (n : List ℕ) (v : V) (k : StructKind) (e : LowerError) → IsUnmet o v e → IsFault o 0 (more (leaf h (struct_item n v (shape_of k) (ctor_of k v))) empty) e
-IsUnmet-struct o h n v k TooManyItems q = absurd q
-IsUnmet-struct o h n v k TooManyVisibilities q = rw (meet_all-struct o.arena.keys k v) q
-IsUnmet-struct o h n v k TooManyUseTrees q = absurd q
-IsUnmet-struct o h n v k TooManyAttributes q = absurd q
-IsUnmet-struct o h n v k TooManySupers q = absurd q
-IsUnmet-struct o h n v k OutOfMemory q = tt
-
--- ---- uses
-
-pub Lowers-use :
-    {o a b : Rows} {i u n : ℕ} (h q : Head) (s t : Tree) (v : V) → Meets o a v u → s ≡ t → q ≡ h → length h.attrs.attrs ≤ attr_limit → UseFits s → n ≤ use_tree_limit →
-    Pushes a b (q, leaf_row (use_item (plain_vis u) s)) i → Lowers o b n (more (leaf h (use_item v t)) empty) (i ∷ [])
-Lowers-use {o} {a} {b} {i} {u} h q s t v m e is few fits written w =
-    Lowers-leaf h q (use_item v t) (use_item (plain_vis u) s) (Meets-adds m) m.met (λ j. use_item (m.given j) (e j)) is few (subst (λ z. most_supers 0 z ≤ super_limit) e fits.supers) written w
-
 -- ---- modules
 
 module _ (m : ast_module.Module) where
   abbrev pub named : NamedView
-  named = record { node = record { hash = m.hash; number = m.number; attrs = map meta_view m.attrs.items; body = string_bytes m.body }; name = m.name; visibility = m.visibility }
+  named = named_from m.hash m.number m.attrs.items m.name m.visibility m.body
 
   abbrev pub value : V
   value = read_visibility m.visibility
@@ -325,20 +243,15 @@ module _ (options : List CfgAtom) (skipped : List (List ℕ)) (m : ast_module.Mo
   kept-module_from n s (Some is) = refl
 
   written-module_from : (named : NamedView) (o : Option (List ItemView)) (n : List ℕ) → named.name ≡ Some n →
-      (item_written (module_from named false o) ≡ written_below (module_from named false o)) × (item_written (module_from named true o) ≡ 0)
-  written-module_from named None n e = (refl, refl)
-  written-module_from named (Some is) n e = rw e (refl, refl)
+      item_written (module_from named false o) ≡ written_below (module_from named false o)
+  written-module_from named None n e = refl
+  written-module_from named (Some is) n e = rw e refl
 
   written-inline : (n : List ℕ) → m.name ≡ Some n → m.semicolon ≡ false → module_written ≡ inside
   written-inline n e h =
       let items = option_map (λ v. map item_view v.items) m.items in
       let v : module_view m ≡ module_from (named m) false items = module_view-fields m ∙ ap (λ b. module_from (named m) b items) h in
-      ap item_written v ∙ (written-module_from (named m) items n e).0 ∙ ap written_below (sym v)
-
-  written-outline : (n : List ℕ) → m.name ≡ Some n → m.semicolon ≡ true → module_written ≡ 0
-  written-outline n e h =
-      let items = option_map (λ v. map item_view v.items) m.items in
-      ap item_written (module_view-fields m ∙ ap (λ b. module_from (named m) b items) h) ∙ (written-module_from (named m) items n e).1
+      ap item_written v ∙ written-module_from (named m) items n e ∙ ap written_below (sym v)
 
   kept-module : (n : List ℕ) → m.name ≡ Some n → kept options skipped (module_view m) ≡ Some (module_node m.semicolon head n (value m) below)
   kept-module n e =
@@ -351,26 +264,12 @@ module _ (options : List CfgAtom) (skipped : List (List ℕ)) (m : ast_module.Mo
   kept-outline : (n : List ℕ) → m.name ≡ Some n → m.semicolon ≡ true → kept_module ≡ more (leaf head (outline n (value m))) empty
   kept-outline n e h = ap (λ o. add o empty) (kept-module n e) ∙ ap (λ b. more (module_node b head n (value m) below) empty) h
 
-  pub Lowers-outline :
-      {o a b : Rows} {i u : ℕ} (k : Head) (n p : List ℕ) → m.name ≡ Some n → m.semicolon ≡ true → p ≡ n → k ≡ head → length head.attrs.attrs ≤ attr_limit → Meets o a (value m) u →
-      Pushes a b (k, leaf_row (outline p (plain_vis u))) i → Lowers o b module_written kept_module (i ∷ [])
-  Lowers-outline {o} {a} {b} {i} {u} k n p e s q d few v w =
-      rw (kept-outline n e s, written-outline n e s)
-      (Lowers-leaf head k (outline n (value m)) (outline p (plain_vis u)) (Meets-adds v) v.met (λ j. outline (q j) (v.given j)) d few (omega arith) (omega arith) w)
-
   pub Lowers-inline :
       {o a b c : Rows} {is : List ℕ} {i u : ℕ} (k : Head) (n p : List ℕ) → m.name ≡ Some n → m.semicolon ≡ false → p ≡ n → k ≡ head → length head.attrs.attrs ≤ attr_limit → Meets o a (value m) u →
       Lowers a b inside below is → Pushes b c (k, parent_row (inline p (plain_vis u)) is) i → Lowers o c module_written kept_module (i ∷ [])
   Lowers-inline {o} {a} {b} {c} {is} {i} {u} k n p e s q d few v h w =
       rw (kept-inline n e s, written-inline n e s)
       (Lowers-parent head k (inline n (value m)) (inline p (plain_vis u)) (Meets-adds v) v.met (λ j. inline (q j) (v.given j)) d few h w)
-
-  pub IsAttrFault-module : (o : Rows) (n : List ℕ) (e : LowerError) → m.name ≡ Some n → IsAttrFault head.attrs e → IsFault o module_written kept_module e
-  IsAttrFault-module o n e q h =
-      elim (bool_cases m.semicolon) [
-        | inl s ↦ rw (kept-outline n q s) (IsAttrFault-leaf module_written o head (outline n (value m)) e h)
-        | inr s ↦ rw (kept-inline n q s) (IsAttrFault-parent module_written o head (inline n (value m)) below e h)
-      ]
 
   pub IsUnmet-module : (o : Rows) (n : List ℕ) (e : LowerError) → m.name ≡ Some n → IsUnmet o (value m) e → IsFault o module_written kept_module e
   IsUnmet-module o n TooManyItems q h = absurd h
@@ -385,76 +284,81 @@ module _ (options : List CfgAtom) (skipped : List (List ℕ)) (m : ast_module.Mo
   IsUnmet-module o n TooManySupers q h = absurd h
   IsUnmet-module o n OutOfMemory q h = tt
 
-  pub IsFull-outline :
-      {o a : Rows} {u : ℕ} (n : List ℕ) (e : LowerError) → m.name ≡ Some n → m.semicolon ≡ true → Meets o a (value m) u → IsFull a e → IsFault o module_written kept_module e
-  IsFull-outline n e q s v f = rw (kept-outline n q s) (IsFull-leaf module_written head (outline n (value m)) e (Meets-adds v) f)
-
-  pub IsFault-inline :
-      {o a : Rows} {u : ℕ} (n : List ℕ) (e : LowerError) → m.name ≡ Some n → m.semicolon ≡ false → Meets o a (value m) u → IsFault a inside below e → IsFault o module_written kept_module e
-  IsFault-inline n e q s v f = rw (kept-inline n q s, written-inline n q s) (IsFault-parent inside head (inline n (value m)) below e (Meets-adds v) v.met f)
-
   pub IsFull-inline :
       {o a b : Rows} {is : List ℕ} {u : ℕ} (n : List ℕ) (e : LowerError) → m.name ≡ Some n → m.semicolon ≡ false → Meets o a (value m) u →
       Lowers a b inside below is → IsFull b e → IsFault o module_written kept_module e
   IsFull-inline n e q s v h f = rw (kept-inline n q s) (IsFull-parent module_written head (inline n (value m)) e (Meets-adds v) h f)
 
--- ---- several items
+-- ---- extern blocks
+
+-- no use trees are written in one
+pub none_written : (xs : List ExternItem) → items_written (items_from (map extern_item_view xs)) ≡ 0
+none_written [] = refl
+none_written (external.Fn n ∷ xs) = omega (arith, none_written xs)
+none_written (external.MacroCall n ∷ xs) = omega (arith, none_written xs)
+none_written (external.Static n ∷ xs) = omega (arith, none_written xs)
+none_written (external.TypeAlias n ∷ xs) = omega (arith, none_written xs)
 
 module _ (options : List CfgAtom) (skipped : List (List ℕ)) where
+  kept-block_from : (n : NodeView) (o : Option (List ItemView)) → kept options skipped (extern_block_from n o) ≡ Some (parent (head_of options skipped n) extern_block (kept_below options skipped (extern_block_from n o)))
+  kept-block_from n None = refl
+  kept-block_from n (Some is) = refl
+
+  pub kept-block : (n : ast_block.ExternBlock) → kept options skipped (extern_block_view n) ≡ Some (parent (head_of options skipped (node_from n.hash n.number n.attrs.items n.body)) extern_block (kept_below options skipped (extern_block_view n)))
+  kept-block n = kept-block_from (node_from n.hash n.number n.attrs.items n.body) (option_map (λ v. map extern_item_view v.items) n.items)
+
+-- ---- several items
+
+-- of a list of what is seen as items
+module _ (options : List CfgAtom) (skipped : List (List ℕ)) {X : Type 0} (seen : X → ItemView) where
   add-join : (o : Option Node) (f g : Forest) → add o (join f g) ≡ join (add o f) g
   add-join None f g = refl
   add-join (Some n) f g = refl
 
-  kept_all-append : (us vs : List ItemView) → kept_all options skipped (items_from (us ++ vs)) ≡ join (kept_all options skipped (items_from us)) (kept_all options skipped (items_from vs))
-  kept_all-append [] vs = refl
-  kept_all-append (u ∷ us) vs = ap (add (kept options skipped u)) (kept_all-append us vs) ∙ add-join (kept options skipped u) (kept_all options skipped (items_from us)) (kept_all options skipped (items_from vs))
+  abbrev pub kept_list : List X → Forest
+  kept_list xs = kept_all options skipped (items_from (map seen xs))
 
-  abbrev kept_list : List Item → Forest
-  kept_list xs = kept_all options skipped (items_view xs)
+  abbrev pub written_list : List X → ℕ
+  written_list xs = items_written (items_from (map seen xs))
 
-  abbrev kept_one : Item → Forest
-  kept_one x = add (kept options skipped (item_view x)) empty
+  abbrev pub kept_one : X → Forest
+  kept_one x = add (kept options skipped (seen x)) empty
 
-  kept_list-append : (us vs : List Item) → kept_list (us ++ vs) ≡ join (kept_list us) (kept_list vs)
-  kept_list-append us vs = ap (λ z. kept_all options skipped (items_from z)) (map-append item_view us vs) ∙ kept_all-append (map item_view us) (map item_view vs)
+  kept_list-append : (us vs : List X) → kept_list (us ++ vs) ≡ join (kept_list us) (kept_list vs)
+  kept_list-append [] vs = refl
+  kept_list-append (u ∷ us) vs = ap (add (kept options skipped (seen u))) (kept_list-append us vs) ∙ add-join (kept options skipped (seen u)) (kept_list us) (kept_list vs)
 
-  kept_list-push : (xs : List Item) (i : ℕ) (x : Item) → x ≡ get_or xs i x → i < length xs → kept_list (take (i + 1) xs) ≡ join (kept_list (take i xs)) (kept_one x)
+  written_list-append : (us vs : List X) → written_list (us ++ vs) ≡ max (written_list us) (written_list vs)
+  written_list-append [] vs = omega arith
+  written_list-append (u ∷ us) vs = omega (arith, written_list-append us vs)
+
+  kept_list-push : (xs : List X) (i : ℕ) (x : X) → x ≡ get_or xs i x → i < length xs → kept_list (take (i + 1) xs) ≡ join (kept_list (take i xs)) (kept_one x)
   kept_list-push xs i x e h =
       let t : take (i + 1) xs ≡ take i xs ++ x ∷ [] = take_more xs i x h ∙ ap (λ z. take i xs ++ z ∷ []) (sym e) in
       ap kept_list t ∙ kept_list-append (take i xs) (x ∷ [])
 
-  written-append : (us vs : List ItemView) → items_written (items_from (us ++ vs)) ≡ max (items_written (items_from us)) (items_written (items_from vs))
-  written-append [] vs = omega arith
-  written-append (u ∷ us) vs = omega (arith, written-append us vs)
-
-  abbrev written_list : List Item → ℕ
-  written_list xs = items_written (items_view xs)
-
-  written_list-append : (us vs : List Item) → written_list (us ++ vs) ≡ max (written_list us) (written_list vs)
-  written_list-append us vs = ap (λ z. items_written (items_from z)) (map-append item_view us vs) ∙ written-append (map item_view us) (map item_view vs)
-
-  written_list-push : (xs : List Item) (i : ℕ) (x : Item) → x ≡ get_or xs i x → i < length xs → written_list (take (i + 1) xs) ≡ max (written_list (take i xs)) (item_written (item_view x))
+  written_list-push : (xs : List X) (i : ℕ) (x : X) → x ≡ get_or xs i x → i < length xs → written_list (take (i + 1) xs) ≡ max (written_list (take i xs)) (item_written (seen x))
   written_list-push xs i x e h =
       let t : take (i + 1) xs ≡ take i xs ++ x ∷ [] = take_more xs i x h ∙ ap (λ z. take i xs ++ z ∷ []) (sym e) in
-      let one : written_list (x ∷ []) ≡ item_written (item_view x) = omega arith in
+      let one : written_list (x ∷ []) ≡ item_written (seen x) = omega arith in
       ap written_list t ∙ written_list-append (take i xs) (x ∷ []) ∙ ap (max (written_list (take i xs))) one
 
-  written_list-split : (xs : List Item) (i : ℕ) → written_list xs ≡ max (written_list (take i xs)) (written_list (drop i xs))
+  written_list-split : (xs : List X) (i : ℕ) → written_list xs ≡ max (written_list (take i xs)) (written_list (drop i xs))
   written_list-split xs i = ap written_list (sym (take-append-drop i xs)) ∙ written_list-append (take i xs) (drop i xs)
 
-  kept_list-split : (xs : List Item) (i : ℕ) → kept_list xs ≡ join (kept_list (take i xs)) (kept_list (drop i xs))
+  kept_list-split : (xs : List X) (i : ℕ) → kept_list xs ≡ join (kept_list (take i xs)) (kept_list (drop i xs))
   kept_list-split xs i = ap kept_list (sym (take-append-drop i xs)) ∙ kept_list-append (take i xs) (drop i xs)
 
   pub Lowers-step :
-      {a b c : Rows} {is js : List ℕ} (xs : List Item) (i : ℕ) (x : Item) → x ≡ get_or xs i x → i < length xs →
-      Lowers a b (items_written (items_view (take i xs))) (kept_all options skipped (items_view (take i xs))) is → Lowers b c (item_written (item_view x)) (add (kept options skipped (item_view x)) empty) js →
-      Lowers a c (items_written (items_view (take (i + 1) xs))) (kept_all options skipped (items_view (take (i + 1) xs))) (is ++ js)
+      {a b c : Rows} {is js : List ℕ} (xs : List X) (i : ℕ) (x : X) → x ≡ get_or xs i x → i < length xs →
+      Lowers a b (written_list (take i xs)) (kept_list (take i xs)) is → Lowers b c (item_written (seen x)) (kept_one x) js →
+      Lowers a c (written_list (take (i + 1) xs)) (kept_list (take (i + 1) xs)) (is ++ js)
   Lowers-step {a} {b} {c} {is} {js} xs i x e h p q = rw (kept_list-push xs i x e h, written_list-push xs i x e h) (Lowers-join p q)
 
   pub IsFault-step :
-      {a b : Rows} {is : List ℕ} (xs : List Item) (i : ℕ) (x : Item) (e : LowerError) → x ≡ get_or xs i x → i < length xs →
-      Lowers a b (items_written (items_view (take i xs))) (kept_all options skipped (items_view (take i xs))) is → IsFault b (item_written (item_view x)) (add (kept options skipped (item_view x)) empty) e →
-      IsFault a (items_written (items_view xs)) (kept_all options skipped (items_view xs)) e
+      {a b : Rows} {is : List ℕ} (xs : List X) (i : ℕ) (x : X) (e : LowerError) → x ≡ get_or xs i x → i < length xs →
+      Lowers a b (written_list (take i xs)) (kept_list (take i xs)) is → IsFault b (item_written (seen x)) (kept_one x) e →
+      IsFault a (written_list xs) (kept_list xs) e
   IsFault-step {a} {b} xs i x TooManyItems q h p f =
       omega (arith, f, ap count (kept_list-split xs (i + 1)), count-join (kept_list (take (i + 1) xs)) (kept_list (drop (i + 1) xs)), Lowers-count p, ap count (kept_list-push xs i x q h), count-join (kept_list (take i xs)) (kept_one x))
   IsFault-step {a} {b} xs i x TooManyVisibilities q h p f =

@@ -1,5 +1,5 @@
 -- The lines of a page by ids are those of the nodes.
-use Rattle.std.proofs.Common.{◌≡◌, ℕ, Bool, true, Option, None, suc, zero, ◌+◌, ◌<◌, ◌≤◌, List, [], ◌∷◌, ◌++◌, length, map, take, get_or, codes, Some, refl, ap, sym, ◌∙◌, false, string_bytes, arith, inl, inr}
+use Rattle.std.proofs.Common.{◌≡◌, ℕ, Bool, true, Option, None, suc, zero, ◌+◌, ◌<◌, ◌≤◌, List, [], ◌∷◌, ◌++◌, length, map, take, get_or, codes, Some, refl, ap, sym, ◌∙◌, false, string_bytes, replicate, ◌*◌, append_assoc, arith, inl, inr}
 use Rattle.std.specs.Prelude.{◌==◌, ◌⊎◌, not, is_some, option_map, String}
 use Rattle.std.specs.Option.{option_map_or}
 use Rattle.std.specs.declared.alloc.Global.{Global}
@@ -11,11 +11,11 @@ use Rattle.item_tree.specs.declared.visibility.RawVisibility.{RawVisibility}
 use Rattle.item_tree.specs.Column.{is_empty, unless, some_unless}
 use Rattle.item_tree.proofs.Arena.{bool_cases, eqb-other}
 use Rattle.item_tree.proofs.Column.{empty-is}
-use Rattle.item_tree.specs.Node.{Trunk, inline, Node, Forest, empty, more, nodes, node_head, Unfolding}
+use Rattle.item_tree.specs.Node.{Trunk, inline, extern_block, Node, Forest, empty, more, nodes, node_head, Unfolding}
 use Rattle.item_tree.specs.Layout.{trunk_map, vis_at, node_at}
 use Rattle.item_tree.specs.Shown.{IsParent, StandFor, lent_attrs, attrs_at}
 use Rattle.item_tree.specs.Line.{Line, text, blank, line_text}
-use Rattle.item_tree.specs.Page.{item_opening, top_opening, with_blanks, id_text, attrs_lines, trunk_header, inline_header, own_lines, parts, page_parts, page_lines}
+use Rattle.item_tree.specs.Page.{item_opening, top_opening, with_blanks, id_text, attrs_lines, trunk_header, own_lines, parts, page_parts, page_lines}
 use Rattle.item_tree.specs.PageByIds.{Gains, gap, item_lines, lent_lines, node_lines, own_lines_at, lines_at, list_lines}
 use Rattle.item_tree.proofs.Walking.{map_of_id, parent_of_id}
 
@@ -43,9 +43,19 @@ module _ (reserved : List (List ℕ)) (u : Unfolding) (k : ℕ) where
     gains_more (inl (p, gap)) = rw (next-lines is j i p within, ← at_j) (grind (arith, common_steps, flat_map-append))
     gains_more (inr (z, same)) = rw (first-lines is j i z within, ← at_j) (grind (arith, common_steps, flat_map-append))
 
--- an item's first lines, those of what stands in it, and the line of its end
-pub gains_nested : (old a b new : String Global) (head inner : List Line) (last : Line) → Gains old a head → Gains a b inner → string_bytes new ≡ string_bytes b ++ line_text last → Gains old new (head ++ (inner ++ last ∷ []))
-gains_nested old a b new head inner last p q r = grind (arith, common_steps, flat_map-append)
+-- ---- texts that gain lines, one after another
+
+pub gains_line : (old a new : String Global) (k : ℕ) (line written : List ℕ) → string_bytes a ≡ string_bytes old ++ replicate (4 * k) 32 → string_bytes new ≡ string_bytes a ++ written → written ≡ line ++ 10 ∷ [] → Gains old new (text k line ∷ [])
+gains_line old a new k line written p q e = q ∙ ap (λ bytes. string_bytes a ++ bytes) e ∙ ap (λ bytes. bytes ++ (line ++ 10 ∷ [])) p ∙ simp append_assoc
+
+pub gains_both : (old a new : String Global) (first second : List Line) → Gains old a first → Gains a new second → Gains old new (first ++ second)
+gains_both old a new first second p q = grind (arith, common_steps, flat_map-append)
+
+-- the line of an id, and that of a header
+pub gains_item :
+    (old a b new : String Global) (k : ℕ) (id header written : List ℕ) → Gains old a (text k id ∷ []) → string_bytes b ≡ string_bytes a ++ replicate (4 * k) 32 → string_bytes new ≡ string_bytes b ++ written → written ≡ header ++ 10 ∷ [] →
+    Gains old new (text k id ∷ text k header ∷ [])
+gains_item old a b new k id header written p q r e = gains_both old a new (text k id ∷ []) (text k header ∷ []) p (gains_line a b new k header written q r e)
 
 -- ---- ids, and the nodes that they stand for
 
@@ -56,9 +66,6 @@ module _ (reserved : List (List ℕ)) where
 
   parts-ids : (u : Unfolding) (f : Forest) (k : ℕ) (is : List ℕ) → StandFor u is f → map (lines_at reserved u k) is ≡ parts reserved f k
   parts-ids u f k is e = map_of_id u [] (node_lines reserved k) is (nodes f) e ∙ parts-nodes f k
-
-  inline-header : (u : Unfolding) (name : List ℕ) (v : ℕ) (w : RawVisibility) (item : Trunk RawVisibility) → trunk_map (vis_at u.forest) (inline name v) ≡ trunk_map Some item → vis_at u.forest v ≡ Some w → trunk_header reserved item ≡ inline_header reserved name w
-  inline-header u name v w (inline n x) e q = cc
 
   -- attributes that are lent have all lines that attributes have
   lent-lines : (opening : List ℕ) (k : ℕ) (c : Collected) → lent_lines reserved opening k (lent_attrs c) ≡ attrs_lines reserved opening k c
@@ -77,13 +84,26 @@ module _ (reserved : List (List ℕ)) where
       (u : Unfolding) (k i : ℕ) (old mid new : String Global) → Gains old mid (lent_lines reserved item_opening k (attrs_at u i)) → Gains mid new (own_lines_at reserved u k i) → Gains old new (lines_at reserved u k i)
   item_gains u k i old mid new p q = rw (node-lines k (node_at u.forest i)) (grind (arith, common_steps, flat_map-append))
 
-  -- an inline module's lines are those of its header, of its children's ids, and of its end
-  pub inline_lines :
-      {u : Unfolding} {i : ℕ} {a : FileAstId} {name : List ℕ} {v : ℕ} {is : List ℕ} (k : ℕ) (w : RawVisibility) → IsParent u i a (inline name v) is → vis_at u.forest v ≡ Some w →
-      own_lines_at reserved u k i ≡ item_lines k a (inline_header reserved name w) ++ (list_lines reserved u (k + 1) is ++ text k (codes "}") ∷ [])
-  inline_lines {u} {i} {a} {name} {v} {is} k w p q =
-      parent_of_id u [] (λ n. own_lines reserved n k) i a (inline name v) is p
-      ∙ (λ j. text k (id_text (sym p.ast_id j)) ∷ text k (inline-header u name v w p.item p.visible q j) ∷ (with_blanks (sym (parts-ids u p.below (k + 1) is p.children) j) ++ text k (codes "}") ∷ []))
+  same-trunk : (t s : Trunk RawVisibility) → trunk_map Some t ≡ trunk_map Some s → t ≡ s
+  same-trunk (inline n v) (inline m w) e = cc
+  same-trunk (inline n v) extern_block e = absurd (cc)
+  same-trunk extern_block (inline m w) e = absurd (cc)
+  same-trunk extern_block extern_block e = refl
+
+  -- the lines of an item with children are those of its header, of its children's ids, and of its end
+  parent_lines :
+      {u : Unfolding} {i : ℕ} {a : FileAstId} {t : Trunk ℕ} {is : List ℕ} (k : ℕ) (item : Trunk RawVisibility) → IsParent u i a t is → trunk_map (vis_at u.forest) t ≡ trunk_map Some item →
+      own_lines_at reserved u k i ≡ item_lines k a (trunk_header reserved item) ++ (list_lines reserved u (k + 1) is ++ text k (codes "}") ∷ [])
+  parent_lines {u} {i} {a} {t} {is} k item p q =
+      let same = same-trunk p.item item (sym p.visible ∙ q) in
+      parent_of_id u [] (λ n. own_lines reserved n k) i a t is p
+      ∙ (λ j. text k (id_text (sym p.ast_id j)) ∷ text k (trunk_header reserved (same j)) ∷ (with_blanks (sym (parts-ids u p.below (k + 1) is p.children) j) ++ text k (codes "}") ∷ []))
+
+  -- the text after an item with children: the lines of its header, and those of what stands below
+  pub parent_gains :
+      {u : Unfolding} {i : ℕ} {a : FileAstId} {t : Trunk ℕ} {is : List ℕ} (k : ℕ) (item : Trunk RawVisibility) (old mid new : String Global) → IsParent u i a t is → trunk_map (vis_at u.forest) t ≡ trunk_map Some item →
+      Gains old mid (item_lines k a (trunk_header reserved item)) → Gains mid new (list_lines reserved u (k + 1) is ++ text k (codes "}") ∷ []) → Gains old new (own_lines_at reserved u k i)
+  parent_gains {u} {i} {a} {t} {is} k item old mid new p e q r = rw (parent_lines k item p e) (gains_both old mid new (item_lines k a (trunk_header reserved item)) (list_lines reserved u (k + 1) is ++ text k (codes "}") ∷ []) q r)
 
   abbrev has_nodes : Forest → Bool
   has_nodes empty = false
@@ -114,7 +134,7 @@ module _ (reserved : List (List ℕ)) where
 -- three pieces of text, one behind another
 pub gains_three :
     (old a b new : String Global) (attrs between items : List Line) → Gains old a attrs → Gains a b between → Gains b new items → Gains old new (attrs ++ (between ++ items))
-gains_three old a b new attrs between items p q r = grind (arith, common_steps, flat_map-append)
+gains_three old a b new attrs between items p q r = gains_both old a new attrs (between ++ items) p (gains_both a b new between items q r)
 
 pub is_some-map : {X Y : Type 0} (f : X → Y) (o : Option X) → is_some (option_map f o) ≡ is_some o
 is_some-map f None = refl

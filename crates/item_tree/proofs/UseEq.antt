@@ -23,7 +23,7 @@ tells c x y r d = same_from_decides r (same c x y) d (equal_of_same c x y, same_
 
 -- ---- options
 
-option_decides : {T : Type 0} (E : T → T → Bool) → ((a b : T) → Decides (E a b) (a ≡ b)) → (o p : Option T) → Decides (option_eq E o p) (o ≡ p)
+pub option_decides : {T : Type 0} (E : T → T → Bool) → ((a b : T) → Decides (E a b) (a ≡ b)) → (o p : Option T) → Decides (option_eq E o p) (o ≡ p)
 option_decides E d None None = (λ h. refl, λ e. refl)
 option_decides E d (Some a) (Some b) = (λ h. ap Some ((d a b).0 h), λ e. (d a b).1 cc)
 option_decides E d o p = (λ h. cc, λ e. cc)

@@ -9,7 +9,7 @@ use Rattle.item_tree.specs.declared.visibility.RawVisibility.{RawVisibility}
 use Rattle.item_tree.specs.declared.visibility.RawVisibility.TheVariants.{Module, PubSelf, PubCrate, Public}
 use Rattle.item_tree.specs.contracts.visibility.RawVisibilityEq.TheImpl.Laws as laws
 use Rattle.item_tree.specs.contracts.visibility.VisibilityExplicitnessPartialEq.TheImpl as explicitness
-use Rattle.item_tree.specs.Layout.{same}
+use Rattle.item_tree.specs.Visibility.{same}
 
 same_explicitness : (x y : VisibilityExplicitness) → explicitness.ghosts.eq x y ≡ true → x ≡ y
 same_explicitness Explicit Explicit h = refl

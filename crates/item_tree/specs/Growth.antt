@@ -1,34 +1,47 @@
 -- What lowering adds to the rows. Only private contracts speak of it.
-use Rattle.std.specs.Prelude.{◌≡◌, ℕ, ◌+◌, ◌*◌, ◌<◌, ◌≤◌, List, [], ◌∷◌, ◌++◌, length, map, Option, Some, None}
+use Rattle.std.specs.Prelude.{◌≡◌, ℕ, ◌+◌, ◌*◌, ◌<◌, ◌≤◌, List, [], ◌∷◌, ◌++◌, length, map, Option, Some, None, option_copied}
 use Rattle.std.specs.declared.vec.Vec.{Vec}
 use Rattle.std.specs.declared.alloc.Global.{Global}
 use Rattle.hir_input.specs.declared.cfg.CfgAtom.{CfgAtom}
-use Rattle.hir_input.specs.declared.ast.StructKind.{StructKind}
-use Rattle.hir_input.specs.declared.ast.StructKind.TheVariants as written
-use Rattle.hir_input.specs.Syntax.{ItemView, listed_module}
+use Rattle.hir_input.specs.Attr.{meta_view}
+use Rattle.hir_input.specs.Syntax.{NamedView, PlainKind, fn_kind, union_kind, enum_kind, static_kind, trait_kind, type_alias_kind, macro_def_kind, ItemView, listed_module, listed_extern_block}
 use Rattle.item_tree_attrs.specs.declared.collect.AttrsOrCfg.{AttrsOrCfg}
 use Rattle.item_tree_attrs.specs.Collected.{Collected, collected, attr_limit}
 use Rattle.item_tree.specs.declared.visibility.RawVisibility.{RawVisibility}
+use Rattle.item_tree.specs.declared.lower.named.NamedNode.{NamedNode}
+use Rattle.item_tree.specs.declared.lower.named.PlainKind as named
+use Rattle.item_tree.specs.declared.lower.named.PlainKind.TheVariants as plain
 use Rattle.item_tree.specs.declared.rows.Rows.{Rows}
 use Rattle.item_tree.specs.declared.fault.LowerError.{LowerError}
 use Rattle.item_tree.specs.declared.fault.LowerError.TheVariants.{TooManyItems, TooManyVisibilities, TooManyUseTrees, TooManyAttributes, TooManySupers, OutOfMemory}
-use Rattle.item_tree.specs.Node.{Ctor, no_ctor, ctor_with, Node, Forest, empty, add, count}
+use Rattle.item_tree.specs.Node.{Node, Forest, empty, add, count}
 use Rattle.item_tree.specs.Kept.{kept_all}
 use Rattle.item_tree.specs.Column.{is_empty, unless, some_unless, column_of, places_from, plain_place}
-use Rattle.item_tree.specs.Layout.{vis_id, meet, plain_vis, met, kind_bit, ids, Row, row_tag, row_key, row_attrs, row_item, rows_of}
+use Rattle.item_tree.specs.Visibility.{meet, meet_all}
+use Rattle.item_tree.specs.Layout.{vis_id, plain_vis, met, kind_bit, ids, Row, row_tag, row_key, row_attrs, row_item, rows_of}
 use Rattle.item_tree.specs.Imports.{super_limit}
 use Rattle.item_tree.specs.KeptUse.{use_tree_limit}
 use Rattle.item_tree.specs.Size.{item_limit, visibility_limit, most_attrs, forest_supers, items_written}
 use Rattle.item_tree.specs.Stored.{keys_in, items_in, places_in, column_in}
 
--- the constructor of a struct whose own visibility has this id
-abbrev pub ctor_id_of : StructKind → ℕ → Ctor ℕ
-ctor_id_of written.Record i = no_ctor
-ctor_id_of written.Unit i = ctor_with i
+-- the kind of a plain item
+abbrev pub kind_of : named.PlainKind → PlainKind
+kind_of plain.Enum = enum_kind
+kind_of plain.Function = fn_kind
+kind_of plain.Macro2 = macro_def_kind
+kind_of plain.Static = static_kind
+kind_of plain.Trait = trait_kind
+kind_of plain.TypeAlias = type_alias_kind
+kind_of plain.Union = union_kind
 
--- what is kept of the items of a module
+-- a node with a name and a visibility, but for its body
+abbrev pub seen_node : NamedNode → NamedView
+seen_node n = record { node = record { hash = n.key.hash; number = n.key.number; attrs = map meta_view n.attrs.now; body = [] }; name = option_copied n.name; visibility = option_copied n.visibility }
+
+-- what is kept of the items of a module or of an extern block
 abbrev pub kept_below : List CfgAtom → List (List ℕ) → ItemView → Forest
 kept_below options skipped (listed_module n semicolon is) = kept_all options skipped is
+kept_below options skipped (listed_extern_block n is) = kept_all options skipped is
 kept_below options skipped i = empty
 
 -- how many use trees are written in one of them at most
@@ -101,13 +114,35 @@ pub record Meets (old new : Rows) (v : RawVisibility) (i : ℕ) : Type 0 where
   pub column_kept : new.column ≡ old.column
   pub within : IsWithinLimits new
 
+-- the visibility was met before, and this is its id
+pub record HasId (r : Rows) (v : RawVisibility) (i : ℕ) : Type 0 where
+  pub given : plain_vis i ≡ vis_id r.arena.keys v
+  pub met : meet r.arena.keys v ≡ r.arena.keys
+
+-- several visibilities were met, one after the other, and nothing else of the rows changed
+pub record MeetsAll (old new : Rows) (vs : List RawVisibility) : Type 0 where
+  pub met : new.arena.keys ≡ meet_all old.arena.keys vs
+  pub kept : new ≡ record old { arena = new.arena }
+  pub within : IsWithinLimits new
+
+-- the same of the first of several, up to the rest: these are the ids of the first
+pub record MeetsUpTo (old new : Rows) (vs rest : List RawVisibility) (is : List ℕ) : Type 0 where
+  pub met : meet_all new.arena.keys rest ≡ meet_all old.arena.keys vs
+  pub given : map plain_vis is ++ map (vis_id (meet_all new.arena.keys rest)) rest ≡ map (vis_id (meet_all new.arena.keys rest)) vs
+  pub kept : new ≡ record old { arena = new.arena }
+  pub within : IsWithinLimits new
+
+-- the error names that the visibilities pass the limit once these are met, or want of memory
+abbrev pub AreUnmet : Rows → List RawVisibility → LowerError → Type 0
+AreUnmet old vs TooManyItems = ⊥
+AreUnmet old vs TooManyVisibilities = visibility_limit < length (meet_all old.arena.keys vs)
+AreUnmet old vs TooManyUseTrees = ⊥
+AreUnmet old vs TooManyAttributes = ⊥
+AreUnmet old vs TooManySupers = ⊥
+AreUnmet old vs OutOfMemory = Unit {0}
+
 abbrev pub IsUnmet : Rows → RawVisibility → LowerError → Type 0
-IsUnmet old v TooManyItems = ⊥
-IsUnmet old v TooManyVisibilities = visibility_limit < length (meet old.arena.keys v)
-IsUnmet old v TooManyUseTrees = ⊥
-IsUnmet old v TooManyAttributes = ⊥
-IsUnmet old v TooManySupers = ⊥
-IsUnmet old v OutOfMemory = Unit {0}
+IsUnmet old v = AreUnmet old (v ∷ [])
 
 -- the value stands at the end of the column, unless it is enabled and empty, and this is its place
 pub record Puts (old new : Vec AttrsOrCfg Global) (c : Collected) (place : ℕ) : Type 0 where

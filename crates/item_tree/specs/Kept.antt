@@ -1,29 +1,32 @@
 -- The kept items of a syntax.
-use Rattle.std.specs.Prelude.{ℕ, List, Bool, true, false, Option, option_map}
+use Rattle.std.specs.Prelude.{ℕ, List, Bool, true, false, Option, Some, None, option_map}
 use Rattle.std.specs.Option.{option_and_then}
-use Rattle.hir_input.specs.declared.ast.StructKind.{StructKind}
-use Rattle.hir_input.specs.declared.ast.StructKind.TheVariants as written
+use Rattle.hir_input.specs.declared.ast.PathNode.{PathNode}
+use Rattle.hir_input.specs.declared.ast.PathNode.TheVariants.{Readable, Unreadable}
 use Rattle.hir_input.specs.declared.cfg.CfgAtom.{CfgAtom}
 use Rattle.hir_input.specs.Attr.{MetaView}
-use Rattle.hir_input.specs.Syntax.{NodeView, NamedView, ItemView, ItemViews, fn_item, bare_module, listed_module, no_items, item_and, SyntaxView, source_file, error}
+use Rattle.hir_input.specs.Path.{Path}
+use Rattle.hir_input.specs.Syntax.{NodeView, NamedView, FieldsView, record_fields, tuple_fields, no_fields, ItemView, ItemViews, plain_item, const_item, bare_module, listed_module, bare_extern_block, listed_extern_block, asm_item, no_items, item_and, SyntaxView, source_file, error}
 use Rattle.hir_input.specs.Syntax as syntax
 use Rattle.item_tree_attrs.specs.Collected.{Collected, collected_from, join}
 use Rattle.item_tree.specs.declared.visibility.RawVisibility.{RawVisibility}
 use Rattle.item_tree.specs.declared.items.FieldsShape.{FieldsShape}
 use Rattle.item_tree.specs.declared.items.FieldsShape.TheVariants as shape
+use Rattle.item_tree.specs.Constructor.{ctor_of}
 use Rattle.item_tree.specs.CrateView.{CrateView}
-use Rattle.item_tree.specs.Node.{Ctor, no_ctor, ctor_with, Head, Node, Forest, leaf, parent, empty, add, function, struct_item, outline, use_item, inline, Unfolding, nothing}
-use Rattle.item_tree.specs.KeptUse.{kept_tree}
+use Rattle.item_tree.specs.Node.{Leaf, Head, Node, Forest, leaf, parent, empty, add, plain, constant, struct_item, outline, use_item, extern_crate, impl_item, macro_call, macro_rules, inline, extern_block, Unfolding, nothing}
+use Rattle.item_tree.specs.KeptUse.{alias_of, kept_tree}
 use Rattle.item_tree.specs.Visibility.{read_visibility}
 
-abbrev pub shape_of : StructKind → FieldsShape
-shape_of written.Record = shape.Record
-shape_of written.Unit = shape.Unit
+abbrev pub shape_of : FieldsView → FieldsShape
+shape_of record_fields = shape.Record
+shape_of (tuple_fields fields) = shape.Tuple
+shape_of no_fields = shape.Unit
 
--- a unit struct's constructor has the struct's own visibility, and a record struct has none
-abbrev pub ctor_of : StructKind → RawVisibility → Ctor RawVisibility
-ctor_of written.Record v = no_ctor
-ctor_of written.Unit v = ctor_with v
+-- a path that can be read
+abbrev pub readable : PathNode → Option Path
+readable (Readable p) = Some p
+readable Unreadable = None
 
 -- a module with a semicolon stands in another file; any other has the items of its list
 abbrev pub module_node : Bool → Head → List ℕ → RawVisibility → Forest → Node
@@ -36,14 +39,27 @@ module _ (options : List CfgAtom) (skipped : List (List ℕ)) where
   abbrev pub head_of : NodeView → Head
   head_of n = record { hash = n.hash; number = n.number; attrs = collected_from options skipped n.attrs }
 
-  -- what is kept of an item: nothing where its name is missing, or nothing is kept of the use tree
+  -- an item that is kept where its name is there
+  abbrev pub if_named : NamedView → (List ℕ → RawVisibility → Leaf RawVisibility) → Option Node
+  if_named n item = option_map (λ name. leaf (head_of n.node) (item name (read_visibility n.visibility))) n.name
+
+  -- what is kept of an item: nothing where its name is missing (but a constant needs none), where nothing is kept of a use
+  -- tree, where the path of a macro call is missing or cannot be read, and of assembly
   abbrev mutual
     pub kept : ItemView → Option Node
-    kept (fn_item n) = option_map (λ name. leaf (head_of n.node) (function name (read_visibility n.visibility))) n.name
-    kept (syntax.struct_item n k) = option_map (λ name. leaf (head_of n.node) (struct_item name (read_visibility n.visibility) (shape_of k) (ctor_of k (read_visibility n.visibility)))) n.name
+    kept (plain_item k n) = if_named n (plain k)
+    kept (const_item n) = Some (leaf (head_of n.node) (constant n.name (read_visibility n.visibility)))
+    kept (syntax.struct_item n fields) = if_named n (λ name v. struct_item name v (shape_of fields) (ctor_of fields v))
     kept (bare_module n semicolon) = option_map (λ name. module_node semicolon (head_of n.node) name (read_visibility n.visibility) empty) n.name
     kept (listed_module n semicolon is) = option_map (λ name. module_node semicolon (head_of n.node) name (read_visibility n.visibility) (kept_all is)) n.name
     kept (syntax.use_item u) = option_map (λ t. leaf (head_of u.node) (use_item (read_visibility u.visibility) t)) (option_and_then kept_tree u.use_tree)
+    kept (syntax.extern_crate n rename) = if_named n (λ name v. extern_crate name v (alias_of rename))
+    kept (bare_extern_block n) = Some (parent (head_of n) extern_block empty)
+    kept (listed_extern_block n is) = Some (parent (head_of n) extern_block (kept_all is))
+    kept (syntax.impl_item n of_trait) = Some (leaf (head_of n) (impl_item of_trait))
+    kept (syntax.macro_call c) = option_map (λ p. leaf (head_of c.node) (macro_call p c.expand_to c.ctxt)) (option_and_then readable c.path)
+    kept (syntax.macro_rules n name) = option_map (λ name. leaf (head_of n) (macro_rules name)) name
+    kept (asm_item n) = None
 
     -- of several items, in order
     pub kept_all : ItemViews → Forest

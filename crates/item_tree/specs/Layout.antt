@@ -1,14 +1,14 @@
 -- The tables that a forest fixes by counting.
-use Rattle.std.specs.Prelude.{ℕ, ◌+◌, ◌*◌, ◌/◌, ◌%◌, eqb, Bool, ◌==◌, List, [], ◌∷◌, ◌++◌, length, map, slice_get, Option, Some, None, if◌then◌else◌}
-use Rattle.std.specs.List.{position_or_len, list_any}
+use Rattle.std.specs.Prelude.{ℕ, ◌+◌, ◌*◌, ◌/◌, ◌%◌, eqb, ◌==◌, List, [], ◌∷◌, ◌++◌, length, map, slice_get, Option, Some, None, if◌then◌else◌}
+use Rattle.std.specs.List.{position_or_len}
 use Rattle.hir_input.specs.declared.ids.AstIdKind.{AstIdKind}
 use Rattle.hir_input.specs.declared.ids.AstIdKind.TheVariants as kind
 use Rattle.item_tree_attrs.specs.Collected.{Collected}
 use Rattle.item_tree.specs.declared.visibility.RawVisibility.{RawVisibility}
 use Rattle.item_tree.specs.declared.visibility.RawVisibility.TheVariants.{Module, PubSelf, PubCrate, Public}
 use Rattle.item_tree.specs.declared.visibility.VisibilityExplicitness.TheVariants.{Explicit, Implicit}
-use Rattle.item_tree.specs.contracts.visibility.RawVisibilityPartialEq.TheImpl as raw
-use Rattle.item_tree.specs.Node.{Ctor, no_ctor, ctor_with, Leaf, function, struct_item, outline, use_item, Trunk, inline, leaf_kind, trunk_kind, Head, Node, Forest, leaf, parent, empty, more, add, node_kind, Unfolding}
+use Rattle.item_tree.specs.Visibility.{same, meet_all}
+use Rattle.item_tree.specs.Node.{Ctor, no_ctor, ctor_with, ctor_with_min, Leaf, plain, constant, struct_item, outline, use_item, extern_crate, impl_item, macro_call, macro_rules, Trunk, inline, extern_block, leaf_kind, trunk_kind, Head, Node, Forest, leaf, parent, empty, more, add, node_kind, Unfolding}
 use Rattle.item_tree.specs.Column.{is_empty, unless, some_unless, column_of, places_from, attrs_stored}
 
 -- ---- visibilities, and the arena
@@ -18,9 +18,6 @@ pub data VisId : Type 0 where
   fixed : RawVisibility → VisId
   place : ℕ → VisId
 
-abbrev pub same : RawVisibility → RawVisibility → Bool
-same = raw.ghosts.eq
-
 -- the place of v in the arena
 abbrev pub place_of : List RawVisibility → RawVisibility → ℕ
 place_of arena v = position_or_len (same v) arena
@@ -28,11 +25,6 @@ place_of arena v = position_or_len (same v) arena
 abbrev pub vis_id : List RawVisibility → RawVisibility → VisId
 vis_id arena (Module p e) = place (place_of arena (Module p e))
 vis_id arena v = fixed v
-
--- the arena once v was met: a module's visibility stands in it once
-abbrev pub meet : List RawVisibility → RawVisibility → List RawVisibility
-meet arena (Module p e) = if list_any (same (Module p e)) arena then arena else arena ++ Module p e ∷ []
-meet arena v = arena
 
 -- what a stored number stands for
 abbrev pub plain_vis : ℕ → VisId
@@ -56,29 +48,43 @@ module _ {V W : Type 0} (f : V → W) where
   abbrev pub ctor_map : Ctor V → Ctor W
   ctor_map no_ctor = no_ctor
   ctor_map (ctor_with v) = ctor_with (f v)
+  ctor_map (ctor_with_min vs) = ctor_with_min (map f vs)
 
   abbrev pub leaf_map : Leaf V → Leaf W
-  leaf_map (function n v) = function n (f v)
+  leaf_map (plain k n v) = plain k n (f v)
+  leaf_map (constant n v) = constant n (f v)
   leaf_map (struct_item n v s c) = struct_item n (f v) s (ctor_map c)
   leaf_map (outline n v) = outline n (f v)
   leaf_map (use_item v t) = use_item (f v) t
+  leaf_map (extern_crate n v a) = extern_crate n (f v) a
+  leaf_map (impl_item of_trait) = impl_item of_trait
+  leaf_map (macro_call p e x) = macro_call p e x
+  leaf_map (macro_rules n) = macro_rules n
 
   abbrev pub trunk_map : Trunk V → Trunk W
   trunk_map (inline n v) = inline n (f v)
+  trunk_map extern_block = extern_block
 
 abbrev pub ctor_vis : {V : Type 0} → Ctor V → List V
 ctor_vis no_ctor = []
 ctor_vis (ctor_with v) = v ∷ []
+ctor_vis (ctor_with_min vs) = vs
 
 -- the visibilities of an item, in the order in which they are met: its own, then its constructor's
 abbrev pub leaf_vis : {V : Type 0} → Leaf V → List V
-leaf_vis (function n v) = v ∷ []
+leaf_vis (plain k n v) = v ∷ []
+leaf_vis (constant n v) = v ∷ []
 leaf_vis (struct_item n v s c) = v ∷ ctor_vis c
 leaf_vis (outline n v) = v ∷ []
 leaf_vis (use_item v t) = v ∷ []
+leaf_vis (extern_crate n v a) = v ∷ []
+leaf_vis (impl_item of_trait) = []
+leaf_vis (macro_call p e x) = []
+leaf_vis (macro_rules n) = []
 
 abbrev pub trunk_vis : {V : Type 0} → Trunk V → List V
 trunk_vis (inline n v) = v ∷ []
+trunk_vis extern_block = []
 
 -- ---- the two walks
 
@@ -91,10 +97,6 @@ abbrev mutual
   pub walk : Forest → List Node
   walk empty = []
   walk (more n f) = node_walk n ++ walk f
-
-abbrev pub meet_all : List RawVisibility → List RawVisibility → List RawVisibility
-meet_all arena [] = arena
-meet_all arena (v ∷ vs) = meet_all (meet arena v) vs
 
 -- the arena after the walk that meets a node's own visibilities before its children
 abbrev mutual

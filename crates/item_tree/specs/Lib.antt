@@ -1,4 +1,5 @@
 pub mod Visibility
+pub mod Constructor
 pub mod Items
 pub mod CrateView
 pub mod CrateCode
@@ -14,6 +15,7 @@ pub mod UseText
 pub mod Node
 pub mod NodeCode
 pub mod Kept
+pub mod Sees
 pub mod Column
 pub mod Layout
 pub mod Shown

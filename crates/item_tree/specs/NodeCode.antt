@@ -1,25 +1,28 @@
 -- A code of unfoldings, which the model of a type that holds trees asks for. No contract says more by it.
-use Rattle.std.specs.Prelude.{◌≡◌, ◌⊎◌, ℕ, List, [], ◌∷◌, refl}
-use Rattle.std.specs.Coded.{Coded, code_by, coded×, coded⊎, coded_list, coded_ℕ}
-use Rattle.std.proofs.Common.{inl, inr, ap}
-use base.Stored.{coded_unit}
+use Rattle.std.specs.Prelude.{◌≡◌, ℕ, List, Option, refl}
+use Rattle.std.specs.Coded.{Coded, code_by, coded×, coded_list, coded_option, coded_bool, coded_ℕ}
+use Rattle.std.proofs.Common.{ap, arith}
+use base.Stored.{Gv, gnil, gnum, gcons}
+use Rattle.hir_input.specs.declared.ids.SyntaxContext.{SyntaxContext}
+use Rattle.hir_input.specs.declared.expand_to.ExpandTo.{ExpandTo}
+use Rattle.hir_input.specs.contracts.ids.SyntaxContext as context
+use Rattle.hir_input.specs.contracts.expand_to.ExpandTo as expand_to
+use Rattle.hir_input.specs.contracts.mod_path.ModPath as mod_path
+use Rattle.hir_input.specs.AttrCode.{front, behind}
+use Rattle.hir_input.specs.Path.{Path}
+use Rattle.hir_input.specs.Syntax.{PlainKind}
+use Rattle.hir_input.specs.SyntaxCode.{plain_kind_code, number_of}
 use Rattle.item_tree_attrs.specs.Collected.{Collected}
 use Rattle.item_tree_attrs.specs.CollectedCode.{collected_code}
 use Rattle.item_tree.specs.declared.visibility.RawVisibility.{RawVisibility}
 use Rattle.item_tree.specs.contracts.visibility.RawVisibility as raw
 use Rattle.item_tree.specs.declared.items.FieldsShape.{FieldsShape}
 use Rattle.item_tree.specs.contracts.items.FieldsShape as shape
+use Rattle.item_tree.specs.declared.use_tree.ImportAlias.{ImportAlias}
+use Rattle.item_tree.specs.contracts.use_tree.ImportAlias as alias
 use Rattle.item_tree.specs.Tree.{Tree}
 use Rattle.item_tree.specs.TreeCode.{tree_code}
-use Rattle.item_tree.specs.Node.{Ctor, no_ctor, ctor_with, Leaf, function, struct_item, outline, use_item, Trunk, inline, Head, Node, leaf, parent, Forest, empty, more, Unfolding}
-
--- ---- an item without its children, as a sum
-
-abbrev pub Named : Type 0
-Named = List ℕ × RawVisibility
-
-abbrev pub named_code : Coded Named
-named_code = coded× (coded_list coded_ℕ) raw.the_row.coded
+use Rattle.item_tree.specs.Node.{Ctor, no_ctor, ctor_with, ctor_with_min, Leaf, plain, constant, struct_item, outline, use_item, extern_crate, impl_item, macro_call, macro_rules, Trunk, inline, extern_block, Head, Node, leaf, parent, Forest, empty, more, Unfolding}
 
 abbrev pub head_code : Coded Head
 head_code =
@@ -29,114 +32,120 @@ head_code =
     (λ p. record { hash = p.0; number = p.1.0; attrs = p.1.1 })
     (λ _. refl)
 
-abbrev pub ctor_to : Ctor RawVisibility → Unit {0} ⊎ RawVisibility
-ctor_to no_ctor = inl tt
-ctor_to (ctor_with v) = inr v
+abbrev pub vis_code : Coded RawVisibility
+vis_code = raw.the_row.coded
 
-abbrev pub ctor_from : Unit {0} ⊎ RawVisibility → Ctor RawVisibility
-ctor_from (inl _) = no_ctor
-ctor_from (inr v) = ctor_with v
+abbrev pub name_code : Coded (List ℕ)
+name_code = coded_list coded_ℕ
 
-pub ctor_from-to : (c : Ctor RawVisibility) → ctor_from (ctor_to c) ≡ c
-ctor_from-to no_ctor = refl
-ctor_from-to (ctor_with v) = refl
+abbrev pub ctor_to : Ctor RawVisibility → Gv
+ctor_to no_ctor = gnil
+ctor_to (ctor_with v) = gcons (gnum 0) (vis_code.code v)
+ctor_to (ctor_with_min vs) = gcons (gnum 1) ((coded_list vis_code).code vs)
+
+pub ctor_inj : (c d : Ctor RawVisibility) → ctor_to c ≡ ctor_to d → c ≡ d
+ctor_inj no_ctor no_ctor h = refl
+ctor_inj (ctor_with v) (ctor_with w) h = ap ctor_with (vis_code.inj v w (ap behind h))
+ctor_inj (ctor_with_min vs) (ctor_with_min ws) h = ap ctor_with_min ((coded_list vis_code).inj vs ws (ap behind h))
+ctor_inj _ _ h = cc
 
 abbrev pub ctor_code : Coded (Ctor RawVisibility)
-ctor_code = code_by (Unit {0} ⊎ RawVisibility) (coded⊎ coded_unit raw.the_row.coded) ctor_to ctor_from ctor_from-to
+ctor_code = record { code = ctor_to; inj = ctor_inj }
 
-abbrev pub LeafSum : Type 0
-LeafSum = Named ⊎ ((Named × (FieldsShape × Ctor RawVisibility)) ⊎ (Named ⊎ (RawVisibility × Tree)))
+-- ---- items without their children
 
-abbrev pub leaf_to : Leaf RawVisibility → LeafSum
-leaf_to (function n v) = inl (n, v)
-leaf_to (struct_item n v s c) = inr (inl ((n, v), (s, c)))
-leaf_to (outline n v) = inr (inr (inl (n, v)))
-leaf_to (use_item v t) = inr (inr (inr (v, t)))
+abbrev pub plain_code : Coded (PlainKind × (List ℕ × RawVisibility))
+plain_code = coded× plain_kind_code (coded× name_code vis_code)
 
-abbrev pub leaf_from : LeafSum → Leaf RawVisibility
-leaf_from (inl p) = function p.0 p.1
-leaf_from (inr (inl p)) = struct_item p.0.0 p.0.1 p.1.0 p.1.1
-leaf_from (inr (inr (inl p))) = outline p.0 p.1
-leaf_from (inr (inr (inr p))) = use_item p.0 p.1
+abbrev pub constant_code : Coded (Option (List ℕ) × RawVisibility)
+constant_code = coded× (coded_option name_code) vis_code
 
-pub leaf_from-to : (l : Leaf RawVisibility) → leaf_from (leaf_to l) ≡ l
-leaf_from-to (function n v) = refl
-leaf_from-to (struct_item n v s c) = refl
-leaf_from-to (outline n v) = refl
-leaf_from-to (use_item v t) = refl
+abbrev pub struct_code : Coded ((List ℕ × RawVisibility) × (FieldsShape × Ctor RawVisibility))
+struct_code = coded× (coded× name_code vis_code) (coded× shape.the_row.coded ctor_code)
+
+abbrev pub named_code : Coded (List ℕ × RawVisibility)
+named_code = coded× name_code vis_code
+
+abbrev pub use_code : Coded (RawVisibility × Tree)
+use_code = coded× vis_code tree_code
+
+abbrev pub extern_crate_code : Coded ((List ℕ × RawVisibility) × Option ImportAlias)
+extern_crate_code = coded× named_code (coded_option alias.the_row.coded)
+
+abbrev pub call_code : Coded (Path × (ExpandTo × SyntaxContext))
+call_code = coded× mod_path.the_row.coded (coded× expand_to.the_row.coded context.the_row.coded)
+
+abbrev pub leaf_to : Leaf RawVisibility → Gv
+leaf_to (plain k n v) = gcons (gnum 0) (plain_code.code (k, (n, v)))
+leaf_to (constant n v) = gcons (gnum 1) (constant_code.code (n, v))
+leaf_to (struct_item n v s c) = gcons (gnum 2) (struct_code.code ((n, v), (s, c)))
+leaf_to (outline n v) = gcons (gnum 3) (named_code.code (n, v))
+leaf_to (use_item v t) = gcons (gnum 4) (use_code.code (v, t))
+leaf_to (extern_crate n v a) = gcons (gnum 5) (extern_crate_code.code ((n, v), a))
+leaf_to (impl_item b) = gcons (gnum 6) (coded_bool.code b)
+leaf_to (macro_call p e x) = gcons (gnum 7) (call_code.code (p, (e, x)))
+leaf_to (macro_rules n) = gcons (gnum 8) (name_code.code n)
+
+pub leaf_inj : (l m : Leaf RawVisibility) → leaf_to l ≡ leaf_to m → l ≡ m
+leaf_inj (plain k n v) (plain l m w) h = ap (λ p. plain p.0 p.1.0 p.1.1) (plain_code.inj (k, (n, v)) (l, (m, w)) (ap behind h))
+leaf_inj (constant n v) (constant m w) h = ap (λ p. constant p.0 p.1) (constant_code.inj (n, v) (m, w) (ap behind h))
+leaf_inj (struct_item n v s c) (struct_item m w t d) h = ap (λ p. struct_item p.0.0 p.0.1 p.1.0 p.1.1) (struct_code.inj ((n, v), (s, c)) ((m, w), (t, d)) (ap behind h))
+leaf_inj (outline n v) (outline m w) h = ap (λ p. outline p.0 p.1) (named_code.inj (n, v) (m, w) (ap behind h))
+leaf_inj (use_item v t) (use_item w u) h = ap (λ p. use_item p.0 p.1) (use_code.inj (v, t) (w, u) (ap behind h))
+leaf_inj (extern_crate n v a) (extern_crate m w b) h = ap (λ p. extern_crate p.0.0 p.0.1 p.1) (extern_crate_code.inj ((n, v), a) ((m, w), b) (ap behind h))
+leaf_inj (impl_item b) (impl_item c) h = ap impl_item (coded_bool.inj b c (ap behind h))
+leaf_inj (macro_call p e x) (macro_call q f y) h = ap (λ z. macro_call z.0 z.1.0 z.1.1) (call_code.inj (p, (e, x)) (q, (f, y)) (ap behind h))
+leaf_inj (macro_rules n) (macro_rules m) h = ap macro_rules (name_code.inj n m (ap behind h))
+leaf_inj l m h = let e : number_of (leaf_to l) ≡ number_of (leaf_to m) = ap number_of h in absurd (omega arith)
 
 abbrev pub leaf_code : Coded (Leaf RawVisibility)
-leaf_code = code_by LeafSum (coded⊎ named_code (coded⊎ (coded× named_code (coded× shape.the_row.coded ctor_code)) (coded⊎ named_code (coded× raw.the_row.coded tree_code)))) leaf_to leaf_from leaf_from-to
+leaf_code = record { code = leaf_to; inj = leaf_inj }
 
-abbrev pub trunk_to : Trunk RawVisibility → Named
-trunk_to (inline n v) = (n, v)
+abbrev pub trunk_to : Trunk RawVisibility → Gv
+trunk_to (inline n v) = gcons (gnum 0) (named_code.code (n, v))
+trunk_to extern_block = gnil
 
-abbrev pub trunk_from : Named → Trunk RawVisibility
-trunk_from p = inline p.0 p.1
-
-pub trunk_from-to : (t : Trunk RawVisibility) → trunk_from (trunk_to t) ≡ t
-trunk_from-to (inline n v) = refl
+pub trunk_inj : (t u : Trunk RawVisibility) → trunk_to t ≡ trunk_to u → t ≡ u
+trunk_inj (inline n v) (inline m w) h = ap (λ p. inline p.0 p.1) (named_code.inj (n, v) (m, w) (ap behind h))
+trunk_inj extern_block extern_block h = refl
+trunk_inj _ _ h = cc
 
 abbrev pub trunk_code : Coded (Trunk RawVisibility)
-trunk_code = code_by Named named_code trunk_to trunk_from trunk_from-to
+trunk_code = record { code = trunk_to; inj = trunk_inj }
 
--- ---- a forest, as a list of steps
+-- ---- nodes and forests
 
--- one step of a forest written out: its end, or a node without its children
-abbrev pub Step : Type 0
-Step = Unit {0} ⊎ ((Head × Leaf RawVisibility) ⊎ (Head × Trunk RawVisibility))
+abbrev pub leaf_node_code : Coded (Head × Leaf RawVisibility)
+leaf_node_code = coded× head_code leaf_code
 
--- the steps of a forest, before more of them
+abbrev pub parent_code : Coded (Head × Trunk RawVisibility)
+parent_code = coded× head_code trunk_code
+
 abbrev mutual
-  pub write_node : Node → List Step → List Step
-  write_node (leaf h l) rest = inr (inl (h, l)) ∷ rest
-  write_node (parent h t f) rest = inr (inr (h, t)) ∷ write f rest
+  pub node_to : Node → Gv
+  node_to (leaf h l) = gcons (gnum 0) (leaf_node_code.code (h, l))
+  node_to (parent h t f) = gcons (gcons (gnum 1) (parent_code.code (h, t))) (forest_to f)
 
-  pub write : Forest → List Step → List Step
-  write empty rest = inl tt ∷ rest
-  write (more n f) rest = write_node n (write f rest)
-
-abbrev pub put : Node → List Forest → List Forest
-put n [] = []
-put n (f ∷ fs) = more n f ∷ fs
-
-abbrev pub put_parent : Head → Trunk RawVisibility → List Forest → List Forest
-put_parent h t [] = []
-put_parent h t (f ∷ fs) = put (parent h t f) fs
-
-abbrev pub take_step : Step → List Forest → List Forest
-take_step (inl _) fs = empty ∷ fs
-take_step (inr (inl p)) fs = put (leaf p.0 p.1) fs
-take_step (inr (inr p)) fs = put_parent p.0 p.1 fs
-
--- the forests that the steps write
-abbrev pub read : List Step → List Forest
-read [] = []
-read (s ∷ ss) = take_step s (read ss)
+  pub forest_to : Forest → Gv
+  forest_to empty = gnil
+  forest_to (more n f) = gcons (node_to n) (forest_to f)
 
 mutual
-  read-write_node : (n : Node) (f : Forest) (rest : List Step) (fs : List Forest) → read rest ≡ f ∷ fs → read (write_node n rest) ≡ more n f ∷ fs
-  read-write_node (leaf h l) f rest fs e = Prim.rw e refl
-  read-write_node (parent h t g) f rest fs e = Prim.rw (read-write g rest, e) refl
+  pub node_inj : (m n : Node) → node_to m ≡ node_to n → m ≡ n
+  node_inj (leaf h l) (leaf i m) e = ap (λ p. leaf p.0 p.1) (leaf_node_code.inj (h, l) (i, m) (ap behind e))
+  node_inj (parent h t f) (parent i u g) e =
+      let p = parent_code.inj (h, t) (i, u) (ap (λ z. behind (front z)) e) in
+      let q = forest_inj f g (ap behind e) in
+      λ k. parent (p k).0 (p k).1 (q k)
+  node_inj m n e = let d : number_of (node_to m) ≡ number_of (node_to n) = ap number_of e in absurd (omega arith)
 
-  read-write : (f : Forest) (rest : List Step) → read (write f rest) ≡ f ∷ read rest
-  read-write empty rest = refl
-  read-write (more n f) rest = read-write_node n f (write f rest) (read rest) (read-write f rest)
-
-abbrev pub first : List Forest → Forest
-first [] = empty
-first (f ∷ fs) = f
-
-pub first-read-write : (f : Forest) → first (read (write f [])) ≡ f
-first-read-write f = ap first (read-write f [])
+  pub forest_inj : (f g : Forest) → forest_to f ≡ forest_to g → f ≡ g
+  forest_inj empty empty e = refl
+  forest_inj (more m f) (more n g) e = λ k. more (node_inj m n (ap front e) k) (forest_inj f g (ap behind e) k)
+  forest_inj _ _ e = cc
 
 abbrev pub forest_code : Coded Forest
-forest_code =
-    code_by (List Step)
-    (coded_list (coded⊎ coded_unit (coded⊎ (coded× head_code leaf_code) (coded× head_code trunk_code))))
-    (λ f. write f [])
-    (λ ss. first (read ss))
-    first-read-write
+forest_code = record { code = forest_to; inj = forest_inj }
 
 abbrev pub unfolding_code : Coded Unfolding
 unfolding_code =

@@ -2,15 +2,16 @@
 use Rattle.std.specs.Prelude.{◌≡◌, ℕ, List, map, Option, Some, None, IsSome}
 use Rattle.std.specs.Option.{option_map_or}
 use Rattle.hir_input.specs.declared.ids.FileAstId.{FileAstId}
+use Rattle.hir_input.specs.Syntax.{fn_kind, union_kind, enum_kind, static_kind, trait_kind, type_alias_kind, macro_def_kind}
 use Rattle.item_tree_attrs.specs.Collected.{Collected}
 use Rattle.item_tree.specs.declared.visibility.RawVisibility.{RawVisibility}
 use Rattle.item_tree.specs.declared.items.StructValueNsCtor.{StructValueNsCtor}
-use Rattle.item_tree.specs.declared.items.StructValueNsCtor.TheVariants.{NoValueNsCtor, ValueNsCtorWithVis}
+use Rattle.item_tree.specs.declared.items.StructValueNsCtor.TheVariants.{NoValueNsCtor, ValueNsCtorWithVis, ValueNsCtorWithMinVis}
 use Rattle.item_tree.specs.declared.items.ModKind.{ModKind}
 use Rattle.item_tree.specs.declared.items.ModKind.TheVariants.{Inline, Outline}
 use Rattle.item_tree.specs.declared.tree.ModItemKind.{ModItemKind}
-use Rattle.item_tree.specs.declared.tree.ModItemKind.TheVariants.{Function, Struct, Mod, Use}
-use Rattle.item_tree.specs.Node.{Ctor, no_ctor, ctor_with, Leaf, function, struct_item, outline, use_item, Trunk, inline, leaf_kind, trunk_kind, Head, Forest, leaf, parent, nodes, node_head, file_id, Unfolding}
+use Rattle.item_tree.specs.declared.tree.ModItemKind.TheVariants as item
+use Rattle.item_tree.specs.Node.{Ctor, no_ctor, ctor_with, ctor_with_min, Leaf, plain, constant, struct_item, outline, use_item, extern_crate, impl_item, macro_call, macro_rules, Trunk, inline, extern_block, leaf_kind, trunk_kind, Head, Forest, leaf, parent, nodes, node_head, file_id, Unfolding}
 use Rattle.item_tree.specs.Column.{is_empty, some_unless}
 use Rattle.item_tree.specs.Layout.{leaf_map, trunk_map, node_at, vis_at}
 
@@ -38,6 +39,7 @@ attrs_at u i = option_map_or (λ n. lent_attrs (node_head n).attrs) (node_at u.f
 abbrev pub ctor_ids : StructValueNsCtor → Ctor ℕ
 ctor_ids NoValueNsCtor = no_ctor
 ctor_ids (ValueNsCtorWithVis i) = ctor_with i
+ctor_ids (ValueNsCtorWithMinVis is) = ctor_with_min is.items
 
 -- The id stands for a node without children, with this id and item, whose visibilities the ids in l stand for.
 pub record IsLeaf (u : Unfolding) (i : ℕ) (a : FileAstId) (l : Leaf ℕ) : Type 0 where
@@ -63,7 +65,19 @@ IsModule u i a name v Outline = IsLeaf u i a (outline name v)
 
 -- what is lent for the id is the node's id and its item
 abbrev pub IsShown : Unfolding → ℕ → ModItemKind → Type 0
-IsShown u i (Function a x) = IsLeaf u i a (function x.now.name x.now.visibility)
-IsShown u i (Struct a x) = IsLeaf u i a (struct_item x.now.name x.now.visibility x.now.shape (ctor_ids x.now.value_ns_ctor))
-IsShown u i (Mod a x) = IsModule u i a x.now.name x.now.visibility x.now.kind
-IsShown u i (Use a x) = IsLeaf u i a (use_item x.now.visibility x.now.tree)
+IsShown u i (item.Function a x) = IsLeaf u i a (plain fn_kind x.now.name x.now.visibility)
+IsShown u i (item.Union a x) = IsLeaf u i a (plain union_kind x.now.name x.now.visibility)
+IsShown u i (item.Enum a x) = IsLeaf u i a (plain enum_kind x.now.name x.now.visibility)
+IsShown u i (item.Static a x) = IsLeaf u i a (plain static_kind x.now.name x.now.visibility)
+IsShown u i (item.Trait a x) = IsLeaf u i a (plain trait_kind x.now.name x.now.visibility)
+IsShown u i (item.TypeAlias a x) = IsLeaf u i a (plain type_alias_kind x.now.name x.now.visibility)
+IsShown u i (item.Macro2 a x) = IsLeaf u i a (plain macro_def_kind x.now.name x.now.visibility)
+IsShown u i (item.Const a x) = IsLeaf u i a (constant x.now.name x.now.visibility)
+IsShown u i (item.Struct a x) = IsLeaf u i a (struct_item x.now.name x.now.visibility x.now.shape (ctor_ids x.now.value_ns_ctor))
+IsShown u i (item.Mod a x) = IsModule u i a x.now.name x.now.visibility x.now.kind
+IsShown u i (item.Use a x) = IsLeaf u i a (use_item x.now.visibility x.now.tree)
+IsShown u i (item.ExternCrate a x) = IsLeaf u i a (extern_crate x.now.name x.now.visibility x.now.alias)
+IsShown u i (item.ExternBlock a x) = IsParent u i a extern_block x.now.children.items
+IsShown u i (item.Impl a x) = IsLeaf u i a (impl_item x.now.is_trait_impl)
+IsShown u i (item.MacroCall a x) = IsLeaf u i a (macro_call x.now.path x.now.expand_to x.now.ctxt)
+IsShown u i (item.MacroRules a x) = IsLeaf u i a (macro_rules x.now.name)

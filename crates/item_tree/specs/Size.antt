@@ -1,6 +1,6 @@
 -- The sizes that a tree may have.
 use Rattle.std.specs.Prelude.{ℕ, ◌<◌, ◌≤◌, ◌-◌, ◌^◌, max, length, Option, Some, None, if◌then◌else◌}
-use Rattle.hir_input.specs.Syntax.{ItemView, fn_item, struct_item, bare_module, listed_module, ItemViews, no_items, item_and, SyntaxView, source_file, error}
+use Rattle.hir_input.specs.Syntax.{ItemView, listed_module, ItemViews, no_items, item_and, SyntaxView, source_file, error}
 use Rattle.hir_input.specs.Syntax as syntax
 use Rattle.hir_input.specs.UseTreeView.{UseTreeView, written_count}
 use Rattle.item_tree_attrs.specs.declared.collect.AttrError.{AttrError}
@@ -62,11 +62,9 @@ tree_written (Some w) = if_some (kept_tree w) (written_count w)
 -- the most of them, of an item and of several, at every depth
 abbrev mutual
   pub item_written : ItemView → ℕ
-  item_written (fn_item n) = 0
-  item_written (struct_item n k) = 0
-  item_written (bare_module n semicolon) = 0
   item_written (listed_module n semicolon is) = if_some n.name (if semicolon then 0 else items_written is)
   item_written (syntax.use_item u) = tree_written u.use_tree
+  item_written i = 0
 
   pub items_written : ItemViews → ℕ
   items_written no_items = 0

@@ -6,10 +6,11 @@ ghost use Rattle.item_tree.specs.Stored.{item_row};
 ghost use Rattle.item_tree.specs.Tree.{tree_of};
 ghost use Rattle.item_tree.specs.UseItem.{UseFits};
 
-use crate::use_tree::UseTree;
+mod copy;
+
+use crate::use_tree::{ImportAlias, UseTree};
 use crate::visibility::RawVisibilityId;
-use hir_input::{AstIdKind, Name};
-use std::alloc::AllocError;
+use hir_input::{AstIdKind, ExpandTo, ModPath, Name, SyntaxContext};
 use std::marker::Model;
 
 /// The id of an item in its tree.
@@ -77,6 +78,7 @@ pub trait ItemTreeNode {
 #[derive(Clone, Copy, Debug, PartialEq, Eq)]
 pub enum FieldsShape {
     Record,
+    Tuple,
     Unit,
 }
 
@@ -88,16 +90,46 @@ impl FieldsShape {
     {
         match self {
             FieldsShape::Record => false,
-            FieldsShape::Unit => true,
+            FieldsShape::Tuple | FieldsShape::Unit => true,
         }
     }
 }
 
-/// The constructor of a struct among the values: none, or one of this visibility.
-#[derive(Clone, Copy, Debug, PartialEq, Eq)]
+/// The constructor of a struct among the values: none, one of this visibility, or one that is visible where all of these
+/// are. rust-analyzer's `StructValueNsCtor`.
+#[derive(Debug, Drop, PartialEq, Eq)]
 pub enum StructValueNsCtor {
     NoValueNsCtor,
     ValueNsCtorWithVis(RawVisibilityId),
+    ValueNsCtorWithMinVis(Vec<RawVisibilityId>),
+}
+
+/// A constant, which may have no name.
+#[derive(Debug, Drop, PartialEq, Eq)]
+pub struct Const {
+    pub name: Option<Name>,
+    pub visibility: RawVisibilityId,
+}
+
+/// An enum.
+#[derive(Debug, Drop, PartialEq, Eq)]
+pub struct Enum {
+    pub name: Name,
+    pub visibility: RawVisibilityId,
+}
+
+/// An extern block.
+#[derive(Debug, Drop, PartialEq, Eq)]
+pub struct ExternBlock {
+    pub children: Vec<ModItemId>,
+}
+
+/// An extern crate, which may be renamed.
+#[derive(Debug, Drop, PartialEq, Eq)]
+pub struct ExternCrate {
+    pub name: Name,
+    pub visibility: RawVisibilityId,
+    pub alias: Option<ImportAlias>,
 }
 
 /// A function.
@@ -107,13 +139,31 @@ pub struct Function {
     pub visibility: RawVisibilityId,
 }
 
-/// A struct.
+/// An impl, of a trait or of the type alone.
 #[derive(Debug, Drop, PartialEq, Eq)]
-pub struct Struct {
+pub struct Impl {
+    pub is_trait_impl: bool,
+}
+
+/// A macro 2.0.
+#[derive(Debug, Drop, PartialEq, Eq)]
+pub struct Macro2 {
     pub name: Name,
     pub visibility: RawVisibilityId,
-    pub shape: FieldsShape,
-    pub value_ns_ctor: StructValueNsCtor,
+}
+
+/// A macro call.
+#[derive(Debug, Drop, PartialEq, Eq)]
+pub struct MacroCall {
+    pub path: ModPath,
+    pub expand_to: ExpandTo,
+    pub ctxt: SyntaxContext,
+}
+
+/// A macro by example.
+#[derive(Debug, Drop, PartialEq, Eq)]
+pub struct MacroRules {
+    pub name: Name,
 }
 
 /// A module.
@@ -129,6 +179,43 @@ pub struct Mod {
 pub enum ModKind {
     Inline { items: Vec<ModItemId> },
     Outline,
+}
+
+/// A static.
+#[derive(Debug, Drop, PartialEq, Eq)]
+pub struct Static {
+    pub name: Name,
+    pub visibility: RawVisibilityId,
+}
+
+/// A struct.
+#[derive(Debug, Drop, PartialEq, Eq)]
+pub struct Struct {
+    pub name: Name,
+    pub visibility: RawVisibilityId,
+    pub shape: FieldsShape,
+    pub value_ns_ctor: StructValueNsCtor,
+}
+
+/// A trait.
+#[derive(Debug, Drop, PartialEq, Eq)]
+pub struct Trait {
+    pub name: Name,
+    pub visibility: RawVisibilityId,
+}
+
+/// A type alias.
+#[derive(Debug, Drop, PartialEq, Eq)]
+pub struct TypeAlias {
+    pub name: Name,
+    pub visibility: RawVisibilityId,
+}
+
+/// A union.
+#[derive(Debug, Drop, PartialEq, Eq)]
+pub struct Union {
+    pub name: Name,
+    pub visibility: RawVisibilityId,
 }
 
 /// A use. The number of its use trees, and that of the times that `super` stands in the paths from the root to one of
@@ -178,16 +265,6 @@ impl Use {
     }
 }
 
-impl Clone for Use {
-    ghost is_clone = { λ item copy. copy ≡ item };
-
-    fn clone(&self) -> Result<Use, AllocError> {
-        let visibility = self.visibility;
-        let tree = self.tree.clone()?;
-        Ok(Use { visibility, tree })
-    }
-}
-
 impl PartialEq for Use {
     ghost use Rattle.std.specs.Prelude.{◌≡◌, ◌↔◌, IsTrue};
     ghost use Rattle.std.specs.Cmp.{partial_equiv_from_equiv};
@@ -212,16 +289,64 @@ impl Eq for Use {
     ghost laws = { same_is_equivalence _ };
 }
 
+impl ItemTreeNode for Const {
+    const KIND: AstIdKind = AstIdKind::Const;
+}
+
+impl ItemTreeNode for Enum {
+    const KIND: AstIdKind = AstIdKind::Enum;
+}
+
+impl ItemTreeNode for ExternBlock {
+    const KIND: AstIdKind = AstIdKind::ExternBlock;
+}
+
+impl ItemTreeNode for ExternCrate {
+    const KIND: AstIdKind = AstIdKind::ExternCrate;
+}
+
 impl ItemTreeNode for Function {
     const KIND: AstIdKind = AstIdKind::Fn;
+}
+
+impl ItemTreeNode for Impl {
+    const KIND: AstIdKind = AstIdKind::Impl;
+}
+
+impl ItemTreeNode for Macro2 {
+    const KIND: AstIdKind = AstIdKind::MacroDef;
+}
+
+impl ItemTreeNode for MacroCall {
+    const KIND: AstIdKind = AstIdKind::MacroCall;
+}
+
+impl ItemTreeNode for MacroRules {
+    const KIND: AstIdKind = AstIdKind::MacroRules;
+}
+
+impl ItemTreeNode for Mod {
+    const KIND: AstIdKind = AstIdKind::Module;
+}
+
+impl ItemTreeNode for Static {
+    const KIND: AstIdKind = AstIdKind::Static;
 }
 
 impl ItemTreeNode for Struct {
     const KIND: AstIdKind = AstIdKind::Struct;
 }
 
-impl ItemTreeNode for Mod {
-    const KIND: AstIdKind = AstIdKind::Module;
+impl ItemTreeNode for Trait {
+    const KIND: AstIdKind = AstIdKind::Trait;
+}
+
+impl ItemTreeNode for TypeAlias {
+    const KIND: AstIdKind = AstIdKind::TypeAlias;
+}
+
+impl ItemTreeNode for Union {
+    const KIND: AstIdKind = AstIdKind::Union;
 }
 
 impl ItemTreeNode for Use {
@@ -231,9 +356,21 @@ impl ItemTreeNode for Use {
 /// An item of a row.
 #[derive(Debug, Drop, PartialEq, Eq)]
 pub(crate) enum ModItem {
+    Const(Const),
+    Enum(Enum),
+    ExternBlock(ExternBlock),
+    ExternCrate(ExternCrate),
     Function(Function),
-    Struct(Struct),
+    Impl(Impl),
+    Macro2(Macro2),
+    MacroCall(MacroCall),
+    MacroRules(MacroRules),
     Mod(Mod),
+    Static(Static),
+    Struct(Struct),
+    Trait(Trait),
+    TypeAlias(TypeAlias),
+    Union(Union),
     Use(Use),
 }
 
@@ -243,67 +380,22 @@ impl ModItem {
         ensures { result ≡ row_kind (item_row self.now) }
     {
         match self {
+            ModItem::Const(_) => Const::KIND,
+            ModItem::Enum(_) => Enum::KIND,
+            ModItem::ExternBlock(_) => ExternBlock::KIND,
+            ModItem::ExternCrate(_) => ExternCrate::KIND,
             ModItem::Function(_) => Function::KIND,
-            ModItem::Struct(_) => Struct::KIND,
+            ModItem::Impl(_) => Impl::KIND,
+            ModItem::Macro2(_) => Macro2::KIND,
+            ModItem::MacroCall(_) => MacroCall::KIND,
+            ModItem::MacroRules(_) => MacroRules::KIND,
             ModItem::Mod(_) => Mod::KIND,
+            ModItem::Static(_) => Static::KIND,
+            ModItem::Struct(_) => Struct::KIND,
+            ModItem::Trait(_) => Trait::KIND,
+            ModItem::TypeAlias(_) => TypeAlias::KIND,
+            ModItem::Union(_) => Union::KIND,
             ModItem::Use(_) => Use::KIND,
         }
-    }
-}
-
-impl Clone for Function {
-    ghost is_clone = { λ item copy. copy ≡ item };
-
-    fn clone(&self) -> Result<Function, AllocError> {
-        let name = self.name.clone()?;
-        Ok(Function {
-            name,
-            visibility: self.visibility,
-        })
-    }
-}
-
-impl Clone for Struct {
-    ghost is_clone = { λ item copy. copy ≡ item };
-
-    fn clone(&self) -> Result<Struct, AllocError> {
-        let name = self.name.clone()?;
-        Ok(Struct {
-            name,
-            visibility: self.visibility,
-            shape: self.shape,
-            value_ns_ctor: self.value_ns_ctor,
-        })
-    }
-}
-
-impl Clone for ModKind {
-    ghost use Rattle.item_tree.specs.Items.{inline_ids};
-
-    ghost is_clone = { λ kind copy. inline_ids copy ≡ inline_ids kind };
-
-    fn clone(&self) -> Result<ModKind, AllocError> {
-        match self {
-            ModKind::Inline { items } => Ok(ModKind::Inline {
-                items: items.clone()?,
-            }),
-            ModKind::Outline => Ok(ModKind::Outline),
-        }
-    }
-}
-
-impl Clone for Mod {
-    ghost use Rattle.item_tree.specs.Items.{IsCopyOfMod};
-
-    ghost is_clone = { IsCopyOfMod };
-
-    fn clone(&self) -> Result<Mod, AllocError> {
-        let name = self.name.clone()?;
-        let kind = self.kind.clone()?;
-        Ok(Mod {
-            name,
-            visibility: self.visibility,
-            kind,
-        })
     }
 }

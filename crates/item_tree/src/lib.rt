@@ -15,7 +15,9 @@ pub mod visibility;
 pub use crate_data::CrateData;
 pub use fault::{EditFault, LowerError};
 pub use items::{
-    FieldsShape, Function, ItemTreeNode, Mod, ModItemId, ModKind, Struct, StructValueNsCtor, Use,
+    Const, Enum, ExternBlock, ExternCrate, FieldsShape, Function, Impl, ItemTreeNode, Macro2,
+    MacroCall, MacroRules, Mod, ModItemId, ModKind, Static, Struct, StructValueNsCtor, Trait,
+    TypeAlias, Union, Use,
 };
 pub use lower::{lower_syntax, lower_use_tree};
 pub use tree::{ItemTree, ItemTreeDataStats, ModItemKind};

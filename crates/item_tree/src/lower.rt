@@ -1,24 +1,32 @@
 //! Lowering of a syntax to its item tree.
 ghost use Rattle.std.specs.Prelude.{◌≡◌, ◌≤◌, IfOk, IfErr, OnOk, [], length, map, option_copied};
 ghost use Rattle.hir_input.specs.Attr.{meta_view};
-ghost use Rattle.hir_input.specs.Syntax.{fn_item, fn_view, struct_item, struct_view, use_item, use_view, source_file, module_view, item_view, items_view, syntax_view};
+ghost use Rattle.hir_input.specs.Syntax.{impl_item, impl_view, use_item, use_view, source_file, module_view, item_view, items_view, syntax_view};
 ghost use Rattle.hir_input.specs.Bodies.{without_bodies};
 ghost use Rattle.item_tree_attrs.specs.Collected.{attr_limit, collected, collected_from};
 ghost use Rattle.item_tree.specs.CrateView.{crate_view};
 ghost use Rattle.item_tree.specs.Node.{empty, add};
-ghost use Rattle.item_tree.specs.Kept.{kept, kept_all, kept_syntax, shape_of, top_attrs_of};
-ghost use Rattle.item_tree.specs.Shown.{ctor_ids};
+ghost use Rattle.item_tree.specs.Kept.{kept, kept_all, kept_syntax, top_attrs_of};
+ghost use Rattle.item_tree.specs.Sees.{CtorsAreSeen};
 ghost use Rattle.item_tree.specs.KeptUse.{use_tree_limit};
 ghost use Rattle.item_tree.specs.Size.{Fits, FitsWith, IsTooLarge, tree_written, item_written, items_written};
-ghost use Rattle.item_tree.specs.Growth.{IsWithinLimits, Lowers, LowersOne, IsFault, IsAttrFault, Meets, IsUnmet, ctor_id_of, kept_below, written_below};
+ghost use Rattle.item_tree.specs.Growth.{IsWithinLimits, Lowers, LowersOne, IsFault, IsAttrFault, Meets, IsUnmet, kept_below, written_below};
 ghost use Rattle.item_tree.specs.Visibility.{read_visibility};
 
+mod constructor;
+mod extern_block;
+mod macros;
+mod named;
 mod use_tree;
 
 use crate::crate_data::CrateData;
 use crate::fault::LowerError;
-use crate::items::{
-    FieldsShape, Function, Mod, ModItem, ModItemId, ModKind, Struct, StructValueNsCtor, Use,
+use crate::items::{Impl, Mod, ModItem, ModItemId, ModKind, Use};
+use crate::lower::constructor::lower_struct;
+use crate::lower::extern_block::lower_extern_block;
+use crate::lower::macros::{lower_macro_call, lower_macro_rules};
+use crate::lower::named::{
+    NamedNode, PlainKind, lower_const, lower_extern_crate, lower_named, named,
 };
 use crate::rows::{AstKey, Rows, push_attrs};
 use crate::tree::ItemTree;
@@ -34,7 +42,7 @@ pub use use_tree::lower_use_tree;
 ///
 /// Errors: `TooManyItems`, `TooManyVisibilities`, `TooManyUseTrees`, `TooManyAttributes` and `TooManySupers` only
 /// where that size is passed, and `OutOfMemory`.
-#[tactic(auto, using(crate::proofs::BodyTexts::kept_without_bodies))]
+#[tactic(auto, using(crate::proofs::BodyTexts::kept_without_bodies, crate::proofs::Seen::ctors_are_seen))]
 pub fn lower_syntax(
     alloc: Global,
     syntax: &ast::Syntax,
@@ -44,6 +52,7 @@ pub fn lower_syntax(
 ) -> Result<ItemTree, LowerError>
     ensures kept { IfOk result (λ tree. tree ≡ kept_syntax is_root (crate_view krate.now) skipped.now (syntax_view syntax.now)) }
     ensures bodies { IfOk result (λ tree. tree ≡ kept_syntax is_root (crate_view krate.now) skipped.now (without_bodies (syntax_view syntax.now))) }
+    ensures constructors { OnOk result (CtorsAreSeen (syntax_view syntax.now)) }
     ensures fits { OnOk result (FitsWith (syntax_view syntax.now) (kept_syntax is_root (crate_view krate.now) skipped.now (syntax_view syntax.now))) }
     ensures too_large { IfErr result (IsTooLarge (syntax_view syntax.now) (kept_syntax is_root (crate_view krate.now) skipped.now (syntax_view syntax.now))) }
 {
@@ -150,85 +159,35 @@ fn lower_item(
     ensures fault { IfErr result (IsFault rows.old (item_written (item_view item.now)) (add (kept options.now skipped.now (item_view item.now)) empty)) }
 {
     match item {
-        ast::Item::Fn(fn_node) => lower_fn(alloc, rows, fn_node, options, skipped),
-        ast::Item::Struct(struct_node) => lower_struct(alloc, rows, struct_node, options, skipped),
-        ast::Item::Module(mod_node) => lower_module(alloc, rows, mod_node, options, skipped),
-        ast::Item::Use(use_node) => lower_use(alloc, rows, use_node, options, skipped),
-    }
-}
-
-fn lower_fn(
-    alloc: Global,
-    rows: &mut Rows,
-    fn_node: &ast::Fn,
-    options: &CfgOptions,
-    skipped: &[Name],
-) -> Result<Option<ModItemId>, LowerError>
-    requires { IsWithinLimits rows.old }
-    ensures lowered { IfOk result (LowersOne rows.old rows.new 0 (kept options.now skipped.now (fn_item (fn_view fn_node.now)))) }
-    ensures fault { IfErr result (IsFault rows.old 0 (add (kept options.now skipped.now (fn_item (fn_view fn_node.now))) empty)) }
-{
-    let Some(name) = &fn_node.name else {
-        return Ok(None);
-    };
-    let name = name.clone()?;
-    let attrs = lower_attrs(alloc, &fn_node.attrs, options, skipped)?;
-    let visibility = lower_visibility(alloc, rows, fn_node.visibility.as_ref())?;
-    let key = AstKey {
-        hash: fn_node.hash,
-        number: fn_node.number,
-    };
-    let id = rows.push(key, attrs, ModItem::Function(Function { name, visibility }))?;
-    Ok(Some(id))
-}
-
-fn lower_struct(
-    alloc: Global,
-    rows: &mut Rows,
-    struct_node: &ast::Struct,
-    options: &CfgOptions,
-    skipped: &[Name],
-) -> Result<Option<ModItemId>, LowerError>
-    requires { IsWithinLimits rows.old }
-    ensures lowered { IfOk result (LowersOne rows.old rows.new 0 (kept options.now skipped.now (struct_item (struct_view struct_node.now) struct_node.now.kind))) }
-    ensures fault { IfErr result (IsFault rows.old 0 (add (kept options.now skipped.now (struct_item (struct_view struct_node.now) struct_node.now.kind)) empty)) }
-{
-    let Some(name) = &struct_node.name else {
-        return Ok(None);
-    };
-    let name = name.clone()?;
-    let attrs = lower_attrs(alloc, &struct_node.attrs, options, skipped)?;
-    let visibility = lower_visibility(alloc, rows, struct_node.visibility.as_ref())?;
-    let key = AstKey {
-        hash: struct_node.hash,
-        number: struct_node.number,
-    };
-    let item = Struct {
-        name,
-        visibility,
-        shape: shape_of(struct_node.kind),
-        value_ns_ctor: ctor_of(struct_node.kind, visibility),
-    };
-    let id = rows.push(key, attrs, ModItem::Struct(item))?;
-    Ok(Some(id))
-}
-
-fn shape_of(kind: ast::StructKind) -> FieldsShape
-    ensures { result ≡ shape_of kind }
-{
-    match kind {
-        ast::StructKind::Record => FieldsShape::Record,
-        ast::StructKind::Unit => FieldsShape::Unit,
-    }
-}
-
-// The constructor of a struct of this visibility.
-fn ctor_of(kind: ast::StructKind, visibility: RawVisibilityId) -> StructValueNsCtor
-    ensures { ctor_ids result ≡ ctor_id_of kind visibility }
-{
-    match kind {
-        ast::StructKind::Record => StructValueNsCtor::NoValueNsCtor,
-        ast::StructKind::Unit => StructValueNsCtor::ValueNsCtorWithVis(visibility),
+        ast::Item::AsmExpr(_) => Ok(None),
+        ast::Item::Const(node) => lower_const(alloc, rows, node, options, skipped),
+        ast::Item::Enum(node) => lower_named(alloc, rows, named!(Enum, node), options, skipped),
+        ast::Item::ExternBlock(node) => lower_extern_block(alloc, rows, node, options, skipped),
+        ast::Item::ExternCrate(node) => lower_extern_crate(alloc, rows, node, options, skipped),
+        ast::Item::Fn(node) => lower_named(alloc, rows, named!(Function, node), options, skipped),
+        ast::Item::Impl(node) => lower_impl(alloc, rows, node, options, skipped),
+        ast::Item::MacroCall(node) => lower_macro_call(alloc, rows, node, options, skipped),
+        ast::Item::MacroDef(node) => lower_named(
+            alloc,
+            rows,
+            named!(Macro2, node),
+            options,
+            skipped,
+        ),
+        ast::Item::MacroRules(node) => lower_macro_rules(alloc, rows, node, options, skipped),
+        ast::Item::Module(node) => lower_module(alloc, rows, node, options, skipped),
+        ast::Item::Static(node) => lower_named(alloc, rows, named!(Static, node), options, skipped),
+        ast::Item::Struct(node) => lower_struct(alloc, rows, node, options, skipped),
+        ast::Item::Trait(node) => lower_named(alloc, rows, named!(Trait, node), options, skipped),
+        ast::Item::TypeAlias(node) => lower_named(
+            alloc,
+            rows,
+            named!(TypeAlias, node),
+            options,
+            skipped,
+        ),
+        ast::Item::Union(node) => lower_named(alloc, rows, named!(Union, node), options, skipped),
+        ast::Item::Use(node) => lower_use(alloc, rows, node, options, skipped),
     }
 }
 
@@ -289,6 +248,29 @@ fn lower_module_items(
         Some(items) => lower_items(alloc, rows, items, options, skipped),
         None => Ok(Vec::new(alloc)),
     }
+}
+
+fn lower_impl(
+    alloc: Global,
+    rows: &mut Rows,
+    impl_node: &ast::Impl,
+    options: &CfgOptions,
+    skipped: &[Name],
+) -> Result<Option<ModItemId>, LowerError>
+    requires { IsWithinLimits rows.old }
+    ensures lowered { IfOk result (LowersOne rows.old rows.new 0 (kept options.now skipped.now (impl_item (impl_view impl_node.now) impl_node.now.is_trait_impl))) }
+    ensures fault { IfErr result (IsFault rows.old 0 (add (kept options.now skipped.now (impl_item (impl_view impl_node.now) impl_node.now.is_trait_impl)) empty)) }
+{
+    let attrs = lower_attrs(alloc, &impl_node.attrs, options, skipped)?;
+    let key = AstKey {
+        hash: impl_node.hash,
+        number: impl_node.number,
+    };
+    let item = Impl {
+        is_trait_impl: impl_node.is_trait_impl,
+    };
+    let id = rows.push(key, attrs, ModItem::Impl(item))?;
+    Ok(Some(id))
 }
 
 // A use is dropped before its visibility is met.

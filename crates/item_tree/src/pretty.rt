@@ -1,19 +1,19 @@
 //! The page of a tree, which shows its items as text.
-ghost use Rattle.std.specs.Prelude.{◌≡◌, ◌+◌, ◌<◌, ◌^◌, ◌∷◌, [], IfOk, OnOk, string_bytes};
+ghost use Rattle.std.specs.Prelude.{◌≡◌, ◌+◌, ◌<◌, ◌^◌, ◌∷◌, ◌++◌, [], IfOk, OnOk, codes, string_bytes};
 ghost use Rattle.std.specs.List.{sum_by};
 ghost use Rattle.item_tree.specs.Line.{text};
-ghost use Rattle.item_tree.specs.Page.{shown_visibility, id_text, function_header, struct_header, outline_header, inline_header, use_header, page};
+ghost use Rattle.item_tree.specs.Page.{shown_visibility, id_text, call_id_text, named_header, constant_header, use_header, extern_crate_header, macro_call_header, macro_rules_header, page};
 ghost use Rattle.item_tree.specs.PageByIds.{Gains, gap, item_lines, own_lines_at, lines_at, list_lines};
 ghost use Rattle.item_tree.specs.Shown.{IsContained};
 ghost use Rattle.item_tree.specs.Walk.{AreContained, count_at};
 
 mod attrs;
 
-use crate::items::{Function, Mod, ModItemId, ModKind, Struct, Use};
+use crate::items::{Const, ExternCrate, MacroCall, MacroRules, ModItemId, ModKind, Use};
 use crate::line::{push_blank, push_indent, push_line};
 use crate::tree::{ItemTree, ModItemKind};
 use crate::visibility::RawVisibility;
-use hir_input::{Edition, FileAstId};
+use hir_input::{Edition, FileAstId, Name};
 use std::alloc::{AllocError, Global};
 use std::fmt;
 use std::marker::Model;
@@ -80,84 +80,71 @@ impl Printer<'_> {
         writeln!(out, "// AstId: {ast_id}")
     }
 
-    #[tactic(auto, unfolding(crate::specs::Page::function_header))]
-    fn push_function(
+    // The line of an id that tells the context of a macro call, and what it expands to.
+    fn push_call_id(
         self,
         out: &mut String,
         ast_id: FileAstId,
-        item: &Function,
-        visibility: &RawVisibility,
+        item: &MacroCall,
     ) -> Result<(), AllocError>
-        ensures { let reserved = self.entry.edition.now.reserved.items in
-            let header = function_header reserved item.now.name visibility.now in
-            OnOk result (Gains out.old out.new (item_lines self.entry.level ast_id header)) }
+        ensures { OnOk result (Gains out.old out.new (text self.entry.level (call_id_text ast_id item.now.ctxt item.now.expand_to) ∷ [])) }
     {
-        let visibility = visibility.display(self.edition);
-        let name = item.name.display(self.edition);
-        self.push_id(out, ast_id)?;
+        let (ctxt, expand_to) = (item.ctxt, item.expand_to);
         push_indent(out, self.level)?;
-        writeln!(out, "{visibility}fn {name};")
+        writeln!(
+            out,
+            "// AstId: {ast_id}, SyntaxContextId: {ctxt}, ExpandTo: {expand_to}"
+        )
     }
 
-    #[tactic(auto, unfolding(crate::specs::Page::struct_header))]
-    fn push_struct(
+    // An item that is written as its visibility, a word, its name, and what stands behind it.
+    #[tactic(auto, unfolding(crate::specs::Page::named_header))]
+    fn push_named(
         self,
         out: &mut String,
         ast_id: FileAstId,
-        item: &Struct,
         visibility: &RawVisibility,
+        word: &str,
+        name: &Name,
+        end: &str,
     ) -> Result<(), AllocError>
         ensures { let reserved = self.entry.edition.now.reserved.items in
-            let header = struct_header reserved item.now.name visibility.now in
+            let header = named_header reserved word.now end.now name.now visibility.now in
             OnOk result (Gains out.old out.new (item_lines self.entry.level ast_id header)) }
     {
         let visibility = visibility.display(self.edition);
-        let name = item.name.display(self.edition);
+        let name = name.display(self.edition);
         self.push_id(out, ast_id)?;
         push_indent(out, self.level)?;
-        writeln!(out, "{visibility}struct {name} {{ ... }}")
-    }
-
-    #[tactic(auto, unfolding(crate::specs::Page::outline_header))]
-    fn push_outline(
-        self,
-        out: &mut String,
-        ast_id: FileAstId,
-        item: &Mod,
-        visibility: &RawVisibility,
-    ) -> Result<(), AllocError>
-        ensures { let reserved = self.entry.edition.now.reserved.items in
-            let header = outline_header reserved item.now.name visibility.now in
-            OnOk result (Gains out.old out.new (item_lines self.entry.level ast_id header)) }
-    {
-        let visibility = visibility.display(self.edition);
-        let name = item.name.display(self.edition);
-        self.push_id(out, ast_id)?;
-        push_indent(out, self.level)?;
-        writeln!(out, "{visibility}mod {name};")
-    }
-
-    #[tactic(auto, unfolding(crate::specs::Page::inline_header))]
-    fn push_opening(
-        self,
-        out: &mut String,
-        ast_id: FileAstId,
-        item: &Mod,
-        visibility: &RawVisibility,
-    ) -> Result<(), AllocError>
-        ensures { let reserved = self.entry.edition.now.reserved.items in
-            let header = inline_header reserved item.now.name visibility.now in
-            OnOk result (Gains out.old out.new (item_lines self.entry.level ast_id header)) }
-    {
-        let visibility = visibility.display(self.edition);
-        let name = item.name.display(self.edition);
-        self.push_id(out, ast_id)?;
-        push_indent(out, self.level)?;
-        writeln!(out, "{visibility}mod {name} {{")
+        writeln!(out, "{visibility}{word} {name}{end}")
     }
 }
 
 impl Printer<'_> {
+    #[tactic(auto, unfolding(crate::specs::Page::constant_header))]
+    fn push_const(
+        self,
+        out: &mut String,
+        ast_id: FileAstId,
+        item: &Const,
+        visibility: &RawVisibility,
+    ) -> Result<(), AllocError>
+        ensures { let reserved = self.entry.edition.now.reserved.items in
+            let header = constant_header reserved item.now.name visibility.now in
+            OnOk result (Gains out.old out.new (item_lines self.entry.level ast_id header)) }
+    {
+        let visibility = visibility.display(self.edition);
+        self.push_id(out, ast_id)?;
+        push_indent(out, self.level)?;
+        match &item.name {
+            Some(name) => {
+                let name = name.display(self.edition);
+                writeln!(out, "{visibility}const {name} = _;")
+            }
+            None => writeln!(out, "{visibility}const _ = _;"),
+        }
+    }
+
     #[tactic(auto, unfolding(crate::specs::Page::use_header))]
     fn push_use(
         self,
@@ -175,6 +162,71 @@ impl Printer<'_> {
         self.push_id(out, ast_id)?;
         push_indent(out, self.level)?;
         writeln!(out, "{visibility}use {tree};")
+    }
+
+    fn push_extern_crate(
+        self,
+        out: &mut String,
+        ast_id: FileAstId,
+        item: &ExternCrate,
+        visibility: &RawVisibility,
+    ) -> Result<(), AllocError>
+        ensures { let reserved = self.entry.edition.now.reserved.items in
+            let header = extern_crate_header reserved item.now.name visibility.now item.now.alias in
+            OnOk result (Gains out.old out.new (item_lines self.entry.level ast_id header)) }
+    {
+        let visibility = visibility.display(self.edition);
+        let name = item.name.display(self.edition);
+        self.push_id(out, ast_id)?;
+        push_indent(out, self.level)?;
+        match &item.alias {
+            Some(alias) => {
+                let alias = alias.display(self.edition);
+                writeln!(out, "{visibility}extern crate {name} as {alias};")
+            }
+            None => writeln!(out, "{visibility}extern crate {name};"),
+        }
+    }
+
+    #[tactic(auto, unfolding(crate::specs::Page::macro_call_header))]
+    fn push_macro_call(
+        self,
+        out: &mut String,
+        ast_id: FileAstId,
+        item: &MacroCall,
+    ) -> Result<(), AllocError>
+        ensures { let reserved = self.entry.edition.now.reserved.items in
+            let header = macro_call_header reserved item.now.path in
+            OnOk result (Gains out.old out.new (text self.entry.level (call_id_text ast_id item.now.ctxt item.now.expand_to) ∷ text self.entry.level header ∷ [])) }
+    {
+        let path = item.path.display(self.edition);
+        self.push_call_id(out, ast_id, item)?;
+        push_indent(out, self.level)?;
+        writeln!(out, "{path}!(...);")
+    }
+
+    fn push_macro_rules(
+        self,
+        out: &mut String,
+        ast_id: FileAstId,
+        item: &MacroRules,
+    ) -> Result<(), AllocError>
+        ensures { let reserved = self.entry.edition.now.reserved.items in
+            let header = macro_rules_header reserved item.now.name in
+            OnOk result (Gains out.old out.new (item_lines self.entry.level ast_id header)) }
+    {
+        let name = item.name.display(self.edition);
+        self.push_id(out, ast_id)?;
+        push_indent(out, self.level)?;
+        writeln!(out, "macro_rules! {name} {{ ... }}")
+    }
+
+    // An item whose header is a fixed line.
+    fn push_fixed(self, out: &mut String, ast_id: FileAstId, header: &str) -> Result<(), AllocError>
+        ensures { OnOk result (Gains out.old out.new (item_lines self.entry.level ast_id header.now)) }
+    {
+        self.push_id(out, ast_id)?;
+        push_line(out, self.level, header)
     }
 }
 
@@ -211,30 +263,87 @@ impl ItemTree {
             OnOk result (Gains out.old out.new (own_lines_at reserved self.now printer.entry.level id)) }
     {
         match self.index(id) {
+            ModItemKind::Const(ast_id, item) => {
+                printer.push_const(out, ast_id, item, &self[item.visibility])
+            }
+            ModItemKind::Enum(ast_id, item) => {
+                let visibility = &self[item.visibility];
+                printer.push_named(out, ast_id, visibility, "enum", &item.name, " { ... }")
+            }
+            ModItemKind::ExternBlock(ast_id, item) => {
+                printer.push_fixed(out, ast_id, "extern {")?;
+                self.push_below(out, printer, &item.children)
+            }
+            ModItemKind::ExternCrate(ast_id, item) => {
+                printer.push_extern_crate(out, ast_id, item, &self[item.visibility])
+            }
             ModItemKind::Function(ast_id, item) => {
-                printer.push_function(out, ast_id, item, &self[item.visibility])
+                let visibility = &self[item.visibility];
+                printer.push_named(out, ast_id, visibility, "fn", &item.name, ";")
+            }
+            ModItemKind::Impl(ast_id, _) => printer.push_fixed(out, ast_id, "impl { ... }"),
+            ModItemKind::Macro2(ast_id, item) => {
+                let visibility = &self[item.visibility];
+                printer.push_named(out, ast_id, visibility, "macro", &item.name, " { ... }")
+            }
+            ModItemKind::MacroCall(ast_id, item) => printer.push_macro_call(out, ast_id, item),
+            ModItemKind::MacroRules(ast_id, item) => printer.push_macro_rules(out, ast_id, item),
+            ModItemKind::Mod(ast_id, item) => match &item.kind {
+                ModKind::Inline { items } => {
+                    let visibility = &self[item.visibility];
+                    printer.push_named(out, ast_id, visibility, "mod", &item.name, " {")?;
+                    self.push_below(out, printer, items)
+                }
+                ModKind::Outline => {
+                    let visibility = &self[item.visibility];
+                    printer.push_named(out, ast_id, visibility, "mod", &item.name, ";")
+                }
+            },
+            ModItemKind::Static(ast_id, item) => {
+                let visibility = &self[item.visibility];
+                printer.push_named(out, ast_id, visibility, "static", &item.name, " = _;")
             }
             ModItemKind::Struct(ast_id, item) => {
-                printer.push_struct(out, ast_id, item, &self[item.visibility])
+                let visibility = &self[item.visibility];
+                printer.push_named(out, ast_id, visibility, "struct", &item.name, " { ... }")
+            }
+            ModItemKind::Trait(ast_id, item) => {
+                let visibility = &self[item.visibility];
+                printer.push_named(out, ast_id, visibility, "trait", &item.name, " { ... }")
+            }
+            ModItemKind::TypeAlias(ast_id, item) => {
+                let visibility = &self[item.visibility];
+                printer.push_named(out, ast_id, visibility, "type", &item.name, ";")
+            }
+            ModItemKind::Union(ast_id, item) => {
+                let visibility = &self[item.visibility];
+                printer.push_named(out, ast_id, visibility, "union", &item.name, " { ... }")
             }
             ModItemKind::Use(ast_id, item) => {
                 printer.push_use(out, ast_id, item, &self[item.visibility()])
             }
-            ModItemKind::Mod(ast_id, item) => match &item.kind {
-                ModKind::Outline => {
-                    printer.push_outline(out, ast_id, item, &self[item.visibility])
-                }
-                ModKind::Inline { items } => {
-                    printer.push_opening(out, ast_id, item, &self[item.visibility])?;
-                    let inner = Printer {
-                        level: printer.level + 1,
-                        ..printer
-                    };
-                    self.push_items(out, inner, items)?;
-                    push_line(out, printer.level, "}")
-                }
-            },
         }
+    }
+
+    // The items in an item, one level deeper, and the line that ends it.
+    #[cycle(page)]
+    fn push_below(
+        &self,
+        out: &mut String,
+        printer: Printer,
+        ids: &[ModItemId],
+    ) -> Result<(), AllocError>
+        requires contained { AreContained self.now ids.now }
+        requires level_fits { printer.level + 1 + sum_by (count_at self.now) ids.now < 2 ^ 64 }
+        ensures { let reserved = printer.entry.edition.now.reserved.items in
+            OnOk result (Gains out.old out.new (list_lines reserved self.now (printer.entry.level + 1) ids.now ++ text printer.entry.level (codes "}") ∷ [])) }
+    {
+        let inner = Printer {
+            level: printer.level + 1,
+            ..printer
+        };
+        self.push_items(out, inner, ids)?;
+        push_line(out, printer.level, "}")
     }
 
     #[cycle(page)]

@@ -8,7 +8,10 @@ ghost use Rattle.item_tree.specs.Size.{Fits};
 ghost use Rattle.item_tree.specs.Stats.{stats_of, kind_is};
 ghost use Rattle.item_tree.specs.Stored.{AreSound, tables_of};
 
-use crate::items::{Function, Mod, ModItem, ModItemId, Struct, Use};
+use crate::items::{
+    Const, Enum, ExternBlock, ExternCrate, Function, Impl, Macro2, MacroCall, MacroRules, Mod,
+    ModItem, ModItemId, Static, Struct, Trait, TypeAlias, Union, Use,
+};
 use crate::rows::{NO_ATTRS, Rows};
 use crate::visibility::{FixedVisibilities, PUB_CRATE, RawVisibility, RawVisibilityId};
 use hir_input::{AstIdKind, FileAstId};
@@ -48,9 +51,21 @@ impl Model for ItemTree {
 /// An item that a tree lends, with its id.
 #[derive(Clone, Copy, Debug)]
 pub enum ModItemKind<'a> {
+    Const(FileAstId, &'a Const),
+    Enum(FileAstId, &'a Enum),
+    ExternBlock(FileAstId, &'a ExternBlock),
+    ExternCrate(FileAstId, &'a ExternCrate),
     Function(FileAstId, &'a Function),
-    Struct(FileAstId, &'a Struct),
+    Impl(FileAstId, &'a Impl),
+    Macro2(FileAstId, &'a Macro2),
+    MacroCall(FileAstId, &'a MacroCall),
+    MacroRules(FileAstId, &'a MacroRules),
     Mod(FileAstId, &'a Mod),
+    Static(FileAstId, &'a Static),
+    Struct(FileAstId, &'a Struct),
+    Trait(FileAstId, &'a Trait),
+    TypeAlias(FileAstId, &'a TypeAlias),
+    Union(FileAstId, &'a Union),
     Use(FileAstId, &'a Use),
 }
 
@@ -142,9 +157,21 @@ impl ItemTree {
     {
         let ast_id = id.ast_id(self);
         match &self.rows.items[id.row()] {
+            ModItem::Const(item) => ModItemKind::Const(ast_id, item),
+            ModItem::Enum(item) => ModItemKind::Enum(ast_id, item),
+            ModItem::ExternBlock(item) => ModItemKind::ExternBlock(ast_id, item),
+            ModItem::ExternCrate(item) => ModItemKind::ExternCrate(ast_id, item),
             ModItem::Function(item) => ModItemKind::Function(ast_id, item),
-            ModItem::Struct(item) => ModItemKind::Struct(ast_id, item),
+            ModItem::Impl(item) => ModItemKind::Impl(ast_id, item),
+            ModItem::Macro2(item) => ModItemKind::Macro2(ast_id, item),
+            ModItem::MacroCall(item) => ModItemKind::MacroCall(ast_id, item),
+            ModItem::MacroRules(item) => ModItemKind::MacroRules(ast_id, item),
             ModItem::Mod(item) => ModItemKind::Mod(ast_id, item),
+            ModItem::Static(item) => ModItemKind::Static(ast_id, item),
+            ModItem::Struct(item) => ModItemKind::Struct(ast_id, item),
+            ModItem::Trait(item) => ModItemKind::Trait(ast_id, item),
+            ModItem::TypeAlias(item) => ModItemKind::TypeAlias(ast_id, item),
+            ModItem::Union(item) => ModItemKind::Union(ast_id, item),
             ModItem::Use(item) => ModItemKind::Use(ast_id, item),
         }
     }

@@ -8,7 +8,7 @@ use Rattle.hir_input.specs.Path.{shown_path}
 use Rattle.item_tree.specs.declared.use_tree.ImportKind.{ImportKind}
 use Rattle.item_tree.specs.declared.use_tree.ImportKind.TheVariants.{Plain, Glob, TypeOnly}
 use Rattle.item_tree.specs.Imports.{Import, imports}
-use Rattle.item_tree.specs.Node.{Leaf, use_item, Head, Node, leaf, parent, Forest, empty, more, file_id}
+use Rattle.item_tree.specs.Node.{Leaf, use_item, inline, extern_block, Head, Node, leaf, parent, Forest, empty, more, file_id}
 use Rattle.item_tree.specs.Tree.{Tree}
 use Rattle.item_tree.specs.UseText.{shown_rename}
 
@@ -31,11 +31,12 @@ module _ (reserved : List (List ℕ)) where
   leaf_lines h (use_item v t) = use_lines (file_id kind.Use h) t
   leaf_lines h l = []
 
-  -- the lines of each use of a forest, also in its modules, in order
+  -- the lines of each use of a forest, also in its modules, in order; an extern block holds no use
   abbrev mutual
     pub node_lines : Node → List ℕ
     node_lines (leaf h l) = leaf_lines h l
-    node_lines (parent h t f) = import_lines f
+    node_lines (parent h (inline name v) f) = import_lines f
+    node_lines (parent h extern_block f) = []
 
     pub import_lines : Forest → List ℕ
     import_lines empty = []

@@ -5,8 +5,8 @@ use Rattle.hir_input.specs.Syntax.{NodeView, NamedView}
 use Rattle.item_tree.specs.CrateView.{crate_view}
 use Rattle.item_tree_db.specs.Edits.{edit_view}
 use Rattle.item_tree_tool.specs.declared.request.Request as read
-use Rattle.item_tree_tool.specs.declared.request.item.Named.{Named}
-use Rattle.item_tree_tool.specs.declared.request.item.Node.{Node}
+use Rattle.item_tree_tool.specs.declared.request.item.node.Named.{Named}
+use Rattle.item_tree_tool.specs.declared.request.item.node.Node.{Node}
 use Rattle.item_tree_tool.specs.declared.request.show.Show.{Show}
 use Rattle.item_tree_tool.specs.Editions.{edition_view}
 use Rattle.item_tree_tool.specs.Requests.{Request}

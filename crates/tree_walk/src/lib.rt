@@ -31,6 +31,7 @@ pub fn children(tree: &ItemTree, id: ModItemId) -> &[ModItemId]
             ModKind::Inline { items } => items.as_slice(),
             ModKind::Outline => &[],
         },
+        ModItemKind::ExternBlock(_, block) => block.children.as_slice(),
         _ => &[],
     }
 }

@@ -171,7 +171,7 @@ fn lower_bare(node: &ast::UseTree) -> Result<Option<UseTree>, AllocError>
     }
 }
 
-fn lower_alias(rename: Option<&ast::Rename>) -> Result<Option<ImportAlias>, AllocError>
+pub(super) fn lower_alias(rename: Option<&ast::Rename>) -> Result<Option<ImportAlias>, AllocError>
     ensures { IfOk result (λ alias. alias ≡ alias_of (option_copied rename.entry)) }
 {
     match rename {

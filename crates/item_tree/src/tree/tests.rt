@@ -1,11 +1,17 @@
 use super::{ItemTree, ItemTreeDataStats};
 use crate::crate_data::CrateData;
-use crate::items::ModItem;
+use crate::items::{
+    Const, Enum, ExternBlock, ExternCrate, FieldsShape, Function, Impl, Macro2, MacroCall,
+    MacroRules, Mod, ModItem, ModItemId, ModKind, Static, Struct, StructValueNsCtor, Trait,
+    TypeAlias, Union,
+};
 use crate::lower::lower_syntax;
-use crate::visibility::{RawVisibility, VisibilityExplicitness};
-use hir_input::ast::{Fn, Item, Module, PathNode, Struct, StructKind, Syntax, Visibility};
+use crate::use_tree::ImportAlias;
+use crate::visibility::{PRIVATE_IMPLICIT, RawVisibility, RawVisibilityId, VisibilityExplicitness};
+use hir_input::ast::{Item, PathNode, StructKind, Syntax, TupleField, Visibility};
 use hir_input::{
-    AstIdKind, CfgOptions, EditionYear, HirFileId, Meta, ModPath, Name, PathKind, SyntaxContext,
+    AstIdKind, CfgOptions, EditionYear, ExpandTo, HirFileId, Meta, ModPath, Name, PathKind,
+    SyntaxContext, ast,
 };
 use item_tree_attrs::AttrsOrCfg;
 use std::alloc::Global;
@@ -29,7 +35,7 @@ fn in_path(alloc: Global, kind: PathKind, names: &[&str]) -> Result<Visibility, 
 }
 
 fn fn_item(alloc: Global, name: Option<Name>, visibility: Option<Visibility>) -> Item {
-    Item::Fn(Fn {
+    Item::Fn(ast::Fn {
         hash: 2,
         number: 0,
         attrs: Vec::new(alloc),
@@ -40,7 +46,7 @@ fn fn_item(alloc: Global, name: Option<Name>, visibility: Option<Visibility>) ->
 }
 
 fn struct_item(alloc: Global, name: Name, kind: StructKind) -> Item {
-    Item::Struct(Struct {
+    Item::Struct(ast::Struct {
         hash: 3,
         number: 0,
         attrs: Vec::new(alloc),
@@ -52,7 +58,7 @@ fn struct_item(alloc: Global, name: Name, kind: StructKind) -> Item {
 }
 
 fn module(alloc: Global, name: Name, visibility: Option<Visibility>, items: Vec<Item>) -> Item {
-    Item::Module(Module {
+    Item::Module(ast::Module {
         hash: 1,
         number: 0,
         attrs: Vec::new(alloc),
@@ -214,17 +220,173 @@ fn stats_count_at_every_depth(rt: HostRuntime) -> Result<(), Fail> {
     Ok(())
 }
 
+fn id(number: u32) -> RawVisibilityId {
+    RawVisibilityId::from_number(number)
+}
+
 #[test]
-fn clones_are_made(rt: HostRuntime) -> Result<(), Fail> {
-    let tree = nested(rt.alloc(), Visibility::Pub)?;
-    for item in &tree.rows.items {
-        match item {
-            ModItem::Function(item) => assert!(rt; item.clone()? == *item),
-            ModItem::Struct(item) => assert!(rt; item.clone()? == *item),
-            ModItem::Mod(item) => assert!(rt; item.clone()? == *item),
-            ModItem::Use(item) => assert!(rt; item.clone()? == *item),
-        }
+fn functions_and_types_are_cloned(rt: HostRuntime) -> Result<(), Fail> {
+    let alloc = rt.alloc();
+    let visibility = id(0);
+    let function = Function {
+        name: name(alloc, "f")?,
+        visibility,
+    };
+    assert!(rt; function.clone()? == function);
+    let union = Union {
+        name: name(alloc, "U")?,
+        visibility,
+    };
+    assert!(rt; union.clone()? == union);
+    let sum = Enum {
+        name: name(alloc, "E")?,
+        visibility,
+    };
+    assert!(rt; sum.clone()? == sum);
+    let alias = TypeAlias {
+        name: name(alloc, "A")?,
+        visibility,
+    };
+    assert!(rt; alias.clone()? == alias);
+    Ok(())
+}
+
+#[test]
+fn statics_traits_and_macros_are_cloned(rt: HostRuntime) -> Result<(), Fail> {
+    let alloc = rt.alloc();
+    let visibility = id(0);
+    let value = Static {
+        name: name(alloc, "S")?,
+        visibility,
+    };
+    assert!(rt; value.clone()? == value);
+    let bound = Trait {
+        name: name(alloc, "T")?,
+        visibility,
+    };
+    assert!(rt; bound.clone()? == bound);
+    let declared = Macro2 {
+        name: name(alloc, "m")?,
+        visibility,
+    };
+    assert!(rt; declared.clone()? == declared);
+    let rules = MacroRules {
+        name: name(alloc, "r")?,
+    };
+    assert!(rt; rules.clone()? == rules);
+    Ok(())
+}
+
+#[test]
+fn constants_and_extern_crates_are_cloned(rt: HostRuntime) -> Result<(), Fail> {
+    let alloc = rt.alloc();
+    let visibility = id(0);
+    let value = Const {
+        name: Some(name(alloc, "C")?),
+        visibility,
+    };
+    assert!(rt; value.clone()? == value);
+    let krate = ExternCrate {
+        name: name(alloc, "core")?,
+        visibility,
+        alias: Some(ImportAlias::Underscore),
+    };
+    assert!(rt; krate.clone()? == krate);
+    Ok(())
+}
+
+#[test]
+fn impls_and_calls_are_cloned(rt: HostRuntime) -> Result<(), Fail> {
+    let of_trait = Impl {
+        is_trait_impl: true,
+    };
+    assert!(rt; of_trait.clone()? == of_trait);
+    let call = MacroCall {
+        path: path(rt.alloc(), PathKind::Plain, ["m"].as_slice())?,
+        expand_to: ExpandTo::Items,
+        ctxt: SyntaxContext::Expanded(7),
+    };
+    assert!(rt; call.clone()? == call);
+    Ok(())
+}
+
+#[test]
+fn items_with_ids_are_cloned(rt: HostRuntime) -> Result<(), Fail> {
+    let alloc = rt.alloc();
+    let block = ExternBlock {
+        children: vec![in alloc; ModItemId::from_row(2, AstIdKind::Fn)]?,
+    };
+    assert!(rt; block.clone()? == block);
+    let module = Mod {
+        name: name(alloc, "m")?,
+        visibility: id(0),
+        kind: ModKind::Inline {
+            items: vec![in alloc; ModItemId::from_row(1, AstIdKind::Fn)]?,
+        },
+    };
+    assert!(rt; module.clone()? == module);
+    let item = Struct {
+        name: name(alloc, "S")?,
+        visibility: id(0),
+        shape: FieldsShape::Tuple,
+        value_ns_ctor: StructValueNsCtor::ValueNsCtorWithMinVis(vec![in alloc; id(0), id(1)]?),
+    };
+    assert!(rt; item.clone()? == item);
+    Ok(())
+}
+
+// A field of a tuple struct.
+fn field(visibility: Option<Visibility>) -> TupleField {
+    TupleField { visibility }
+}
+
+// The tree of `pub struct T(pub(crate) A, pub(super) B, pub(in crate::m) C);`, with one more field before the last.
+fn tuple_struct(alloc: Global, private: Option<TupleField>) -> Result<ItemTree, Fail> {
+    let in_m = in_path(alloc, PathKind::Crate, ["m"].as_slice())?;
+    let mut fields = vec![in alloc;
+        field(Some(Visibility::PubCrate)),
+        field(Some(Visibility::PubSuper)),
+    ]?;
+    fields.extend(private)?;
+    fields.push(field(Some(in_m)))?;
+    let item = Item::Struct(ast::Struct {
+        hash: 3,
+        number: 0,
+        attrs: Vec::new(alloc),
+        name: Some(name(alloc, "T")?),
+        visibility: Some(Visibility::Pub),
+        kind: StructKind::Tuple(fields),
+        body: String::new(alloc),
+    });
+    lowered(alloc, vec![in alloc; item]?)
+}
+
+// The constructor of the struct in the first row.
+fn constructor(tree: &ItemTree) -> Result<&StructValueNsCtor, Fail> {
+    match tree.rows.items.first() {
+        Some(ModItem::Struct(item)) => Ok(&item.value_ns_ctor),
+        _ => Err("no struct")?,
     }
+}
+
+#[test]
+fn a_constructor_needs_each_module_of_its_fields(rt: HostRuntime) -> Result<(), Fail> {
+    let alloc = rt.alloc();
+    let tree = tuple_struct(alloc, None)?;
+    let in_super = explicit(path(alloc, PathKind::Super(1), [].as_slice())?);
+    let in_m = explicit(path(alloc, PathKind::Crate, ["m"].as_slice())?);
+    assert!(rt; tree.rows.arena.as_slice() == [in_super, in_m].as_slice());
+    let want = StructValueNsCtor::ValueNsCtorWithMinVis(vec![in alloc; id(0), id(1)]?);
+    assert!(rt; *constructor(&tree)? == want);
+    Ok(())
+}
+
+#[test]
+fn a_private_field_decides_alone(rt: HostRuntime) -> Result<(), Fail> {
+    let tree = tuple_struct(rt.alloc(), Some(field(None)))?;
+    assert!(rt; tree.rows.arena.is_empty());
+    let want = StructValueNsCtor::ValueNsCtorWithVis(id(PRIVATE_IMPLICIT));
+    assert!(rt; *constructor(&tree)? == want);
     Ok(())
 }
 

@@ -26,7 +26,7 @@ fn rename_of(alloc: Global, value: &Value) -> Result<Rename, Fault>
     }
 }
 
-fn rename_at(alloc: Global, value: &Value) -> Result<Option<Rename>, Fault>
+pub(crate) fn rename_at(alloc: Global, value: &Value) -> Result<Option<Rename>, Fault>
     ensures { Reads (λ rename. rename) result (maybe rename_form (field_of (codes "rename") (view value.now))) }
 {
     match field(value, "rename") {

@@ -12,7 +12,7 @@ use hir_input::ast::Visibility;
 use serde_json::Value;
 use std::alloc::Global;
 
-fn visibility_of(alloc: Global, value: &Value) -> Result<Visibility, Fault>
+pub(crate) fn visibility_of(alloc: Global, value: &Value) -> Result<Visibility, Fault>
     ensures { Reads (λ visibility. visibility) result (visibility_form (view value.now)) }
 {
     match value.as_str() {

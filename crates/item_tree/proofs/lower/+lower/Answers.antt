@@ -1,13 +1,11 @@
 use Rattle.std.proofs.Common.{◌≡◌, ◌≤◌, ◌+◌, length, map, ◌++◌, take, subst, ap, sym, ◌∙◌, append-nil}
 use Rattle.std.proofs.lemmas.Result.{err_from_is_err_and}
 use Rattle.hir_input.specs.Attr.{meta_view}
-use Rattle.hir_input.specs.Syntax.{items_view}
+use Rattle.hir_input.specs.Syntax.{item_view}
 use Rattle.item_tree_attrs.specs.Collected.{collected_from, attr_limit}
 use Rattle.item_tree.specs.Visibility.{read_visibility}
-use Rattle.item_tree.specs.Kept.{kept_all}
-use Rattle.item_tree.specs.Size.{items_written}
 use Rattle.item_tree.specs.Growth.{Meets, IsUnmet, Lowers, to_list}
-use Rattle.item_tree.proofs.Lowering.{IsUnmet-module, Lowers-step, IsFault-step, Lowers-inline, IsFull-inline}
+use Rattle.item_tree.proofs.Lowering.{kept_list, written_list, IsUnmet-module, Lowers-step, IsFault-step, Lowers-inline, IsFull-inline}
 use Rattle.item_tree.proofs.lower.+lower.Goals as goal
 use Rattle.item_tree.proofs.lower.+lower.Goals.{lower_items-in-Some+in_ok-push, lower_items-in_default}
 
@@ -15,12 +13,13 @@ pub lower_items-returns-in_err-id-clause-fault : goal.lower_items-returns-in_err
 lower_items-returns-in_err-id-clause-fault t c =
     let p = err_from_is_err_and c.from_residual.result c.from_residual.ensures.1 in
     rw (p.1, p.2)
-    (IsFault-step c.args.options.now c.args.skipped.now c.args.items.now c.loop-item.item-index c.item-item.result c.in_err-id.field-0.0 c.item-item.is c.loop-item-test.true c.loop-item.invariant c.in_err-id.ensures.fault)
+    (IsFault-step c.args.options.now c.args.skipped.now item_view c.args.items.now c.loop-item.item-index c.item-item.result c.in_err-id.field-0.0 c.item-item.is c.loop-item-test.true c.loop-item.invariant c.in_err-id.ensures.fault)
 
 pub lower_items-loop-item-preserved : goal.lower_items-loop-item-preserved
 lower_items-loop-item-preserved t c =
-    let s = Lowers-step c.args.options.now c.args.skipped.now c.args.items.now c.loop-item.item-index c.item-item.result c.item-item.is c.loop-item-test.true c.loop-item.invariant c.in_ok-id.ensures.lowered in
-    let into = λ (js : _) (e : c.loop-item.ids.items ++ to_list c.in_ok-id.field-0 ≡ js). subst (λ zs. Lowers c.args.rows.now c.lower_item.new.rows (items_written (items_view (take (c.loop-item.item-index + 1) c.args.items.now))) (kept_all c.args.options.now c.args.skipped.now (items_view (take (c.loop-item.item-index + 1) c.args.items.now))) zs) e s in
+    let s = Lowers-step c.args.options.now c.args.skipped.now item_view c.args.items.now c.loop-item.item-index c.item-item.result c.item-item.is c.loop-item-test.true c.loop-item.invariant c.in_ok-id.ensures.lowered in
+    let done = take (c.loop-item.item-index + 1) c.args.items.now in
+    let into = λ (js : _) (e : c.loop-item.ids.items ++ to_list c.in_ok-id.field-0 ≡ js). subst (λ zs. Lowers c.args.rows.now c.lower_item.new.rows (written_list c.args.options.now c.args.skipped.now item_view done) (kept_list c.args.options.now c.args.skipped.now item_view done) zs) e s in
     elim c.match-branch-2.branch [
       | lower_items-in-Some+in_ok-push w ↦
           into c.match-branch-2.ids.items (ap (λ z. c.loop-item.ids.items ++ to_list z) w.in-Some.is ∙ sym w.in_ok-push.ensures.items ∙ sym (ap (λ v. v.items) w.ids-is))

@@ -2,7 +2,8 @@ use Rattle.std.proofs.Common.{◌≡◌, subst, sym, ◌∙◌}
 use lib.Pointwise.{pointwise}
 use Rattle.std.specs.Bool.{Decides}
 use Rattle.item_tree.specs.NodeCode.{unfolding_code}
-use Rattle.item_tree.specs.Layout.{same as same_vis, layout}
+use Rattle.item_tree.specs.Layout.{layout}
+use Rattle.item_tree.specs.Visibility.{same as same_vis}
 use Rattle.item_tree.specs.Stored.{tables_of}
 use Rattle.item_tree.proofs.Equal.{was-true, was-false, top-differs, top_place-differs, tags-differ, keys-differ, items-differ, places-differ, column-differs, arena-decides}
 use Rattle.item_tree.proofs.UseEq.{tells}

@@ -1,0 +1,94 @@
+-- The constructors of structs.
+use Rattle.std.proofs.Common.{◌≡◌, ℕ, ◌≤◌, List, [], ◌∷◌, ◌++◌, length, map, refl, ap, sym, ◌∙◌, subst, arith, append_assoc}
+use Rattle.std.proofs.lemmas.List.{map-append}
+use Rattle.item_tree_attrs.specs.Collected.{attr_limit}
+use Rattle.item_tree.specs.declared.fault.LowerError.{LowerError}
+use Rattle.item_tree.specs.declared.fault.LowerError.TheVariants.{TooManyItems, TooManyVisibilities, TooManyUseTrees, TooManyAttributes, TooManySupers, OutOfMemory}
+use Rattle.item_tree.specs.declared.items.FieldsShape.{FieldsShape}
+use Rattle.item_tree.specs.declared.rows.Rows.{Rows}
+use Rattle.item_tree.specs.Constructor.{ctor_from}
+use Rattle.item_tree.specs.Node.{Ctor, Leaf, Head, struct_item, leaf, empty, more}
+use Rattle.item_tree.specs.Visibility.{meet, meet_all}
+use Rattle.item_tree.specs.Layout.{vis_id, plain_vis, ctor_map, leaf_map, ctor_vis, leaf_vis, leaf_row}
+use Rattle.item_tree.specs.Growth.{Adds, Lowers, IsFault, Meets, MeetsAll, MeetsUpTo, HasId, AreUnmet, IsUnmet, Pushes}
+use Rattle.item_tree.proofs.Arena.{V, Extends, Extends-meet_all, Knows, Knows-meet, Knows-id, meet-twice}
+use Rattle.item_tree.proofs.Lowering.{Adds-nothing, Adds-join, Meets-adds, Lowers-leaf, length-Extends}
+
+pub has_id : (o a : Rows) (v : V) (i : ℕ) → Meets o a v i → HasId a v i
+has_id o a v i m = record { given = m.given; met = ap (λ z. meet z v) m.met ∙ meet-twice o.arena.keys v ∙ sym m.met }
+
+MeetsAll-adds : {a b : Rows} {vs : List V} → MeetsAll a b vs → Adds a b []
+MeetsAll-adds {a} {b} m = subst (λ z. Adds a z []) (sym m.kept) (let n = Adds-nothing a in record { tags = n.tags; keys = n.keys; items = n.items; places = n.places; column = n.column })
+
+-- the id of a visibility stays while more are met
+id-stays : {o a : Rows} {v : V} {i : ℕ} {ys : List V} → Meets o a v i → Extends a.arena.keys ys → plain_vis i ≡ vis_id ys v
+id-stays {o} {a} {v} {i} {ys} m h = m.given ∙ sym (Knows-id a.arena.keys ys v h (subst (λ z. Knows z v) (sym m.met) (Knows-meet o.arena.keys v)))
+
+-- one more of several is met
+pub MeetsUpTo-step :
+    {o a b : Rows} {v : V} {vs all : List V} {i : ℕ} {is js : List ℕ} (rest : List V) → rest ≡ v ∷ vs → MeetsUpTo o a all rest is → Meets a b v i → js ≡ is ++ i ∷ [] → MeetsUpTo o b all vs js
+MeetsUpTo-step {o} {a} {b} {v} {vs} {all} {i} {is} {js} rest e h m push =
+    let end = meet_all b.arena.keys vs in
+    let whole : meet_all a.arena.keys rest ≡ end = ap (meet_all a.arena.keys) e ∙ ap (λ z. meet_all z vs) (sym m.met) in
+    let id : plain_vis i ≡ vis_id end v = id-stays m (Extends-meet_all b.arena.keys vs) in
+    record {
+      met = sym whole ∙ h.met;
+      given =
+          rw (push, map-append plain_vis is (i ∷ []))
+          (append_assoc (map plain_vis is) (plain_vis i ∷ []) (map (vis_id end) vs) ∙ (λ j. map plain_vis is ++ id j ∷ map (vis_id end) vs) ∙ ap (λ z. map plain_vis is ++ map (vis_id end) z) (sym e)
+          ∙ subst (λ k. map plain_vis is ++ map (vis_id k) rest ≡ map (vis_id k) all) whole h.given);
+      kept = λ j. record {
+        tags = (m.tags_kept ∙ ap (λ r. r.tags) h.kept) j;
+        keys = (m.keys_kept ∙ ap (λ r. r.keys) h.kept) j;
+        items = (m.items_kept ∙ ap (λ r. r.items) h.kept) j;
+        places = (m.places_kept ∙ ap (λ r. r.places) h.kept) j;
+        column = (m.column_kept ∙ ap (λ r. r.column) h.kept) j;
+        arena = b.arena;
+      };
+      within = m.within;
+    }
+
+pub Lowers-struct :
+    {o a b d : Rows} {i u : ℕ} (h q : Head) (n p : List ℕ) (v : V) (s t : FieldsShape) (c : Ctor V) (k : Ctor ℕ) → Meets o a v u → MeetsAll a b (ctor_vis c) → ctor_map plain_vis k ≡ ctor_map (vis_id b.arena.keys) c →
+    p ≡ n → t ≡ s → q ≡ h → length h.attrs.attrs ≤ attr_limit → Pushes b d (q, leaf_row (leaf_map plain_vis (struct_item p u t k))) i → Lowers o d 0 (more (leaf h (struct_item n v s c)) empty) (i ∷ [])
+Lowers-struct {o} {a} {b} {d} {i} {u} h q n p v s t c k m w x e y z few push =
+    let given = id-stays m (subst (λ z. Extends a.arena.keys z) (sym w.met) (Extends-meet_all a.arena.keys (ctor_vis c))) in
+    Lowers-leaf h q (struct_item n v s c) (leaf_map plain_vis (struct_item p u t k)) (Adds-join (Meets-adds m) (MeetsAll-adds w))
+    (w.met ∙ ap (λ r. meet_all r (ctor_vis c)) m.met) (λ j. struct_item (e j) (given j) (y j) (x j)) z few (omega arith) (omega arith) push
+
+pub ctor_vis_from : (vs : List V) → ctor_vis (ctor_from vs) ≡ vs
+ctor_vis_from [] = refl
+ctor_vis_from (v ∷ []) = refl
+ctor_vis_from (v ∷ w ∷ vs) = refl
+
+pub ctor_map_from : {A B : Type 0} (f : A → B) (vs : List A) → ctor_map f (ctor_from vs) ≡ ctor_from (map f vs)
+ctor_map_from f [] = refl
+ctor_map_from f (v ∷ []) = refl
+ctor_map_from f (v ∷ w ∷ vs) = refl
+
+-- ---- faults
+
+AreUnmet-more : (o a : Rows) (vs us : List V) (e : LowerError) → length (meet_all a.arena.keys us) ≤ length (meet_all o.arena.keys vs) → AreUnmet a us e → AreUnmet o vs e
+AreUnmet-more o a vs us TooManyItems h q = absurd q
+AreUnmet-more o a vs us TooManyVisibilities h q = omega (arith, h, q)
+AreUnmet-more o a vs us TooManyUseTrees h q = absurd q
+AreUnmet-more o a vs us TooManyAttributes h q = absurd q
+AreUnmet-more o a vs us TooManySupers h q = absurd q
+AreUnmet-more o a vs us OutOfMemory h q = tt
+
+-- the first that is left of several passes the limit
+pub AreUnmet-first : (o a : Rows) (v : V) (vs all : List V) (e : LowerError) → meet_all a.arena.keys (v ∷ vs) ≡ meet_all o.arena.keys all → IsUnmet a v e → AreUnmet o all e
+AreUnmet-first o a v vs all e h =
+    let x = meet a.arena.keys v in
+    AreUnmet-more o a all (v ∷ []) e (omega (arith, ap length h, length-Extends x (meet_all x vs) (Extends-meet_all x vs)))
+
+AreUnmet-leaf : (o : Rows) (h : Head) (l : Leaf V) (e : LowerError) → AreUnmet o (leaf_vis l) e → IsFault o 0 (more (leaf h l) empty) e
+AreUnmet-leaf o h l TooManyItems q = absurd q
+AreUnmet-leaf o h l TooManyVisibilities q = q
+AreUnmet-leaf o h l TooManyUseTrees q = absurd q
+AreUnmet-leaf o h l TooManyAttributes q = absurd q
+AreUnmet-leaf o h l TooManySupers q = absurd q
+AreUnmet-leaf o h l OutOfMemory q = tt
+
+pub own_unmet : (o : Rows) (h : Head) (n : List ℕ) (v : V) (s : FieldsShape) (c : Ctor V) (e : LowerError) → IsUnmet o v e → IsFault o 0 (more (leaf h (struct_item n v s c)) empty) e
+own_unmet o h n v s c e q = AreUnmet-leaf o h (struct_item n v s c) e (AreUnmet-first o o v (ctor_vis c) (v ∷ ctor_vis c) e refl q)

@@ -1,0 +1,207 @@
+-- A constructor is seen exactly from where the struct and each of its fields are.
+use Rattle.std.proofs.Common.{◌≡◌, Bool, true, false, List, [], ◌∷◌, ◌++◌, Option, Some, None, refl, ap, sym, ◌∙◌, subst, inl, inr}
+use Rattle.std.proofs.lemmas.Bool.{false≢true, and_from}
+use Rattle.std.specs.Prelude.{◌&&◌, ◌||◌}
+use Rattle.std.specs.List.{list_any, list_all, find}
+use Rattle.hir_input.specs.Syntax.{NamedView, FieldsView, record_fields, tuple_fields, no_fields, ItemView, ItemViews, SyntaxView, source_file, error, plain_item, const_item, struct_item, bare_module, listed_module, use_item, extern_crate, bare_extern_block, listed_extern_block, impl_item, macro_call, macro_rules, asm_item, no_items, item_and}
+use Rattle.item_tree.specs.declared.visibility.RawVisibility.TheVariants.{Module, PubSelf, PubCrate, Public}
+use Rattle.item_tree.specs.declared.visibility.VisibilityExplicitness.{VisibilityExplicitness}
+use Rattle.hir_input.specs.Path.{Path}
+use Rattle.item_tree.specs.Constructor.{is_private, is_pub_crate, crate_or_public, or_one, deciding_by, deciding, ctor_from}
+use Rattle.item_tree.specs.Layout.{ctor_vis}
+use Rattle.item_tree.specs.Same.{agree}
+use Rattle.item_tree.specs.Sees.{Where, inside, in_crate, outside, Place, seen_from, sees_all, written_vis, CtorIsSeen, CtorIsSeenIn, CtorsAreSeenIn, CtorsAreSeen}
+use Rattle.item_tree.specs.Visibility.{same, meet, meet_all}
+use Rattle.item_tree.proofs.Arena.{V, bool_cases}
+use Rattle.item_tree.proofs.VisibilityEq.{same-sound}
+
+abbrev IsModule : V → Type 0
+IsModule (Module q e) = Unit {0}
+IsModule v = ⊥
+
+abbrev AreModules : List V → Type 0
+AreModules [] = Unit {0}
+AreModules (v ∷ vs) = IsModule v × AreModules vs
+
+AreModules-push : (ms : List V) (q : Path) (e : VisibilityExplicitness) → AreModules ms → AreModules (ms ++ Module q e ∷ [])
+AreModules-push [] q e h = (tt, tt)
+AreModules-push (m ∷ ms) q e h = (h.0, AreModules-push ms q e h.1)
+
+AreModules-meet : (ms : List V) (v : V) → AreModules ms → AreModules (meet ms v)
+AreModules-meet ms (Module q e) h =
+    elim (bool_cases (list_any (same (Module q e)) ms)) [
+      | inl t ↦ rw t h
+      | inr t ↦ rw t (AreModules-push ms q e h)
+    ]
+AreModules-meet ms (PubSelf e) h = h
+AreModules-meet ms PubCrate h = h
+AreModules-meet ms Public h = h
+
+AreModules-meet_all : (ms vs : List V) → AreModules ms → AreModules (meet_all ms vs)
+AreModules-meet_all ms [] h = h
+AreModules-meet_all ms (v ∷ vs) h = AreModules-meet_all (meet ms v) vs (AreModules-meet ms v h)
+
+-- From a place that is not inside, what is public is seen and what is private is not, and who sees a module's sees the crate's.
+module _ (p : V → Bool) (public : p Public ≡ true) (private : (e : VisibilityExplicitness) → p (PubSelf e) ≡ false) (wider : (q : Path) (e : VisibilityExplicitness) → p (Module q e) ≡ true → p PubCrate ≡ true) where
+  abbrev All : List V → Type 0
+  All [] = Unit {0}
+  All (v ∷ vs) = (p v ≡ true) × All vs
+
+  All-from : (vs : List V) → list_all p vs ≡ true → All vs
+  All-from [] h = tt
+  All-from (v ∷ vs) h = elim (bool_cases (p v)) [
+    | inl t ↦ (t, All-from vs (subst (λ b. (b && list_all p vs) ≡ true) t h))
+    | inr t ↦ absurd (false≢true (subst (λ b. (b && list_all p vs) ≡ true) t h))
+  ]
+
+  All-to : (vs : List V) → All vs → list_all p vs ≡ true
+  All-to [] h = refl
+  All-to (v ∷ vs) h = and_from (p v) (list_all p vs) h.0 (All-to vs h.1)
+
+  All-push : (ms : List V) (v : V) → All ms → p v ≡ true → All (ms ++ v ∷ [])
+  All-push [] v h t = (t, tt)
+  All-push (m ∷ ms) v h t = (h.0, All-push ms v h.1 t)
+
+  All-pushed : (ms : List V) (v : V) → All (ms ++ v ∷ []) → All ms × (p v ≡ true)
+  All-pushed [] v h = (tt, h.0)
+  All-pushed (m ∷ ms) v h = let r = All-pushed ms v h.1 in ((h.0, r.0), r.1)
+
+  All-same : (ms : List V) (v : V) → list_any (same v) ms ≡ true → All ms → p v ≡ true
+  All-same [] v t h = absurd (false≢true t)
+  All-same (m ∷ ms) v t h = elim (bool_cases (same v m)) [
+    | inl s ↦ ap p (same-sound v m s) ∙ h.0
+    | inr s ↦ All-same ms v (subst (λ b. (b || list_any (same v) ms) ≡ true) s t) h.1
+  ]
+
+  All-meet : (ms : List V) (v : V) → All ms → p v ≡ true → All (meet ms v)
+  All-meet ms (Module q e) h t =
+      elim (bool_cases (list_any (same (Module q e)) ms)) [
+        | inl s ↦ rw s h
+        | inr s ↦ rw s (All-push ms (Module q e) h t)
+      ]
+  All-meet ms (PubSelf e) h t = h
+  All-meet ms PubCrate h t = h
+  All-meet ms Public h t = h
+
+  All-met : (ms : List V) (q : Path) (e : VisibilityExplicitness) → All (meet ms (Module q e)) → All ms × (p (Module q e) ≡ true)
+  All-met ms q e h =
+      elim (bool_cases (list_any (same (Module q e)) ms)) [
+        | inl s ↦ let k : All ms = rw s at h in (k, All-same ms (Module q e) s k)
+        | inr s ↦ let k : All (ms ++ Module q e ∷ []) = rw s at h in All-pushed ms (Module q e) k
+      ]
+
+  -- ---- who sees all of them sees those that decide
+
+  All-meet_all : (ms vs : List V) → All ms → All vs → All (meet_all ms vs)
+  All-meet_all ms [] h k = h
+  All-meet_all ms (v ∷ vs) h k = All-meet_all (meet ms v) vs (All-meet ms v h k.0) k.1
+
+  All-found : (vs : List V) (v : V) → find is_private vs ≡ Some v → All vs → p v ≡ true
+  All-found [] v e h = cc
+  All-found (PubSelf x ∷ vs) v e h = let s : PubSelf x ≡ v = cc in subst (λ z. p z ≡ true) s h.0
+  All-found (Module q x ∷ vs) v e h = All-found vs v e h.1
+  All-found (PubCrate ∷ vs) v e h = All-found vs v e h.1
+  All-found (Public ∷ vs) v e h = All-found vs v e h.1
+
+  crate-seen : (vs : List V) → All vs → list_any is_pub_crate vs ≡ true → p PubCrate ≡ true
+  crate-seen [] h t = absurd (false≢true t)
+  crate-seen (PubCrate ∷ vs) h t = h.0
+  crate-seen (Module q x ∷ vs) h t = crate-seen vs h.1 t
+  crate-seen (PubSelf x ∷ vs) h t = crate-seen vs h.1 t
+  crate-seen (Public ∷ vs) h t = crate-seen vs h.1 t
+
+  widest-seen : (ms : List V) (b : Bool) → All ms → (b ≡ true → p PubCrate ≡ true) → All (or_one ms (crate_or_public b))
+  widest-seen [] true h f = (f refl, tt)
+  widest-seen [] false h f = (public, tt)
+  widest-seen (m ∷ ms) b h f = h
+
+  deciding-seen : (o : Option V) (vs : List V) → find is_private vs ≡ o → All vs → All (deciding_by o vs)
+  deciding-seen (Some v) vs e h = (All-found vs v e h, tt)
+  deciding-seen None vs e h = widest-seen (meet_all [] vs) (list_any is_pub_crate vs) (All-meet_all [] vs tt h) (crate-seen vs h)
+
+  -- ---- and who sees those sees all
+
+  found-hidden : (vs : List V) (v : V) → find is_private vs ≡ Some v → p v ≡ false
+  found-hidden [] v e = cc
+  found-hidden (PubSelf x ∷ vs) v e = let s : PubSelf x ≡ v = cc in subst (λ z. p z ≡ false) s (private x)
+  found-hidden (Module q x ∷ vs) v e = found-hidden vs v e
+  found-hidden (PubCrate ∷ vs) v e = found-hidden vs v e
+  found-hidden (Public ∷ vs) v e = found-hidden vs v e
+
+  All-met_all : (ms vs : List V) → find is_private vs ≡ None → All (meet_all ms vs) → (list_any is_pub_crate vs ≡ true → p PubCrate ≡ true) → All ms × All vs
+  All-met_all ms [] e h f = (h, tt)
+  All-met_all ms (PubSelf x ∷ vs) e h f = cc
+  All-met_all ms (PubCrate ∷ vs) e h f = let r = All-met_all ms vs e h (λ t. f refl) in (r.0, (f refl, r.1))
+  All-met_all ms (Public ∷ vs) e h f = let r = All-met_all ms vs e h f in (r.0, (public, r.1))
+  All-met_all ms (Module q x ∷ vs) e h f =
+      let r = All-met_all (meet ms (Module q x)) vs e h f in
+      let s = All-met ms q x r.0 in
+      (s.0, (s.1, r.1))
+
+  module_wider : (m : V) → IsModule m → p m ≡ true → p PubCrate ≡ true
+  module_wider (Module q x) k h = wider q x h
+  module_wider (PubSelf x) k h = absurd k
+  module_wider PubCrate k h = absurd k
+  module_wider Public k h = absurd k
+
+  widest-back : (ms : List V) (b : Bool) → AreModules ms → All (or_one ms (crate_or_public b)) → All ms × (b ≡ true → p PubCrate ≡ true)
+  widest-back [] true k h = (tt, (λ t. h.0))
+  widest-back [] false k h = (tt, (λ t. absurd (false≢true t)))
+  widest-back (m ∷ ms) b k h = (h, (λ t. module_wider m k.0 h.0))
+
+  all-seen : (o : Option V) (vs : List V) → find is_private vs ≡ o → All (deciding_by o vs) → All vs
+  all-seen (Some v) vs e h = absurd (false≢true (sym (found-hidden vs v e) ∙ h.0))
+  all-seen None vs e h =
+      let r = widest-back (meet_all [] vs) (list_any is_pub_crate vs) (AreModules-meet_all [] vs tt) h in
+      (All-met_all [] vs e r.0 r.1).1
+
+  pub decide : (vs : List V) → list_all p (deciding vs) ≡ list_all p vs
+  decide vs =
+      agree (list_all p (deciding vs)) (list_all p vs)
+      (λ h. All-to vs (all-seen (find is_private vs) vs refl (All-from (deciding vs) h)))
+      (λ h. All-to (deciding vs) (deciding-seen (find is_private vs) vs refl (All-from vs h)))
+
+inside-sees : (modules : List Path) (vs : List V) → list_all (seen_from inside modules) vs ≡ true
+inside-sees modules [] = refl
+inside-sees modules (v ∷ vs) = inside-sees modules vs
+
+deciding-decide : (at : Where) (modules : List Path) (vs : List V) → list_all (seen_from at modules) (deciding vs) ≡ list_all (seen_from at modules) vs
+deciding-decide inside modules vs = inside-sees modules (deciding vs) ∙ sym (inside-sees modules vs)
+deciding-decide in_crate modules vs = decide (seen_from in_crate modules) refl (λ e. refl) (λ q e h. refl) vs
+deciding-decide outside modules vs = decide (seen_from outside modules) refl (λ e. refl) (λ q e h. cc) vs
+
+ctor_vis-from : (vs : List V) → ctor_vis (ctor_from vs) ≡ vs
+ctor_vis-from [] = refl
+ctor_vis-from (v ∷ []) = refl
+ctor_vis-from (v ∷ w ∷ vs) = refl
+
+ctor-seen : (place : Place) (n : NamedView) (fields : FieldsView) → CtorIsSeen place n fields
+ctor-seen place n record_fields = tt
+ctor-seen place n no_fields = refl
+ctor-seen place n (tuple_fields fields) =
+    let vs = written_vis n (tuple_fields fields) in
+    ap (sees_all place) (ctor_vis-from (deciding vs)) ∙ deciding-decide place.at place.modules vs
+
+mutual
+  item-seen : (place : Place) (i : ItemView) → CtorIsSeenIn place i
+  item-seen place (struct_item n fields) = ctor-seen place n fields
+  item-seen place (listed_module n semicolon is) = items-seen place is
+  item-seen place (plain_item k n) = tt
+  item-seen place (const_item n) = tt
+  item-seen place (bare_module n semicolon) = tt
+  item-seen place (use_item u) = tt
+  item-seen place (extern_crate n rename) = tt
+  item-seen place (bare_extern_block n) = tt
+  item-seen place (listed_extern_block n is) = tt
+  item-seen place (impl_item n of_trait) = tt
+  item-seen place (macro_call c) = tt
+  item-seen place (macro_rules n name) = tt
+  item-seen place (asm_item n) = tt
+
+  items-seen : (place : Place) (is : ItemViews) → CtorsAreSeenIn place is
+  items-seen place no_items = tt
+  items-seen place (item_and i is) = (item-seen place i, items-seen place is)
+
+pub ctors_are_seen : (s : SyntaxView) → CtorsAreSeen s
+ctors_are_seen (source_file attrs is) = λ place. items-seen place is
+ctors_are_seen error = tt

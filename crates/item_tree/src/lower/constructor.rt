@@ -1,0 +1,185 @@
+//! Lowering of structs and their constructors.
+ghost use Rattle.std.specs.Prelude.{◌≡◌, ◌∷◌, [], IfOk, IfErr, OnOk, map, option_copied};
+ghost use Rattle.hir_input.specs.Syntax.{struct_item, struct_view, fields_view, tuple_fields};
+ghost use Rattle.item_tree.specs.Constructor.{ctor_of, ctor_from, deciding};
+ghost use Rattle.item_tree.specs.Layout.{plain_vis, vis_id, ctor_map, ctor_vis};
+ghost use Rattle.item_tree.specs.Node.{empty, add};
+ghost use Rattle.item_tree.specs.Kept.{kept, shape_of};
+ghost use Rattle.item_tree.specs.Growth.{IsWithinLimits, LowersOne, IsFault, HasId, MeetsAll, AreUnmet};
+ghost use Rattle.item_tree.specs.Shown.{ctor_ids};
+ghost use Rattle.item_tree.specs.Visibility.{read_visibility};
+
+use crate::fault::LowerError;
+use crate::items::{FieldsShape, ModItem, ModItemId, Struct, StructValueNsCtor};
+use crate::lower::{lower_attrs, lower_visibility};
+use crate::rows::{AstKey, Rows};
+use crate::visibility::{RawVisibility, RawVisibilityId, visibility_from_ast};
+use hir_input::{CfgOptions, Name, ast};
+use indexmap::IndexSet;
+use std::alloc::{AllocError, Global};
+
+#[tactic(auto, using(crate::proofs::Constructors::has_id, crate::proofs::Constructors::own_unmet))]
+pub(super) fn lower_struct(
+    alloc: Global,
+    rows: &mut Rows,
+    struct_node: &ast::Struct,
+    options: &CfgOptions,
+    skipped: &[Name],
+) -> Result<Option<ModItemId>, LowerError>
+    requires { IsWithinLimits rows.old }
+    ensures lowered { IfOk result (LowersOne rows.old rows.new 0 (kept options.now skipped.now (struct_item (struct_view struct_node.now) (fields_view struct_node.now.kind)))) }
+    ensures fault { IfErr result (IsFault rows.old 0 (add (kept options.now skipped.now (struct_item (struct_view struct_node.now) (fields_view struct_node.now.kind))) empty)) }
+{
+    let Some(name) = &struct_node.name else {
+        return Ok(None);
+    };
+    let name = name.clone()?;
+    let attrs = lower_attrs(alloc, &struct_node.attrs, options, skipped)?;
+    let visibility = lower_visibility(alloc, rows, struct_node.visibility.as_ref())?;
+    let value_ns_ctor = lower_ctor(alloc, rows, struct_node, visibility)?;
+    let key = AstKey {
+        hash: struct_node.hash,
+        number: struct_node.number,
+    };
+    let item = Struct {
+        name,
+        visibility,
+        shape: shape_of(&struct_node.kind),
+        value_ns_ctor,
+    };
+    let id = rows.push(key, attrs, ModItem::Struct(item))?;
+    Ok(Some(id))
+}
+
+fn shape_of(kind: &ast::StructKind) -> FieldsShape
+    ensures { result ≡ shape_of (fields_view kind.now) }
+{
+    match kind {
+        ast::StructKind::Record => FieldsShape::Record,
+        ast::StructKind::Tuple(_) => FieldsShape::Tuple,
+        ast::StructKind::Unit => FieldsShape::Unit,
+    }
+}
+
+// The constructor of a struct whose own visibility has this id.
+fn lower_ctor(
+    alloc: Global,
+    rows: &mut Rows,
+    struct_node: &ast::Struct,
+    visibility: RawVisibilityId,
+) -> Result<StructValueNsCtor, LowerError>
+    requires within { IsWithinLimits rows.old }
+    requires own { HasId rows.old (read_visibility struct_node.now.visibility) visibility }
+    ensures met { OnOk result (MeetsAll rows.old rows.new (ctor_vis (ctor_of (fields_view struct_node.now.kind) (read_visibility struct_node.now.visibility)))) }
+    ensures given { IfOk result (λ ctor. ctor_map plain_vis (ctor_ids ctor) ≡ ctor_map (vis_id rows.new.arena.keys) (ctor_of (fields_view struct_node.now.kind) (read_visibility struct_node.now.visibility))) }
+    ensures fault { IfErr result (AreUnmet rows.old (ctor_vis (ctor_of (fields_view struct_node.now.kind) (read_visibility struct_node.now.visibility)))) }
+{
+    match &struct_node.kind {
+        ast::StructKind::Record => Ok(StructValueNsCtor::NoValueNsCtor),
+        ast::StructKind::Tuple(fields) => {
+            lower_tuple_ctor(alloc, rows, struct_node.visibility.as_ref(), fields)
+        }
+        ast::StructKind::Unit => Ok(StructValueNsCtor::ValueNsCtorWithVis(visibility)),
+    }
+}
+
+// The constructor of a tuple struct.
+#[tactic(auto, using(crate::proofs::Constructors::ctor_vis_from, crate::proofs::Constructors::ctor_map_from))]
+fn lower_tuple_ctor(
+    alloc: Global,
+    rows: &mut Rows,
+    own: Option<&ast::Visibility>,
+    fields: &[ast::TupleField],
+) -> Result<StructValueNsCtor, LowerError>
+    requires { IsWithinLimits rows.old }
+    ensures met { OnOk result (MeetsAll rows.old rows.new (ctor_vis (ctor_of (tuple_fields (map (λ f. f.visibility) fields.now)) (read_visibility (option_copied own.entry))))) }
+    ensures given { IfOk result (λ ctor. ctor_map plain_vis (ctor_ids ctor) ≡ ctor_map (vis_id rows.new.arena.keys) (ctor_of (tuple_fields (map (λ f. f.visibility) fields.now)) (read_visibility (option_copied own.entry)))) }
+    ensures fault { IfErr result (AreUnmet rows.old (ctor_vis (ctor_of (tuple_fields (map (λ f. f.visibility) fields.now)) (read_visibility (option_copied own.entry))))) }
+{
+    let written = read_visibilities(alloc, own, fields)?;
+    let deciding = select_deciding(alloc, written)?;
+    let ids = alloc_visibilities(alloc, rows, deciding)?;
+    Ok(ctor_from(ids))
+}
+
+// The visibility of a struct, and then those of its fields.
+fn read_visibilities(
+    alloc: Global,
+    own: Option<&ast::Visibility>,
+    fields: &[ast::TupleField],
+) -> Result<Vec<RawVisibility>, AllocError>
+    ensures { IfOk result (λ all. all.items ≡ read_visibility (option_copied own.entry) ∷ map read_visibility (map (λ f. f.visibility) fields.now)) }
+{
+    let mut all = Vec::new(alloc);
+    all.push(visibility_from_ast(alloc, own)?)?;
+    for field in fields {
+        all.push(visibility_from_ast(alloc, field.visibility.as_ref())?)?;
+    }
+    Ok(all)
+}
+
+// Those visibilities that decide who sees what needs all of them.
+fn select_deciding(
+    alloc: Global,
+    written: Vec<RawVisibility>,
+) -> Result<IndexSet<RawVisibility>, AllocError>
+    ensures { IfOk result (λ set. set.keys ≡ deciding written.items) }
+{
+    let mut modules = IndexSet::new(alloc);
+    let mut in_crate = false;
+    for visibility in written {
+        match visibility {
+            RawVisibility::PubSelf(explicitness) => {
+                return one(alloc, RawVisibility::PubSelf(explicitness));
+            }
+            RawVisibility::PubCrate => in_crate = true,
+            RawVisibility::Public => {}
+            RawVisibility::Module(_, _) => {
+                modules.insert(visibility)?;
+            }
+        }
+    }
+    if !modules.is_empty() {
+        return Ok(modules);
+    }
+    if in_crate {
+        one(alloc, RawVisibility::PubCrate)
+    } else {
+        one(alloc, RawVisibility::Public)
+    }
+}
+
+fn one(alloc: Global, visibility: RawVisibility) -> Result<IndexSet<RawVisibility>, AllocError>
+    ensures { IfOk result (λ set. set.keys ≡ visibility ∷ []) }
+{
+    let mut set = IndexSet::new(alloc);
+    set.insert(visibility)?;
+    Ok(set)
+}
+
+// The ids of visibilities, in order.
+fn alloc_visibilities(
+    alloc: Global,
+    rows: &mut Rows,
+    visibilities: IndexSet<RawVisibility>,
+) -> Result<Vec<RawVisibilityId>, LowerError>
+    requires { IsWithinLimits rows.old }
+    ensures met { OnOk result (MeetsAll rows.old rows.new visibilities.keys) }
+    ensures given { IfOk result (λ ids. map plain_vis ids.items ≡ map (vis_id rows.new.arena.keys) visibilities.keys) }
+    ensures fault { IfErr result (AreUnmet rows.old visibilities.keys) }
+{
+    let mut ids = Vec::new(alloc);
+    for visibility in visibilities {
+        ids.push(rows.alloc_visibility(visibility)?)?;
+    }
+    Ok(ids)
+}
+
+fn ctor_from(ids: Vec<RawVisibilityId>) -> StructValueNsCtor
+    ensures { ctor_ids result ≡ ctor_from ids.items }
+{
+    match ids.as_slice() {
+        [id] => StructValueNsCtor::ValueNsCtorWithVis(*id),
+        _ => StructValueNsCtor::ValueNsCtorWithMinVis(ids),
+    }
+}

@@ -1,0 +1,56 @@
+//! The fields of a struct, read from their forms.
+ghost use Rattle.std.specs.Prelude.{◌≡◌, codes, map};
+ghost use Rattle.serde_json.specs.View.{view, items_view};
+ghost use Rattle.hir_input.specs.Syntax.{fields_view};
+ghost use Rattle.item_tree_tool.specs.Forms.{field as field_of, required, each};
+ghost use Rattle.item_tree_tool.specs.Items.{fields as fields_form, tuple_field};
+ghost use Rattle.item_tree_tool.specs.Reads.{Reads};
+
+use crate::request::fault::Fault;
+use crate::request::member::field;
+use crate::request::visibility::visibility_of;
+use hir_input::ast::{StructKind, TupleField};
+use serde_json::Value;
+use std::alloc::Global;
+
+// A null is a field without visibility.
+fn tuple_field_of(alloc: Global, value: &Value) -> Result<TupleField, Fault>
+    ensures { Reads (λ f. f.visibility) result (tuple_field (view value.now)) }
+{
+    if value.is_null() {
+        return Ok(TupleField { visibility: None });
+    }
+    let visibility = Some(visibility_of(alloc, value)?);
+    Ok(TupleField { visibility })
+}
+
+fn tuple_fields_of(alloc: Global, items: &[Value]) -> Result<Vec<TupleField>, Fault>
+    ensures { Reads (λ v. map (λ f. f.visibility) v.items) result (each tuple_field (items_view items.now)) }
+{
+    let mut fields = Vec::new(alloc);
+    for item in items {
+        fields.push(tuple_field_of(alloc, item)?)?;
+    }
+    Ok(fields)
+}
+
+fn struct_kind_of(alloc: Global, value: &Value) -> Result<StructKind, Fault>
+    ensures { Reads fields_view result (fields_form (view value.now)) }
+{
+    match value.as_str() {
+        Some("record") => Ok(StructKind::Record),
+        Some("unit") => Ok(StructKind::Unit),
+        Some(_) => Err(Fault::NotRequest),
+        None => {
+            let items = value.as_array().ok_or(Fault::NotRequest)?;
+            Ok(StructKind::Tuple(tuple_fields_of(alloc, items)?))
+        }
+    }
+}
+
+pub(crate) fn struct_kind_at(alloc: Global, value: &Value) -> Result<StructKind, Fault>
+    ensures { Reads fields_view result (required fields_form (field_of (codes "fields") (view value.now))) }
+{
+    let found = field(value, "fields").ok_or(Fault::NotRequest)?;
+    struct_kind_of(alloc, found)
+}
