@@ -1,9 +1,12 @@
-//! Tests that cross crates: what stands where a request for memory or an edit is refused, and which uses tell trees apart.
+//! Tests that cross crates: what stands where a request for memory or an edit is refused, what tells trees apart,
+//! the constructors of structs, and the counts of items.
 //!
 //! A plain run refuses no memory, and compares each answer. `tests/refused_memory.sh` runs the tests whose names hold
 //! `when_memory_is_refused` once for each request that they make, with that one refused.
 #![tactic(auto)]
 
+#[cfg(test)]
+mod kinds;
 #[cfg(test)]
 mod supers;
 #[cfg(test)]

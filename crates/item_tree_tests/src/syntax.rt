@@ -1,9 +1,10 @@
 //! Syntaxes that the tests lower.
 use hir_input::ast::{
-    Fn, Item, Module, PathNode, Rename, Struct, StructKind, Syntax, Use, UseTree, Visibility,
+    ExternBlock, ExternItem, Fn, Impl, Item, MacroCall, MacroDef, MacroRules, Module, PathNode,
+    Rename, Struct, StructKind, Syntax, Trait, TupleField, Use, UseTree, Visibility,
 };
 use hir_input::{
-    CfgAtom, CfgExpr, CfgOptions, EditionYear, HirFileId, Meta, ModPath, Name, PathKind,
+    CfgAtom, CfgExpr, CfgOptions, EditionYear, ExpandTo, HirFileId, Meta, ModPath, Name, PathKind,
     SyntaxContext,
 };
 use item_tree::CrateData;
@@ -77,23 +78,17 @@ pub fn function(
 pub fn one_function(alloc: Global, attrs: Vec<Meta>) -> Result<Syntax, AllocError> {
     let mut items = Vec::new(alloc);
     items.push(function(alloc, 48783, attrs, None)?)?;
-    Ok(Syntax::SourceFile {
-        attrs: Vec::new(alloc),
-        items,
-    })
+    Ok(file(alloc, items))
 }
 
 // `pub(super) mod m { #[a] #[cfg(x)] pub(in crate::type) fn f() {} struct S; }`
 pub fn nested(alloc: Global) -> Result<Syntax, AllocError> {
-    let within = match path(alloc, PathKind::Crate, "type")? {
-        Some(path) => PathNode::Readable(path),
-        None => PathNode::Unreadable,
-    };
+    let visibility = within(alloc, PathKind::Crate, "type")?;
     let mut inner = Vec::new(alloc);
     let mut attrs = Vec::new(alloc);
     attrs.push(attribute(alloc, "a")?)?;
     attrs.push(condition(alloc, "x")?)?;
-    inner.push(function(alloc, 2, attrs, Some(Visibility::InPath(within)))?)?;
+    inner.push(function(alloc, 2, attrs, Some(visibility))?)?;
     inner.push(Item::Struct(Struct {
         hash: 3,
         number: 0,
@@ -114,10 +109,7 @@ pub fn nested(alloc: Global) -> Result<Syntax, AllocError> {
         items: Some(inner),
         body: String::new(alloc),
     }))?;
-    Ok(Syntax::SourceFile {
-        attrs: Vec::new(alloc),
-        items,
-    })
+    Ok(file(alloc, items))
 }
 
 // A use tree without a list: a path, which is none where it would be plain and without names, and a star behind it or not.
@@ -188,8 +180,124 @@ pub fn one_use(
     visibility: Option<Visibility>,
     tree: UseTree,
 ) -> Result<Syntax, AllocError> {
-    Ok(Syntax::SourceFile {
+    Ok(file(alloc, vec![in alloc; use_item(alloc, visibility, tree)]?))
+}
+
+// A file of these items, without attributes.
+pub fn file(alloc: Global, items: Vec<Item>) -> Syntax {
+    Syntax::SourceFile {
         attrs: Vec::new(alloc),
-        items: vec![in alloc; use_item(alloc, visibility, tree)]?,
+        items,
+    }
+}
+
+pub fn module(alloc: Global, text: &str, items: Vec<Item>) -> Result<Item, AllocError> {
+    Ok(Item::Module(Module {
+        hash: 1,
+        number: 0,
+        attrs: Vec::new(alloc),
+        name: name(alloc, text)?,
+        visibility: None,
+        semicolon: false,
+        items: Some(items),
+        body: String::new(alloc),
+    }))
+}
+
+pub fn impl_item(alloc: Global, is_trait_impl: bool) -> Item {
+    Item::Impl(Impl {
+        hash: 2,
+        number: 0,
+        attrs: Vec::new(alloc),
+        is_trait_impl,
+        body: String::new(alloc),
     })
+}
+
+pub fn trait_item(alloc: Global, text: &str) -> Result<Item, AllocError> {
+    Ok(Item::Trait(Trait {
+        hash: 3,
+        number: 0,
+        attrs: Vec::new(alloc),
+        name: name(alloc, text)?,
+        visibility: None,
+        body: String::new(alloc),
+    }))
+}
+
+// `macro_rules! m {}`
+pub fn macro_rules(alloc: Global) -> Result<Item, AllocError> {
+    Ok(Item::MacroRules(MacroRules {
+        hash: 4,
+        number: 0,
+        attrs: Vec::new(alloc),
+        name: name(alloc, "m")?,
+        body: String::new(alloc),
+    }))
+}
+
+// `pub macro m2() {}`
+pub fn macro_def(alloc: Global) -> Result<Item, AllocError> {
+    Ok(Item::MacroDef(MacroDef {
+        hash: 5,
+        number: 0,
+        attrs: Vec::new(alloc),
+        name: name(alloc, "m2")?,
+        visibility: Some(Visibility::Pub),
+        body: String::new(alloc),
+    }))
+}
+
+// `m!();`
+pub fn macro_call(alloc: Global, path: Option<PathNode>) -> MacroCall {
+    MacroCall {
+        hash: 6,
+        number: 0,
+        attrs: Vec::new(alloc),
+        path,
+        expand_to: ExpandTo::Items,
+        ctxt: SyntaxContext::Root(EditionYear::E2024),
+        body: String::new(alloc),
+    }
+}
+
+pub fn extern_block(alloc: Global, items: Vec<ExternItem>) -> Item {
+    Item::ExternBlock(ExternBlock {
+        hash: 7,
+        number: 0,
+        attrs: Vec::new(alloc),
+        items: Some(items),
+        body: String::new(alloc),
+    })
+}
+
+// `pub(in ..)`, of a path as of `path`.
+pub fn within(alloc: Global, kind: PathKind, text: &str) -> Result<Visibility, AllocError> {
+    let node = match path(alloc, kind, text)? {
+        Some(path) => PathNode::Readable(path),
+        None => PathNode::Unreadable,
+    };
+    Ok(Visibility::InPath(node))
+}
+
+// `VIS struct T(VIS A, ..);`
+pub fn tuple_struct(
+    alloc: Global,
+    visibility: Visibility,
+    fields: Vec<Option<Visibility>>,
+) -> Result<Syntax, AllocError> {
+    let mut list = Vec::new(alloc);
+    for visibility in fields {
+        list.push(TupleField { visibility })?;
+    }
+    let item = Item::Struct(Struct {
+        hash: 8,
+        number: 0,
+        attrs: Vec::new(alloc),
+        name: name(alloc, "T")?,
+        visibility: Some(visibility),
+        kind: StructKind::Tuple(list),
+        body: String::new(alloc),
+    });
+    Ok(file(alloc, vec![in alloc; item]?))
 }
