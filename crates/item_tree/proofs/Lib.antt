@@ -16,10 +16,10 @@ pub mod Pieces
 pub mod Canon
 pub mod Lookup
 pub mod Walking
-pub mod Seen
 pub mod Counted
 pub mod Equal
 pub mod Lowering
 pub mod Constructors
+pub mod Seen
 pub mod BodyTexts
 pub mod Paging

@@ -7,12 +7,12 @@ use Rattle.hir_input.specs.Syntax.{NamedView, FieldsView, record_fields, tuple_f
 use Rattle.item_tree.specs.declared.visibility.RawVisibility.TheVariants.{Module, PubSelf, PubCrate, Public}
 use Rattle.item_tree.specs.declared.visibility.VisibilityExplicitness.{VisibilityExplicitness}
 use Rattle.hir_input.specs.Path.{Path}
-use Rattle.item_tree.specs.Constructor.{is_private, is_pub_crate, crate_or_public, or_one, deciding_by, deciding, ctor_from}
-use Rattle.item_tree.specs.Layout.{ctor_vis}
+use Rattle.item_tree.specs.Constructor.{is_private, is_pub_crate, crate_or_public, or_one, deciding_by, deciding}
 use Rattle.item_tree.specs.Same.{agree}
 use Rattle.item_tree.specs.Sees.{Where, inside, in_crate, outside, Place, seen_from, sees_all, written_vis, CtorIsSeen, CtorIsSeenIn, CtorsAreSeenIn, CtorsAreSeen}
 use Rattle.item_tree.specs.Visibility.{same, meet, meet_all}
 use Rattle.item_tree.proofs.Arena.{V, bool_cases}
+use Rattle.item_tree.proofs.Constructors.{ctor_vis_from}
 use Rattle.item_tree.proofs.VisibilityEq.{same-sound}
 
 abbrev IsModule : V → Type 0
@@ -170,17 +170,12 @@ deciding-decide inside modules vs = inside-sees modules (deciding vs) ∙ sym (i
 deciding-decide in_crate modules vs = decide (seen_from in_crate modules) refl (λ e. refl) (λ q e h. refl) vs
 deciding-decide outside modules vs = decide (seen_from outside modules) refl (λ e. refl) (λ q e h. cc) vs
 
-ctor_vis-from : (vs : List V) → ctor_vis (ctor_from vs) ≡ vs
-ctor_vis-from [] = refl
-ctor_vis-from (v ∷ []) = refl
-ctor_vis-from (v ∷ w ∷ vs) = refl
-
 ctor-seen : (place : Place) (n : NamedView) (fields : FieldsView) → CtorIsSeen place n fields
 ctor-seen place n record_fields = tt
 ctor-seen place n no_fields = refl
 ctor-seen place n (tuple_fields fields) =
     let vs = written_vis n (tuple_fields fields) in
-    ap (sees_all place) (ctor_vis-from (deciding vs)) ∙ deciding-decide place.at place.modules vs
+    ap (sees_all place) (ctor_vis_from (deciding vs)) ∙ deciding-decide place.at place.modules vs
 
 mutual
   item-seen : (place : Place) (i : ItemView) → CtorIsSeenIn place i
