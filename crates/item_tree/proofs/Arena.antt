@@ -74,7 +74,7 @@ HasPlace-push (x ∷ xs) v h =
     let p = or_parts (same v x) (list_any (same v) xs) h in
     HasPlace-cons x (xs ++ v ∷ []) v p.0 (HasPlace-push xs v p.1)
 
-place-push : (xs : List V) (v : V) → list_any (same v) xs ≡ false → place_of (xs ++ v ∷ []) v ≡ place_of xs v
+pub place-push : (xs : List V) (v : V) → list_any (same v) xs ≡ false → place_of (xs ++ v ∷ []) v ≡ place_of xs v
 place-push [] v h = place-here v [] v (same-itself v)
 place-push (x ∷ xs) v h =
     let p = or_parts (same v x) (list_any (same v) xs) h in
@@ -326,7 +326,7 @@ inserted xs ys v p e k m i q h = (
   plain-place k h ∙ ap place (q ∙ sym (place-insert xs v) ∙ ap (λ z. place_of z v) (sym i) ∙ ap (place_of ys) m) ∙ ap (vis_id ys) (sym m),
 )
 
-place-absent : (xs : List V) (v : V) → list_any (same v) xs ≡ false → place_of xs v ≡ length xs
+pub place-absent : (xs : List V) (v : V) → list_any (same v) xs ≡ false → place_of xs v ≡ length xs
 place-absent [] v h = refl
 place-absent (x ∷ xs) v h =
     let p = or_parts (same v x) (list_any (same v) xs) h in

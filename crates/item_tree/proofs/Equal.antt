@@ -1,6 +1,6 @@
 -- Equal tables, by the items' own tests.
 use lib.Pointwise.{pointwise, pointwise_decides}
-use Rattle.std.proofs.Common.{◌≡◌, ℕ, Bool, true, false, List, [], ◌∷◌, map, refl, ap, sym, ◌∙◌, subst, rules, eqb, eq-eqb, Option, None, Some, inl, inr}
+use Rattle.std.proofs.Common.{◌≡◌, ℕ, Bool, true, false, List, [], ◌∷◌, map, refl, ap, sym, ◌∙◌, subst, rules, eq-eqb, Option, None, Some}
 use Rattle.std.specs.Prelude.{◌==◌, ◌&&◌, not}
 use Rattle.std.specs.Bool.{Decides}
 use Rattle.std.specs.Cmp.{booleans_Decides}
@@ -35,8 +35,6 @@ use Rattle.hir_input.proofs.AttrEq.{attr_decides}
 use Rattle.hir_input.proofs.CfgEq.{cfg_decides}
 use Rattle.hir_input.proofs.PathEq.{path_decides}
 use Rattle.item_tree.specs.declared.visibility.RawVisibility.{RawVisibility}
-use Rattle.item_tree.specs.declared.visibility.RawVisibility.TheVariants.{Module, PubSelf, PubCrate, Public}
-use Rattle.item_tree.specs.declared.visibility.VisibilityExplicitness.TheVariants.{Explicit, Implicit}
 use Rattle.item_tree.specs.declared.items.FieldsShape.{FieldsShape}
 use Rattle.item_tree.specs.contracts.items.FieldsShape.{the_type as shape_type}
 use Rattle.item_tree.specs.contracts.items.FieldsShapePartialEq.TheImpl as shape_eqs
@@ -54,16 +52,17 @@ use Rattle.item_tree.specs.declared.rows.AstKey.{AstKey}
 use Rattle.item_tree.specs.contracts.rows.AstKeyPartialEq.TheImpl as key_eqs
 use Rattle.item_tree.specs.declared.rows.Rows.{Rows}
 use Rattle.item_tree.specs.Node.{ctor_with, ctor_with_min, Leaf, plain, constant, struct_item, outline, use_item, extern_crate, impl_item, macro_call, macro_rules, Trunk, inline, extern_block, Unfolding}
-use Rattle.item_tree.specs.Layout.{VisId, fixed, place, plain_vis, leaf_map, trunk_map, leaf_vis, trunk_vis, RowItem, leaf_row, parent_row, row_kind, layout}
+use Rattle.item_tree.specs.Layout.{plain_vis, leaf_map, trunk_map, leaf_vis, trunk_vis, RowItem, leaf_row, parent_row, row_kind, layout}
 use Rattle.item_tree.specs.Visibility.{same as same_vis}
 use Rattle.item_tree.specs.Same.{same_of_equal, equal_of_same}
 use Rattle.item_tree.specs.Shown.{ctor_ids}
 use Rattle.item_tree.specs.TreeCode.{use_item_code}
 use Rattle.item_tree.specs.UseItem.{UseItem}
 use Rattle.item_tree.specs.Stored.{leaf_plain, parent_plain, module_row, item_row, key_in, tables_of}
+use Rattle.item_tree.proofs.VisOnce.{raw_vis, raw-plain}
 use Rattle.item_tree.proofs.UseEq.{option_decides, aliases_decide}
 use Rattle.item_tree.proofs.VisibilityEq.{same-sound, same-itself}
-use Rattle.item_tree.proofs.Arena.{bool_cases, Agree, leaf_map-map, trunk_map-map, leaf_map-agree, trunk_map-agree, leaf_map-itself, trunk_map-itself}
+use Rattle.item_tree.proofs.Arena.{Agree, leaf_map-map, trunk_map-map, leaf_map-agree, trunk_map-agree, leaf_map-itself, trunk_map-itself}
 use Rattle.item_tree.specs.Column.{plain_place}
 use Rattle.item_tree.proofs.Column.{plain_place-injective}
 use Rattle.item_tree.proofs.Canon.{layout-injective}
@@ -94,32 +93,7 @@ module _ {X Y : Type 0} (E : X → X → Bool) (f : X → Y) (d : (x y : X) → 
   maps_decide (x ∷ xs) (y ∷ ys) =
       Decides-like (E x y && pointwise E xs ys) (λ p i. p.0 i ∷ p.1 i) (λ e. (cc, cc)) (Decides-and (E x y) (pointwise E xs ys) (d x y) (maps_decide xs ys))
 
--- ---- a stored number stands for one visibility
-
-raw_of : RawVisibility → ℕ
-raw_of Public = 4294967295
-raw_of (PubSelf Implicit) = 4294967294
-raw_of (PubSelf Explicit) = 4294967293
-raw_of PubCrate = 4294967292
-raw_of (Module p e) = 0
-
-raw_vis : VisId → ℕ
-raw_vis (fixed v) = raw_of v
-raw_vis (place k) = k
-
-raw-plain : (i : ℕ) → raw_vis (plain_vis i) ≡ i
-unfolding raw_vis raw_of
-raw-plain i =
-    elim (bool_cases (eqb i 4294967295)) [
-      | inl e ↦ rw e (sym (eqb-true i 4294967295 e))
-      | inr e ↦ rw e (elim (bool_cases (eqb i 4294967294)) [
-        | inl e ↦ rw e (sym (eqb-true i 4294967294 e))
-        | inr e ↦ rw e (elim (bool_cases (eqb i 4294967293)) [
-          | inl e ↦ rw e (sym (eqb-true i 4294967293 e))
-          | inr e ↦ rw e (elim (bool_cases (eqb i 4294967292)) [ inl e ↦ rw e (sym (eqb-true i 4294967292 e)) | inr e ↦ rw e refl ])
-        ])
-      ])
-    ]
+-- ---- an item over stored numbers is one over visibilities
 
 all_raw : (vs : List ℕ) → Agree (λ v. raw_vis (plain_vis v)) (λ v. v) vs
 all_raw [] = tt

@@ -14,7 +14,9 @@ pub mod Arena
 pub mod Column
 pub mod Pieces
 pub mod Canon
+pub mod Reached
 pub mod Lookup
+pub mod VisOnce
 pub mod Walking
 pub mod Counted
 pub mod Equal

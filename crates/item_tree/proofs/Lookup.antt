@@ -14,24 +14,19 @@ use Rattle.item_tree.specs.declared.items.ModItem.{ModItem}
 use Rattle.item_tree.specs.declared.rows.AstKey.{AstKey}
 use Rattle.item_tree.specs.declared.rows.Rows.{Rows}
 use Rattle.item_tree.specs.Node.{Leaf, plain, constant, struct_item, outline, use_item, extern_crate, impl_item, macro_call, macro_rules, Trunk, inline, extern_block, leaf_kind, trunk_kind, Head, Node, Forest, leaf, parent, empty, more, nodes, node_head, node_kind, node_ast, file_id, Unfolding}
-use Rattle.item_tree.specs.Layout.{leaf_map, trunk_map, vis_id, value_at, plain_vis, Row, RowItem, leaf_row, parent_row, row_tag, key_of, row_key, row_attrs, row_item, arena_of, node_walk, walk, ids, node_rows, rows_of, kind_bit, layout, at_row, at, node_at}
+use Rattle.item_tree.specs.Layout.{leaf_map, trunk_map, vis_id, value_at, plain_vis, Row, RowItem, leaf_row, parent_row, row_tag, key_of, row_key, row_attrs, row_item, arena_of, node_walk, walk, ids, node_rows, rows_of, kind_bit, layout, at_row, at, node_at, vis_at}
 use Rattle.item_tree.specs.Column.{is_empty, unless, some_unless, column_of, plain_place, stored_at}
+use Rattle.item_tree.specs.Reach.{child_ids}
 use Rattle.item_tree.specs.Shown.{IsContained, IsLeaf, IsParent, IsModule, lent_attrs, attrs_at}
 use Rattle.item_tree.specs.Stored.{item_row, leaf_plain, parent_plain, module_row, key_in, column_in, tables_of}
 use Rattle.item_tree.proofs.Arena.{KnowsNode, KnowsForest, Knows-met, leaf-at, trunk-at, leaf_map-map, trunk_map-map, bool_cases}
 use Rattle.item_tree.proofs.Column.{lent-back, lent-each, places-length}
-use Rattle.item_tree.proofs.Canon.{at-node_id, has_walk}
+use Rattle.item_tree.proofs.Canon.{has_walk}
+use Rattle.item_tree.proofs.Reached.{map-at-ids, row_children, children-stored}
 use Rattle.item_tree.proofs.Pieces.{HasFrom, HasFrom-left, HasFrom-right}
 
--- the ids of a forest stand for its nodes
-pub map-at-ids : (ns : List Node) (b : ℕ) (f : Forest) → HasFrom ns b (walk f) → map (at ns) (ids b f) ≡ map Some (nodes f)
-map-at-ids ns b empty w = refl
-map-at-ids ns b (more n f) w =
-    let e = at-node_id ns b n (HasFrom-left ns b (node_walk n) (walk f) w) in
-    let r = map-at-ids ns (b + length (node_walk n)) f (HasFrom-right ns b (node_walk n) (walk f) w) in
-    rw (e, r) refl
-
 pub top-stands : (f : Forest) → map (node_at f) (ids 0 f) ≡ map Some (nodes f)
+unfolding node_at
 top-stands f = map-at-ids (walk f) 0 f (has_walk f)
 
 pub IsSome-within : {X : Type 0} (xs : List X) (k : ℕ) → IsSome (slice_get xs k) → k < length xs
@@ -106,17 +101,20 @@ module _ (arena : List RawVisibility) (ns : List Node) where
 abbrev pub IsRowShown : Unfolding → ℕ → FileAstId → RowItem → Type 0
 IsRowShown u i a (leaf_row l) = (h : Head) × (m : Leaf RawVisibility) × (node_at u.forest i ≡ Some (leaf h m)) × (a ≡ file_id (leaf_kind m) h) × (leaf_map (value_at (arena_of u.forest)) l ≡ leaf_map Some m)
 IsRowShown u i a (parent_row t is) =
-    (h : Head) × (w : Trunk RawVisibility) × (g : Forest) × (node_at u.forest i ≡ Some (parent h w g)) × (a ≡ file_id (trunk_kind w) h) × (trunk_map (value_at (arena_of u.forest)) t ≡ trunk_map Some w) × (map (node_at u.forest) is ≡ map Some (nodes g))
+    (h : Head) × (w : Trunk RawVisibility) × (g : Forest) × (node_at u.forest i ≡ Some (parent h w g)) × (a ≡ file_id (trunk_kind w) h) × (trunk_map (value_at (arena_of u.forest)) t ≡ trunk_map Some w) × (map (node_at u.forest) is ≡ map Some (nodes g)) × (is ≡ child_ids u i)
 
-ItemIs-shown : (u : Unfolding) (i : ℕ) (n : Node) (a : FileAstId) (h : Head) (r : RowItem) → node_at u.forest i ≡ Some n → node_ast n ≡ a → ItemIs (arena_of u.forest) (walk u.forest) h r n → IsRowShown u i a r
-ItemIs-shown u i n a h (leaf_row l) e q s = (h, s.0, e ∙ ap Some s.1, sym q ∙ ap node_ast s.1, s.2)
-ItemIs-shown u i n a h (parent_row t is) e q s = (h, s.0, s.1, e ∙ ap Some s.2, sym q ∙ ap node_ast s.2, s.3, s.4)
+ItemIs-shown : (u : Unfolding) (i : ℕ) (n : Node) (a : FileAstId) (h : Head) (r : RowItem) → row_children r ≡ child_ids u i → node_at u.forest i ≡ Some n → node_ast n ≡ a → ItemIs (arena_of u.forest) (walk u.forest) h r n → IsRowShown u i a r
+unfolding node_at
+ItemIs-shown u i n a h (leaf_row l) c e q s = (h, s.0, e ∙ ap Some s.1, sym q ∙ ap node_ast s.1, s.2)
+ItemIs-shown u i n a h (parent_row t is) c e q s = (h, s.0, s.1, e ∙ ap Some s.2, sym q ∙ ap node_ast s.2, s.3, s.4, c)
 
 pub IsLeaf-row : (u : Unfolding) (i : ℕ) (a : FileAstId) (l : Leaf ℕ) → IsRowShown u i a (leaf_plain l) → IsLeaf u i a l
+unfolding vis_at
 IsLeaf-row u i a l h = record { head = h.0; item = h.1; found = h.2; ast_id = h.3; visible = sym (leaf_map-map (value_at (arena_of u.forest)) plain_vis l) ∙ h.4 }
 
 pub IsParent-row : (u : Unfolding) (i : ℕ) (a : FileAstId) (t : Trunk ℕ) (is : List ℕ) → IsRowShown u i a (parent_plain t is) → IsParent u i a t is
-IsParent-row u i a t is h = record { head = h.0; item = h.1; below = h.2; found = h.3; ast_id = h.4; visible = sym (trunk_map-map (value_at (arena_of u.forest)) plain_vis t) ∙ h.5; children = h.6 }
+unfolding vis_at
+IsParent-row u i a t is h = record { head = h.0; item = h.1; below = h.2; found = h.3; ast_id = h.4; visible = sym (trunk_map-map (value_at (arena_of u.forest)) plain_vis t) ∙ h.5; children = h.6; ids = h.7 }
 
 pub IsModule-row : (u : Unfolding) (i : ℕ) (a : FileAstId) (name : List ℕ) (v : ℕ) (k : ModKind) → IsRowShown u i a (module_row name v k) → IsModule u i a name v k
 IsModule-row u i a name v (Inline items) h = IsParent-row u i a (inline name v) items.items h
@@ -214,6 +212,7 @@ module _ (u : Unfolding) (top : List ℕ) (place : ℕ) (t : Rows) (canon : layo
 
   -- where the row is there, the id is contained exactly if its bit is that of the tag
   pub contains-there : (i : ℕ) (x : AstIdKind) → i / 2 < length t.tags.items → x ≡ get_or t.tags.items (i / 2) x → (IsContained u i → kind_bit x ≡ i % 2) × (kind_bit x ≡ i % 2 → IsContained u i)
+  unfolding node_at
   contains-there i x h g =
       let l : i / 2 < length (walk f) = subst (λ z. i / 2 < z) tags-length h in
       let w = found (i / 2) l in
@@ -222,15 +221,18 @@ module _ (u : Unfolding) (top : List ℕ) (place : ℕ) (t : Rows) (canon : layo
       ((λ s. eqb-true (kind_bit x) (i % 2) (sym e ∙ s)), (λ q. e ∙ eq-eqb (kind_bit x) (i % 2) q))
 
   pub contains-past : (i : ℕ) → length t.tags.items ≤ i / 2 → IsContained u i → ⊥
+  unfolding node_at
   contains-past i h s =
       let l : length (walk f) ≤ i / 2 = subst (λ z. z ≤ i / 2) tags-length h in
       let e : is_some (node_at f i) ≡ false = ap (λ o. is_some (at_row o (i % 2))) (slice_get_past (walk f) (i / 2) l) in
       absurd (false≢true (sym e ∙ s))
 
   pub within : (i : ℕ) → IsSome (node_at f i) → i / 2 < length (walk f)
+  unfolding node_at
   within i h = IsSome-within (walk f) (i / 2) (at_row-some (slice_get (walk f) (i / 2)) (i % 2) h)
 
   at-found : (i : ℕ) (h : IsSome (node_at f i)) → node_at f i ≡ Some (found (i / 2) (within i h)).node
+  unfolding node_at
   at-found i h =
       let w = found (i / 2) (within i h) in
       let e : node_at f i ≡ at_row (Some w.node) (i % 2) = ap (λ o. at_row o (i % 2)) w.node_there in
@@ -244,7 +246,7 @@ module _ (u : Unfolding) (top : List ℕ) (place : ℕ) (t : Rows) (canon : layo
   shown i a x h e g =
       let w = found (i / 2) (within i h) in
       let q : node_ast w.node ≡ a = some-same (node_ast w.node) a (ap (option_map node_ast) (sym (at-found i h)) ∙ e) in
-      subst (λ z. IsRowShown u i a z) (sym (item-read (i / 2) x (within i h) g)) (ItemIs-shown u i w.node a w.row.0 w.row.1 (at-found i h) q w.related.item)
+      subst (λ z. IsRowShown u i a z) (sym (item-read (i / 2) x (within i h) g)) (ItemIs-shown u i w.node a w.row.0 w.row.1 (children-stored u i w.row h w.row_at) (at-found i h) q w.related.item)
 
   pub places-len : vec_len t.places ≡ length (walk f)
   places-len = t.places.ok.0 ∙ sym (length-map t.places.items plain_place) ∙ ap (λ z. length z.places) (sym canon) ∙ places-length 0 (map row_attrs rs) ∙ length-map rs row_attrs ∙ rows-len

@@ -1,15 +1,18 @@
 -- For whoever walks a tree by its ids, in this crate or in another.
-use Rattle.std.proofs.Common.{◌≡◌, ℕ, zero, suc, ◌+◌, ◌<◌, List, [], ◌∷◌, length, map, sum, get_or, Some, refl, ap, sym, ◌∙◌, arith}
-use Rattle.std.specs.Prelude.{is_some}
+use Rattle.std.proofs.Common.{◌≡◌, ℕ, zero, suc, ◌+◌, ◌<◌, List, [], ◌∷◌, length, map, sum, get_or, Option, Some, None, refl, ap, sym, ◌∙◌, arith}
+use Rattle.std.specs.Prelude.{is_some, IsSome}
 use Rattle.std.specs.Option.{option_map_or}
 use Rattle.std.specs.List.{sum_by, flat_map}
 use Rattle.std.proofs.lemmas.List.Sums.{sum-map, sum_by-cons, get_or-le-sum_by}
 use Rattle.std.proofs.lemmas.List.Folds.{flat_map-map}
 use Rattle.hir_input.specs.declared.ids.FileAstId.{FileAstId}
+use Rattle.item_tree.specs.declared.visibility.RawVisibility.{RawVisibility}
 use Rattle.item_tree.specs.Node.{Leaf, Trunk, Node, leaf, parent, Forest, empty, more, nodes, node_count, count, Unfolding}
-use Rattle.item_tree.specs.Layout.{node_at}
-use Rattle.item_tree.specs.Shown.{IsContained, StandFor, IsLeaf, IsParent}
+use Rattle.item_tree.specs.Layout.{node_at, vis_at}
+use Rattle.item_tree.specs.Reach.{inner_ids, met_before, child_ids}
+use Rattle.item_tree.specs.Shown.{IsContained, HasVisibility, StandFor, IsLeaf, IsParent}
 use Rattle.item_tree.specs.Walk.{of_id, AreContained, count_at}
+use Rattle.item_tree.proofs.VisOnce.{vis_once}
 
 -- ---- what is said of ids is what is said of the nodes that they stand for
 
@@ -60,6 +63,20 @@ children_contained {u} {i} {a} {t} {is} p = ids_contained u is p.below p.childre
 
 pub child_contained : {u : Unfolding} {i : ℕ} {a : FileAstId} {t : Trunk ℕ} {is : List ℕ} (k d : ℕ) → IsParent u i a t is → k < length is → IsContained u (get_or is k d)
 child_contained k d p h = children_contained p k d h
+
+-- an item without children has no ids of children
+pub leaf_childless : {u : Unfolding} {i : ℕ} {a : FileAstId} {l : Leaf ℕ} → IsLeaf u i a l → child_ids u i ≡ []
+unfolding child_ids
+leaf_childless {u} {i} {a} {l} p = leaf_of_id u [] (λ n. inner_ids (met_before i n) n) i a l p
+
+-- ---- ids that stand for one visibility are one
+
+same_vis : (u : Unfolding) (i j : ℕ) (o : Option RawVisibility) → IsSome o → vis_at u.forest i ≡ o → vis_at u.forest j ≡ o → i ≡ j
+same_vis u i j None s p q = absurd (cc)
+same_vis u i j (Some v) s p q = vis_once u i j v p q
+
+pub vis_id_once : (u : Unfolding) (i j : ℕ) → HasVisibility u i → vis_at u.forest i ≡ vis_at u.forest j → i ≡ j
+vis_id_once u i j s e = same_vis u i j (vis_at u.forest i) s refl (sym e)
 
 -- ---- how many nodes there are from an id on down, which every walk downwards lessens
 

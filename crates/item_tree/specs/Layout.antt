@@ -215,11 +215,11 @@ abbrev pub at : List Node → ℕ → Option Node
 at ns i = at_row (slice_get ns (i / 2)) (i % 2)
 
 -- the node that an id stands for
-abbrev pub node_at : Forest → ℕ → Option Node
+unfoldable pub node_at : Forest → ℕ → Option Node
 node_at f i = at (walk f) i
 
 -- the visibility that an id stands for
-abbrev pub vis_at : Forest → ℕ → Option RawVisibility
+unfoldable pub vis_at : Forest → ℕ → Option RawVisibility
 vis_at f i = value_at (arena_of f) (plain_vis i)
 
 -- ---- back from tables to what they unfold to

@@ -18,6 +18,7 @@ pub mod Kept
 pub mod Sees
 pub mod Column
 pub mod Layout
+pub mod Reach
 pub mod Shown
 pub mod Walk
 pub mod Stats

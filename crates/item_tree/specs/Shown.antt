@@ -1,5 +1,5 @@
 -- What a look-up lends.
-use Rattle.std.specs.Prelude.{◌≡◌, ℕ, List, map, Option, Some, None, IsSome}
+use Rattle.std.specs.Prelude.{◌≡◌, ◌↔◌, ℕ, List, map, Option, Some, None, IsSome}
 use Rattle.std.specs.Option.{option_map_or}
 use Rattle.hir_input.specs.declared.ids.FileAstId.{FileAstId}
 use Rattle.hir_input.specs.Syntax.{fn_kind, union_kind, enum_kind, static_kind, trait_kind, type_alias_kind, macro_def_kind}
@@ -14,6 +14,7 @@ use Rattle.item_tree.specs.declared.tree.ModItemKind.TheVariants as item
 use Rattle.item_tree.specs.Node.{Ctor, no_ctor, ctor_with, ctor_with_min, Leaf, plain, constant, struct_item, outline, use_item, extern_crate, impl_item, macro_call, macro_rules, Trunk, inline, extern_block, leaf_kind, trunk_kind, Head, Forest, leaf, parent, nodes, node_head, file_id, Unfolding}
 use Rattle.item_tree.specs.Column.{is_empty, some_unless}
 use Rattle.item_tree.specs.Layout.{leaf_map, trunk_map, node_at, vis_at}
+use Rattle.item_tree.specs.Reach.{child_ids}
 
 -- the id stands for a node
 abbrev pub IsContained : Unfolding → ℕ → Type 0
@@ -49,7 +50,7 @@ pub record IsLeaf (u : Unfolding) (i : ℕ) (a : FileAstId) (l : Leaf ℕ) : Typ
   pub ast_id : a ≡ file_id (leaf_kind item) head
   pub visible : leaf_map (vis_at u.forest) l ≡ leaf_map Some item
 
--- The same of a node with children, which the ids in `is` stand for.
+-- The same of a node with children, whose ids are those in `is`.
 pub record IsParent (u : Unfolding) (i : ℕ) (a : FileAstId) (t : Trunk ℕ) (is : List ℕ) : Type 0 where
   pub head : Head
   pub item : Trunk RawVisibility
@@ -57,27 +58,52 @@ pub record IsParent (u : Unfolding) (i : ℕ) (a : FileAstId) (t : Trunk ℕ) (i
   pub found : node_at u.forest i ≡ Some (parent head item below)
   pub ast_id : a ≡ file_id (trunk_kind item) head
   pub visible : trunk_map (vis_at u.forest) t ≡ trunk_map Some item
+  pub ids : is ≡ child_ids u i
   pub children : StandFor u is below
 
+-- what is lent, as plain data over ids
+pub data Lent : Type 0 where
+  lent_leaf : FileAstId → Leaf ℕ → Lent
+  lent_parent : FileAstId → Trunk ℕ → List ℕ → Lent
+
+abbrev pub lent_module : FileAstId → List ℕ → ℕ → ModKind → Lent
+lent_module a name v (Inline items) = lent_parent a (inline name v) items.items
+lent_module a name v Outline = lent_leaf a (outline name v)
+
+abbrev pub lent : ModItemKind → Lent
+lent (item.Function a x) = lent_leaf a (plain fn_kind x.now.name x.now.visibility)
+lent (item.Union a x) = lent_leaf a (plain union_kind x.now.name x.now.visibility)
+lent (item.Enum a x) = lent_leaf a (plain enum_kind x.now.name x.now.visibility)
+lent (item.Static a x) = lent_leaf a (plain static_kind x.now.name x.now.visibility)
+lent (item.Trait a x) = lent_leaf a (plain trait_kind x.now.name x.now.visibility)
+lent (item.TypeAlias a x) = lent_leaf a (plain type_alias_kind x.now.name x.now.visibility)
+lent (item.Macro2 a x) = lent_leaf a (plain macro_def_kind x.now.name x.now.visibility)
+lent (item.Const a x) = lent_leaf a (constant x.now.name x.now.visibility)
+lent (item.Struct a x) = lent_leaf a (struct_item x.now.name x.now.visibility x.now.shape (ctor_ids x.now.value_ns_ctor))
+lent (item.Mod a x) = lent_module a x.now.name x.now.visibility x.now.kind
+lent (item.Use a x) = lent_leaf a (use_item x.now.visibility x.now.tree)
+lent (item.ExternCrate a x) = lent_leaf a (extern_crate x.now.name x.now.visibility x.now.alias)
+lent (item.ExternBlock a x) = lent_parent a extern_block x.now.children.items
+lent (item.Impl a x) = lent_leaf a (impl_item x.now.is_trait_impl)
+lent (item.MacroCall a x) = lent_leaf a (macro_call x.now.path x.now.expand_to x.now.ctxt)
+lent (item.MacroRules a x) = lent_leaf a (macro_rules x.now.name)
+
+abbrev pub IsLent : Unfolding → ℕ → Lent → Type 0
+IsLent u i (lent_leaf a l) = IsLeaf u i a l
+IsLent u i (lent_parent a t is) = IsParent u i a t is
+
 abbrev pub IsModule : Unfolding → ℕ → FileAstId → List ℕ → ℕ → ModKind → Type 0
-IsModule u i a name v (Inline items) = IsParent u i a (inline name v) items.items
-IsModule u i a name v Outline = IsLeaf u i a (outline name v)
+IsModule u i a name v k = IsLent u i (lent_module a name v k)
 
 -- what is lent for the id is the node's id and its item
 abbrev pub IsShown : Unfolding → ℕ → ModItemKind → Type 0
-IsShown u i (item.Function a x) = IsLeaf u i a (plain fn_kind x.now.name x.now.visibility)
-IsShown u i (item.Union a x) = IsLeaf u i a (plain union_kind x.now.name x.now.visibility)
-IsShown u i (item.Enum a x) = IsLeaf u i a (plain enum_kind x.now.name x.now.visibility)
-IsShown u i (item.Static a x) = IsLeaf u i a (plain static_kind x.now.name x.now.visibility)
-IsShown u i (item.Trait a x) = IsLeaf u i a (plain trait_kind x.now.name x.now.visibility)
-IsShown u i (item.TypeAlias a x) = IsLeaf u i a (plain type_alias_kind x.now.name x.now.visibility)
-IsShown u i (item.Macro2 a x) = IsLeaf u i a (plain macro_def_kind x.now.name x.now.visibility)
-IsShown u i (item.Const a x) = IsLeaf u i a (constant x.now.name x.now.visibility)
-IsShown u i (item.Struct a x) = IsLeaf u i a (struct_item x.now.name x.now.visibility x.now.shape (ctor_ids x.now.value_ns_ctor))
-IsShown u i (item.Mod a x) = IsModule u i a x.now.name x.now.visibility x.now.kind
-IsShown u i (item.Use a x) = IsLeaf u i a (use_item x.now.visibility x.now.tree)
-IsShown u i (item.ExternCrate a x) = IsLeaf u i a (extern_crate x.now.name x.now.visibility x.now.alias)
-IsShown u i (item.ExternBlock a x) = IsParent u i a extern_block x.now.children.items
-IsShown u i (item.Impl a x) = IsLeaf u i a (impl_item x.now.is_trait_impl)
-IsShown u i (item.MacroCall a x) = IsLeaf u i a (macro_call x.now.path x.now.expand_to x.now.ctxt)
-IsShown u i (item.MacroRules a x) = IsLeaf u i a (macro_rules x.now.name)
+IsShown u i k = IsLent u i (lent k)
+
+-- Two trees lend the same for the same ids.
+pub record LendAlike (u w : Unfolding) : Type 0 where
+  -- what an id lends of items
+  pub items : (i : ℕ) (x y : Lent) → IsLent u i x → IsLent w i y → x ≡ y
+  -- and of attributes
+  pub attributes : (i : ℕ) → attrs_at u i ≡ attrs_at w i
+  -- an id of a visibility is one for both, and has the value to itself
+  pub visibilities : (i j : ℕ) (v : RawVisibility) → vis_at u.forest i ≡ Some v → (vis_at w.forest j ≡ Some v) ↔ (i ≡ j)

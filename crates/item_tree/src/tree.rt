@@ -3,10 +3,12 @@ ghost use Rattle.std.specs.Prelude.{◌≡◌, ◌↔◌, IsTrue, option_map, So
 ghost use Rattle.item_tree_attrs.specs.Collected.{collected};
 ghost use Rattle.item_tree.specs.Node.{nothing, node_ast};
 ghost use Rattle.item_tree.specs.Layout.{node_at, unfold_tables};
+ghost use Rattle.item_tree.specs.Reach.{top_ids};
 ghost use Rattle.item_tree.specs.Shown.{IsContained, HasVisibility, IsShown, StandFor, lent_attrs, attrs_at};
 ghost use Rattle.item_tree.specs.Size.{Fits};
 ghost use Rattle.item_tree.specs.Stats.{stats_of, kind_is};
 ghost use Rattle.item_tree.specs.Stored.{AreSound, tables_of};
+ghost use Rattle.item_tree.specs.Walk.{IsWalkedOnce};
 
 use crate::items::{
     Const, Enum, ExternBlock, ExternCrate, Function, Impl, Macro2, MacroCall, MacroRules, Mod,
@@ -107,7 +109,9 @@ impl ItemTree {
 
     /// The ids of the items at the top, in order. rust-analyzer's `ItemTree::top_level_items`.
     pub fn top_level_items(&self) -> &[ModItemId]
+        ensures ids { result.now ≡ top_ids self.now }
         ensures stand { StandFor self.now result.now self.now.forest }
+        ensures walk { IsWalkedOnce self.now }
         ensures fits { Fits self.now }
     {
         self.top_level.as_slice()
@@ -143,6 +147,7 @@ impl ItemTree {
     }
 
     /// Whether the id is that of a visibility of the tree.
+    #[tactic(auto, unfolding(crate::specs::Layout::vis_at))]
     pub fn has_visibility(&self, id: RawVisibilityId) -> bool
         ensures { IsTrue result ↔ HasVisibility self.now id }
     {
@@ -225,6 +230,7 @@ impl Index<RawVisibilityId> for ItemTree {
 
     ghost index_gives = { λ tree id visibility. vis_at tree.forest id ≡ Some visibility };
 
+    #[tactic(auto, unfolding(crate::specs::Layout::vis_at))]
     fn index(&self, id: RawVisibilityId) -> &RawVisibility {
         match self.fixed.get(id) {
             Some(visibility) => visibility,
@@ -236,6 +242,7 @@ impl Index<RawVisibilityId> for ItemTree {
 impl PartialEq for ItemTree {
     ghost use Rattle.item_tree.specs.Same.{same, same_is_equivalence};
     ghost use Rattle.item_tree.specs.NodeCode.{unfolding_code};
+    ghost use Rattle.item_tree.specs.Shown.{LendAlike};
     ghost use Rattle.std.specs.Cmp.{partial_equiv_from_equiv};
     ghost use Rattle.std.specs.Prelude.{◌≡◌, ◌↔◌, IsTrue};
 
@@ -247,6 +254,7 @@ impl PartialEq for ItemTree {
     fn eq(&self, other: &ItemTree) -> bool
         ensures decides { IsTrue result ↔ (self.now ≡ other.now) }
         ensures gives { result ≡ same unfolding_code self.now other.now }
+        ensures lend { IsTrue result → LendAlike self.now other.now }
     {
         if self.top_level != other.top_level {
             return false;

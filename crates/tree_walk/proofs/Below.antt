@@ -1,46 +1,48 @@
--- The preorder of items by that of the items in them.
-use Rattle.std.proofs.Common.{◌≡◌, ℕ, List, [], ◌∷◌, ◌++◌, Some, None, Option, map, refl, ap, sym, ◌∙◌, append_assoc}
+-- The nodes of the ids that a walk meets.
+use Rattle.std.proofs.Common.{◌≡◌, ℕ, List, [], ◌∷◌, Some, map, refl, ap, sym, ◌∙◌, subst}
 use Rattle.std.proofs.lemmas.List.{map-append}
-use Rattle.std.specs.Prelude.{IsSome}
+use Rattle.std.specs.Prelude.{is_some}
 use Rattle.std.specs.Option.{option_map_or}
 use Rattle.std.specs.List.{flat_map}
 use Rattle.hir_input.specs.declared.ids.AstIdKind.TheVariants.{Fn}
 use Rattle.hir_input.specs.declared.ids.FileAstId.{FileAstId}
 use Rattle.item_tree.specs.Node.{Node, leaf, parent, Forest, empty, more, nodes, node_ast, Unfolding}
 use Rattle.item_tree.specs.Layout.{node_at}
-use Rattle.item_tree.specs.Shown.{IsContained, StandFor}
-use Rattle.item_tree.specs.Walk.{of_id}
-use Rattle.item_tree.proofs.Walking.{map_of_id, flat_map_of_id}
-use Rattle.tree_walk.specs.Preorder.{children, children_at, node_preorder, preorder, preorder_at, Adds}
+use Rattle.item_tree.specs.Reach.{child_ids, ids_from}
+use Rattle.item_tree.specs.Shown.{StandFor}
+use Rattle.item_tree.specs.Walk.{of_id, children, IsWalkedOnce}
+use Rattle.item_tree.proofs.Walking.{map_of_id}
+use Rattle.tree_walk.specs.Preorder.{node_preorder, preorder}
 
-flat_map-nodes : (f : Forest) → flat_map node_preorder (nodes f) ≡ preorder f
-flat_map-nodes empty = refl
-flat_map-nodes (more n f) = ap (λ ns. node_preorder n ++ ns) (flat_map-nodes f)
+no_ids : (u : Unfolding) (is : List ℕ) → StandFor u is empty → is ≡ []
+no_ids u [] e = refl
+no_ids u (i ∷ is) e = absurd (cc)
 
-pub preorder_ids : (u : Unfolding) (is : List ℕ) (f : Forest) → StandFor u is f → flat_map (preorder_at u) is ≡ preorder f
-preorder_ids u is f e = flat_map_of_id u node_preorder is (nodes f) e ∙ flat_map-nodes f
+-- the ids from that of a node on down stand for the nodes in order
+module _ (u : Unfolding) (w : IsWalkedOnce u) where
+  children_of : (i : ℕ) (n : Node) → node_at u.forest i ≡ Some n → StandFor u (child_ids u i) (children n)
+  children_of i n e = subst (λ o. StandFor u (child_ids u i) (option_map_or children o empty)) e (w.stand i (ap is_some e))
 
-node_first : (n : Node) → map Some (node_preorder n) ≡ Some n ∷ map Some (preorder (children n))
-node_first (leaf h l) = refl
-node_first (parent h t f) = refl
+  mutual
+    ids_of_node : (n : Node) (i : ℕ) → node_at u.forest i ≡ Some n → map (node_at u.forest) (ids_from u i) ≡ map Some (node_preorder n)
+    ids_of_node (leaf h l) i e =
+        let none : child_ids u i ≡ [] = no_ids u (child_ids u i) (children_of i (leaf h l) e) in
+        ap (map (node_at u.forest)) (w.below i (ap is_some e)) ∙ rw (e, none) refl
+    ids_of_node (parent h t f) i e =
+        let below : map (node_at u.forest) (flat_map (ids_from u) (child_ids u i)) ≡ map Some (preorder f) = ids_of_forest f (child_ids u i) (children_of i (parent h t f) e) in
+        ap (map (node_at u.forest)) (w.below i (ap is_some e)) ∙ rw (e, below) refl
 
-option_first : (o : Option Node) → IsSome o → map Some (option_map_or node_preorder o []) ≡ o ∷ map Some (preorder (option_map_or children o empty))
-option_first None s = absurd (cc)
-option_first (Some n) s = node_first n
+    ids_of_forest : (f : Forest) (is : List ℕ) → map (node_at u.forest) is ≡ map Some (nodes f) → map (node_at u.forest) (flat_map (ids_from u) is) ≡ map Some (preorder f)
+    ids_of_forest empty [] e = refl
+    ids_of_forest empty (i ∷ is) e = absurd (cc)
+    ids_of_forest (more n f) [] e = absurd (cc)
+    ids_of_forest (more n f) (i ∷ is) e =
+        let first : node_at u.forest i ≡ Some n = cc in
+        let others : map (node_at u.forest) is ≡ map Some (nodes f) = cc in
+        map-append (node_at u.forest) (ids_from u i) (flat_map (ids_from u) is) ∙ rw (ids_of_node n i first, ids_of_forest f is others) (sym (map-append Some (node_preorder n) (preorder f)))
 
--- an item stands first, before those in it
-preorder_children : (u : Unfolding) (i : ℕ) (is : List ℕ) → IsContained u i → StandFor u is (children_at u i) → map Some (preorder_at u i) ≡ node_at u.forest i ∷ map Some (flat_map (preorder_at u) is)
-preorder_children u i is c s = option_first (node_at u.forest i) c ∙ ap (λ ns. node_at u.forest i ∷ map Some ns) (sym (preorder_ids u is (children_at u i) s))
-
--- adding an item, and then those in it
-pub adds_below :
-    (u : Unfolding) (i : ℕ) (is old mid new : List ℕ) → IsContained u i → StandFor u is (children_at u i) → mid ≡ old ++ i ∷ [] →
-    Adds u mid (flat_map (preorder_at u) is) new → Adds u old (preorder_at u i) new
-adds_below u i is old mid new c s pushed added =
-    added ∙ ap (λ ids. map (node_at u.forest) ids ++ map Some (flat_map (preorder_at u) is)) pushed
-    ∙ ap (λ ns. ns ++ map Some (flat_map (preorder_at u) is)) (map-append (node_at u.forest) old (i ∷ []))
-    ∙ append_assoc (map (node_at u.forest) old) (node_at u.forest i ∷ []) (map Some (flat_map (preorder_at u) is))
-    ∙ ap (λ ns. map (node_at u.forest) old ++ ns) (sym (preorder_children u i is c s))
+pub preorder_ids : (u : Unfolding) (is : List ℕ) → IsWalkedOnce u → StandFor u is u.forest → map (node_at u.forest) (flat_map (ids_from u) is) ≡ map Some (preorder u.forest)
+preorder_ids u is w e = ids_of_forest u w u.forest is e
 
 abbrev pub no_ast_id : FileAstId
 no_ast_id = record { kind = Fn; hash = 0; number = 0 }

@@ -1,27 +1,31 @@
 //! Walks over an item tree by its public calls alone: an example to copy from.
 #![tactic(auto)]
 
-ghost use Rattle.std.specs.Prelude.{◌≡◌, false, ◌↔◌, ◌+◌, ◌<◌, ◌^◌, ◌++◌, ◌⊎◌, IsTrue, IfOk, IfErr, OnOk, Some, map};
-ghost use Rattle.std.specs.List.{sum_by, flat_map};
+ghost use Rattle.std.specs.Prelude.{◌≡◌, ◌≢◌, ℕ, false, ◌↔◌, ◌+◌, ◌<◌, ◌^◌, ◌++◌, ◌⊎◌, IsTrue, IfOk, IfErr, IfSome, OnOk, Some, map};
+ghost use Rattle.std.specs.List.{sum_by, flat_map, AllPairs, Contains};
 ghost use Rattle.hir_input.specs.Syntax.{syntax_view};
 ghost use Rattle.item_tree.specs.CrateView.{crate_view};
 ghost use Rattle.item_tree.specs.Kept.{kept_syntax};
-ghost use Rattle.item_tree.specs.Layout.{node_at};
+ghost use Rattle.item_tree.specs.Layout.{node_at, vis_at};
 ghost use Rattle.item_tree.specs.Node.{node_ast, count};
-ghost use Rattle.item_tree.specs.Shown.{IsContained, StandFor};
+ghost use Rattle.item_tree.specs.Reach.{child_ids, ids_from};
+ghost use Rattle.item_tree.specs.Shown.{HasVisibility, IsContained, StandFor, lent};
 ghost use Rattle.item_tree.specs.Size.{FitsWith, IsTooLarge};
-ghost use Rattle.item_tree.specs.Walk.{AreContained, count_at};
-ghost use Rattle.tree_walk.specs.Preorder.{children_at, preorder, Adds, preorder_at};
+ghost use Rattle.item_tree.specs.Walk.{AreContained, children_at, IsWalkedOnce, count_at};
+ghost use Rattle.tree_walk.specs.Preorder.{preorder};
 
 use hir_input::ast::Syntax;
 use hir_input::{FileAstId, Name};
-use item_tree::{CrateData, ItemTree, LowerError, ModItemId, ModItemKind, ModKind, lower_syntax};
+use item_tree::{
+    CrateData, ItemTree, LowerError, ModItemId, ModItemKind, ModKind, RawVisibilityId, lower_syntax,
+};
 use std::alloc::{AllocError, Global};
 
 /// The ids of the items that stand in an item, none where no item can.
-#[tactic(auto, using(item_tree::proofs::Walking::leaf_counts, item_tree::proofs::Walking::parent_counts, item_tree::proofs::Walking::children_contained))]
+#[tactic(auto, using(item_tree::proofs::Walking::leaf_counts, item_tree::proofs::Walking::parent_counts, item_tree::proofs::Walking::children_contained, item_tree::proofs::Walking::leaf_childless))]
 pub fn children(tree: &ItemTree, id: ModItemId) -> &[ModItemId]
     requires { IsContained tree.now id }
+    ensures ids { result.now ≡ child_ids tree.now id }
     ensures stand { StandFor tree.now result.now (children_at tree.now id) }
     ensures contained { AreContained tree.now result.now }
     ensures counts { count_at tree.now id ≡ 1 + sum_by (count_at tree.now) result.now }
@@ -68,12 +72,14 @@ fn count_one(tree: &ItemTree, id: ModItemId) -> usize
     1 + count_all(tree, children(tree, id))
 }
 
-/// The ids of all items of a tree, each before those that stand in it.
+/// The ids of all items of a tree, each once, and before those that stand in it.
 ///
 /// The only error is want of memory.
-#[tactic(auto, using(item_tree::proofs::Walking::ids_contained, item_tree::proofs::Walking::all_contained, crate::proofs::Below::preorder_ids))]
+#[tactic(auto, using(item_tree::proofs::Walking::ids_contained, crate::proofs::Below::preorder_ids))]
 pub fn preorder(alloc: Global, tree: &ItemTree) -> Result<Vec<ModItemId>, AllocError>
     ensures stand { IfOk result (λ ids. map (node_at tree.now.forest) ids.items ≡ map Some (preorder tree.now.forest)) }
+    ensures once { IfOk result (λ ids. AllPairs (λ i j. i ≢ j) ids.items) }
+    ensures all { IfOk result (λ ids. (id : ℕ) → IsContained tree.now id ↔ Contains ids.items id) }
     ensures contained { IfOk result (λ ids. AreContained tree.now ids.items) }
 {
     let mut found = Vec::new(alloc);
@@ -84,8 +90,9 @@ pub fn preorder(alloc: Global, tree: &ItemTree) -> Result<Vec<ModItemId>, AllocE
 // Items, and all that stand in them.
 #[cycle(add)]
 fn add_all(tree: &ItemTree, ids: &[ModItemId], found: &mut Vec<ModItemId>) -> Result<(), AllocError>
-    requires { AreContained tree.now ids.now }
-    ensures { OnOk result (Adds tree.now found.old.items (flat_map (preorder_at tree.now) ids.now) found.new.items) }
+    requires contained { AreContained tree.now ids.now }
+    requires walk { IsWalkedOnce tree.now }
+    ensures { OnOk result (found.new.items ≡ found.old.items ++ flat_map (ids_from tree.now) ids.now) }
 {
     for id in ids {
         add_one(tree, *id, found)?;
@@ -96,8 +103,9 @@ fn add_all(tree: &ItemTree, ids: &[ModItemId], found: &mut Vec<ModItemId>) -> Re
 // An item, and all that stand in it.
 #[cycle(add)]
 fn add_one(tree: &ItemTree, id: ModItemId, found: &mut Vec<ModItemId>) -> Result<(), AllocError>
-    requires { IsContained tree.now id }
-    ensures { OnOk result (Adds tree.now found.old.items (preorder_at tree.now id) found.new.items) }
+    requires contained { IsContained tree.now id }
+    requires walk { IsWalkedOnce tree.now }
+    ensures { OnOk result (found.new.items ≡ found.old.items ++ ids_from tree.now id) }
 {
     found.push(id)?;
     add_all(tree, children(tree, id), found)
@@ -115,6 +123,30 @@ pub fn outline(alloc: Global, tree: &ItemTree) -> Result<Vec<FileAstId>, AllocEr
         ast_ids.push(id.ast_id(tree))?;
     }
     Ok(ast_ids)
+}
+
+/// Whether two ids of visibilities stand for one.
+#[tactic(auto, using(item_tree::proofs::Walking::vis_id_once))]
+pub fn is_same_visibility(tree: &ItemTree, left: RawVisibilityId, right: RawVisibilityId) -> bool
+    requires { HasVisibility tree.now left }
+    ensures { IsTrue result ↔ (vis_at tree.now.forest left ≡ vis_at tree.now.forest right) }
+{
+    left == right
+}
+
+/// What two trees lend for an id, where they are equal: then they lend the same.
+pub fn both_items<'a>(
+    left: &'a ItemTree,
+    right: &'a ItemTree,
+    id: ModItemId,
+) -> Option<(ModItemKind<'a>, ModItemKind<'a>)>
+    requires { IsContained left.now id }
+    ensures { IfSome result (λ both. lent both.0 ≡ lent both.1) }
+{
+    if *left == *right {
+        return Some((left.index(id), right.index(id)));
+    }
+    None
 }
 
 /// Whether two syntaxes have the same tree, as files of a crate that are not its root: then they differ at

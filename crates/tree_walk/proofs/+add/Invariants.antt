@@ -1,7 +1,7 @@
-use Rattle.std.proofs.Common.{◌+◌, ◌*◌, take}
+use Rattle.std.proofs.Common.{◌≡◌, ◌+◌, ◌*◌, ◌++◌, take}
 use Rattle.std.specs.List.{sum_by, flat_map}
+use Rattle.item_tree.specs.Reach.{ids_from}
 use Rattle.item_tree.specs.Walk.{count_at}
-use Rattle.tree_walk.specs.Preorder.{Adds, preorder_at}
 use Rattle.tree_walk.proofs.+add.Given as goal
 
 abbrev pub decreases-add_all : goal.decreases-add_all
@@ -11,4 +11,4 @@ abbrev pub decreases-add_one : goal.decreases-add_one
 decreases-add_one l = 2 * count_at l.tree.now l.id
 
 abbrev pub invariant-add_all-loop-id : goal.invariant-add_all-loop-id
-invariant-add_all-loop-id l = Adds l.tree l.initial.found.items (flat_map (preorder_at l.tree) (take l.id-index l.ids)) l.found.items
+invariant-add_all-loop-id l = l.found.items ≡ l.initial.found.items ++ flat_map (ids_from l.tree) (take l.id-index l.ids)
