@@ -1,4 +1,4 @@
-pub mod Searched
+pub mod Mapped
 pub mod Lowered
 pub mod Counts
 pub mod Views

@@ -23,21 +23,6 @@ IsRising l = IsTrue (map.is_sorted nat_cmp l)
 abbrev pub put : {X : Type 0} → List (ℕ × X) → ℕ → X → List (ℕ × X)
 put l k v = map.put nat_cmp k v l
 
--- the entry of the number is at this place
-pub record IsAt {X : Type 0} (l : List (ℕ × X)) (k at : ℕ) : Type 0 where
-  pub in_range : at < length l
-  pub has : (d : ℕ × X) → (slice_index_or l at d).0 ≡ k
-  pub found : (d : ℕ × X) → find l k ≡ Some (slice_index_or l at d).1
-  pub puts : (v : X) → put l k v ≡ slice_set l at (k, v)
-  pub rises : (v : X) → IsRising (put l k v)
-
--- the number has no entry, and its place is this
-pub record IsGap {X : Type 0} (l : List (ℕ × X)) (k at : ℕ) : Type 0 where
-  pub in_range : at ≤ length l
-  pub absent : find l k ≡ None
-  pub puts : (v : X) → put l k v ≡ insert l at (k, v)
-  pub rises : (v : X) → IsRising (put l k v)
-
 -- each entry has a row for each crate
 abbrev pub HasRows : {S : Type 0} → ℕ → List (ℕ × Placed S) → Type 0
 HasRows count = AllByRecursion (λ slot. length slot.1.rows ≡ count)

@@ -2,10 +2,11 @@
 ghost use Rattle.std.specs.Prelude.{◌≡◌, [], length, Some, None, option_copied, IfOk, IfErr, IfSome, OnOk, OnErr};
 ghost use Rattle.item_tree_db.specs.State.{find};
 ghost use Rattle.item_tree_db.specs.Settled.{settled, cleared};
-ghost use Rattle.item_tree_db.specs.Slots.{put, IsAt, IsGap, set_to, removed, placed_or_nothing, row_in};
+ghost use Rattle.item_tree_db.specs.Slots.{put, set_to, removed, placed_or_nothing, row_in};
 
 use crate::rows::{Row, clear, first_rows, settle};
 use std::alloc::Global;
+use std::collections::BTreeMap;
 use std::marker::Model;
 
 /// What a place has: its present syntax, and a tree and a change number for each crate.
@@ -58,6 +59,12 @@ impl<S: Drop> Entry<S> {
         settle(&mut self.rows, fresh, number);
     }
 
+    fn into_syntax(self) -> Option<S>
+        ensures { result ≡ self.syntax }
+    {
+        self.syntax
+    }
+
     fn remove(&mut self, alloc: Global, number: u64)
         ensures { self.new ≡ record { syntax = None; rows = cleared number self.old.rows } }
     {
@@ -69,7 +76,7 @@ impl<S: Drop> Entry<S> {
 /// Entries by number.
 #[derive(Drop)]
 pub struct Shelf<S> {
-    slots: Vec<(u32, Entry<S>)>,
+    slots: BTreeMap<u32, Entry<S>>,
 }
 
 impl<S> Model for Shelf<S> {
@@ -81,9 +88,9 @@ impl<S> Model for Shelf<S> {
 
     ghost coded = { slots_code S.code };
 
-    ghost view = { λ a. a.slots.items };
+    ghost view = { λ a. a.slots.entries };
 
-    ghost invariant = { λ a. IsRising a.slots.items };
+    ghost invariant = { λ a. IsRising a.slots.entries };
 }
 
 impl<S> Shelf<S> {
@@ -91,25 +98,15 @@ impl<S> Shelf<S> {
         ensures { result ≡ [] }
     {
         Shelf {
-            slots: Vec::new(alloc),
+            slots: BTreeMap::new(alloc),
         }
     }
 
-    // Where the number is, or where it would go.
-    fn search(&self, key: u32) -> Result<usize, usize>
-        ensures found { IfOk result (IsAt self.now key) }
-        ensures absent { IfErr result (IsGap self.now key) }
-    {
-        self.slots.binary_search_by_key(&key, |slot| slot.0)
-    }
-
+    #[tactic(auto, using(crate::proofs::Mapped::found))]
     pub fn get(&self, key: u32) -> Option<&Entry<S>>
         ensures { option_copied result ≡ find self.now key }
     {
-        match self.search(key) {
-            Ok(at) => Some(&self.slots[at].1),
-            Err(_) => None,
-        }
+        self.slots.get(&key)
     }
 
     pub fn row(&self, key: u32, index: usize) -> Option<&Row>
@@ -138,23 +135,22 @@ impl<S: Drop> Shelf<S> {
         ensures err { OnErr result (self.new ≡ self.old) }
         ensures returned { IfErr result (λ back. back ≡ syntax) }
     {
-        match self.search(key) {
-            Ok(at) => {
-                let entry = &mut self.slots[at].1;
+        match self.slots.get_mut(&key) {
+            Some(entry) => {
                 entry.set(syntax, fresh, number);
                 Ok(())
             }
-            Err(at) => {
+            None => {
                 let Ok(rows) = first_rows(alloc, fresh, start, number) else {
                     return Err(syntax);
                 };
-                let Ok(()) = self.slots.reserve(1) else {
-                    return Err(syntax);
-                };
-                self.slots
-                    .insert(at, (key, Entry::new(syntax, rows)))
-                    .unwrap();
-                Ok(())
+                match self.slots.insert(key, Entry::new(syntax, rows)) {
+                    Ok(_) => Ok(()),
+                    Err(failed) => {
+                        let (_, entry) = failed.value;
+                        Err(entry.into_syntax().unwrap())
+                    }
+                }
             }
         }
     }
@@ -163,9 +159,9 @@ impl<S: Drop> Shelf<S> {
     pub fn remove(&mut self, alloc: Global, key: u32, number: u64)
         ensures { self.new ≡ removed number self.old key (find self.old key) }
     {
-        if let Ok(at) = self.search(key) {
-            let entry = &mut self.slots[at].1;
-            entry.remove(alloc, number);
-        }
+        let Some(entry) = self.slots.get_mut(&key) else {
+            return;
+        };
+        entry.remove(alloc, number);
     }
 }

@@ -1,13 +1,33 @@
-use Rattle.std.proofs.Common.{Some, sym, ap, ◌∙◌, length}
-use Rattle.item_tree_db.specs.Slots.{put, set_to, placed_or_nothing}
-use Rattle.item_tree_db.proofs.Searched.{written}
+use Rattle.std.proofs.Common.{◌≡◌, Some, None, IfSome, sym, ap, subst, ◌∙◌, length}
+use Rattle.item_tree_db.specs.State.{find}
+use Rattle.item_tree_db.specs.Slots.{IsRising, put, set_to, placed_or_nothing}
+use Rattle.item_tree_db.proofs.Mapped.{found, written, added}
 use Rattle.item_tree_db.proofs.shelf.Shelf.set.Goals as goal
 
-pub invariant_of-self : goal.invariant_of-self
-invariant_of-self g c = (written _ _ _ _ c.index_mut.result.now c.set.new.self c.in-Ok.ensures.found c.self.view_is c.index_mut.ensures.value).rising
+pub set-requires : goal.set-requires
+set-requires g c =
+    let here = c.in-Some.ensures.value ∙ found c.args.key c.self.inside.slots.entries ∙ ap (λ l. find l c.args.key) c.self.view_is in
+    subst (λ o. IfSome o (λ entry. length c.args.fresh.items ≡ length entry.rows)) (sym here) c.requires
 
-pub returns-in-Ok-clause-ok : goal.returns-in-Ok-clause-ok
-returns-in-Ok-clause-ok g c =
-    let w = written _ _ _ _ c.index_mut.result.now c.set.new.self c.in-Ok.ensures.found c.self.view_is c.index_mut.ensures.value in
+pub invariant_of-self : goal.invariant_of-self
+invariant_of-self g c =
+    let writes = c.get_mut.follows.holds c.set.new.self in
+    (written c.args.self.now c.self.inside.slots.entries (c.get_mut.follows.lender c.set.new.self).entries c.args.key c.in-Some.entry.now c.set.new.self (subst IsRising c.self.view_is c.self.invariant) c.self.view_is c.in-Some.ensures.value writes.0).rising
+
+pub returns-in-Some-clause-ok : goal.returns-in-Some-clause-ok
+returns-in-Some-clause-ok g c =
+    let writes = c.get_mut.follows.holds c.set.new.self in
+    let w = written c.args.self.now c.self.inside.slots.entries (c.get_mut.follows.lender c.set.new.self).entries c.args.key c.in-Some.entry.now c.set.new.self (subst IsRising c.self.view_is c.self.invariant) c.self.view_is c.in-Some.ensures.value writes.0 in
     w.is ∙ ap (put c.args.self.now c.args.key) c.set.ensures
     ∙ ap (λ o. put c.args.self.now c.args.key (set_to c.args.number (Some c.args.syntax) c.args.fresh.items (placed_or_nothing c.args.start (length c.args.fresh.items) o))) (sym w.found)
+
+pub invariant_of-self-in-Ok-insert : goal.invariant_of-self-in-Ok-insert
+invariant_of-self-in-Ok-insert g c =
+    (added c.args.self.now c.self.inside.slots.entries c.get_mut.follows.lender-at-none.entries c.insert.new.self.entries c.args.key c.new.result (subst IsRising c.self.view_is c.self.invariant) c.self.view_is (ap (λ m. m.entries) c.get_mut.follows.holds-at-none) c.in-None.ensures.value c.in-Ok-insert.ensures.entries).rising
+
+pub returns-in-Ok-insert-clause-ok : goal.returns-in-Ok-insert-clause-ok
+returns-in-Ok-insert-clause-ok g c =
+    let a = added c.args.self.now c.self.inside.slots.entries c.get_mut.follows.lender-at-none.entries c.insert.new.self.entries c.args.key c.new.result (subst IsRising c.self.view_is c.self.invariant) c.self.view_is (ap (λ m. m.entries) c.get_mut.follows.holds-at-none) c.in-None.ensures.value c.in-Ok-insert.ensures.entries in
+    let made : c.new.result ≡ set_to c.args.number (Some c.args.syntax) c.args.fresh.items (placed_or_nothing c.args.start (length c.args.fresh.items) None) = c.new.ensures ∙ ap (λ rows. record { syntax = Some c.args.syntax; rows = rows }) c.in-Ok.ensures in
+    a.is ∙ ap (put c.args.self.now c.args.key) made
+    ∙ ap (λ o. put c.args.self.now c.args.key (set_to c.args.number (Some c.args.syntax) c.args.fresh.items (placed_or_nothing c.args.start (length c.args.fresh.items) o))) (sym a.absent)
