@@ -1,5 +1,5 @@
 -- What is found in a value nests less deep, and a form that looks inside reads itself.
-use Rattle.std.proofs.Common.{◌≡◌, ℕ, zero, suc, ◌+◌, ◌<◌, ◌≤◌, max, List, [], ◌∷◌, Option, Some, None, option_map, option_and_then, unwrap_or, length, get_or, Ordering, Less, Equal, Greater, refl, sym, ap, ◌∙◌, arith, rules}
+use Rattle.std.proofs.Common.{◌≡◌, ℕ, zero, suc, ◌+◌, ◌<◌, ◌≤◌, max, List, [], ◌∷◌, Option, Some, None, option_map, option_and_then, unwrap_or, length, get_or, Ordering, Less, Equal, Greater, false, bytes_eq, refl, sym, ap, ◌∙◌, arith, rules}
 use Rattle.std.specs.Ordering.{nat_cmp, match_ordering}
 use Rattle.std.specs.Cmp.Lexicographic.{slice_cmp}
 use Rattle.serde_json.specs.View.{view, items_view}
@@ -7,6 +7,8 @@ use Rattle.serde_json.specs.declared.value.Value.{Value}
 use Rattle.serde_json.specs.Data.{Data, null, boolean, number, string, array, object, Items, no_items, item, Members, no_members, member, depth, items_depth, members_depth}
 use Rattle.serde_json.specs.Find.{get, get_member, as_array}
 use Rattle.item_tree_tool.specs.Forms.{field, unless_null, list_of, list_at, each, maybe, optional, required, by_first}
+use Rattle.item_tree_tool.specs.Held.{without}
+use Rattle.item_tree_tool.proofs.Held.{field_without}
 use Rattle.item_tree_tool.proofs.Laws.{AgreeBelow, LooksInside, ReadsItself}
 use Rattle.item_tree_tool.specs.Nested.{nested, nested_at}
 
@@ -137,3 +139,47 @@ depth_found (Some e) n vs i v less h l = let inner = depth_item e vs i v h l in 
 -- the same where no list is an empty one
 pub depth_listed_at : (key : List ℕ) (d : Data) (vs : List Value) (i : ℕ) (v : Value) → optional no_items as_array (field key d) ≡ Some (items_view vs) → i < length vs → depth (view (get_or vs i v)) + 1 < depth d
 depth_listed_at key d vs i v h l = depth_found (field key d) (depth d) vs i v (depth_field key d) h l
+
+-- ---- what was taken out
+
+-- one more than the depth of what was found, or 0
+abbrev pub depth_of : Option Data → ℕ
+depth_of None = 0
+depth_of (Some e) = suc (depth e)
+
+pub depth_array : (d : Data) (ds : Items) → as_array d ≡ Some ds → depth d ≡ suc (items_depth ds)
+depth_array (array es) ds h = ap (λ o. suc (unwrap_or (option_map items_depth o) 0)) h
+depth_array null ds h = absurd cc
+depth_array (boolean b) ds h = absurd cc
+depth_array (number n) ds h = absurd cc
+depth_array (string s) ds h = absurd cc
+depth_array (object ms) ds h = absurd cc
+
+found_within : (found : Option Data) (n : ℕ) → ((e : Data) → found ≡ Some e → depth e < n) → depth_of found ≤ n
+found_within None n less = omega arith
+found_within (Some e) n less = less e refl
+
+pub depth_found_in : (key : List ℕ) (d : Data) → depth_of (field key d) ≤ depth d
+depth_found_in key d = found_within (field key d) (depth d) (depth_field key d)
+
+pub depth_found_get : (key : List ℕ) (ms : Members) → depth_of (get_member key ms) ≤ suc (members_depth ms)
+depth_found_get key ms = found_within (get_member key ms) (suc (members_depth ms)) (λ e h. let within = depth-get_member key ms e h in omega (arith, within))
+
+-- an array in a member
+pub depth_items_in : (key : List ℕ) (d e : Data) (ds : Items) → field key d ≡ Some e → as_array e ≡ Some ds → items_depth ds + 1 < depth d
+depth_items_in key d e ds h k = let inner = depth_array e ds k in let outer = depth_field key d e h in omega (arith, inner, outer)
+
+listed_within : (found : Option Data) (n : ℕ) (ds : Items) → ((e : Data) → found ≡ Some e → depth e < suc n) → optional no_items as_array found ≡ Some ds → items_depth ds < suc n
+listed_within None n ds less h = let none : items_depth ds ≡ 0 = sym (ap (λ o. unwrap_or (option_map items_depth o) 0) h) in omega (arith, none)
+listed_within (Some e) n ds less h = let inner = depth_array e ds h in let outer = less e refl in omega (arith, inner, outer)
+
+-- the same where no list is an empty one
+pub depth_listed_in : (key : List ℕ) (ms : Members) (ds : Items) → optional no_items as_array (field key (object ms)) ≡ Some ds → items_depth ds < depth (object ms)
+depth_listed_in key ms ds h = listed_within (field key (object ms)) (members_depth ms) ds (depth_field key (object ms)) h
+
+-- the same after one member, or two, were taken out
+pub depth_after : (key other : List ℕ) (d e v : Data) → e ≡ without other d → bytes_eq key other ≡ false → Some v ≡ field key e → depth v < depth d
+depth_after key other d e v is apart found = depth_field key d v (sym (found ∙ ap (field key) is ∙ field_without key other d apart))
+
+pub depth_after_two : (key other more : List ℕ) (d e g v : Data) → e ≡ without other d → g ≡ without more e → bytes_eq key other ≡ false → bytes_eq key more ≡ false → Some v ≡ field key g → depth v < depth d
+depth_after_two key other more d e g v is later apart apart_more found = depth_after key other d e v is apart (found ∙ ap (field key) later ∙ field_without key more e apart_more)

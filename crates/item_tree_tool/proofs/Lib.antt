@@ -1,4 +1,5 @@
 pub mod Attrs
+pub mod Held
 pub mod ImportLists
 pub mod Inside
 pub mod Items

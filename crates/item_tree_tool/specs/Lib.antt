@@ -1,4 +1,5 @@
 pub mod Forms
+pub mod Held
 pub mod Nested
 pub mod Paths
 pub mod Cfgs

@@ -39,7 +39,7 @@ fn read_request(alloc: Global, bytes: &[u8]) -> Result<Request, RunError>
     ensures known { IfOk result KnowsShows }
 {
     let value = value_of(alloc, bytes)?;
-    match request_of(alloc, &value) {
+    match request_of(alloc, value) {
         Ok(request) => Ok(request),
         Err(Fault::NotRequest) => Err(RunError::NotRequest),
         Err(Fault::OutOfMemory) => Err(RunError::OutOfMemory),

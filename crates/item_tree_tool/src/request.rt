@@ -1,6 +1,10 @@
 //! The request that a run reads.
-ghost use Rattle.std.specs.Prelude.{◌≡◌, IfOk};
+ghost use Rattle.std.specs.Prelude.{◌≡◌, ◌^◌, None, Some, IfOk, OnOk, MatchResult, codes};
 ghost use Rattle.serde_json.specs.View.{view};
+ghost use Rattle.item_tree_tool.specs.Editions.{edition as edition_form, edition_view, latest};
+ghost use Rattle.item_tree_tool.specs.Forms.{field as field_of, optional, whole, name as name_form, list_at as each_at};
+ghost use Rattle.item_tree_tool.specs.Held.{held, without};
+ghost use Rattle.item_tree_tool.specs.declared.request.fault.Fault.TheVariants.{NotRequest};
 ghost use Rattle.item_tree_tool.specs.Reads.{Reads};
 ghost use Rattle.item_tree_tool.specs.Seen.{request_view, KnowsShows};
 ghost use Rattle.item_tree_tool.specs.Requests.{request as request_form, parts as parts_form};
@@ -29,13 +33,13 @@ use crate::request::edit::edits_at;
 use crate::request::edition::edition_at;
 use crate::request::fault::Fault;
 use crate::request::float::has_float;
-use crate::request::member::{list_at, u64_at};
-use crate::request::name::names_of;
+use crate::request::member::{members_of, u64_at};
+use crate::request::name::names_at;
 use crate::request::show::{Show, shows_at};
 use hir_input::{Edition, Name};
 use item_tree::CrateData;
 use item_tree_db::Edit;
-use serde_json::Value;
+use serde_json::{Map, Value};
 use std::alloc::Global;
 
 // The edits of a new table, and what is to be shown after them.
@@ -49,19 +53,48 @@ pub(crate) struct Request {
     pub(crate) shows: Vec<Show>,
 }
 
-fn parts_of(alloc: Global, value: &Value) -> Result<Request, Fault>
-    ensures reads { Reads request_view result (parts_form (view value.now)) }
+// What does not hold of one crate or file alone.
+#[derive(Drop)]
+struct Settings {
+    start: u64,
+    skipped: Vec<Name>,
+    edition: Edition,
+}
+
+// Takes the settings out.
+#[tactic(auto, using(crate::proofs::Held::field_without))]
+fn settings_at(alloc: Global, members: &mut Map<String, Value>) -> Result<Settings, Fault>
+    ensures reads { MatchResult result
+        (λ s. (optional 0 (whole (2 ^ 64)) (field_of (codes "start") (held members.old)) ≡ Some s.start)
+        × (each_at name_form (codes "skipped") (held members.old) ≡ Some s.skipped.items)
+        × (optional latest edition_form (field_of (codes "edition") (held members.old)) ≡ Some (edition_view s.edition)))
+        (λ e. e ≡ NotRequest → parts_form (held members.old) ≡ None) }
+    ensures left { OnOk result (held members.new ≡ without (codes "edition") (without (codes "skipped") (held members.old))) }
+{
+    let start = u64_at(members, "start")?;
+    let skipped = names_at(alloc, members, "skipped")?;
+    let edition = edition_at(alloc, members)?;
+    Ok(Settings {
+        start,
+        skipped,
+        edition,
+    })
+}
+
+#[tactic(auto, using(crate::proofs::Held::field_without))]
+fn parts_of(alloc: Global, members: &mut Map<String, Value>) -> Result<Request, Fault>
+    ensures reads { Reads request_view result (parts_form (held members.old)) }
     ensures known { IfOk result KnowsShows }
 {
-    if !value.is_object() {
-        return Err(Fault::NotRequest);
-    }
-    let start = u64_at(value, "start")?;
-    let skipped = names_of(alloc, list_at(value, "skipped")?)?;
-    let edition = edition_at(alloc, value)?;
-    let crates = crates_at(alloc, value)?;
-    let edits = edits_at(alloc, value)?;
-    let shows = shows_at(alloc, value, crates.len())?;
+    let settings = settings_at(alloc, members)?;
+    let crates = crates_at(alloc, members)?;
+    let edits = edits_at(alloc, members)?;
+    let shows = shows_at(alloc, members, &crates)?;
+    let Settings {
+        start,
+        skipped,
+        edition,
+    } = settings;
     Ok(Request {
         start,
         skipped,
@@ -73,12 +106,13 @@ fn parts_of(alloc: Global, value: &Value) -> Result<Request, Fault>
 }
 
 #[tactic(auto, unfolding(crate::specs::Requests::request))]
-pub(crate) fn request_of(alloc: Global, value: &Value) -> Result<Request, Fault>
-    ensures reads { Reads request_view result (request_form (view value.now)) }
+pub(crate) fn request_of(alloc: Global, value: Value) -> Result<Request, Fault>
+    ensures reads { Reads request_view result (request_form (view value)) }
     ensures known { IfOk result KnowsShows }
 {
-    if has_float(value) {
+    if has_float(&value) {
         return Err(Fault::NotRequest);
     }
-    parts_of(alloc, value)
+    let mut members = members_of(value)?;
+    parts_of(alloc, &mut members)
 }

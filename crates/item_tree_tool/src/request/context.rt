@@ -1,13 +1,14 @@
 //! Syntax contexts, read from their forms.
 ghost use Rattle.std.specs.Prelude.{◌≡◌};
 ghost use Rattle.serde_json.specs.View.{view};
+ghost use Rattle.item_tree_tool.specs.Held.{held};
 ghost use Rattle.item_tree_tool.specs.Literals.{context as context_form, context_at as context_at_form};
 ghost use Rattle.item_tree_tool.specs.Reads.{Reads};
 
 use crate::request::fault::Fault;
 use crate::request::member::{field, u32_of};
 use hir_input::{EditionYear, SyntaxContext};
-use serde_json::Value;
+use serde_json::{Map, Value};
 
 fn context_of(value: &Value) -> Result<SyntaxContext, Fault>
     ensures { Reads (λ ctxt. ctxt) result (context_form (view value.now)) }
@@ -23,10 +24,10 @@ fn context_of(value: &Value) -> Result<SyntaxContext, Fault>
 }
 
 // The latest root where it is absent.
-pub(crate) fn context_at(value: &Value) -> Result<SyntaxContext, Fault>
-    ensures { Reads (λ ctxt. ctxt) result (context_at_form (view value.now)) }
+pub(crate) fn context_at(members: &Map<String, Value>) -> Result<SyntaxContext, Fault>
+    ensures { Reads (λ ctxt. ctxt) result (context_at_form (held members.now)) }
 {
-    match field(value, "ctxt") {
+    match field(members, "ctxt") {
         Some(found) => context_of(found),
         None => Ok(SyntaxContext::Root(EditionYear::E2024)),
     }

@@ -1,35 +1,50 @@
 //! Crates, read from their forms.
-ghost use Rattle.std.specs.Prelude.{◌≡◌, codes, map};
-ghost use Rattle.serde_json.specs.View.{view};
+ghost use Rattle.std.specs.Prelude.{◌≡◌, OnOk, codes, map};
+ghost use Rattle.serde_json.specs.View.{view, items_view};
 ghost use Rattle.item_tree.specs.CrateView.{crate_view};
 ghost use Rattle.item_tree_tool.specs.Edits.{crate_data as crate_form};
-ghost use Rattle.item_tree_tool.specs.Forms.{list_at as each_at};
+ghost use Rattle.item_tree_tool.specs.Forms.{each, list_at as each_at};
+ghost use Rattle.item_tree_tool.specs.Held.{held, without};
 ghost use Rattle.item_tree_tool.specs.Reads.{Reads};
 
 use crate::request::atom::atoms_at;
 use crate::request::fault::Fault;
-use crate::request::member::{id_at, list_at};
+use crate::request::member::{id_at, list_at, members_of};
 use crate::request::meta::attrs_at;
 use hir_input::{CfgOptions, HirFileId};
 use item_tree::CrateData;
-use serde_json::Value;
+use serde_json::{Map, Value};
 use std::alloc::Global;
 
-fn crate_of(alloc: Global, value: &Value) -> Result<CrateData, Fault>
-    ensures { Reads crate_view result (crate_form (view value.now)) }
+#[tactic(auto, using(crate::proofs::Held::field_without, crate::proofs::Held::no_field))]
+fn crate_of(alloc: Global, value: Value) -> Result<CrateData, Fault>
+    ensures { Reads crate_view result (crate_form (view value)) }
 {
-    let root = HirFileId(id_at(value, "root")?);
-    let cfg = CfgOptions::new(atoms_at(alloc, value, "cfg")?);
-    let attrs = attrs_at(alloc, value)?;
+    let mut members = members_of(value)?;
+    let root = HirFileId(id_at(&members, "root")?);
+    let cfg = CfgOptions::new(atoms_at(alloc, &mut members, "cfg")?);
+    let attrs = attrs_at(alloc, &mut members)?;
     Ok(CrateData { root, cfg, attrs })
 }
 
-pub(crate) fn crates_at(alloc: Global, value: &Value) -> Result<Vec<CrateData>, Fault>
-    ensures { Reads (λ v. map crate_view v.items) result (each_at crate_form (codes "crates") (view value.now)) }
+fn crates_of(alloc: Global, items: Vec<Value>) -> Result<Vec<CrateData>, Fault>
+    ensures { Reads (λ v. map crate_view v.items) result (each crate_form (items_view items.items)) }
 {
     let mut crates = Vec::new(alloc);
-    for item in list_at(value, "crates")? {
+    for item in items {
         crates.push(crate_of(alloc, item)?)?;
     }
     Ok(crates)
+}
+
+// Takes the crates out.
+pub(crate) fn crates_at(
+    alloc: Global,
+    members: &mut Map<String, Value>,
+) -> Result<Vec<CrateData>, Fault>
+    ensures reads { Reads (λ v. map crate_view v.items) result (each_at crate_form (codes "crates") (held members.old)) }
+    ensures left { OnOk result (held members.new ≡ without (codes "crates") (held members.old)) }
+{
+    let items = list_at(alloc, members, "crates")?;
+    crates_of(alloc, items)
 }

@@ -1,47 +1,59 @@
 //! Edits, read from their forms.
-ghost use Rattle.std.specs.Prelude.{◌≡◌, codes, map};
-ghost use Rattle.serde_json.specs.View.{view};
+ghost use Rattle.std.specs.Prelude.{◌≡◌, OnOk, codes, map};
+ghost use Rattle.serde_json.specs.View.{view, items_view};
 ghost use Rattle.item_tree_db.specs.Edits.{edit_view};
 ghost use Rattle.item_tree_tool.specs.Edits.{edit as edit_form, set_file_edit};
-ghost use Rattle.item_tree_tool.specs.Forms.{list_at as each_at};
+ghost use Rattle.item_tree_tool.specs.Forms.{each, list_at as each_at};
+ghost use Rattle.item_tree_tool.specs.Held.{held, without};
 ghost use Rattle.item_tree_tool.specs.Reads.{Reads};
 
 use crate::request::fault::Fault;
-use crate::request::member::{field, id_at, list_at, word_at};
+use crate::request::member::{id_at, list_at, members_of, taken, word_at};
 use crate::request::syntax::syntax_of;
 use hir_input::HirFileId;
 use item_tree_db::Edit;
-use serde_json::Value;
+use serde_json::{Map, Value};
 use std::alloc::Global;
 
-fn set_file_of(alloc: Global, value: &Value) -> Result<Edit, Fault>
-    ensures { Reads edit_view result (set_file_edit (view value.now)) }
+fn set_file_of(alloc: Global, members: &mut Map<String, Value>) -> Result<Edit, Fault>
+    ensures { Reads edit_view result (set_file_edit (held members.old)) }
 {
-    let file = HirFileId(id_at(value, "file")?);
-    let syntax = field(value, "syntax").ok_or(Fault::NotRequest)?;
+    let file = HirFileId(id_at(members, "file")?);
+    let syntax = taken(members, "syntax").ok_or(Fault::NotRequest)?;
     let syntax = syntax_of(alloc, syntax)?;
     Ok(Edit::SetFile { file, syntax })
 }
 
-fn edit_of(alloc: Global, value: &Value) -> Result<Edit, Fault>
-    ensures { Reads edit_view result (edit_form (view value.now)) }
+#[tactic(auto, using(crate::proofs::Held::no_field))]
+fn edit_of(alloc: Global, value: Value) -> Result<Edit, Fault>
+    ensures { Reads edit_view result (edit_form (view value)) }
 {
-    match word_at(value, "edit")? {
-        "set_file" => set_file_of(alloc, value),
+    let mut members = members_of(value)?;
+    match word_at(&members, "edit")? {
+        "set_file" => set_file_of(alloc, &mut members),
         "remove_file" => {
-            let file = HirFileId(id_at(value, "file")?);
+            let file = HirFileId(id_at(&members, "file")?);
             Ok(Edit::RemoveFile { file })
         }
         _ => Err(Fault::NotRequest),
     }
 }
 
-pub(crate) fn edits_at(alloc: Global, value: &Value) -> Result<Vec<Edit>, Fault>
-    ensures { Reads (λ v. map edit_view v.items) result (each_at edit_form (codes "edits") (view value.now)) }
+fn edits_of(alloc: Global, items: Vec<Value>) -> Result<Vec<Edit>, Fault>
+    ensures { Reads (λ v. map edit_view v.items) result (each edit_form (items_view items.items)) }
 {
-    let mut edits = Vec::new(alloc);
-    for item in list_at(value, "edits")? {
+    let mut edits = Vec::with_capacity(alloc, items.len())?;
+    for item in items {
         edits.push(edit_of(alloc, item)?)?;
     }
     Ok(edits)
+}
+
+// Takes the edits out.
+pub(crate) fn edits_at(alloc: Global, members: &mut Map<String, Value>) -> Result<Vec<Edit>, Fault>
+    ensures reads { Reads (λ v. map edit_view v.items) result (each_at edit_form (codes "edits") (held members.old)) }
+    ensures left { OnOk result (held members.new ≡ without (codes "edits") (held members.old)) }
+{
+    let items = list_at(alloc, members, "edits")?;
+    edits_of(alloc, items)
 }

@@ -1,23 +1,24 @@
 //! Editions, read from their forms.
-ghost use Rattle.std.specs.Prelude.{◌≡◌, codes};
+ghost use Rattle.std.specs.Prelude.{◌≡◌, OnOk, codes};
 ghost use Rattle.serde_json.specs.View.{view};
 ghost use Rattle.hir_input.specs.declared.edition.EditionYear.TheVariants.{E2024};
 ghost use Rattle.item_tree_tool.specs.Editions.{edition as edition_form, edition_view, latest, year as year_form};
 ghost use Rattle.item_tree_tool.specs.Forms.{field as field_of, optional};
+ghost use Rattle.item_tree_tool.specs.Held.{held, without};
 ghost use Rattle.item_tree_tool.specs.Reads.{Reads};
 
 use crate::request::fault::Fault;
-use crate::request::member::{field, list_at};
-use crate::request::name::names_of;
+use crate::request::member::{field, members_of, taken};
+use crate::request::name::names_at;
 use hir_input::{Edition, EditionYear};
-use serde_json::Value;
+use serde_json::{Map, Value};
 use std::alloc::Global;
 
 // The latest year where it is absent.
-fn year_at(value: &Value) -> Result<EditionYear, Fault>
-    ensures { Reads (λ year. year) result (optional E2024 year_form (field_of (codes "year") (view value.now))) }
+fn year_at(members: &Map<String, Value>) -> Result<EditionYear, Fault>
+    ensures { Reads (λ year. year) result (optional E2024 year_form (field_of (codes "year") (held members.now))) }
 {
-    let Some(year) = field(value, "year") else {
+    let Some(year) = field(members, "year") else {
         return Ok(EditionYear::E2024);
     };
     match year.as_u64() {
@@ -29,22 +30,22 @@ fn year_at(value: &Value) -> Result<EditionYear, Fault>
     }
 }
 
-fn edition_of(alloc: Global, value: &Value) -> Result<Edition, Fault>
-    ensures { Reads edition_view result (edition_form (view value.now)) }
+#[tactic(auto, using(crate::proofs::Held::field_without))]
+fn edition_of(alloc: Global, value: Value) -> Result<Edition, Fault>
+    ensures { Reads edition_view result (edition_form (view value)) }
 {
-    if !value.is_object() {
-        return Err(Fault::NotRequest);
-    }
-    let year = year_at(value)?;
-    let reserved = names_of(alloc, list_at(value, "reserved")?)?;
+    let mut members = members_of(value)?;
+    let year = year_at(&members)?;
+    let reserved = names_at(alloc, &mut members, "reserved")?;
     Ok(Edition { year, reserved })
 }
 
 // The latest edition, without reserved words, where it is absent.
-pub(crate) fn edition_at(alloc: Global, value: &Value) -> Result<Edition, Fault>
-    ensures { Reads edition_view result (optional latest edition_form (field_of (codes "edition") (view value.now))) }
+pub(crate) fn edition_at(alloc: Global, members: &mut Map<String, Value>) -> Result<Edition, Fault>
+    ensures reads { Reads edition_view result (optional latest edition_form (field_of (codes "edition") (held members.old))) }
+    ensures left { OnOk result (held members.new ≡ without (codes "edition") (held members.old)) }
 {
-    match field(value, "edition") {
+    match taken(members, "edition") {
         Some(edition) => edition_of(alloc, edition),
         None => Ok(Edition {
             year: EditionYear::E2024,

@@ -1,38 +1,32 @@
 //! Literals, read from their forms.
-ghost use Rattle.std.specs.Prelude.{◌≡◌, codes};
+ghost use Rattle.std.specs.Prelude.{◌≡◌, OnOk, codes};
 ghost use Rattle.serde_json.specs.Find.{as_str};
 ghost use Rattle.serde_json.specs.View.{view};
 ghost use Rattle.item_tree_tool.specs.Forms.{field as field_of, maybe, optional, required};
+ghost use Rattle.item_tree_tool.specs.Held.{held, without};
 ghost use Rattle.item_tree_tool.specs.Literals.{literal as literal_form, span as span_form, span_of as span_from};
 ghost use Rattle.item_tree_tool.specs.Reads.{Reads};
 
 use crate::request::fault::Fault;
-use crate::request::member::{field, u32_of};
+use crate::request::member::{field, members_of, taken, text_of, u32_of};
 use hir_input::{Literal, Span, SyntaxContext, Text};
-use serde_json::Value;
-use std::alloc::Global;
+use serde_json::{Map, Value};
 
-fn text_of(alloc: Global, value: &Value) -> Result<Text, Fault>
-    ensures { Reads (λ text. text) result (as_str (view value.now)) }
+// A text that has to be there, taken out.
+pub(crate) fn required_text_at(members: &mut Map<String, Value>, key: &str) -> Result<Text, Fault>
+    ensures reads { Reads (λ text. text) result (required as_str (field_of key.now (held members.old))) }
+    ensures left { OnOk result (held members.new ≡ without key.now (held members.old)) }
 {
-    let text = value.as_str().ok_or(Fault::NotRequest)?;
-    let text = String::from_str(alloc, text)?;
-    Ok(Text::from(text))
+    let found = taken(members, key).ok_or(Fault::NotRequest)?;
+    Ok(Text::from(text_of(found)?))
 }
 
-// A text that has to be there.
-pub(crate) fn required_text_at(alloc: Global, value: &Value, key: &str) -> Result<Text, Fault>
-    ensures { Reads (λ text. text) result (required as_str (field_of key.now (view value.now))) }
+fn string_at(members: &mut Map<String, Value>) -> Result<Option<Text>, Fault>
+    ensures reads { Reads (λ text. text) result (maybe as_str (field_of (codes "string") (held members.old))) }
+    ensures left { OnOk result (held members.new ≡ without (codes "string") (held members.old)) }
 {
-    let found = field(value, key).ok_or(Fault::NotRequest)?;
-    text_of(alloc, found)
-}
-
-fn string_at(alloc: Global, value: &Value) -> Result<Option<Text>, Fault>
-    ensures { Reads (λ text. text) result (maybe as_str (field_of (codes "string") (view value.now))) }
-{
-    match field(value, "string") {
-        Some(found) => Ok(Some(text_of(alloc, found)?)),
+    match taken(members, "string") {
+        Some(found) => Ok(Some(Text::from(text_of(found)?))),
         None => Ok(None),
     }
 }
@@ -52,10 +46,10 @@ fn span_of(value: &Value, ctxt: SyntaxContext) -> Result<Span, Fault>
 }
 
 // Empty at 0 where it is absent.
-fn span_at(value: &Value, ctxt: SyntaxContext) -> Result<Span, Fault>
-    ensures { Reads (λ span. span) result (optional (span_from ctxt 0 0) (span_form ctxt) (field_of (codes "span") (view value.now))) }
+fn span_at(members: &Map<String, Value>, ctxt: SyntaxContext) -> Result<Span, Fault>
+    ensures { Reads (λ span. span) result (optional (span_from ctxt 0 0) (span_form ctxt) (field_of (codes "span") (held members.now))) }
 {
-    match field(value, "span") {
+    match field(members, "span") {
         Some(found) => span_of(found, ctxt),
         None => Ok(Span {
             start: 0,
@@ -65,12 +59,14 @@ fn span_at(value: &Value, ctxt: SyntaxContext) -> Result<Span, Fault>
     }
 }
 
-fn literal_of(alloc: Global, value: &Value, ctxt: SyntaxContext) -> Result<Literal, Fault>
-    ensures { Reads (λ literal. literal) result (literal_form ctxt (view value.now)) }
+#[tactic(auto, using(crate::proofs::Held::field_without, crate::proofs::Held::no_field))]
+fn literal_of(value: Value, ctxt: SyntaxContext) -> Result<Literal, Fault>
+    ensures { Reads (λ literal. literal) result (literal_form ctxt (view value)) }
 {
-    let rendered = required_text_at(alloc, value, "rendered")?;
-    let string = string_at(alloc, value)?;
-    let span = span_at(value, ctxt)?;
+    let mut members = members_of(value)?;
+    let rendered = required_text_at(&mut members, "rendered")?;
+    let string = string_at(&mut members)?;
+    let span = span_at(&members, ctxt)?;
     Ok(Literal {
         rendered,
         string,
@@ -78,16 +74,15 @@ fn literal_of(alloc: Global, value: &Value, ctxt: SyntaxContext) -> Result<Liter
     })
 }
 
-// The value of a meta in this context.
+// The value of a meta in this context, taken out.
 pub(crate) fn literal_at(
-    alloc: Global,
-    value: &Value,
+    members: &mut Map<String, Value>,
     ctxt: SyntaxContext,
 ) -> Result<Option<Literal>, Fault>
-    ensures { Reads (λ literal. literal) result (maybe (literal_form ctxt) (field_of (codes "value") (view value.now))) }
+    ensures { Reads (λ literal. literal) result (maybe (literal_form ctxt) (field_of (codes "value") (held members.old))) }
 {
-    match field(value, "value") {
-        Some(found) => Ok(Some(literal_of(alloc, found, ctxt)?)),
+    match taken(members, "value") {
+        Some(found) => Ok(Some(literal_of(found, ctxt)?)),
         None => Ok(None),
     }
 }

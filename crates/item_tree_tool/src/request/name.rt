@@ -1,40 +1,62 @@
 //! Names, read from their texts.
-ghost use Rattle.std.specs.Prelude.{◌≡◌, option_map};
+ghost use Rattle.std.specs.Prelude.{◌≡◌, OnOk, option_map, string_bytes};
+ghost use Rattle.std.specs.Vec.Iter.{into_iter_items};
 ghost use Rattle.serde_json.specs.View.{view, items_view};
-ghost use Rattle.item_tree_tool.specs.Forms.{field as field_of, maybe, name as name_form, each};
+ghost use Rattle.item_tree_tool.specs.Forms.{field as field_of, maybe, name as name_form, name_in, each, list_at as each_at};
+ghost use Rattle.item_tree_tool.specs.Held.{held, without};
 ghost use Rattle.item_tree_tool.specs.Reads.{Reads};
 
 use crate::request::fault::Fault;
-use crate::request::member::field;
+use crate::request::member::{list_at, taken, text_of};
 use hir_input::Name;
-use serde_json::Value;
+use serde_json::{Map, Value};
 use std::alloc::Global;
+use std::vec::IntoIter;
 
 // A text that is not empty and holds no line feed.
 #[tactic(auto, using(crate::proofs::Names::new_name))]
-pub(crate) fn name_of(alloc: Global, value: &Value) -> Result<Name, Fault>
-    ensures { Reads (λ name. name) result (name_form (view value.now)) }
+pub(crate) fn name_from(text: String) -> Result<Name, Fault>
+    ensures { Reads (λ name. name) result (name_in (string_bytes text)) }
 {
-    let text = value.as_str().ok_or(Fault::NotRequest)?;
-    let text = String::from_str(alloc, text)?;
     Name::new(text).ok_or(Fault::NotRequest)
 }
 
-pub(crate) fn name_at(alloc: Global, value: &Value, key: &str) -> Result<Option<Name>, Fault>
-    ensures { Reads (λ name. name) result (maybe name_form (field_of key.now (view value.now))) }
+pub(crate) fn name_of(value: Value) -> Result<Name, Fault>
+    ensures { Reads (λ name. name) result (name_form (view value)) }
 {
-    match field(value, key) {
-        Some(found) => Ok(Some(name_of(alloc, found)?)),
+    name_from(text_of(value)?)
+}
+
+// Takes a name out.
+pub(crate) fn name_at(members: &mut Map<String, Value>, key: &str) -> Result<Option<Name>, Fault>
+    ensures reads { Reads (λ name. name) result (maybe name_form (field_of key.now (held members.old))) }
+    ensures left { OnOk result (held members.new ≡ without key.now (held members.old)) }
+{
+    match taken(members, key) {
+        Some(found) => Ok(Some(name_of(found)?)),
         None => Ok(None),
     }
 }
 
-pub(crate) fn names_of(alloc: Global, items: &[Value]) -> Result<Vec<Name>, Fault>
-    ensures { Reads (λ v. v.items) result (each name_form (items_view items.now)) }
+pub(crate) fn names_of(alloc: Global, items: IntoIter<Value>) -> Result<Vec<Name>, Fault>
+    ensures { Reads (λ v. v.items) result (each name_form (items_view (into_iter_items items))) }
 {
-    let mut names = Vec::new(alloc);
+    let mut names = Vec::with_capacity(alloc, items.len())?;
     for item in items {
-        names.push(name_of(alloc, item)?)?;
+        names.push(name_of(item)?)?;
     }
     Ok(names)
+}
+
+// Takes a list of names out.
+pub(crate) fn names_at(
+    alloc: Global,
+    members: &mut Map<String, Value>,
+    key: &str,
+) -> Result<Vec<Name>, Fault>
+    ensures reads { Reads (λ v. v.items) result (each_at name_form key.now (held members.old)) }
+    ensures left { OnOk result (held members.new ≡ without key.now (held members.old)) }
+{
+    let items = list_at(alloc, members, key)?;
+    names_of(alloc, items.into_iter())
 }

@@ -1,42 +1,36 @@
 //! Syntaxes, read from their forms.
-ghost use Rattle.std.specs.Prelude.{◌≡◌, codes, map};
+ghost use Rattle.std.specs.Prelude.{◌≡◌};
 ghost use Rattle.serde_json.specs.View.{view};
-ghost use Rattle.hir_input.specs.Syntax.{item_view, syntax_view};
-ghost use Rattle.item_tree_tool.specs.Forms.{list_at as each_at};
-ghost use Rattle.item_tree_tool.specs.Items.{item as item_form, source_form, syntax as syntax_form};
+ghost use Rattle.hir_input.specs.Syntax.{syntax_view};
+ghost use Rattle.item_tree_tool.specs.Held.{held};
+ghost use Rattle.item_tree_tool.specs.Items.{source_form, syntax as syntax_form};
 ghost use Rattle.item_tree_tool.specs.Reads.{Reads};
 
 use crate::request::fault::Fault;
-use crate::request::item::item_of;
-use crate::request::member::{list_at, word_at};
+use crate::request::item::items_of;
+use crate::request::member::{list_at, members_of, word_at};
 use crate::request::meta::attrs_at;
-use hir_input::ast::{Item, Syntax};
-use serde_json::Value;
+use hir_input::ast::Syntax;
+use serde_json::{Map, Value};
 use std::alloc::Global;
 
-fn file_items_at(alloc: Global, value: &Value) -> Result<Vec<Item>, Fault>
-    ensures { Reads (λ v. map item_view v.items) result (each_at item_form (codes "items") (view value.now)) }
+#[tactic(auto, using(crate::proofs::Held::field_without))]
+fn source_file_of(alloc: Global, members: &mut Map<String, Value>) -> Result<Syntax, Fault>
+    ensures { Reads syntax_view result (source_form (held members.old)) }
 {
-    let mut items = Vec::new(alloc);
-    for item in list_at(value, "items")? {
-        items.push(item_of(alloc, item)?)?;
-    }
-    Ok(items)
-}
-
-fn source_file_of(alloc: Global, value: &Value) -> Result<Syntax, Fault>
-    ensures { Reads syntax_view result (source_form (view value.now)) }
-{
-    let attrs = attrs_at(alloc, value)?;
-    let items = file_items_at(alloc, value)?;
+    let attrs = attrs_at(alloc, members)?;
+    let items = list_at(alloc, members, "items")?;
+    let items = items_of(alloc, items)?;
     Ok(Syntax::SourceFile { attrs, items })
 }
 
-pub(crate) fn syntax_of(alloc: Global, value: &Value) -> Result<Syntax, Fault>
-    ensures { Reads syntax_view result (syntax_form (view value.now)) }
+#[tactic(auto, using(crate::proofs::Held::no_field))]
+pub(crate) fn syntax_of(alloc: Global, value: Value) -> Result<Syntax, Fault>
+    ensures { Reads syntax_view result (syntax_form (view value)) }
 {
-    match word_at(value, "root")? {
-        "source_file" => source_file_of(alloc, value),
+    let mut members = members_of(value)?;
+    match word_at(&members, "root")? {
+        "source_file" => source_file_of(alloc, &mut members),
         "error" => Ok(Syntax::Error),
         _ => Err(Fault::NotRequest),
     }

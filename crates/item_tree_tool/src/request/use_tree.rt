@@ -1,60 +1,63 @@
 //! Use trees, read from their forms.
-ghost use Rattle.std.specs.Prelude.{◌≡◌, codes, map, option_map};
-ghost use Rattle.serde_json.specs.View.{view};
+ghost use Rattle.std.specs.Prelude.{◌≡◌, OnOk, codes, map, option_map};
+ghost use Rattle.serde_json.specs.View.{view, items_view};
 ghost use Rattle.hir_input.specs.UseTreeView.{use_tree_view};
-ghost use Rattle.item_tree_tool.specs.Forms.{field as field_of, list_of, maybe};
+ghost use Rattle.item_tree_tool.specs.Forms.{each, field as field_of, list_of, maybe};
+ghost use Rattle.item_tree_tool.specs.Held.{held, without};
 ghost use Rattle.item_tree_tool.specs.Reads.{Reads};
 ghost use Rattle.item_tree_tool.specs.UseTrees.{rename as rename_form, use_tree as use_tree_form, use_tree_with};
 
 use crate::request::fault::Fault;
-use crate::request::member::{field, flag_at};
-use crate::request::name::name_of;
+use crate::request::member::{array_of, flag_at, members_of, taken, text_of};
+use crate::request::name::name_from;
 use crate::request::path::path_at;
 use hir_input::ast::{Rename, UseTree};
-use serde_json::Value;
+use serde_json::{Map, Value};
 use std::alloc::Global;
 
-fn rename_of(alloc: Global, value: &Value) -> Result<Rename, Fault>
-    ensures { Reads (λ rename. rename) result (rename_form (view value.now)) }
+fn rename_of(value: Value) -> Result<Rename, Fault>
+    ensures { Reads (λ rename. rename) result (rename_form (view value)) }
 {
-    match value.as_str() {
-        Some("_") => Ok(Rename { name: None }),
+    let text = text_of(value)?;
+    match text.as_str() {
+        "_" => Ok(Rename { name: None }),
         _ => {
-            let name = name_of(alloc, value)?;
+            let name = name_from(text)?;
             Ok(Rename { name: Some(name) })
         }
     }
 }
 
-pub(crate) fn rename_at(alloc: Global, value: &Value) -> Result<Option<Rename>, Fault>
-    ensures { Reads (λ rename. rename) result (maybe rename_form (field_of (codes "rename") (view value.now))) }
+// Takes a rename out.
+pub(crate) fn rename_at(members: &mut Map<String, Value>) -> Result<Option<Rename>, Fault>
+    ensures reads { Reads (λ rename. rename) result (maybe rename_form (field_of (codes "rename") (held members.old))) }
+    ensures left { OnOk result (held members.new ≡ without (codes "rename") (held members.old)) }
 {
-    match field(value, "rename") {
-        Some(found) => Ok(Some(rename_of(alloc, found)?)),
+    match taken(members, "rename") {
+        Some(found) => Ok(Some(rename_of(found)?)),
         None => Ok(None),
     }
 }
 
 #[cycle(trees)]
 #[tactic(auto, using(crate::proofs::UseTrees::use_tree_reads_itself))]
-fn use_tree_of(alloc: Global, value: &Value) -> Result<UseTree, Fault>
-    ensures { Reads use_tree_view result (use_tree_form (view value.now)) }
+fn use_tree_of(alloc: Global, value: Value) -> Result<UseTree, Fault>
+    ensures { Reads use_tree_view result (use_tree_form (view value)) }
 {
-    use_tree_in(alloc, value)
+    let mut members = members_of(value)?;
+    use_tree_in(alloc, &mut members)
 }
 
 #[cycle(trees)]
-#[tactic(auto, using(crate::proofs::UseTrees::use_tree_view_made))]
-fn use_tree_in(alloc: Global, value: &Value) -> Result<UseTree, Fault>
-    ensures { Reads use_tree_view result (use_tree_with use_tree_form (view value.now)) }
+#[tactic(auto, using(crate::proofs::Held::field_without, crate::proofs::Inside::depth_found_in, crate::proofs::UseTrees::use_tree_view_made))]
+fn use_tree_in(alloc: Global, members: &mut Map<String, Value>) -> Result<UseTree, Fault>
+    ensures { Reads use_tree_view result (use_tree_with use_tree_form (held members.old)) }
 {
-    if !value.is_object() {
-        return Err(Fault::NotRequest);
-    }
-    let path = path_at(alloc, value)?;
-    let star = flag_at(value, "star")?;
-    let rename = rename_at(alloc, value)?;
-    let list = use_trees_at(alloc, value)?;
+    let path = path_at(alloc, members)?;
+    let star = flag_at(members, "star")?;
+    let rename = rename_at(members)?;
+    let list = taken(members, "list");
+    let list = use_trees_in(alloc, list)?;
     Ok(UseTree {
         path,
         star,
@@ -64,25 +67,36 @@ fn use_tree_in(alloc: Global, value: &Value) -> Result<UseTree, Fault>
 }
 
 #[cycle(trees)]
-#[tactic(auto, using(crate::proofs::Inside::depth_listed))]
-fn use_trees_at(alloc: Global, value: &Value) -> Result<Option<Vec<UseTree>>, Fault>
-    ensures { Reads (option_map (λ v. map use_tree_view v.items)) result (maybe (list_of use_tree_form) (field_of (codes "list") (view value.now))) }
+#[tactic(auto, using(crate::proofs::Inside::depth_array))]
+fn use_trees_in(alloc: Global, list: Option<Value>) -> Result<Option<Vec<UseTree>>, Fault>
+    ensures { Reads (option_map (λ v. map use_tree_view v.items)) result (maybe (list_of use_tree_form) (option_map view list)) }
 {
-    let Some(list) = field(value, "list") else {
+    let Some(list) = list else {
         return Ok(None);
     };
-    let mut trees = Vec::new(alloc);
-    for item in list.as_array().ok_or(Fault::NotRequest)? {
-        trees.push(use_tree_of(alloc, item)?)?;
-    }
-    Ok(Some(trees))
+    let items = array_of(list)?;
+    Ok(Some(use_trees_of(alloc, items)?))
 }
 
-// The use tree of a use.
-pub(crate) fn use_tree_at(alloc: Global, value: &Value) -> Result<Option<UseTree>, Fault>
-    ensures { Reads (option_map use_tree_view) result (maybe use_tree_form (field_of (codes "tree") (view value.now))) }
+#[cycle(trees)]
+fn use_trees_of(alloc: Global, items: Vec<Value>) -> Result<Vec<UseTree>, Fault>
+    ensures { Reads (λ v. map use_tree_view v.items) result (each use_tree_form (items_view items.items)) }
 {
-    match field(value, "tree") {
+    let mut trees = Vec::with_capacity(alloc, items.len())?;
+    for item in items {
+        trees.push(use_tree_of(alloc, item)?)?;
+    }
+    Ok(trees)
+}
+
+// The use tree of a use, taken out.
+pub(crate) fn use_tree_at(
+    alloc: Global,
+    members: &mut Map<String, Value>,
+) -> Result<Option<UseTree>, Fault>
+    ensures { Reads (option_map use_tree_view) result (maybe use_tree_form (field_of (codes "tree") (held members.old))) }
+{
+    match taken(members, "tree") {
         Some(found) => Ok(Some(use_tree_of(alloc, found)?)),
         None => Ok(None),
     }

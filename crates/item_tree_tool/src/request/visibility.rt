@@ -1,19 +1,21 @@
 //! Visibilities, read from their forms.
-ghost use Rattle.std.specs.Prelude.{◌≡◌, codes};
+ghost use Rattle.std.specs.Prelude.{◌≡◌, OnOk, codes};
 ghost use Rattle.serde_json.specs.View.{view};
 ghost use Rattle.item_tree_tool.specs.Forms.{field as field_of, maybe};
+ghost use Rattle.item_tree_tool.specs.Held.{held, without};
 ghost use Rattle.item_tree_tool.specs.Paths.{visibility as visibility_form};
 ghost use Rattle.item_tree_tool.specs.Reads.{Reads};
 
 use crate::request::fault::Fault;
-use crate::request::member::field;
+use crate::request::member::{members_of, taken};
 use crate::request::path::path_of;
 use hir_input::ast::Visibility;
-use serde_json::Value;
+use serde_json::{Map, Value};
 use std::alloc::Global;
 
-pub(crate) fn visibility_of(alloc: Global, value: &Value) -> Result<Visibility, Fault>
-    ensures { Reads (λ visibility. visibility) result (visibility_form (view value.now)) }
+#[tactic(auto, using(crate::proofs::Held::no_field))]
+pub(crate) fn visibility_of(alloc: Global, value: Value) -> Result<Visibility, Fault>
+    ensures { Reads (λ visibility. visibility) result (visibility_form (view value)) }
 {
     match value.as_str() {
         Some("pub") => Ok(Visibility::Pub),
@@ -22,16 +24,22 @@ pub(crate) fn visibility_of(alloc: Global, value: &Value) -> Result<Visibility, 
         Some("self") => Ok(Visibility::PubSelf),
         Some(_) => Err(Fault::NotRequest),
         None => {
-            let path = field(value, "in").ok_or(Fault::NotRequest)?;
+            let mut members = members_of(value)?;
+            let path = taken(&mut members, "in").ok_or(Fault::NotRequest)?;
             Ok(Visibility::InPath(path_of(alloc, path)?))
         }
     }
 }
 
-pub(crate) fn visibility_at(alloc: Global, value: &Value) -> Result<Option<Visibility>, Fault>
-    ensures { Reads (λ visibility. visibility) result (maybe visibility_form (field_of (codes "vis") (view value.now))) }
+// Takes a visibility out.
+pub(crate) fn visibility_at(
+    alloc: Global,
+    members: &mut Map<String, Value>,
+) -> Result<Option<Visibility>, Fault>
+    ensures reads { Reads (λ visibility. visibility) result (maybe visibility_form (field_of (codes "vis") (held members.old))) }
+    ensures left { OnOk result (held members.new ≡ without (codes "vis") (held members.old)) }
 {
-    match field(value, "vis") {
+    match taken(members, "vis") {
         Some(found) => Ok(Some(visibility_of(alloc, found)?)),
         None => Ok(None),
     }

@@ -1,7 +1,7 @@
 //! Macro calls and macros by example, read from their forms.
 ghost use Rattle.std.specs.Prelude.{◌≡◌, option_map};
-ghost use Rattle.serde_json.specs.View.{view};
 ghost use Rattle.hir_input.specs.Syntax.{call_view, item_view, macro_call as call_item};
+ghost use Rattle.item_tree_tool.specs.Held.{held};
 ghost use Rattle.item_tree_tool.specs.Items.{expand_to_at as expand_to_form, macro_call_form, macro_rules_form};
 ghost use Rattle.item_tree_tool.specs.Reads.{Reads};
 
@@ -13,14 +13,14 @@ use crate::request::name::name_at;
 use crate::request::path::path_at;
 use hir_input::ExpandTo;
 use hir_input::ast::{Item, MacroCall, MacroRules};
-use serde_json::Value;
+use serde_json::{Map, Value};
 use std::alloc::Global;
 
 // Items where it is absent.
-fn expand_to_at(value: &Value) -> Result<ExpandTo, Fault>
-    ensures { Reads (λ expand_to. expand_to) result (expand_to_form (view value.now)) }
+fn expand_to_at(members: &Map<String, Value>) -> Result<ExpandTo, Fault>
+    ensures { Reads (λ expand_to. expand_to) result (expand_to_form (held members.now)) }
 {
-    let Some(found) = field(value, "expand_to") else {
+    let Some(found) = field(members, "expand_to") else {
         return Ok(ExpandTo::Items);
     };
     match found.as_str().ok_or(Fault::NotRequest)? {
@@ -33,21 +33,25 @@ fn expand_to_at(value: &Value) -> Result<ExpandTo, Fault>
     }
 }
 
-pub(crate) fn macro_call_of(alloc: Global, value: &Value) -> Result<MacroCall, Fault>
-    ensures { Reads (λ call. call_item (call_view call)) result (macro_call_form (view value.now)) }
+#[tactic(auto, using(crate::proofs::Held::field_without))]
+pub(crate) fn macro_call_of(
+    alloc: Global,
+    members: &mut Map<String, Value>,
+) -> Result<MacroCall, Fault>
+    ensures { Reads (λ call. call_item (call_view call)) result (macro_call_form (held members.old)) }
 {
-    let node = node_at(alloc, value)?;
-    let path = path_at(alloc, value)?;
-    let expand_to = expand_to_at(value)?;
-    let ctxt = context_at(value)?;
+    let node = node_at(alloc, members)?;
+    let path = path_at(alloc, members)?;
+    let expand_to = expand_to_at(members)?;
+    let ctxt = context_at(members)?;
     Ok(with_node!(MacroCall, node, path, expand_to, ctxt))
 }
 
-#[tactic(auto, using(hir_input::proofs::SyntaxViews::item_views))]
-pub(crate) fn macro_rules_of(alloc: Global, value: &Value) -> Result<Item, Fault>
-    ensures { Reads item_view result (macro_rules_form (view value.now)) }
+#[tactic(auto, using(crate::proofs::Held::field_without, hir_input::proofs::SyntaxViews::item_views))]
+pub(crate) fn macro_rules_of(alloc: Global, members: &mut Map<String, Value>) -> Result<Item, Fault>
+    ensures { Reads item_view result (macro_rules_form (held members.old)) }
 {
-    let node = node_at(alloc, value)?;
-    let name = name_at(alloc, value, "name")?;
+    let node = node_at(alloc, members)?;
+    let name = name_at(members, "name")?;
     Ok(Item::MacroRules(with_node!(MacroRules, node, name)))
 }

@@ -1,6 +1,6 @@
 //! What items have in common, read from its keys.
-ghost use Rattle.std.specs.Prelude.{◌≡◌};
-ghost use Rattle.serde_json.specs.View.{view};
+ghost use Rattle.std.specs.Prelude.{◌≡◌, OnOk, codes};
+ghost use Rattle.item_tree_tool.specs.Held.{held, without};
 ghost use Rattle.item_tree_tool.specs.Items.{node as node_form, named as named_form};
 ghost use Rattle.item_tree_tool.specs.Reads.{Reads};
 ghost use Rattle.item_tree_tool.specs.Seen.{node_view, named_view};
@@ -12,7 +12,7 @@ use crate::request::name::name_at;
 use crate::request::visibility::visibility_at;
 use hir_input::ast::Visibility;
 use hir_input::{Meta, Name};
-use serde_json::Value;
+use serde_json::{Map, Value};
 use std::alloc::Global;
 
 // What every item has.
@@ -51,13 +51,15 @@ macro_rules! with_name {
 pub(crate) use with_name;
 pub(crate) use with_node;
 
-pub(crate) fn node_at(alloc: Global, value: &Value) -> Result<Node, Fault>
-    ensures { Reads node_view result (node_form (view value.now)) }
+#[tactic(auto, using(crate::proofs::Held::field_without))]
+pub(crate) fn node_at(alloc: Global, members: &mut Map<String, Value>) -> Result<Node, Fault>
+    ensures reads { Reads node_view result (node_form (held members.old)) }
+    ensures left { OnOk result (held members.new ≡ without (codes "body") (without (codes "attrs") (held members.old))) }
 {
-    let hash = u16_at(value, "hash")?;
-    let number = u32_at(value, "number")?;
-    let attrs = attrs_at(alloc, value)?;
-    let body = text_at(alloc, value, "body")?;
+    let hash = u16_at(members, "hash")?;
+    let number = u32_at(members, "number")?;
+    let attrs = attrs_at(alloc, members)?;
+    let body = text_at(alloc, members, "body")?;
     Ok(Node {
         hash,
         number,
@@ -66,12 +68,14 @@ pub(crate) fn node_at(alloc: Global, value: &Value) -> Result<Node, Fault>
     })
 }
 
-pub(crate) fn named_at(alloc: Global, value: &Value) -> Result<Named, Fault>
-    ensures { Reads named_view result (named_form (view value.now)) }
+#[tactic(auto, using(crate::proofs::Held::field_without))]
+pub(crate) fn named_at(alloc: Global, members: &mut Map<String, Value>) -> Result<Named, Fault>
+    ensures reads { Reads named_view result (named_form (held members.old)) }
+    ensures left { OnOk result (held members.new ≡ without (codes "vis") (without (codes "name") (without (codes "body") (without (codes "attrs") (held members.old))))) }
 {
-    let node = node_at(alloc, value)?;
-    let name = name_at(alloc, value, "name")?;
-    let visibility = visibility_at(alloc, value)?;
+    let node = node_at(alloc, members)?;
+    let name = name_at(members, "name")?;
+    let visibility = visibility_at(alloc, members)?;
     Ok(Named {
         node,
         name,

@@ -92,7 +92,7 @@ fn push_trees(edition: &Edition, trees: &Vec<UseTree>, text: &mut String) -> Res
 
 fn use_of(alloc: Global, text: &str) -> Result<Use, Fail> {
     let value = Value::from_str(alloc, text)?;
-    match item_of(alloc, &value)? {
+    match item_of(alloc, value)? {
         Item::Use(found) => Ok(found),
         _ => Err("not a use")?,
     }
@@ -146,7 +146,7 @@ fn refuses_uses(rt: HostRuntime) -> Result<(), Fail> {
         "{\"is\":\"use\",\"hash\":65536}",
     ] {
         let value = Value::from_str(rt.alloc(), input)?;
-        let outcome = item_of(rt.alloc(), &value).err();
+        let outcome = item_of(rt.alloc(), value).err();
         assert_eq!(rt; outcome, Some(Fault::NotRequest), "for {input}");
     }
     Ok(())

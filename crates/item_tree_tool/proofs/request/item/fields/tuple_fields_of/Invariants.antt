@@ -1,5 +1,5 @@
 -- the reading is what was read, and then the reading of what is left
-use Rattle.std.proofs.Common.{◌≡◌, drop, map}
+use Rattle.std.proofs.Common.{◌≡◌, map}
 use Rattle.serde_json.specs.View.{items_view}
 use Rattle.item_tree_tool.specs.Forms.{each}
 use Rattle.item_tree_tool.specs.Items.{tuple_field}
@@ -7,4 +7,4 @@ use Rattle.item_tree_tool.proofs.Lists.{joined}
 use Rattle.item_tree_tool.proofs.request.item.fields.tuple_fields_of.Given as goal
 
 abbrev pub invariant-loop-item : goal.invariant-loop-item
-invariant-loop-item l = each tuple_field (items_view l.items) ≡ joined (map (λ f. f.visibility) l.fields.items) (each tuple_field (items_view (drop l.item-index l.items)))
+invariant-loop-item l = each tuple_field (items_view l.fn.items.items) ≡ joined (map (λ f. f.visibility) l.fields.items) (each tuple_field (items_view l.item-iterator.rest.items))

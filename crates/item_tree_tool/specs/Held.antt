@@ -1,0 +1,27 @@
+-- An object whose members are taken out as they are read.
+use Rattle.std.specs.Prelude.{ℕ, List, String}
+use Rattle.std.specs.declared.alloc.Global.{Global}
+use Rattle.std.specs.BTreeMap.{BTreeMap}
+use Rattle.std.specs.Ordering.{nat_cmp, match_ordering}
+use Rattle.std.specs.Cmp.Lexicographic.{slice_cmp}
+use Rattle.serde_json.specs.declared.value.Value.{Value}
+use Rattle.serde_json.specs.Data.{Data, null, boolean, number, string, array, object, Members, no_members, member}
+use Rattle.serde_json.specs.View.{members_view}
+
+-- the object of these members
+abbrev pub held : BTreeMap (String Global) Value → Data
+held m = object (members_view m.entries)
+
+-- the members, with a null for the one at this key
+abbrev pub drop_member : List ℕ → Members → Members
+drop_member key no_members = no_members
+drop_member key (member l e ms) = match_ordering (slice_cmp nat_cmp key l) (member l e (drop_member key ms)) (member l null ms) (member l e (drop_member key ms))
+
+-- the object after its member at this key was taken out, which leaves a null
+unfoldable pub without : List ℕ → Data → Data
+without key null = null
+without key (boolean b) = boolean b
+without key (number n) = number n
+without key (string s) = string s
+without key (array ds) = array ds
+without key (object ms) = object (drop_member key ms)
