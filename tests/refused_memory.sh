@@ -29,8 +29,9 @@ judge() {
 }
 
 printf 'out of memory\n' > "$work/line"
-for wanted in "$here"/requests/*.out; do
-    name=$(basename "$wanted" .out)
+for wanted in "$here"/requests/*/*.out; do
+    name=${wanted#"$here/requests/"}
+    name=${name%.out}
     for ((request = 1; ; request++)); do
         refuse "$request" "$program" < "$here/requests/$name.json"
         [ "$made" -ge "$request" ] || break

@@ -1,5 +1,5 @@
 #!/usr/bin/env bash
-# Runs a program on each request of tests/requests and compares what it writes and how it ends.
+# Runs a program on each request of the folders of tests/requests and compares what it writes and how it ends.
 #
 #   requests.sh PROGRAM
 #
@@ -11,7 +11,7 @@ cd "$(dirname "${BASH_SOURCE[0]}")/requests" || exit 2
 work=$(mktemp -d)
 trap 'rm -rf "$work"' EXIT
 passed=0 failed=0
-for request in *.json; do
+for request in */*.json; do
     name=${request%.json}
     if [ -f "$name.refused" ]; then
         read -r status line < "$name.refused"
@@ -33,4 +33,4 @@ for request in *.json; do
     fi
 done
 echo "requests: $passed passed, $failed failed"
-[ "$failed" = 0 ]
+[ "$failed" = 0 ] && [ "$passed" -gt 0 ]
