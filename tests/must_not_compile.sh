@@ -1,6 +1,7 @@
 #!/usr/bin/env bash
-# Compiles each file of tests/must_not_compile as a crate over the repository's own, and looks for the error that its
-# second line names, which has to be the only one. A file that wants `nothing` has to compile.
+# Compiles the files of tests/must_not_compile as the modules of one crate over the repository's own, and looks for the
+# error that the second line of each names, which has to be the only one in that file. A file that wants `nothing` has to
+# compile.
 #
 # It reads the libraries as earlier checks left them, and proves nothing.
 set -uo pipefail
@@ -8,25 +9,40 @@ cd "$(dirname "${BASH_SOURCE[0]}")/.." || exit 2
 work=$(mktemp -d)
 trap 'rm -rf "$work"' EXIT
 cp HANDLES "$work"
-cp -r crates "$work/crates"
-mkdir -p "$work/crates/lending/src" "$work/crates/lending/specs" "$work/crates/lending/proofs"
-: > "$work/crates/lending/specs/Lib.antt"
-: > "$work/crates/lending/proofs/Lib.antt"
-{ cat crates.txt; echo "lending: hir_input item_tree item_tree_db"; } > "$work/crates.txt"
+for name in hir_input item_tree_attrs item_tree item_tree_db; do
+    grep "^$name:" crates.txt >> "$work/crates.txt"
+    mkdir -p "$work/crates/$name/out"
+    cp -r "crates/$name/src" "crates/$name/specs" "crates/$name/proofs" "$work/crates/$name"
+    if [ -d "crates/$name/out/rlib" ]; then cp -r "crates/$name/out/rlib" "$work/crates/$name/out"; fi
+done
+echo "lending: hir_input item_tree item_tree_db" >> "$work/crates.txt"
+lending=$work/crates/lending
+mkdir -p "$lending/src" "$lending/specs" "$lending/proofs"
+: > "$lending/specs/Lib.antt"
+: > "$lending/proofs/Lib.antt"
+printf '#![tactic(auto)]\n\n' > "$lending/src/lib.rt"
+for source in tests/must_not_compile/*.txt; do
+    name=$(basename "$source" .txt)
+    cp "$source" "$lending/src/$name.rt"
+    echo "mod $name;" >> "$lending/src/lib.rt"
+done
+(cd "$lending" && rt check --only=) > "$work/log" 2>&1
 passed=0 failed=0
 for source in tests/must_not_compile/*.txt; do
     name=$(basename "$source" .txt)
     wanted=$(sed -n '2s/^\/\/ wants: //p' "$source")
-    cp "$source" "$work/crates/lending/src/lib.rt"
-    (cd "$work/crates/lending" && rt check --only=) > "$work/log" 2>&1
-    found=$(sed -nE 's/.*error\[([a-z0-9-]+)\].*/\1/p' "$work/log" | sort -u | tr '\n' ' ')
+    found=$(sed -nE "s/^src\/$name\.rt:.* error\[([a-z0-9-]+)\].*/\1/p" "$work/log" | tr '\n' ' ')
     if [ "${found:-nothing }" = "$wanted " ]; then
         passed=$((passed + 1))
     else
         failed=$((failed + 1))
-        echo "$name: wanted $wanted, found $found"
-        tail -n 20 "$work/log"
+        echo "$name: wanted $wanted, found ${found:-nothing}"
     fi
 done
+if grep -E 'error' "$work/log" | grep -qvE '^src/[a-z_]+\.rt:.* error\['; then
+    failed=$((failed + 1))
+    echo 'an error that is of no file'
+fi
+[ "$failed" = 0 ] || tail -n 20 "$work/log"
 echo "must_not_compile: $passed passed, $failed failed"
 [ "$failed" = 0 ]
