@@ -1,6 +1,7 @@
 -- `==` at conditions decides whether their plain data are one.
-use Rattle.std.proofs.Common.{◌≡◌, Bool, true, false, ◌&&◌, List, [], ◌∷◌, map, refl, sym, ap, ◌∙◌, subst}
+use Rattle.std.proofs.Common.{◌≡◌, Bool, true, false, ◌&&◌, ◌||◌, List, [], ◌∷◌, map, refl, sym, ap, ◌∙◌, subst}
 use Rattle.std.specs.Bool.{Decides}
+use Rattle.std.specs.List.{list_any}
 use Rattle.std.specs.Cmp.{first_so, second_so}
 use Rattle.std.specs.Cmp.Lexicographic.{pointwise}
 use lib.Pointwise.{bytes_decides}
@@ -11,7 +12,7 @@ use Rattle.hir_input.specs.declared.cfg.CfgExpr.TheOpen.{CfgExpr-F}
 use Rattle.hir_input.specs.contracts.cfg.CfgAtomPartialEq.TheImpl as atoms
 use Rattle.hir_input.specs.contracts.cfg.CfgExprPartialEq.TheImpl as cfgs
 use Rattle.hir_input.specs.contracts.cfg.CfgExprPartialEq.TheImpl.Laws as cfg_laws
-use Rattle.hir_input.specs.Cfg.{CfgView, cfg_and, atom, all_of, any_of, not_of, cfgs_from, cfg_step, cfg_view}
+use Rattle.hir_input.specs.Cfg.{is_atom, is_set, CfgView, cfg_and, atom, all_of, any_of, not_of, cfgs_from, cfg_step, cfg_view}
 
 -- two tests together, and a fact that says the same
 pub pair_decides : {P Q : Type 0} (p q : Bool) → Decides p P → Decides q Q → Decides (p && q) (P × Q)
@@ -26,6 +27,17 @@ atom_decides (KeyValue k v) (KeyValue l w) =
     same_fact _ (λ e i. KeyValue (e.0 i) (e.1 i)) (λ e. (cc, cc)) (pair_decides _ _ (bytes_decides k l) (bytes_decides v w))
 atom_decides (Flag m) (KeyValue l w) = (λ h. cc, λ e. cc)
 atom_decides (KeyValue k v) (Flag n) = (λ h. cc, λ e. cc)
+
+-- it is the test by which atoms are looked up
+eq_is : (a b : CfgAtom) → atoms.ghosts.eq a b ≡ is_atom a b
+eq_is (Flag m) (Flag n) = refl
+eq_is (KeyValue k v) (KeyValue l w) = refl
+eq_is (Flag m) (KeyValue l w) = refl
+eq_is (KeyValue k v) (Flag n) = refl
+
+pub set_is : (set : List CfgAtom) (a : CfgAtom) → list_any (λ x. atoms.ghosts.eq x a) set ≡ is_set set a
+set_is [] a = refl
+set_is (x ∷ xs) a = rw (eq_is x a) (ap (λ found. is_atom x a || found) (set_is xs a))
 
 -- whether two conditions are one, from what their members' comparison says
 abbrev layer_eq : CfgExpr-F CfgExpr → CfgExpr-F CfgExpr → Bool

@@ -1,12 +1,11 @@
 -- Conditions as plain data: how they are displayed, and whether they are true.
-use Rattle.std.specs.Prelude.{ℕ, List, [], ◌∷◌, ◌++◌, codes, Bool, true, false, not, Option, Some, None, option_map, unwrap_or, nat_eq, if◌then◌else◌}
+use Rattle.std.specs.Prelude.{ℕ, List, [], ◌∷◌, ◌++◌, codes, Bool, true, false, not, ◌&&◌, Option, Some, None, option_map, unwrap_or, nat_eq, if◌then◌else◌}
 use Rattle.std.specs.List.{join_by, find, list_any}
 use Rattle.std.specs.Cmp.Lexicographic.{pointwise}
 use Rattle.hir_input.specs.declared.cfg.CfgAtom.{CfgAtom}
 use Rattle.hir_input.specs.declared.cfg.CfgAtom.TheVariants.{Flag, KeyValue}
 use Rattle.hir_input.specs.declared.cfg.CfgExpr.{CfgExpr, fold-CfgExpr}
 use Rattle.hir_input.specs.declared.cfg.CfgExpr.TheOpen.{CfgExpr-F}
-use Rattle.hir_input.specs.contracts.cfg.CfgAtomPartialEq.TheImpl as atoms
 
 -- a condition
 mutual
@@ -63,11 +62,24 @@ unfoldable mutual
 
 -- ---- whether conditions are true; `None` is unknown
 
+abbrev pub is_text : List ℕ → List ℕ → Bool
+is_text = pointwise nat_eq
+
+-- flags of one name, or keys of one name with one value
+abbrev pub is_atom : CfgAtom → CfgAtom → Bool
+is_atom (Flag name) (Flag other) = is_text name other
+is_atom (KeyValue key value) (KeyValue other_key other) = is_text key other_key && is_text value other
+is_atom _ _ = false
+
+-- the atom stands among those that are set
+abbrev pub is_set : List CfgAtom → CfgAtom → Bool
+is_set set wanted = list_any (λ a. is_atom a wanted) set
+
 -- the flag `true` always holds and the flag `false` never; any other atom holds where it is set
 abbrev pub holds : List CfgAtom → CfgAtom → Bool
 holds set (Flag name) =
-    if pointwise nat_eq name (codes "true") then true else (if pointwise nat_eq name (codes "false") then false else list_any (λ a. atoms.ghosts.eq a (Flag name)) set)
-holds set (KeyValue key value) = list_any (λ a. atoms.ghosts.eq a (KeyValue key value)) set
+    if is_text name (codes "true") then true else if is_text name (codes "false") then false else is_set set (Flag name)
+holds set (KeyValue key value) = is_set set (KeyValue key value)
 
 abbrev pub is_answer : Bool → Option Bool → Bool
 is_answer true (Some b) = b

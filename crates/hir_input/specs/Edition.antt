@@ -1,7 +1,8 @@
 -- Editions by their values.
-use Rattle.std.specs.Prelude.{◌≡◌}
+use Rattle.std.specs.Prelude.{ℕ, List}
 use Rattle.hir_input.specs.declared.edition.Edition.{Edition}
+use Rattle.hir_input.specs.declared.edition.EditionYear.{EditionYear}
 
--- the year and the reserved words are the same
-abbrev pub IsCopy : Edition → Edition → Type 0
-IsCopy edition copy = (copy.year ≡ edition.year) × (copy.reserved.items ≡ edition.reserved.items)
+-- the year, and the texts of the reserved words
+abbrev pub edition_view : Edition → EditionYear × List (List ℕ)
+edition_view edition = (edition.year, edition.reserved.items)

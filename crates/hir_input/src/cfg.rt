@@ -197,6 +197,7 @@ impl CfgOptions {
 }
 
 // Whether an atom is true.
+#[tactic(auto, using(crate::proofs::CfgEq::set_is))]
 fn check_atom(atoms: &[CfgAtom], atom: &CfgAtom) -> bool
     ensures { result ≡ holds atoms.now atom.now }
 {

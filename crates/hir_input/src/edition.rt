@@ -1,7 +1,7 @@
 //! Editions.
 ghost use Rattle.std.specs.Prelude.{◌≡◌};
 ghost use Rattle.hir_input.specs.Name.{is_among};
-ghost use Rattle.hir_input.specs.Edition.{IsCopy};
+ghost use Rattle.hir_input.specs.Edition.{edition_view};
 
 use crate::name::Name;
 use std::alloc::AllocError;
@@ -32,7 +32,7 @@ impl Edition {
 }
 
 impl Clone for Edition {
-    ghost is_clone = { IsCopy };
+    ghost is_clone = { λ edition copy. edition_view copy ≡ edition_view edition };
 
     fn clone(&self) -> Result<Edition, AllocError> {
         let reserved = self.reserved.clone()?;

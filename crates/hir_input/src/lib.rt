@@ -8,6 +8,7 @@ pub mod display;
 pub mod edition;
 pub mod expand_to;
 pub mod ids;
+mod laws;
 pub mod mod_path;
 pub mod name;
 pub mod span;
