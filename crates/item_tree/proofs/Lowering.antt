@@ -1,29 +1,28 @@
 -- What lowering adds to the rows, piece by piece.
-use Rattle.std.proofs.Common.{◌≡◌, ℕ, ◌+◌, ◌*◌, ◌<◌, ◌≤◌, Bool, true, false, List, [], ◌∷◌, ◌++◌, length, map, get_or, take, drop, Option, Some, None, option_map, refl, ap, sym, ◌∙◌, subst, arith, add-zero, append_assoc, append-nil, length-append, inl, inr}
+use Rattle.std.proofs.Common.{◌≡◌, ℕ, ◌+◌, ◌*◌, ◌<◌, ◌≤◌, Bool, true, false, List, [], ◌∷◌, ◌++◌, length, map, get_or, take, drop, Option, Some, None, option_map, refl, ap, sym, ◌∙◌, subst, arith, add-zero, append_assoc, append-nil, length-append, inl, inr, Vec, Global}
 use Rattle.std.proofs.lemmas.List.{map-append, length-map, take_more, take-append-drop}
-use Rattle.hir_input.specs.declared.cfg.CfgAtom.{CfgAtom}
 use Rattle.hir_input.specs.declared.ast.ExternBlock as ast_block
 use Rattle.hir_input.specs.declared.ast.ExternItem.{ExternItem}
 use Rattle.hir_input.specs.declared.ast.ExternItem.TheVariants as external
 use Rattle.hir_input.specs.declared.ast.Module as ast_module
-use Rattle.hir_input.specs.Attr.{meta_view}
 use Rattle.hir_input.specs.Syntax.{NodeView, NamedView, ItemView, node_from, named_from, module_from, extern_block_from, items_from, item_view, module_view, extern_item_view, extern_block_view}
 use Rattle.hir_input.proofs.SyntaxViews.{module_view-fields}
 use Rattle.std.specs.Prelude.{max}
-use Rattle.item_tree_attrs.specs.Collected.{Collected, collected, collected_from, attr_limit}
+use Rattle.item_tree_attrs.specs.Collected.{Collected, collected, attr_limit}
 use Rattle.item_tree.specs.declared.fault.LowerError.{LowerError}
 use Rattle.item_tree.specs.declared.fault.LowerError.TheVariants.{TooManyItems, TooManyVisibilities, TooManyUseTrees, TooManyAttributes, TooManySupers, OutOfMemory}
+use Rattle.item_tree.specs.declared.lower.Ctx.{Ctx}
 use Rattle.item_tree.specs.declared.rows.Rows.{Rows}
 use Rattle.item_tree.specs.Node.{Leaf, Trunk, trunk_kind, leaf_kind, Head, Node, Forest, leaf, parent, empty, more, add, outline, inline, extern_block, count, Unfolding}
 use Rattle.item_tree.specs.Visibility.{read_visibility, meet, meet_all}
-use Rattle.item_tree.specs.Kept.{head_of, module_node, kept, kept_all}
+use Rattle.item_tree.specs.Kept.{head_of, module_node}
 use Rattle.item_tree.specs.Layout.{VisId, vis_id, plain_vis, leaf_map, trunk_map, leaf_vis, trunk_vis, met, node_met, arena_of, node_walk, walk, node_id, ids, Row, leaf_row, parent_row, row_tag, row_key, row_attrs, row_item, kind_bit, node_rows, rows_of, layout, unfold_tables}
 use Rattle.item_tree.specs.Column.{is_empty, unless, some_unless, column_of, places_from, plain_place}
 use Rattle.item_tree.specs.Imports.{super_limit}
 use Rattle.item_tree.specs.KeptUse.{use_tree_limit}
 use Rattle.item_tree.specs.Size.{most_attrs, leaf_supers, forest_supers, item_written, items_written, Fits}
 use Rattle.item_tree.specs.Stored.{item_row, key_in, keys_in, items_in, places_in, column_in, tables_of, AreSound}
-use Rattle.item_tree.specs.Growth.{kept_below, written_below, row_count, Adds, Lowers, IsFault, Meets, IsUnmet, Puts, Pushes, IsFull}
+use Rattle.item_tree.specs.Growth.{items_below, attrs_in, kept_in, all_kept_in, row_count, Adds, Lowers, IsFault, Meets, IsUnmet, Puts, Pushes, IsFull}
 use Rattle.item_tree.proofs.Arena.{V, Extends, Extends-met, KnowsAll, KnowsAll-meet_all, KnowsForest, KnowsNode, Knows-met, leaf-stable, trunk-stable, bool_cases}
 use Rattle.item_tree.proofs.Column.{column-append, places-append}
 use Rattle.item_tree.proofs.Canon.{unfold-layout}
@@ -212,6 +211,14 @@ IsFull-parent {o} {a} {b} w h t TooManyAttributes s l q = absurd q
 IsFull-parent {o} {a} {b} w h t TooManySupers s l q = absurd q
 IsFull-parent w h t OutOfMemory s l q = tt
 
+pub IsFault-parent : (o : Rows) (w : ℕ) (h : Head) (f : Forest) (e : LowerError) → IsFault o w f e → IsFault o w (more (parent h extern_block f) empty) e
+IsFault-parent o w h f TooManyItems q = omega (arith, q)
+IsFault-parent o w h f TooManyVisibilities q = q
+IsFault-parent o w h f TooManyUseTrees q = q
+IsFault-parent o w h f TooManyAttributes q = omega (arith, q)
+IsFault-parent o w h f TooManySupers q = omega (arith, q)
+IsFault-parent o w h f OutOfMemory q = tt
+
 -- ---- modules
 
 module _ (m : ast_module.Module) where
@@ -221,29 +228,29 @@ module _ (m : ast_module.Module) where
   abbrev pub value : V
   value = read_visibility m.visibility
 
-module _ (options : List CfgAtom) (skipped : List (List ℕ)) (m : ast_module.Module) where
+module _ (ctx : Ctx) (m : ast_module.Module) where
   abbrev pub head : Head
-  head = record { hash = m.hash; number = m.number; attrs = collected_from options skipped (map meta_view m.attrs.items) }
+  head = record { hash = m.hash; number = m.number; attrs = attrs_in ctx m.attrs.items }
 
   abbrev pub below : Forest
-  below = kept_below options skipped (module_view m)
+  below = all_kept_in ctx (items_below (module_view m))
 
   abbrev pub module_written : ℕ
   module_written = item_written (module_view m)
 
   abbrev pub inside : ℕ
-  inside = written_below (module_view m)
+  inside = items_written (items_below (module_view m))
 
   abbrev pub kept_module : Forest
-  kept_module = add (kept options skipped (module_view m)) empty
+  kept_module = add (kept_in ctx (module_view m)) empty
 
   kept-module_from : (n : NamedView) (s : Bool) (o : Option (List ItemView)) →
-      kept options skipped (module_from n s o) ≡ option_map (λ name. module_node s (head_of options skipped n.node) name (read_visibility n.visibility) (kept_below options skipped (module_from n s o))) n.name
+      kept_in ctx (module_from n s o) ≡ option_map (λ name. module_node s (head_of ctx.krate.now.cfg ctx.skipped.now n.node) name (read_visibility n.visibility) (all_kept_in ctx (items_below (module_from n s o)))) n.name
   kept-module_from n s None = refl
   kept-module_from n s (Some is) = refl
 
   written-module_from : (named : NamedView) (o : Option (List ItemView)) (n : List ℕ) → named.name ≡ Some n →
-      item_written (module_from named false o) ≡ written_below (module_from named false o)
+      item_written (module_from named false o) ≡ items_written (items_below (module_from named false o))
   written-module_from named None n e = refl
   written-module_from named (Some is) n e = rw e refl
 
@@ -251,11 +258,11 @@ module _ (options : List CfgAtom) (skipped : List (List ℕ)) (m : ast_module.Mo
   written-inline n e h =
       let items = option_map (λ v. map item_view v.items) m.items in
       let v : module_view m ≡ module_from (named m) false items = module_view-fields m ∙ ap (λ b. module_from (named m) b items) h in
-      ap item_written v ∙ written-module_from (named m) items n e ∙ ap written_below (sym v)
+      ap item_written v ∙ written-module_from (named m) items n e ∙ ap (λ z. items_written (items_below z)) (sym v)
 
-  kept-module : (n : List ℕ) → m.name ≡ Some n → kept options skipped (module_view m) ≡ Some (module_node m.semicolon head n (value m) below)
+  kept-module : (n : List ℕ) → m.name ≡ Some n → kept_in ctx (module_view m) ≡ Some (module_node m.semicolon head n (value m) below)
   kept-module n e =
-      subst (λ z. kept options skipped z ≡ option_map (λ name. module_node m.semicolon head name (value m) (kept_below options skipped z)) m.name) (sym (module_view-fields m)) (kept-module_from (named m) m.semicolon (option_map (λ v. map item_view v.items) m.items))
+      subst (λ z. kept_in ctx z ≡ option_map (λ name. module_node m.semicolon head name (value m) (all_kept_in ctx (items_below z))) m.name) (sym (module_view-fields m)) (kept-module_from (named m) m.semicolon (option_map (λ v. map item_view v.items) m.items))
       ∙ ap (option_map (λ name. module_node m.semicolon head name (value m) below)) e
 
   kept-inline : (n : List ℕ) → m.name ≡ Some n → m.semicolon ≡ false → kept_module ≡ more (parent head (inline n (value m)) below) empty
@@ -299,34 +306,44 @@ none_written (external.MacroCall n ∷ xs) = omega (arith, none_written xs)
 none_written (external.Static n ∷ xs) = omega (arith, none_written xs)
 none_written (external.TypeAlias n ∷ xs) = omega (arith, none_written xs)
 
-module _ (options : List CfgAtom) (skipped : List (List ℕ)) where
-  kept-block_from : (n : NodeView) (o : Option (List ItemView)) → kept options skipped (extern_block_from n o) ≡ Some (parent (head_of options skipped n) extern_block (kept_below options skipped (extern_block_from n o)))
+module _ (ctx : Ctx) where
+  abbrev pub block_head : ast_block.ExternBlock → Head
+  block_head n = record { hash = n.hash; number = n.number; attrs = attrs_in ctx n.attrs.items }
+
+  kept-block_from : (n : NodeView) (o : Option (List ItemView)) → kept_in ctx (extern_block_from n o) ≡ Some (parent (head_of ctx.krate.now.cfg ctx.skipped.now n) extern_block (all_kept_in ctx (items_below (extern_block_from n o))))
   kept-block_from n None = refl
   kept-block_from n (Some is) = refl
 
-  pub kept-block : (n : ast_block.ExternBlock) → kept options skipped (extern_block_view n) ≡ Some (parent (head_of options skipped (node_from n.hash n.number n.attrs.items n.body)) extern_block (kept_below options skipped (extern_block_view n)))
+  pub kept-block : (n : ast_block.ExternBlock) → kept_in ctx (extern_block_view n) ≡ Some (parent (block_head n) extern_block (all_kept_in ctx (items_below (extern_block_view n))))
   kept-block n = kept-block_from (node_from n.hash n.number n.attrs.items n.body) (option_map (λ v. map extern_item_view v.items) n.items)
+
+written-block_from : (n : NodeView) (o : Option (Vec ExternItem Global)) → let i = extern_block_from n (option_map (λ v. map extern_item_view v.items) o) in item_written i ≡ items_written (items_below i)
+written-block_from n None = refl
+written-block_from n (Some is) = sym (none_written is.items)
+
+pub written-block : (n : ast_block.ExternBlock) → item_written (extern_block_view n) ≡ items_written (items_below (extern_block_view n))
+written-block n = written-block_from (node_from n.hash n.number n.attrs.items n.body) n.items
 
 -- ---- several items
 
 -- of a list of what is seen as items
-module _ (options : List CfgAtom) (skipped : List (List ℕ)) {X : Type 0} (seen : X → ItemView) where
+module _ (ctx : Ctx) {X : Type 0} (seen : X → ItemView) where
   add-join : (o : Option Node) (f g : Forest) → add o (join f g) ≡ join (add o f) g
   add-join None f g = refl
   add-join (Some n) f g = refl
 
   abbrev pub kept_list : List X → Forest
-  kept_list xs = kept_all options skipped (items_from (map seen xs))
+  kept_list xs = all_kept_in ctx (items_from (map seen xs))
 
   abbrev pub written_list : List X → ℕ
   written_list xs = items_written (items_from (map seen xs))
 
   abbrev pub kept_one : X → Forest
-  kept_one x = add (kept options skipped (seen x)) empty
+  kept_one x = add (kept_in ctx (seen x)) empty
 
   kept_list-append : (us vs : List X) → kept_list (us ++ vs) ≡ join (kept_list us) (kept_list vs)
   kept_list-append [] vs = refl
-  kept_list-append (u ∷ us) vs = ap (add (kept options skipped (seen u))) (kept_list-append us vs) ∙ add-join (kept options skipped (seen u)) (kept_list us) (kept_list vs)
+  kept_list-append (u ∷ us) vs = ap (add (kept_in ctx (seen u))) (kept_list-append us vs) ∙ add-join (kept_in ctx (seen u)) (kept_list us) (kept_list vs)
 
   written_list-append : (us vs : List X) → written_list (us ++ vs) ≡ max (written_list us) (written_list vs)
   written_list-append [] vs = omega arith

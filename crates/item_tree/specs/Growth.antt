@@ -1,27 +1,29 @@
 -- What lowering adds to the rows. Only private contracts speak of it.
-use Rattle.std.specs.Prelude.{◌≡◌, ℕ, ◌+◌, ◌*◌, ◌<◌, ◌≤◌, List, [], ◌∷◌, ◌++◌, length, map, Option, Some, None, option_copied}
+use Rattle.std.specs.Prelude.{◌≡◌, ℕ, ◌+◌, ◌*◌, ◌<◌, ◌≤◌, Bool, List, [], ◌∷◌, ◌++◌, length, map, Option, Some, None, Result, MatchResult, option_copied}
 use Rattle.std.specs.declared.vec.Vec.{Vec}
 use Rattle.std.specs.declared.alloc.Global.{Global}
-use Rattle.hir_input.specs.declared.cfg.CfgAtom.{CfgAtom}
+use Rattle.hir_input.specs.declared.attr.Meta.{Meta}
 use Rattle.hir_input.specs.Attr.{meta_view}
-use Rattle.hir_input.specs.Syntax.{NamedView, PlainKind, fn_kind, union_kind, enum_kind, static_kind, trait_kind, type_alias_kind, macro_def_kind, ItemView, listed_module, listed_extern_block}
+use Rattle.hir_input.specs.Syntax.{NamedView, PlainKind, fn_kind, union_kind, enum_kind, static_kind, trait_kind, type_alias_kind, macro_def_kind, ItemView, ItemViews, no_items, listed_module, listed_extern_block}
 use Rattle.item_tree_attrs.specs.declared.collect.AttrsOrCfg.{AttrsOrCfg}
-use Rattle.item_tree_attrs.specs.Collected.{Collected, collected, attr_limit}
+use Rattle.item_tree_attrs.specs.Collected.{Collected, collected, collected_from, attr_limit}
 use Rattle.item_tree.specs.declared.visibility.RawVisibility.{RawVisibility}
+use Rattle.item_tree.specs.declared.lower.Ctx.{Ctx}
 use Rattle.item_tree.specs.declared.lower.named.NamedNode.{NamedNode}
 use Rattle.item_tree.specs.declared.lower.named.PlainKind as named
 use Rattle.item_tree.specs.declared.lower.named.PlainKind.TheVariants as plain
 use Rattle.item_tree.specs.declared.rows.Rows.{Rows}
 use Rattle.item_tree.specs.declared.fault.LowerError.{LowerError}
 use Rattle.item_tree.specs.declared.fault.LowerError.TheVariants.{TooManyItems, TooManyVisibilities, TooManyUseTrees, TooManyAttributes, TooManySupers, OutOfMemory}
-use Rattle.item_tree.specs.Node.{Node, Forest, empty, add, count}
-use Rattle.item_tree.specs.Kept.{kept_all}
+use Rattle.item_tree.specs.CrateView.{crate_view}
+use Rattle.item_tree.specs.Node.{Node, Forest, empty, add, count, Unfolding}
+use Rattle.item_tree.specs.Kept.{kept, kept_all, top_attrs_of}
 use Rattle.item_tree.specs.Column.{is_empty, unless, some_unless, column_of, places_from, plain_place}
 use Rattle.item_tree.specs.Visibility.{meet, meet_all}
 use Rattle.item_tree.specs.Layout.{vis_id, plain_vis, met, kind_bit, ids, Row, row_tag, row_key, row_attrs, row_item, rows_of}
 use Rattle.item_tree.specs.Imports.{super_limit}
 use Rattle.item_tree.specs.KeptUse.{use_tree_limit}
-use Rattle.item_tree.specs.Size.{item_limit, visibility_limit, most_attrs, forest_supers, items_written}
+use Rattle.item_tree.specs.Size.{item_limit, visibility_limit, most_attrs, forest_supers, item_written, items_written}
 use Rattle.item_tree.specs.Stored.{keys_in, items_in, places_in, column_in}
 
 -- the kind of a plain item
@@ -38,16 +40,28 @@ kind_of plain.Union = union_kind
 abbrev pub seen_node : NamedNode → NamedView
 seen_node n = record { node = record { hash = n.key.hash; number = n.key.number; attrs = map meta_view n.attrs.now; body = [] }; name = option_copied n.name; visibility = option_copied n.visibility }
 
--- what is kept of the items of a module or of an extern block
-abbrev pub kept_below : List CfgAtom → List (List ℕ) → ItemView → Forest
-kept_below options skipped (listed_module n semicolon is) = kept_all options skipped is
-kept_below options skipped (listed_extern_block n is) = kept_all options skipped is
-kept_below options skipped i = empty
+-- the items of a module or of an extern block
+abbrev pub items_below : ItemView → ItemViews
+items_below (listed_module n semicolon is) = is
+items_below (listed_extern_block n is) = is
+items_below i = no_items
 
--- how many use trees are written in one of them at most
-abbrev pub written_below : ItemView → ℕ
-written_below (listed_module n semicolon is) = items_written is
-written_below i = 0
+-- what metas collect, what the top of a source file does, and what is kept of one item and of several
+module _ (ctx : Ctx) where
+  abbrev pub attrs_in : List Meta → Collected
+  attrs_in metas = collected_from ctx.krate.now.cfg ctx.skipped.now (map meta_view metas)
+
+  abbrev pub top_attrs_in : Bool → List Meta → Collected
+  top_attrs_in is_root metas = top_attrs_of is_root (crate_view ctx.krate.now) ctx.skipped.now (map meta_view metas)
+
+  abbrev pub kept_in : ItemView → Option Node
+  kept_in i = kept ctx.krate.now.cfg ctx.skipped.now i
+
+  abbrev pub all_kept_in : ItemViews → Forest
+  all_kept_in is = kept_all ctx.krate.now.cfg ctx.skipped.now is
+
+  abbrev pub file_in : Collected → ItemViews → Unfolding
+  file_in top_attrs is = record { top_attrs = top_attrs; forest = all_kept_in is }
 
 abbrev pub row_count : Rows → ℕ
 row_count r = length r.items.items
@@ -93,6 +107,14 @@ IsFault old w f TooManyUseTrees = use_tree_limit < w
 IsFault old w f TooManyAttributes = attr_limit < most_attrs f
 IsFault old w f TooManySupers = super_limit < forest_supers f
 IsFault old w f OutOfMemory = Unit {0}
+
+-- the item is lowered, or refused for a size that it passes
+abbrev pub IsLowered : Ctx → Rows → Rows → ItemView → Result (Option ℕ) LowerError → Type 0
+IsLowered ctx old new i r = MatchResult r (LowersOne old new (item_written i) (kept_in ctx i)) (IsFault old (item_written i) (add (kept_in ctx i) empty))
+
+-- the same of several
+abbrev pub AreLowered : Ctx → Rows → Rows → ItemViews → Result (Vec ℕ Global) LowerError → Type 0
+AreLowered ctx old new is r = MatchResult r (λ ids. Lowers old new (items_written is) (all_kept_in ctx is) ids.items) (IsFault old (items_written is) (all_kept_in ctx is))
 
 -- the error names that an owner collects too many attributes, or want of memory
 abbrev pub IsAttrFault : Collected → LowerError → Type 0

@@ -1,16 +1,14 @@
 //! Lowering of a syntax to its item tree.
-ghost use Rattle.std.specs.Prelude.{◌≡◌, ◌≤◌, IfOk, IfErr, OnOk, [], length, map, option_copied};
-ghost use Rattle.hir_input.specs.Attr.{meta_view};
+ghost use Rattle.std.specs.Prelude.{◌≡◌, ◌≤◌, IfOk, IfErr, OnOk, [], length, option_copied};
 ghost use Rattle.hir_input.specs.Syntax.{impl_item, impl_view, use_item, use_view, source_file, module_view, item_view, items_view, syntax_view};
 ghost use Rattle.hir_input.specs.Bodies.{without_bodies};
-ghost use Rattle.item_tree_attrs.specs.Collected.{attr_limit, collected, collected_from};
+ghost use Rattle.item_tree_attrs.specs.Collected.{attr_limit, collected};
 ghost use Rattle.item_tree.specs.CrateView.{crate_view};
-ghost use Rattle.item_tree.specs.Node.{empty, add};
-ghost use Rattle.item_tree.specs.Kept.{kept, kept_all, kept_syntax, top_attrs_of};
+ghost use Rattle.item_tree.specs.Kept.{kept_syntax};
 ghost use Rattle.item_tree.specs.Sees.{CtorsAreSeen};
 ghost use Rattle.item_tree.specs.KeptUse.{use_tree_limit};
-ghost use Rattle.item_tree.specs.Size.{Fits, FitsWith, IsTooLarge, tree_written, item_written, items_written};
-ghost use Rattle.item_tree.specs.Growth.{IsWithinLimits, Lowers, LowersOne, IsFault, IsAttrFault, Meets, IsUnmet, kept_below, written_below};
+ghost use Rattle.item_tree.specs.Size.{Fits, FitsWith, IsTooLarge, items_written};
+ghost use Rattle.item_tree.specs.Growth.{IsWithinLimits, IsLowered, AreLowered, IsAttrFault, Meets, IsUnmet, attrs_in, top_attrs_in, file_in, items_below};
 ghost use Rattle.item_tree.specs.Visibility.{read_visibility};
 
 mod constructor;
@@ -28,13 +26,21 @@ use crate::lower::macros::{lower_macro_call, lower_macro_rules};
 use crate::lower::named::{
     NamedNode, PlainKind, lower_const, lower_extern_crate, lower_named, named,
 };
-use crate::rows::{AstKey, Rows, push_attrs};
+use crate::rows::{Rows, ast_key, push_attrs};
 use crate::tree::ItemTree;
 use crate::visibility::{RawVisibilityId, visibility_from_ast};
-use hir_input::{CfgOptions, Meta, Name, ast};
+use hir_input::{Meta, Name, ast};
 use item_tree_attrs::AttrsOrCfg;
 use std::alloc::Global;
 pub use use_tree::lower_use_tree;
+
+/// What lowering has at hand everywhere: the allocator, the crate, and the skipped names.
+#[derive(Clone, Copy)]
+struct Ctx<'a> {
+    alloc: Global,
+    krate: &'a CrateData,
+    skipped: &'a [Name],
+}
 
 /// The tree of a syntax in a crate: exactly its kept items, with the attributes that their metas collect under the
 /// crate's options, without those of the skipped names. `is_root` tells whether the syntax is that of the crate's
@@ -50,54 +56,52 @@ pub fn lower_syntax(
     krate: &CrateData,
     skipped: &[Name],
 ) -> Result<ItemTree, LowerError>
-    ensures kept { IfOk result (λ tree. tree ≡ kept_syntax is_root (crate_view krate.now) skipped.now (syntax_view syntax.now)) }
-    ensures bodies { IfOk result (λ tree. tree ≡ kept_syntax is_root (crate_view krate.now) skipped.now (without_bodies (syntax_view syntax.now))) }
+    ensures kept { IfOk result (λ tree. tree ≡
+        kept_syntax is_root (crate_view krate.now) skipped.now (syntax_view syntax.now)) }
+    ensures bodies { IfOk result (λ tree. tree ≡
+        kept_syntax is_root (crate_view krate.now) skipped.now (without_bodies (syntax_view syntax.now))) }
     ensures constructors { OnOk result (CtorsAreSeen (syntax_view syntax.now)) }
-    ensures fits { OnOk result (FitsWith (syntax_view syntax.now) (kept_syntax is_root (crate_view krate.now) skipped.now (syntax_view syntax.now))) }
-    ensures too_large { IfErr result (IsTooLarge (syntax_view syntax.now) (kept_syntax is_root (crate_view krate.now) skipped.now (syntax_view syntax.now))) }
+    ensures fits { OnOk result (FitsWith (syntax_view syntax.now)
+        (kept_syntax is_root (crate_view krate.now) skipped.now (syntax_view syntax.now))) }
+    ensures too_large { IfErr result (IsTooLarge (syntax_view syntax.now)
+        (kept_syntax is_root (crate_view krate.now) skipped.now (syntax_view syntax.now))) }
 {
+    let ctx = Ctx {
+        alloc,
+        krate,
+        skipped,
+    };
     match syntax {
         ast::Syntax::SourceFile { attrs, items } => {
-            let top_attrs = lower_top_attrs(alloc, attrs, is_root, krate, skipped)?;
-            lower_file(alloc, top_attrs, items, &krate.cfg, skipped)
+            let top_attrs = lower_top_attrs(ctx, attrs, is_root)?;
+            lower_file(ctx, top_attrs, items)
         }
         ast::Syntax::Error => Ok(ItemTree::empty(alloc)),
     }
 }
 
 // What metas collect.
-fn lower_attrs(
-    alloc: Global,
-    attrs: &[Meta],
-    options: &CfgOptions,
-    skipped: &[Name],
-) -> Result<AttrsOrCfg, LowerError>
-    ensures value { IfOk result (λ lowered. collected lowered ≡ collected_from options.now skipped.now (map meta_view attrs.now)) }
-    ensures fits { OnOk result (length (collected_from options.now skipped.now (map meta_view attrs.now)).attrs ≤ attr_limit) }
-    ensures fault { IfErr result (IsAttrFault (collected_from options.now skipped.now (map meta_view attrs.now))) }
+fn lower_attrs(ctx: Ctx, attrs: &[Meta]) -> Result<AttrsOrCfg, LowerError>
+    ensures value { IfOk result (λ lowered. collected lowered ≡ attrs_in ctx.entry attrs.now) }
+    ensures fits { OnOk result (length (attrs_in ctx.entry attrs.now).attrs ≤ attr_limit) }
+    ensures fault { IfErr result (IsAttrFault (attrs_in ctx.entry attrs.now)) }
 {
-    Ok(AttrsOrCfg::lower(alloc, attrs, options, skipped)?)
+    Ok(AttrsOrCfg::lower(ctx.alloc, attrs, &ctx.krate.cfg, ctx.skipped)?)
 }
 
 // The top attributes of a source file. Where a cfg of the crate is false, those of the root file are not collected.
-fn lower_top_attrs(
-    alloc: Global,
-    attrs: &[Meta],
-    is_root: bool,
-    krate: &CrateData,
-    skipped: &[Name],
-) -> Result<AttrsOrCfg, LowerError>
-    ensures value { IfOk result (λ top. collected top ≡ top_attrs_of is_root (crate_view krate.now) skipped.now (map meta_view attrs.now)) }
-    ensures fits { OnOk result (length (top_attrs_of is_root (crate_view krate.now) skipped.now (map meta_view attrs.now)).attrs ≤ attr_limit) }
-    ensures fault { IfErr result (IsAttrFault (top_attrs_of is_root (crate_view krate.now) skipped.now (map meta_view attrs.now))) }
+fn lower_top_attrs(ctx: Ctx, attrs: &[Meta], is_root: bool) -> Result<AttrsOrCfg, LowerError>
+    ensures value { IfOk result (λ top. collected top ≡ top_attrs_in ctx.entry is_root attrs.now) }
+    ensures fits { OnOk result (length (top_attrs_in ctx.entry is_root attrs.now).attrs ≤ attr_limit) }
+    ensures fault { IfErr result (IsAttrFault (top_attrs_in ctx.entry is_root attrs.now)) }
 {
     if !is_root {
-        return lower_attrs(alloc, attrs, &krate.cfg, skipped);
+        return lower_attrs(ctx, attrs);
     }
-    let of_crate = lower_attrs(alloc, &krate.attrs, &krate.cfg, skipped)?;
+    let of_crate = lower_attrs(ctx, &ctx.krate.attrs)?;
     match of_crate {
         AttrsOrCfg::Enabled { attrs: before } => {
-            let own = lower_attrs(alloc, attrs, &krate.cfg, skipped)?;
+            let own = lower_attrs(ctx, attrs)?;
             let before = AttrsOrCfg::Enabled { attrs: before };
             Ok(before.merge(own)?)
         }
@@ -106,40 +110,28 @@ fn lower_top_attrs(
 }
 
 // The tree of a source file's items.
-fn lower_file(
-    alloc: Global,
-    top_attrs: AttrsOrCfg,
-    items: &[ast::Item],
-    options: &CfgOptions,
-    skipped: &[Name],
-) -> Result<ItemTree, LowerError>
+fn lower_file(ctx: Ctx, top_attrs: AttrsOrCfg, items: &[ast::Item]) -> Result<ItemTree, LowerError>
     requires { length (collected top_attrs).attrs ≤ attr_limit }
-    ensures kept { IfOk result (λ tree. tree ≡ record { top_attrs = collected top_attrs; forest = kept_all options.now skipped.now (items_view items.now) }) }
-    ensures fits { OnOk result (Fits (record { top_attrs = collected top_attrs; forest = kept_all options.now skipped.now (items_view items.now) })) }
+    ensures kept { IfOk result (λ tree. tree ≡ file_in ctx.entry (collected top_attrs) (items_view items.now)) }
+    ensures fits { OnOk result (Fits (file_in ctx.entry (collected top_attrs) (items_view items.now))) }
     ensures use_trees { OnOk result (items_written (items_view items.now) ≤ use_tree_limit) }
-    ensures too_large { IfErr result (IsTooLarge (source_file [] (items_view items.now)) (record { top_attrs = collected top_attrs; forest = kept_all options.now skipped.now (items_view items.now) })) }
+    ensures too_large { IfErr result (IsTooLarge (source_file [] (items_view items.now))
+        (file_in ctx.entry (collected top_attrs) (items_view items.now))) }
 {
-    let mut rows = Rows::new(alloc);
-    let top_level = lower_items(alloc, &mut rows, items, options, skipped)?;
+    let mut rows = Rows::new(ctx.alloc);
+    let top_level = lower_items(ctx, &mut rows, items)?;
     let top_place = push_attrs(&mut rows.column, top_attrs)?;
     Ok(ItemTree::from_rows(top_level, top_place, rows))
 }
 
 #[cycle(lower)]
-fn lower_items(
-    alloc: Global,
-    rows: &mut Rows,
-    items: &[ast::Item],
-    options: &CfgOptions,
-    skipped: &[Name],
-) -> Result<Vec<ModItemId>, LowerError>
+fn lower_items(ctx: Ctx, rows: &mut Rows, items: &[ast::Item]) -> Result<Vec<ModItemId>, LowerError>
     requires { IsWithinLimits rows.old }
-    ensures lowered { IfOk result (λ ids. Lowers rows.old rows.new (items_written (items_view items.now)) (kept_all options.now skipped.now (items_view items.now)) ids.items) }
-    ensures fault { IfErr result (IsFault rows.old (items_written (items_view items.now)) (kept_all options.now skipped.now (items_view items.now))) }
+    ensures { AreLowered ctx.entry rows.old rows.new (items_view items.now) result }
 {
-    let mut ids = Vec::new(alloc);
+    let mut ids = Vec::new(ctx.alloc);
     for item in items {
-        if let Some(id) = lower_item(alloc, rows, item, options, skipped)? {
+        if let Some(id) = lower_item(ctx, rows, item)? {
             ids.push(id)?;
         }
     }
@@ -147,157 +139,119 @@ fn lower_items(
 }
 
 #[cycle(lower)]
-fn lower_item(
-    alloc: Global,
-    rows: &mut Rows,
-    item: &ast::Item,
-    options: &CfgOptions,
-    skipped: &[Name],
-) -> Result<Option<ModItemId>, LowerError>
+fn lower_item(ctx: Ctx, rows: &mut Rows, item: &ast::Item) -> Result<Option<ModItemId>, LowerError>
     requires { IsWithinLimits rows.old }
-    ensures lowered { IfOk result (LowersOne rows.old rows.new (item_written (item_view item.now)) (kept options.now skipped.now (item_view item.now))) }
-    ensures fault { IfErr result (IsFault rows.old (item_written (item_view item.now)) (add (kept options.now skipped.now (item_view item.now)) empty)) }
+    ensures { IsLowered ctx.entry rows.old rows.new (item_view item.now) result }
 {
     match item {
         ast::Item::AsmExpr(_) => Ok(None),
-        ast::Item::Const(node) => lower_const(alloc, rows, node, options, skipped),
-        ast::Item::Enum(node) => lower_named(alloc, rows, named!(Enum, node), options, skipped),
-        ast::Item::ExternBlock(node) => lower_extern_block(alloc, rows, node, options, skipped),
-        ast::Item::ExternCrate(node) => lower_extern_crate(alloc, rows, node, options, skipped),
-        ast::Item::Fn(node) => lower_named(alloc, rows, named!(Function, node), options, skipped),
-        ast::Item::Impl(node) => lower_impl(alloc, rows, node, options, skipped),
-        ast::Item::MacroCall(node) => lower_macro_call(alloc, rows, node, options, skipped),
-        ast::Item::MacroDef(node) => lower_named(
-            alloc,
-            rows,
-            named!(Macro2, node),
-            options,
-            skipped,
-        ),
-        ast::Item::MacroRules(node) => lower_macro_rules(alloc, rows, node, options, skipped),
-        ast::Item::Module(node) => lower_module(alloc, rows, node, options, skipped),
-        ast::Item::Static(node) => lower_named(alloc, rows, named!(Static, node), options, skipped),
-        ast::Item::Struct(node) => lower_struct(alloc, rows, node, options, skipped),
-        ast::Item::Trait(node) => lower_named(alloc, rows, named!(Trait, node), options, skipped),
-        ast::Item::TypeAlias(node) => lower_named(
-            alloc,
-            rows,
-            named!(TypeAlias, node),
-            options,
-            skipped,
-        ),
-        ast::Item::Union(node) => lower_named(alloc, rows, named!(Union, node), options, skipped),
-        ast::Item::Use(node) => lower_use(alloc, rows, node, options, skipped),
+        ast::Item::Const(node) => lower_const(ctx, rows, node),
+        ast::Item::Enum(node) => lower_named(ctx, rows, named!(Enum, node)),
+        ast::Item::ExternBlock(node) => lower_extern_block(ctx, rows, node),
+        ast::Item::ExternCrate(node) => lower_extern_crate(ctx, rows, node),
+        ast::Item::Fn(node) => lower_named(ctx, rows, named!(Function, node)),
+        ast::Item::Impl(node) => lower_impl(ctx, rows, node),
+        ast::Item::MacroCall(node) => lower_macro_call(ctx, rows, node),
+        ast::Item::MacroDef(node) => lower_named(ctx, rows, named!(Macro2, node)),
+        ast::Item::MacroRules(node) => lower_macro_rules(ctx, rows, node),
+        ast::Item::Module(node) => lower_module(ctx, rows, node),
+        ast::Item::Static(node) => lower_named(ctx, rows, named!(Static, node)),
+        ast::Item::Struct(node) => lower_struct(ctx, rows, node),
+        ast::Item::Trait(node) => lower_named(ctx, rows, named!(Trait, node)),
+        ast::Item::TypeAlias(node) => lower_named(ctx, rows, named!(TypeAlias, node)),
+        ast::Item::Union(node) => lower_named(ctx, rows, named!(Union, node)),
+        ast::Item::Use(node) => lower_use(ctx, rows, node),
     }
 }
 
 #[cycle(lower)]
 fn lower_module(
-    alloc: Global,
+    ctx: Ctx,
     rows: &mut Rows,
     mod_node: &ast::Module,
-    options: &CfgOptions,
-    skipped: &[Name],
 ) -> Result<Option<ModItemId>, LowerError>
     requires { IsWithinLimits rows.old }
-    ensures lowered { IfOk result (LowersOne rows.old rows.new (item_written (module_view mod_node.now)) (kept options.now skipped.now (module_view mod_node.now))) }
-    ensures fault { IfErr result (IsFault rows.old (item_written (module_view mod_node.now)) (add (kept options.now skipped.now (module_view mod_node.now)) empty)) }
+    ensures { IsLowered ctx.entry rows.old rows.new (module_view mod_node.now) result }
 {
     let Some(name) = &mod_node.name else {
         return Ok(None);
     };
     let name = name.clone()?;
-    let attrs = lower_attrs(alloc, &mod_node.attrs, options, skipped)?;
-    let visibility = lower_visibility(alloc, rows, mod_node.visibility.as_ref())?;
-    let key = AstKey {
-        hash: mod_node.hash,
-        number: mod_node.number,
-    };
+    let attrs = lower_attrs(ctx, &mod_node.attrs)?;
+    let visibility = lower_visibility(ctx.alloc, rows, mod_node.visibility.as_ref())?;
     if mod_node.semicolon {
         let item = Mod {
             name,
             visibility,
             kind: ModKind::Outline,
         };
-        let id = rows.push(key, attrs, ModItem::Mod(item))?;
+        let id = rows.push(ast_key!(mod_node), attrs, ModItem::Mod(item))?;
         return Ok(Some(id));
     }
-    let items = lower_module_items(alloc, rows, mod_node, options, skipped)?;
+    let items = lower_module_items(ctx, rows, mod_node)?;
     let item = Mod {
         name,
         visibility,
         kind: ModKind::Inline { items },
     };
-    let id = rows.push(key, attrs, ModItem::Mod(item))?;
+    let id = rows.push(ast_key!(mod_node), attrs, ModItem::Mod(item))?;
     Ok(Some(id))
 }
 
 #[cycle(lower)]
 fn lower_module_items(
-    alloc: Global,
+    ctx: Ctx,
     rows: &mut Rows,
     mod_node: &ast::Module,
-    options: &CfgOptions,
-    skipped: &[Name],
 ) -> Result<Vec<ModItemId>, LowerError>
     requires { IsWithinLimits rows.old }
-    ensures lowered { IfOk result (λ ids. Lowers rows.old rows.new (written_below (module_view mod_node.now)) (kept_below options.now skipped.now (module_view mod_node.now)) ids.items) }
-    ensures fault { IfErr result (IsFault rows.old (written_below (module_view mod_node.now)) (kept_below options.now skipped.now (module_view mod_node.now))) }
+    ensures { AreLowered ctx.entry rows.old rows.new (items_below (module_view mod_node.now)) result }
 {
     match &mod_node.items {
-        Some(items) => lower_items(alloc, rows, items, options, skipped),
-        None => Ok(Vec::new(alloc)),
+        Some(items) => lower_items(ctx, rows, items),
+        None => Ok(Vec::new(ctx.alloc)),
     }
 }
 
 fn lower_impl(
-    alloc: Global,
+    ctx: Ctx,
     rows: &mut Rows,
     impl_node: &ast::Impl,
-    options: &CfgOptions,
-    skipped: &[Name],
 ) -> Result<Option<ModItemId>, LowerError>
     requires { IsWithinLimits rows.old }
-    ensures lowered { IfOk result (LowersOne rows.old rows.new 0 (kept options.now skipped.now (impl_item (impl_view impl_node.now) impl_node.now.is_trait_impl))) }
-    ensures fault { IfErr result (IsFault rows.old 0 (add (kept options.now skipped.now (impl_item (impl_view impl_node.now) impl_node.now.is_trait_impl)) empty)) }
+    ensures { IsLowered ctx.entry rows.old rows.new
+        (impl_item (impl_view impl_node.now) impl_node.now.is_trait_impl) result }
 {
-    let attrs = lower_attrs(alloc, &impl_node.attrs, options, skipped)?;
-    let key = AstKey {
-        hash: impl_node.hash,
-        number: impl_node.number,
-    };
+    let attrs = lower_attrs(ctx, &impl_node.attrs)?;
     let item = Impl {
         is_trait_impl: impl_node.is_trait_impl,
     };
-    let id = rows.push(key, attrs, ModItem::Impl(item))?;
+    let id = rows.push(ast_key!(impl_node), attrs, ModItem::Impl(item))?;
     Ok(Some(id))
 }
 
 // A use is dropped before its visibility is met.
 fn lower_use(
-    alloc: Global,
+    ctx: Ctx,
     rows: &mut Rows,
     use_node: &ast::Use,
-    options: &CfgOptions,
-    skipped: &[Name],
 ) -> Result<Option<ModItemId>, LowerError>
     requires { IsWithinLimits rows.old }
-    ensures lowered { IfOk result (LowersOne rows.old rows.new (tree_written (use_view use_node.now).use_tree) (kept options.now skipped.now (use_item (use_view use_node.now)))) }
-    ensures fault { IfErr result (IsFault rows.old (tree_written (use_view use_node.now).use_tree) (add (kept options.now skipped.now (use_item (use_view use_node.now))) empty)) }
+    ensures { IsLowered ctx.entry rows.old rows.new (use_item (use_view use_node.now)) result }
 {
     let Some(tree) = &use_node.use_tree else {
         return Ok(None);
     };
-    let Some((tree, _)) = lower_use_tree(alloc, tree)? else {
+    let Some((tree, _)) = lower_use_tree(ctx.alloc, tree)? else {
         return Ok(None);
     };
-    let attrs = lower_attrs(alloc, &use_node.attrs, options, skipped)?;
-    let visibility = lower_visibility(alloc, rows, use_node.visibility.as_ref())?;
-    let key = AstKey {
-        hash: use_node.hash,
-        number: use_node.number,
-    };
-    let id = rows.push(key, attrs, ModItem::Use(Use::new(visibility, tree)))?;
+    let attrs = lower_attrs(ctx, &use_node.attrs)?;
+    let visibility = lower_visibility(ctx.alloc, rows, use_node.visibility.as_ref())?;
+    let id = rows.push(
+        ast_key!(use_node),
+        attrs,
+        ModItem::Use(Use::new(visibility, tree)),
+    )?;
     Ok(Some(id))
 }
 

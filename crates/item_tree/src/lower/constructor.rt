@@ -3,51 +3,44 @@ ghost use Rattle.std.specs.Prelude.{◌≡◌, ◌∷◌, [], IfOk, IfErr, OnOk,
 ghost use Rattle.hir_input.specs.Syntax.{struct_item, struct_view, fields_view, tuple_fields};
 ghost use Rattle.item_tree.specs.Constructor.{ctor_of, ctor_from, deciding};
 ghost use Rattle.item_tree.specs.Layout.{plain_vis, vis_id, ctor_map, ctor_vis};
-ghost use Rattle.item_tree.specs.Node.{empty, add};
-ghost use Rattle.item_tree.specs.Kept.{kept, shape_of};
-ghost use Rattle.item_tree.specs.Growth.{IsWithinLimits, LowersOne, IsFault, HasId, MeetsAll, AreUnmet};
+ghost use Rattle.item_tree.specs.Kept.{shape_of};
+ghost use Rattle.item_tree.specs.Growth.{IsWithinLimits, IsLowered, HasId, MeetsAll, AreUnmet};
 ghost use Rattle.item_tree.specs.Shown.{ctor_ids};
 ghost use Rattle.item_tree.specs.Visibility.{read_visibility};
 
 use crate::fault::LowerError;
 use crate::items::{FieldsShape, ModItem, ModItemId, Struct, StructValueNsCtor};
-use crate::lower::{lower_attrs, lower_visibility};
-use crate::rows::{AstKey, Rows};
+use crate::lower::{Ctx, lower_attrs, lower_visibility};
+use crate::rows::{Rows, ast_key};
 use crate::visibility::{RawVisibility, RawVisibilityId, visibility_from_ast};
-use hir_input::{CfgOptions, Name, ast};
+use hir_input::ast;
 use indexmap::IndexSet;
 use std::alloc::{AllocError, Global};
 
 #[tactic(auto, using(crate::proofs::Constructors::has_id, crate::proofs::Constructors::own_unmet))]
 pub(super) fn lower_struct(
-    alloc: Global,
+    ctx: Ctx,
     rows: &mut Rows,
     struct_node: &ast::Struct,
-    options: &CfgOptions,
-    skipped: &[Name],
 ) -> Result<Option<ModItemId>, LowerError>
     requires { IsWithinLimits rows.old }
-    ensures lowered { IfOk result (LowersOne rows.old rows.new 0 (kept options.now skipped.now (struct_item (struct_view struct_node.now) (fields_view struct_node.now.kind)))) }
-    ensures fault { IfErr result (IsFault rows.old 0 (add (kept options.now skipped.now (struct_item (struct_view struct_node.now) (fields_view struct_node.now.kind))) empty)) }
+    ensures { IsLowered ctx.entry rows.old rows.new
+        (struct_item (struct_view struct_node.now) (fields_view struct_node.now.kind)) result }
 {
     let Some(name) = &struct_node.name else {
         return Ok(None);
     };
     let name = name.clone()?;
-    let attrs = lower_attrs(alloc, &struct_node.attrs, options, skipped)?;
-    let visibility = lower_visibility(alloc, rows, struct_node.visibility.as_ref())?;
-    let value_ns_ctor = lower_ctor(alloc, rows, struct_node, visibility)?;
-    let key = AstKey {
-        hash: struct_node.hash,
-        number: struct_node.number,
-    };
+    let attrs = lower_attrs(ctx, &struct_node.attrs)?;
+    let visibility = lower_visibility(ctx.alloc, rows, struct_node.visibility.as_ref())?;
+    let value_ns_ctor = lower_ctor(ctx.alloc, rows, struct_node, visibility)?;
     let item = Struct {
         name,
         visibility,
         shape: shape_of(&struct_node.kind),
         value_ns_ctor,
     };
-    let id = rows.push(key, attrs, ModItem::Struct(item))?;
+    let id = rows.push(ast_key!(struct_node), attrs, ModItem::Struct(item))?;
     Ok(Some(id))
 }
 

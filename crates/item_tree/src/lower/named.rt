@@ -1,9 +1,8 @@
 //! Lowering of items that have a name and a visibility.
-ghost use Rattle.std.specs.Prelude.{◌≡◌, IfOk, IfErr};
+ghost use Rattle.std.specs.Prelude.{◌≡◌};
 ghost use Rattle.hir_input.specs.Syntax.{plain_item, const_item, const_view, extern_crate, extern_crate_view};
-ghost use Rattle.item_tree.specs.Node.{empty, add, plain};
-ghost use Rattle.item_tree.specs.Kept.{kept};
-ghost use Rattle.item_tree.specs.Growth.{IsWithinLimits, LowersOne, IsFault, kind_of, seen_node};
+ghost use Rattle.item_tree.specs.Node.{plain};
+ghost use Rattle.item_tree.specs.Growth.{IsWithinLimits, IsLowered, kind_of, seen_node};
 ghost use Rattle.item_tree.specs.Stored.{item_row, leaf_plain};
 
 use crate::fault::LowerError;
@@ -11,10 +10,10 @@ use crate::items::{
     Const, Enum, ExternCrate, Function, Macro2, ModItem, ModItemId, Static, Trait, TypeAlias, Union,
 };
 use crate::lower::use_tree::lower_alias;
-use crate::lower::{lower_attrs, lower_visibility};
-use crate::rows::{AstKey, Rows};
+use crate::lower::{Ctx, lower_attrs, lower_visibility};
+use crate::rows::{AstKey, Rows, ast_key};
 use crate::visibility::RawVisibilityId;
-use hir_input::{CfgOptions, Meta, Name, ast};
+use hir_input::{Meta, Name, ast};
 use std::alloc::Global;
 
 /// The kinds of items that differ in nothing but the kind.
@@ -44,10 +43,7 @@ macro_rules! named {
     ($kind:ident, $node:expr) => {
         NamedNode {
             kind: PlainKind::$kind,
-            key: AstKey {
-                hash: $node.hash,
-                number: $node.number,
-            },
+            key: ast_key!($node),
             attrs: &$node.attrs,
             name: $node.name.as_ref(),
             visibility: $node.visibility.as_ref(),
@@ -72,76 +68,65 @@ fn plain_item(kind: PlainKind, name: Name, visibility: RawVisibilityId) -> ModIt
 }
 
 pub(super) fn lower_named(
-    alloc: Global,
+    ctx: Ctx,
     rows: &mut Rows,
     node: NamedNode,
-    options: &CfgOptions,
-    skipped: &[Name],
 ) -> Result<Option<ModItemId>, LowerError>
     requires { IsWithinLimits rows.old }
-    ensures lowered { IfOk result (LowersOne rows.old rows.new 0 (kept options.now skipped.now (plain_item (kind_of node.entry.kind) (seen_node node.entry)))) }
-    ensures fault { IfErr result (IsFault rows.old 0 (add (kept options.now skipped.now (plain_item (kind_of node.entry.kind) (seen_node node.entry))) empty)) }
+    ensures { IsLowered ctx.entry rows.old rows.new
+        (plain_item (kind_of node.entry.kind) (seen_node node.entry)) result }
 {
     let Some(name) = node.name else {
         return Ok(None);
     };
     let name = name.clone()?;
-    let attrs = lower_attrs(alloc, node.attrs, options, skipped)?;
-    let visibility = lower_visibility(alloc, rows, node.visibility)?;
+    let attrs = lower_attrs(ctx, node.attrs)?;
+    let visibility = lower_visibility(ctx.alloc, rows, node.visibility)?;
     let id = rows.push(node.key, attrs, plain_item(node.kind, name, visibility))?;
     Ok(Some(id))
 }
 
 // A constant is kept without a name too.
 pub(super) fn lower_const(
-    alloc: Global,
+    ctx: Ctx,
     rows: &mut Rows,
     const_node: &ast::Const,
-    options: &CfgOptions,
-    skipped: &[Name],
 ) -> Result<Option<ModItemId>, LowerError>
     requires { IsWithinLimits rows.old }
-    ensures lowered { IfOk result (LowersOne rows.old rows.new 0 (kept options.now skipped.now (const_item (const_view const_node.now)))) }
-    ensures fault { IfErr result (IsFault rows.old 0 (add (kept options.now skipped.now (const_item (const_view const_node.now))) empty)) }
+    ensures { IsLowered ctx.entry rows.old rows.new (const_item (const_view const_node.now)) result }
 {
     let name = const_node.name.clone()?;
-    let attrs = lower_attrs(alloc, &const_node.attrs, options, skipped)?;
-    let visibility = lower_visibility(alloc, rows, const_node.visibility.as_ref())?;
-    let key = AstKey {
-        hash: const_node.hash,
-        number: const_node.number,
-    };
-    let id = rows.push(key, attrs, ModItem::Const(Const { name, visibility }))?;
+    let attrs = lower_attrs(ctx, &const_node.attrs)?;
+    let visibility = lower_visibility(ctx.alloc, rows, const_node.visibility.as_ref())?;
+    let id = rows.push(
+        ast_key!(const_node),
+        attrs,
+        ModItem::Const(Const { name, visibility }),
+    )?;
     Ok(Some(id))
 }
 
 pub(super) fn lower_extern_crate(
-    alloc: Global,
+    ctx: Ctx,
     rows: &mut Rows,
     crate_node: &ast::ExternCrate,
-    options: &CfgOptions,
-    skipped: &[Name],
 ) -> Result<Option<ModItemId>, LowerError>
     requires { IsWithinLimits rows.old }
-    ensures lowered { IfOk result (LowersOne rows.old rows.new 0 (kept options.now skipped.now (extern_crate (extern_crate_view crate_node.now) crate_node.now.rename))) }
-    ensures fault { IfErr result (IsFault rows.old 0 (add (kept options.now skipped.now (extern_crate (extern_crate_view crate_node.now) crate_node.now.rename)) empty)) }
+    ensures { IsLowered ctx.entry rows.old rows.new
+        (extern_crate (extern_crate_view crate_node.now) crate_node.now.rename) result }
 {
     let Some(name) = &crate_node.name else {
         return Ok(None);
     };
     let name = name.clone()?;
     let alias = lower_alias(crate_node.rename.as_ref())?;
-    let attrs = lower_attrs(alloc, &crate_node.attrs, options, skipped)?;
-    let visibility = lower_visibility(alloc, rows, crate_node.visibility.as_ref())?;
-    let key = AstKey {
-        hash: crate_node.hash,
-        number: crate_node.number,
-    };
+    let attrs = lower_attrs(ctx, &crate_node.attrs)?;
+    let visibility = lower_visibility(ctx.alloc, rows, crate_node.visibility.as_ref())?;
     let item = ExternCrate {
         name,
         visibility,
         alias,
     };
-    let id = rows.push(key, attrs, ModItem::ExternCrate(item))?;
+    let id = rows.push(ast_key!(crate_node), attrs, ModItem::ExternCrate(item))?;
     Ok(Some(id))
 }

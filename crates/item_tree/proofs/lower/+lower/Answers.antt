@@ -1,25 +1,24 @@
-use Rattle.std.proofs.Common.{◌≡◌, ◌≤◌, ◌+◌, length, map, ◌++◌, take, subst, ap, sym, ◌∙◌, append-nil}
+use Rattle.std.proofs.Common.{◌≡◌, ◌≤◌, ◌+◌, length, ◌++◌, take, subst, ap, sym, ◌∙◌, append-nil}
 use Rattle.std.proofs.lemmas.Result.{err_from_is_err_and}
-use Rattle.hir_input.specs.Attr.{meta_view}
 use Rattle.hir_input.specs.Syntax.{item_view}
-use Rattle.item_tree_attrs.specs.Collected.{collected_from, attr_limit}
+use Rattle.item_tree_attrs.specs.Collected.{attr_limit}
 use Rattle.item_tree.specs.Visibility.{read_visibility}
-use Rattle.item_tree.specs.Growth.{Meets, IsUnmet, Lowers, to_list}
+use Rattle.item_tree.specs.Growth.{attrs_in, Meets, IsUnmet, Lowers, to_list}
 use Rattle.item_tree.proofs.Lowering.{kept_list, written_list, IsUnmet-module, Lowers-step, IsFault-step, Lowers-inline, IsFull-inline}
 use Rattle.item_tree.proofs.lower.+lower.Goals as goal
 use Rattle.item_tree.proofs.lower.+lower.Goals.{lower_items-in-Some+in_ok-push, lower_items-in_default}
 
-pub lower_items-returns-in_err-id-clause-fault : goal.lower_items-returns-in_err-id-clause-fault
-lower_items-returns-in_err-id-clause-fault t c =
+pub lower_items-returns-in_err-id : goal.lower_items-returns-in_err-id
+lower_items-returns-in_err-id t c =
     let p = err_from_is_err_and c.from_residual.result c.from_residual.ensures.1 in
     rw (p.1, p.2)
-    (IsFault-step c.args.options.now c.args.skipped.now item_view c.args.items.now c.loop-item.item-index c.item-item.result c.in_err-id.field-0.0 c.item-item.is c.loop-item-test.true c.loop-item.invariant c.in_err-id.ensures.fault)
+    (IsFault-step c.args.ctx item_view c.args.items.now c.loop-item.item-index c.item-item.result c.in_err-id.field-0.0 c.item-item.is c.loop-item-test.true c.loop-item.invariant c.in_err-id.ensures)
 
 pub lower_items-loop-item-preserved : goal.lower_items-loop-item-preserved
 lower_items-loop-item-preserved t c =
-    let s = Lowers-step c.args.options.now c.args.skipped.now item_view c.args.items.now c.loop-item.item-index c.item-item.result c.item-item.is c.loop-item-test.true c.loop-item.invariant c.in_ok-id.ensures.lowered in
+    let s = Lowers-step c.args.ctx item_view c.args.items.now c.loop-item.item-index c.item-item.result c.item-item.is c.loop-item-test.true c.loop-item.invariant c.in_ok-id.ensures in
     let done = take (c.loop-item.item-index + 1) c.args.items.now in
-    let into = λ (js : _) (e : c.loop-item.ids.items ++ to_list c.in_ok-id.field-0 ≡ js). subst (λ zs. Lowers c.args.rows.now c.lower_item.new.rows (written_list c.args.options.now c.args.skipped.now item_view done) (kept_list c.args.options.now c.args.skipped.now item_view done) zs) e s in
+    let into = λ (js : _) (e : c.loop-item.ids.items ++ to_list c.in_ok-id.field-0 ≡ js). subst (λ zs. Lowers c.args.rows.now c.lower_item.new.rows (written_list c.args.ctx item_view done) (kept_list c.args.ctx item_view done) zs) e s in
     elim c.match-branch-2.branch [
       | lower_items-in-Some+in_ok-push w ↦
           into c.match-branch-2.ids.items (ap (λ z. c.loop-item.ids.items ++ to_list z) w.in-Some.is ∙ sym w.in_ok-push.ensures.items ∙ sym (ap (λ v. v.items) w.ids-is))
@@ -27,27 +26,25 @@ lower_items-loop-item-preserved t c =
           into c.match-branch-2.ids.items (ap (λ z. c.loop-item.ids.items ++ to_list z) w.in_default.is ∙ append-nil c.loop-item.ids.items ∙ sym (ap (λ v. v.items) w.ids-is))
     ]
 
-pub lower_module-returns-in_err-visibility-clause-fault : goal.lower_module-returns-in_err-visibility-clause-fault
-lower_module-returns-in_err-visibility-clause-fault t c =
+pub lower_module-returns-in_err-visibility : goal.lower_module-returns-in_err-visibility
+lower_module-returns-in_err-visibility t c =
     let p = err_from_is_err_and c.from_residual-in_err-visibility.result c.from_residual-in_err-visibility.ensures.1 in
     let e = c.in_err-visibility.field-0.0 in
     rw (p.1, p.2)
-    (IsUnmet-module c.args.options.now c.args.skipped.now c.args.mod_node.now c.args.rows.now c.in-Some.name e c.in-Some.is (subst (λ z. IsUnmet c.args.rows.now (read_visibility z) e) c.as_ref.ensures.value c.in_err-visibility.ensures.fault))
+    (IsUnmet-module c.args.ctx c.args.mod_node.now c.args.rows.now c.in-Some.name e c.in-Some.is (subst (λ z. IsUnmet c.args.rows.now (read_visibility z) e) c.as_ref.ensures.value c.in_err-visibility.ensures.fault))
 
-pub lower_module-returns-in_err-id-2-clause-fault :
-    goal.lower_module-returns-in_err-id-2-clause-fault
-lower_module-returns-in_err-id-2-clause-fault t c =
+pub lower_module-returns-in_err-id-2 : goal.lower_module-returns-in_err-id-2
+lower_module-returns-in_err-id-2 t c =
     let p = err_from_is_err_and c.from_residual-in_err-id-2.result c.from_residual-in_err-id-2.ensures.1 in
     let m = subst (λ z. Meets c.args.rows.now c.lower_visibility.new.rows (read_visibility z) c.in_ok-visibility.visibility) c.as_ref.ensures.value c.in_ok-visibility.ensures.met in
     rw (p.1, p.2)
-    (IsFull-inline c.args.options.now c.args.skipped.now c.args.mod_node.now c.in-Some.name c.in_err-id-2.field-0.0 c.in-Some.is c.if-mod_node.false m c.in_ok-items.ensures.lowered c.in_err-id-2.ensures.fault)
+    (IsFull-inline c.args.ctx c.args.mod_node.now c.in-Some.name c.in_err-id-2.field-0.0 c.in-Some.is c.if-mod_node.false m c.in_ok-items.ensures c.in_err-id-2.ensures.fault)
 
-pub lower_module-returns-clause-lowered : goal.lower_module-returns-clause-lowered
-lower_module-returns-clause-lowered t c =
+pub lower_module-returns : goal.lower_module-returns
+lower_module-returns t c =
     let node = c.args.mod_node.now in
-    let options = c.args.options.now in
-    let skipped = c.args.skipped.now in
+    let ctx = c.args.ctx in
     let m = subst (λ z. Meets c.args.rows.now c.lower_visibility.new.rows (read_visibility z) c.in_ok-visibility.visibility) c.as_ref.ensures.value c.in_ok-visibility.ensures.met in
-    let collects = c.in_ok-attrs.ensures.value ∙ ap (λ z. collected_from options skipped (map meta_view z)) c.deref.ensures.value in
-    let few = subst (λ z. length (collected_from options skipped (map meta_view z)).attrs ≤ attr_limit) c.deref.ensures.value c.in_ok-attrs.ensures.fits in
-    Lowers-inline options skipped node _ c.in-Some.name c.in_ok-name.name c.in-Some.is c.if-mod_node.false c.in_ok-name.ensures.cases (λ i. record { hash = node.hash; number = node.number; attrs = collects i }) few m c.in_ok-items.ensures.lowered c.in_ok-id-2.ensures.pushed
+    let collects = c.in_ok-attrs.ensures.value ∙ ap (attrs_in ctx) c.deref.ensures.value in
+    let few = subst (λ z. length (attrs_in ctx z).attrs ≤ attr_limit) c.deref.ensures.value c.in_ok-attrs.ensures.fits in
+    Lowers-inline ctx node _ c.in-Some.name c.in_ok-name.name c.in-Some.is c.if-mod_node.false c.in_ok-name.ensures.cases (λ i. record { hash = node.hash; number = node.number; attrs = collects i }) few m c.in_ok-items.ensures c.in_ok-id-2.ensures.pushed

@@ -1,22 +1,21 @@
-use Rattle.std.proofs.Common.{◌≤◌, length, map, subst, ◌∙◌, ap}
-use Rattle.hir_input.specs.Attr.{meta_view}
+use Rattle.std.proofs.Common.{◌≤◌, length, subst, ◌∙◌, ap}
 use Rattle.hir_input.specs.Syntax.{fields_view}
-use Rattle.item_tree_attrs.specs.Collected.{collected_from, attr_limit}
+use Rattle.item_tree_attrs.specs.Collected.{attr_limit}
 use Rattle.item_tree.specs.Constructor.{ctor_of}
 use Rattle.item_tree.specs.Kept.{shape_of}
 use Rattle.item_tree.specs.Visibility.{read_visibility}
-use Rattle.item_tree.specs.Growth.{Meets}
+use Rattle.item_tree.specs.Growth.{attrs_in, Meets}
 use Rattle.item_tree.proofs.Constructors.{Lowers-struct}
 use Rattle.item_tree.proofs.lower.constructor.lower_struct.Goals as goal
 
-pub returns-clause-lowered : goal.returns-clause-lowered
-returns-clause-lowered c =
+pub returns : goal.returns
+returns c =
     let node = c.args.struct_node.now in
     let v = read_visibility node.visibility in
     let fields = fields_view node.kind in
     let m = subst (λ z. Meets c.args.rows.now c.lower_visibility.new.rows (read_visibility z) c.in_ok-visibility.visibility) c.as_ref.ensures.value c.in_ok-visibility.ensures.met in
-    let collects = c.in_ok-attrs.ensures.value ∙ ap (λ z. collected_from c.args.options.now c.args.skipped.now (map meta_view z)) c.deref.ensures.value in
-    let few = subst (λ z. length (collected_from c.args.options.now c.args.skipped.now (map meta_view z)).attrs ≤ attr_limit) c.deref.ensures.value c.in_ok-attrs.ensures.fits in
+    let collects = c.in_ok-attrs.ensures.value ∙ ap (attrs_in c.args.ctx) c.deref.ensures.value in
+    let few = subst (λ z. length (attrs_in c.args.ctx z).attrs ≤ attr_limit) c.deref.ensures.value c.in_ok-attrs.ensures.fits in
     rw c.in-Some.is
     (Lowers-struct _ _ c.in-Some.name c.in_ok-name.name v (shape_of fields) _ (ctor_of fields v) _ m c.in_ok-value_ns_ctor.ensures.met c.in_ok-value_ns_ctor.ensures.given
     c.in_ok-name.ensures.cases c.shape_of.ensures (λ i. record { hash = node.hash; number = node.number; attrs = collects i }) few c.in_ok-id.ensures.pushed)
