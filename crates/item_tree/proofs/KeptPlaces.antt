@@ -1,6 +1,6 @@
 -- At the places of the kept nodes stand the written nodes that they are kept from.
 use Rattle.std.proofs.Common.{◌≡◌, ◌≤◌, ℕ, suc, ◌+◌, Bool, true, false, List, [], ◌∷◌, ◌++◌, length, map, Option, Some, None, refl, sym, ap, ◌∙◌, arith, length-append}
-use Rattle.std.specs.Option.{option_to_list}
+use Rattle.std.specs.Option.{option_to_list, option_map_or}
 use Rattle.std.specs.Prelude.{slice_get, option_map, option_and_then}
 use Rattle.std.proofs.lemmas.List.{map-append}
 use Rattle.hir_input.specs.Path.{Path}
@@ -10,6 +10,7 @@ use Rattle.hir_input.specs.declared.ast.Rename.{Rename}
 use Rattle.hir_input.specs.UseTreeView.{UseTreeView, UseTreeViews, bare_tree, listed_tree, no_trees, tree_and, written_nodes, all_written_nodes, written_count}
 use Rattle.item_tree.specs.Tree.{Tree, prefixed, branches_from, tree_nodes, branch_nodes, tree_count}
 use Rattle.item_tree.proofs.Pieces.{HasFrom, HasFrom-left, HasFrom-right, HasFrom-all}
+use Rattle.item_tree.specs.Leaves.{kept_count}
 use Rattle.item_tree.specs.KeptUse.{kept_bare, kept_prefix, with_kept, kept_tree, kept_trees, if_kept, kept_places, all_kept_places, ArePlacesOf}
 
 abbrev kept_nodes : Option Tree → List Tree
@@ -58,6 +59,45 @@ places_stand w places t e kept =
     ap (map (kept_at (written_nodes w))) e
     ∙ at_places (written_nodes w) 0 w (HasFrom-all (written_nodes w))
     ∙ ap (λ o. map Some (kept_nodes o)) kept
+
+-- ---- one place for each kept node
+
+length-bare : (k : ℕ) (path : Option PathNode) (star : Bool) (rename : Option Rename) → length (if_kept (kept_bare path star rename) (k ∷ [])) ≡ option_map_or tree_count (kept_bare path star rename) 0
+length-bare k (Some Unreadable) star rename = refl
+length-bare k None true (Some r) = refl
+length-bare k None true None = refl
+length-bare k None false rename = refl
+length-bare k (Some (Readable p)) true (Some r) = refl
+length-bare k (Some (Readable p)) true None = refl
+length-bare k (Some (Readable p)) false rename = refl
+
+length-listed : (k : ℕ) (prefix : Option (Option Path)) (places : List ℕ) (ts : List Tree) → length places ≡ length (branch_nodes (branches_from ts))
+    → length (if_kept prefix (k ∷ places)) ≡ option_map_or tree_count (option_map (λ p. prefixed p (branches_from ts)) prefix) 0
+length-listed k None places ts h = refl
+length-listed k (Some p) places ts h = ap suc h
+
+length-kept_nodes : (t : Option Tree) → length (kept_nodes t) ≡ option_map_or tree_count t 0
+length-kept_nodes None = refl
+length-kept_nodes (Some t) = refl
+
+mutual
+  pub length-kept_places : (k : ℕ) (w : UseTreeView) → length (kept_places k w) ≡ kept_count w
+  length-kept_places k (bare_tree n) = length-bare k n.path n.star n.rename
+  length-kept_places k (listed_tree n us) = length-listed k (kept_prefix n.path) (all_kept_places (k + 1) us) (kept_trees us) (length-all_kept_places (k + 1) us)
+
+  length-all_kept_places : (k : ℕ) (us : UseTreeViews) → length (all_kept_places k us) ≡ length (branch_nodes (branches_from (kept_trees us)))
+  length-all_kept_places k no_trees = refl
+  length-all_kept_places k (tree_and u us) =
+      let next = k + written_count u in
+      rw (kept_nodes-with (kept_tree u) (kept_trees us))
+      (omega (
+        arith,
+        length-append (kept_places k u) (all_kept_places next us),
+        length-append (kept_nodes (kept_tree u)) (branch_nodes (branches_from (kept_trees us))),
+        length-kept_places k u,
+        length-kept_nodes (kept_tree u),
+        length-all_kept_places next us,
+      ))
 
 -- ---- no more nodes are kept than written
 

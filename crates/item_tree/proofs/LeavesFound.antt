@@ -1,103 +1,90 @@
--- Each import comes from a leaf that is written.
-use Rattle.std.proofs.Common.{◌≡◌, ℕ, ◌+◌, List, [], ◌∷◌, ◌++◌, Option, Some, None, refl, sym, ap, ◌∙◌}
-use Rattle.std.specs.Prelude.{slice_get, option_map, option_and_then}
-use Rattle.std.specs.List.{All}
-use Rattle.std.proofs.lemmas.Option.{slice_get-map, option_and_then_some}
-use Rattle.std.proofs.lemmas.List.Elements.{All-nil, All-cons, All-append}
+-- The imports of a kept use tree are those of the leaves that are written.
+use Rattle.std.proofs.Common.{◌≡◌, ℕ, ◌+◌, List, [], ◌∷◌, ◌++◌, Option, Some, None, refl, sym, ap, ◌∙◌, subst, add-zero, append-nil}
+use Rattle.std.specs.Prelude.{slice_get, option_map, All}
+use Rattle.std.specs.List.{flat_map}
+use Rattle.std.specs.Option.{option_map_or}
+use Rattle.std.proofs.lemmas.List.Concat.{flat_map-append}
+use Rattle.std.proofs.lemmas.List.Elements.{All-nil, All-cons, All-append, All-weaker}
 use Rattle.hir_input.specs.Path.{Path}
-use Rattle.hir_input.specs.UseTreeView.{UseTreeView, bare_tree, listed_tree, written_nodes}
-use Rattle.item_tree.specs.declared.use_tree.ImportAlias.{ImportAlias}
-use Rattle.item_tree.specs.declared.use_tree.ImportKind.{ImportKind}
-use Rattle.item_tree.specs.Tree.{Tree, Branches, single, glob, prefixed, no_branches, branch_and, branches_from, tree_nodes, branch_nodes, tree_count}
-use Rattle.item_tree.specs.KeptUse.{kept_prefix, kept_tree, kept_trees, ArePlacesOf}
-use Rattle.item_tree.specs.Imports.{Import, import_of, imports_from, all_imports_from, imports}
-use Rattle.item_tree.specs.Leaves.{ComesFrom}
+use Rattle.hir_input.specs.UseTreeView.{UseNode, UseTreeView, UseTreeViews, bare_tree, listed_tree, no_trees, tree_and, written_nodes, all_written_nodes, written_count}
+use Rattle.item_tree.specs.Tree.{Tree, prefixed, branches_from, tree_count}
+use Rattle.item_tree.specs.KeptUse.{kept_prefix, kept_tree, kept_trees, with_kept, if_kept, kept_places, all_kept_places}
+use Rattle.item_tree.specs.Imports.{all_imports_from, imports}
+use Rattle.item_tree.specs.Leaves.{WrittenLeaf, imports_of, leaf_imports, with_prefix, kept_count, leaves_from, all_leaves_from, leaves, AreWritten}
+use Rattle.item_tree.proofs.KeptPlaces.{length-kept_places}
 use Rattle.item_tree.proofs.Pieces.{HasFrom, HasFrom-left, HasFrom-right, HasFrom-all}
 
-abbrev IsLeaf : Tree → Type 0
-IsLeaf (single p alias) = Unit {0}
-IsLeaf (glob p) = Unit {0}
-IsLeaf (prefixed p ts) = ⊥
+-- ---- the imports are those of the leaves
 
--- the node at the import's index is a leaf that gives this import alone below some prefixes
-record LeafIn (nodes : List Tree) (x : Import) : Type 0 where
-  leaf : Tree
-  prefixes : List Path
-  stands : slice_get nodes x.index ≡ Some leaf
-  is_leaf : IsLeaf leaf
-  gives : imports_from prefixes x.index leaf ≡ x ∷ []
+-- of several trees, the first of which may not be kept
+imports_of-with : (prefixes : List Path) (index : ℕ) (t : Option Tree) (ts : List Tree)
+    → all_imports_from prefixes index (branches_from (with_kept t ts)) ≡ imports_of prefixes index t ++ all_imports_from prefixes (index + option_map_or tree_count t 0) (branches_from ts)
+imports_of-with prefixes index None ts = rw add-zero refl
+imports_of-with prefixes index (Some t) ts = refl
 
--- at most one import, of this index
-abbrev IsLone : ℕ → List Import → Type 0
-IsLone index [] = Unit {0}
-IsLone index (x ∷ []) = x.index ≡ index
-IsLone index (x ∷ (y ∷ xs)) = ⊥
+imports_of-bare : (prefixes : List Path) (place index : ℕ) (n : UseNode) (t : Option Tree) → kept_tree (bare_tree n) ≡ t
+    → imports_of prefixes index t ≡ flat_map leaf_imports (if_kept t (record { prefixes = prefixes; place = place; index = index; node = n } ∷ []))
+imports_of-bare prefixes place index n None e = refl
+imports_of-bare prefixes place index n (Some t) e = ap (imports_of prefixes index) (sym e) ∙ sym (append-nil (imports_of prefixes index (kept_tree (bare_tree n))))
 
-import_of-lone : (index : ℕ) (kind : ImportKind) (alias : Option ImportAlias) (p : Option Path) → IsLone index (import_of index kind alias p)
-import_of-lone index kind alias None = tt
-import_of-lone index kind alias (Some p) = refl
-
-leaf-lone : (t : Tree) (prefixes : List Path) (index : ℕ) → IsLeaf t → IsLone index (imports_from prefixes index t)
-leaf-lone (single p alias) prefixes index h = import_of-lone index _ alias _
-leaf-lone (glob p) prefixes index h = import_of-lone index _ None _
-leaf-lone (prefixed p ts) prefixes index h = absurd h
-
-lone-leaf : (ns : List Tree) (t : Tree) (prefixes : List Path) (index : ℕ) (xs : List Import) → IsLeaf t → slice_get ns index ≡ Some t → imports_from prefixes index t ≡ xs → IsLone index xs → All (LeafIn ns) xs
-lone-leaf ns t prefixes index [] leaf at e h = All-nil (LeafIn ns)
-lone-leaf ns t prefixes index (x ∷ []) leaf at e h =
-    All-cons (LeafIn ns) x []
-    (record { leaf = t; prefixes = prefixes; stands = ap (slice_get ns) h ∙ at; is_leaf = leaf; gives = ap (λ i. imports_from prefixes i t) h ∙ e })
-    (All-nil (LeafIn ns))
-lone-leaf ns t prefixes index (x ∷ (y ∷ xs)) leaf at e h = absurd h
+imports_of-listed : (prefixes : List Path) (index : ℕ) (prefix : Option (Option Path)) (ts : List Tree) (below : Option Path → List WrittenLeaf)
+    → ((p : Option Path) → all_imports_from (with_prefix prefixes p) (index + 1) (branches_from ts) ≡ flat_map leaf_imports (below p))
+    → imports_of prefixes index (option_map (λ p. prefixed p (branches_from ts)) prefix) ≡ flat_map leaf_imports (option_map_or below prefix [])
+imports_of-listed prefixes index None ts below h = refl
+imports_of-listed prefixes index (Some None) ts below h = h None
+imports_of-listed prefixes index (Some (Some p)) ts below h = h (Some p)
 
 mutual
-  leaves-from : (ns : List Tree) (t : Tree) (prefixes : List Path) (index : ℕ) → HasFrom ns index (tree_nodes t) → All (LeafIn ns) (imports_from prefixes index t)
-  leaves-from ns (single p alias) prefixes index h = lone-leaf ns (single p alias) prefixes index (imports_from prefixes index (single p alias)) tt h.0 refl (leaf-lone (single p alias) prefixes index tt)
-  leaves-from ns (glob p) prefixes index h = lone-leaf ns (glob p) prefixes index (imports_from prefixes index (glob p)) tt h.0 refl (leaf-lone (glob p) prefixes index tt)
-  leaves-from ns (prefixed None ts) prefixes index h = all-leaves-from ns ts prefixes (index + 1) h.1
-  leaves-from ns (prefixed (Some p) ts) prefixes index h = all-leaves-from ns ts (prefixes ++ p ∷ []) (index + 1) h.1
+  imported : (prefixes : List Path) (place index : ℕ) (w : UseTreeView) → imports_of prefixes index (kept_tree w) ≡ flat_map leaf_imports (leaves_from prefixes place index w)
+  imported prefixes place index (bare_tree n) = imports_of-bare prefixes place index n (kept_tree (bare_tree n)) refl
+  imported prefixes place index (listed_tree n ts) =
+      imports_of-listed prefixes index (kept_prefix n.path) (kept_trees ts) (λ p. all_leaves_from (with_prefix prefixes p) (place + 1) (index + 1) ts) (λ p. all_imported (with_prefix prefixes p) (place + 1) (index + 1) ts)
 
-  all-leaves-from : (ns : List Tree) (ts : Branches) (prefixes : List Path) (index : ℕ) → HasFrom ns index (branch_nodes ts) → All (LeafIn ns) (all_imports_from prefixes index ts)
-  all-leaves-from ns no_branches prefixes index h = All-nil (LeafIn ns)
-  all-leaves-from ns (branch_and t ts) prefixes index h =
-      All-append (LeafIn ns) (imports_from prefixes index t) (all_imports_from prefixes (index + tree_count t) ts)
-      (leaves-from ns t prefixes index (HasFrom-left ns index (tree_nodes t) (branch_nodes ts) h))
-      (all-leaves-from ns ts prefixes (index + tree_count t) (HasFrom-right ns index (tree_nodes t) (branch_nodes ts) h))
+  all_imported : (prefixes : List Path) (place index : ℕ) (ws : UseTreeViews) → all_imports_from prefixes index (branches_from (kept_trees ws)) ≡ flat_map leaf_imports (all_leaves_from prefixes place index ws)
+  all_imported prefixes place index no_trees = refl
+  all_imported prefixes place index (tree_and w ws) =
+      imports_of-with prefixes index (kept_tree w) (kept_trees ws)
+      ∙ (λ i. imported prefixes place index w i ++ all_imported prefixes (place + written_count w) (index + kept_count w) ws i)
+      ∙ sym (flat_map-append leaf_imports (leaves_from prefixes place index w) (all_leaves_from prefixes (place + written_count w) (index + kept_count w) ws))
 
-prefixed-no_leaf : (prefix : Option (Option Path)) (ts : Branches) (t : Tree) → option_map (λ p. prefixed p ts) prefix ≡ Some t → IsLeaf t → ⊥
-prefixed-no_leaf None ts t e h = cc
-prefixed-no_leaf (Some p) ts (single q alias) e h = cc
-prefixed-no_leaf (Some p) ts (glob q) e h = cc
-prefixed-no_leaf (Some p) ts (prefixed q us) e h = h
+-- ---- where the leaves stand, among these written nodes and in this list of places
+module _ (ws : List UseTreeView) (places : List ℕ) where
+  record IsFound (l : WrittenLeaf) : Type 0 where
+    listed : slice_get places l.index ≡ Some l.place
+    written : slice_get ws l.place ≡ Some (bare_tree l.node)
 
-written-leaf : (w : UseTreeView) (places : List ℕ) (x : Import) (place : ℕ) (t : Tree) (prefixes : List Path) (v : UseTreeView)
-    → slice_get places x.index ≡ Some place → slice_get (written_nodes w) place ≡ Some v → kept_tree v ≡ Some t → IsLeaf t → imports_from prefixes x.index t ≡ x ∷ [] → ComesFrom w places x
-written-leaf w places x place t prefixes (bare_tree n) listed written kept leaf gives = record {
-  place = place;
-  leaf = n;
-  kept = t;
-  prefixes = prefixes;
-  is_listed = listed;
-  is_written = written;
-  is_kept = kept;
-  gives = gives;
-}
-written-leaf w places x place t prefixes (listed_tree n ts) listed written kept leaf gives = absurd (prefixed-no_leaf (kept_prefix n.path) (branches_from (kept_trees ts)) t kept leaf)
+  found-bare : (prefixes : List Path) (place index : ℕ) (n : UseNode) (t : Option Tree) → slice_get ws place ≡ Some (bare_tree n) → HasFrom places index (if_kept t (place ∷ []))
+      → All IsFound (if_kept t (record { prefixes = prefixes; place = place; index = index; node = n } ∷ []))
+  found-bare prefixes place index n None e h = All-nil IsFound
+  found-bare prefixes place index n (Some t) e h = All-cons IsFound _ [] (record { listed = h.0; written = e }) (All-nil IsFound)
 
--- where the place that is listed at the index is that of a node from which the leaf is kept
-leaf-listed : (w : UseTreeView) (places : List ℕ) (x : Import) (t : Tree) (prefixes : List Path) (found : Option ℕ)
-    → slice_get places x.index ≡ found → option_map (λ place. option_and_then kept_tree (slice_get (written_nodes w) place)) found ≡ Some (Some t) → IsLeaf t → imports_from prefixes x.index t ≡ x ∷ [] → ComesFrom w places x
-leaf-listed w places x t prefixes None listed at leaf gives = cc
-leaf-listed w places x t prefixes (Some place) listed at leaf gives =
-    let kept : option_and_then kept_tree (slice_get (written_nodes w) place) ≡ Some t = cc in
-    option_and_then_some kept_tree (slice_get (written_nodes w) place) t kept
-    (λ v written is_kept. written-leaf w places x place t prefixes v listed written is_kept leaf gives)
+  found-listed : (place index : ℕ) (prefix : Option (Option Path)) (inner : List ℕ) (below : Option Path → List WrittenLeaf) → HasFrom places index (if_kept prefix (place ∷ inner))
+      → (HasFrom places (index + 1) inner → (p : Option Path) → All IsFound (below p)) → All IsFound (option_map_or below prefix [])
+  found-listed place index None inner below h f = All-nil IsFound
+  found-listed place index (Some p) inner below h f = f h.1 p
 
-comes_from : (w : UseTreeView) (places : List ℕ) (t : Tree) (x : Import) → ArePlacesOf w places t → LeafIn (tree_nodes t) x → ComesFrom w places x
-comes_from w places t x h l =
-    let kept_at = λ (place : ℕ). option_and_then kept_tree (slice_get (written_nodes w) place) in
-    let e = sym (slice_get-map kept_at places x.index) ∙ ap (λ os. slice_get os x.index) h ∙ slice_get-map Some (tree_nodes t) x.index ∙ ap (option_map Some) l.stands in
-    leaf-listed w places x l.leaf l.prefixes (slice_get places x.index) refl e l.is_leaf l.gives
+  mutual
+    found : (prefixes : List Path) (place index : ℕ) (w : UseTreeView) → HasFrom ws place (written_nodes w) → HasFrom places index (kept_places place w) → All IsFound (leaves_from prefixes place index w)
+    found prefixes place index (bare_tree n) g h = found-bare prefixes place index n (kept_tree (bare_tree n)) g.0 h
+    found prefixes place index (listed_tree n us) g h =
+        found-listed place index (kept_prefix n.path) (all_kept_places (place + 1) us) (λ p. all_leaves_from (with_prefix prefixes p) (place + 1) (index + 1) us) h
+        (λ inner p. all_found (with_prefix prefixes p) (place + 1) (index + 1) us g.1 inner)
 
-pub leaves_written : (w : UseTreeView) (places : List ℕ) (t : Tree) → ArePlacesOf w places t → All (ComesFrom w places) (imports t)
-leaves_written w places t h = λ k d in'. comes_from w places t _ h (leaves-from (tree_nodes t) t [] 0 (HasFrom-all (tree_nodes t)) k d in')
+    all_found : (prefixes : List Path) (place index : ℕ) (us : UseTreeViews) → HasFrom ws place (all_written_nodes us) → HasFrom places index (all_kept_places place us) → All IsFound (all_leaves_from prefixes place index us)
+    all_found prefixes place index no_trees g h = All-nil IsFound
+    all_found prefixes place index (tree_and u us) g h =
+        let next = place + written_count u in
+        let rest = HasFrom-right places index (kept_places place u) (all_kept_places next us) h in
+        All-append IsFound (leaves_from prefixes place index u) (all_leaves_from prefixes next (index + kept_count u) us)
+        (found prefixes place index u (HasFrom-left ws place (written_nodes u) (all_written_nodes us) g) (HasFrom-left places index (kept_places place u) (all_kept_places next us) h))
+        (all_found prefixes next (index + kept_count u) us (HasFrom-right ws place (written_nodes u) (all_written_nodes us) g)
+        (subst (λ k. HasFrom places (index + k) (all_kept_places next us)) (length-kept_places place u) rest))
+
+pub leaves_written : (w : UseTreeView) (places : List ℕ) (t : Tree) → places ≡ kept_places 0 w → kept_tree w ≡ Some t → AreWritten w places (imports t)
+leaves_written w places t e kept =
+    let all = found (written_nodes w) places [] 0 0 w (HasFrom-all (written_nodes w)) (subst (HasFrom places 0) e (HasFrom-all places)) in
+    record {
+      imported = ap (imports_of [] 0) (sym kept) ∙ imported [] 0 0 w;
+      listed = All-weaker (IsFound (written_nodes w) places) (λ l. slice_get places l.index ≡ Some l.place) (λ l f. f.listed) (leaves w) all;
+      written = All-weaker (IsFound (written_nodes w) places) (λ l. slice_get (written_nodes w) l.place ≡ Some (bare_tree l.node)) (λ l f. f.written) (leaves w) all;
+    }

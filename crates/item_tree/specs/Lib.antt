@@ -23,6 +23,7 @@ pub mod Shown
 pub mod Walk
 pub mod Stats
 pub mod Size
+pub mod Lowered
 pub mod Line
 pub mod Page
 pub mod PageByIds

@@ -1,13 +1,11 @@
 //! Lowering of a syntax to its item tree.
 ghost use Rattle.std.specs.Prelude.{◌≡◌, ◌≤◌, IfOk, IfErr, OnOk, [], length, option_copied};
 ghost use Rattle.hir_input.specs.Syntax.{impl_item, impl_view, use_item, use_view, source_file, module_view, item_view, items_view, syntax_view};
-ghost use Rattle.hir_input.specs.Bodies.{without_bodies};
 ghost use Rattle.item_tree_attrs.specs.Collected.{attr_limit, collected};
-ghost use Rattle.item_tree.specs.CrateView.{crate_view};
-ghost use Rattle.item_tree.specs.Kept.{kept_syntax};
+ghost use Rattle.item_tree.specs.Lowered.{kept_in, kept_without_bodies, FitsIn, IsTooLargeIn};
 ghost use Rattle.item_tree.specs.Sees.{CtorsAreSeen};
 ghost use Rattle.item_tree.specs.KeptUse.{use_tree_limit};
-ghost use Rattle.item_tree.specs.Size.{Fits, FitsWith, IsTooLarge, items_written};
+ghost use Rattle.item_tree.specs.Size.{Fits, IsTooLarge, items_written};
 ghost use Rattle.item_tree.specs.Growth.{IsWithinLimits, IsLowered, AreLowered, IsAttrFault, Meets, IsUnmet, attrs_in, top_attrs_in, file_in, items_below};
 ghost use Rattle.item_tree.specs.Visibility.{read_visibility};
 
@@ -56,15 +54,11 @@ pub fn lower_syntax(
     krate: &CrateData,
     skipped: &[Name],
 ) -> Result<ItemTree, LowerError>
-    ensures kept { IfOk result (λ tree. tree ≡
-        kept_syntax is_root (crate_view krate.now) skipped.now (syntax_view syntax.now)) }
-    ensures bodies { IfOk result (λ tree. tree ≡
-        kept_syntax is_root (crate_view krate.now) skipped.now (without_bodies (syntax_view syntax.now))) }
+    ensures kept { IfOk result (λ tree. tree ≡ kept_in krate.now is_root skipped.now syntax.now) }
+    ensures bodies { IfOk result (λ tree. tree ≡ kept_without_bodies krate.now is_root skipped.now syntax.now) }
     ensures constructors { OnOk result (CtorsAreSeen (syntax_view syntax.now)) }
-    ensures fits { OnOk result (FitsWith (syntax_view syntax.now)
-        (kept_syntax is_root (crate_view krate.now) skipped.now (syntax_view syntax.now))) }
-    ensures too_large { IfErr result (IsTooLarge (syntax_view syntax.now)
-        (kept_syntax is_root (crate_view krate.now) skipped.now (syntax_view syntax.now))) }
+    ensures fits { OnOk result (FitsIn krate.now is_root skipped.now syntax.now) }
+    ensures too_large { IfErr result (IsTooLargeIn krate.now is_root skipped.now syntax.now) }
 {
     let ctx = Ctx {
         alloc,

@@ -1,13 +1,13 @@
 //! Lowering of use trees.
 ghost use Rattle.std.specs.Prelude.{◌≡◌, ◌+◌, ◌++◌, ◌<◌, ◌≤◌, ◌↔◌, IsTrue, IfOk, IfErr, OnOk, IfSome, MatchOption, length, map, option_map, option_copied, Some};
-ghost use Rattle.std.specs.List.{All};
 ghost use Rattle.hir_input.specs.declared.ast.PathNode.TheVariants.{Unreadable};
 ghost use Rattle.hir_input.specs.UseTreeView.{bare_tree, use_node, use_tree_view, use_trees_view, written_count, all_written_nodes};
 ghost use Rattle.item_tree.specs.Tree.{tree_of, trees_of};
 ghost use Rattle.item_tree.specs.KeptUse.{alias_of, kept_prefix, kept_tree, kept_trees, kept_places, all_kept_places, use_tree_limit, ArePlacesOf};
 ghost use Rattle.item_tree.specs.Imports.{imports, supers_in, most_supers, all_most_supers, super_limit};
-ghost use Rattle.item_tree.specs.Leaves.{ComesFrom};
+ghost use Rattle.item_tree.specs.Leaves.{AreWritten};
 ghost use Rattle.item_tree.specs.UseItem.{UseFits, IsUseFault};
+ghost use Rattle.item_tree.specs.Lowered.{lowered_tree, IfKept};
 
 use crate::fault::LowerError;
 use crate::use_tree::{ImportAlias, UseTree, UseTreeKind};
@@ -28,12 +28,12 @@ pub fn lower_use_tree(
     alloc: Global,
     node: &ast::UseTree,
 ) -> Result<Option<(UseTree, Vec<u32>)>, LowerError>
-    ensures kept { IfOk result (λ lowered. option_map (λ both. tree_of both.0) lowered ≡ kept_tree (use_tree_view node.now)) }
-    ensures places { IfOk result (λ lowered. IfSome lowered (λ both. both.1.items ≡ kept_places 0 (use_tree_view node.now))) }
-    ensures written { IfOk result (λ lowered. IfSome lowered (λ both. ArePlacesOf (use_tree_view node.now) both.1.items (tree_of both.0))) }
-    ensures leaves { IfOk result (λ lowered. IfSome lowered (λ both. All (ComesFrom (use_tree_view node.now) both.1.items) (imports (tree_of both.0)))) }
-    ensures count { IfOk result (λ lowered. IfSome lowered (λ _. written_count (use_tree_view node.now) ≤ use_tree_limit)) }
-    ensures fits { IfOk result (λ lowered. IfSome lowered (λ both. UseFits (tree_of both.0))) }
+    ensures kept { IfOk result (λ lowered. lowered_tree lowered ≡ kept_tree (use_tree_view node.now)) }
+    ensures places { IfKept result (λ tree places. places ≡ kept_places 0 (use_tree_view node.now)) }
+    ensures written { IfKept result (λ tree places. ArePlacesOf (use_tree_view node.now) places tree) }
+    ensures leaves { IfKept result (λ tree places. AreWritten (use_tree_view node.now) places (imports tree)) }
+    ensures count { IfKept result (λ tree places. written_count (use_tree_view node.now) ≤ use_tree_limit) }
+    ensures fits { IfKept result (λ tree places. UseFits tree) }
     ensures fault { IfErr result (IsUseFault (use_tree_view node.now)) }
 {
     if count_written(node).is_none() {

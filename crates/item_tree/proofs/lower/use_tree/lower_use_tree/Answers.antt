@@ -18,7 +18,7 @@ returns-clause-leaves c =
     let w = use_tree_view c.args.node.now in
     let places = c.in_ok-tree.ensures.placed ∙ ap (λ places. places ++ kept_places 0 w) c.new-places.ensures.items in
     let kept = sym c.in_ok-tree.ensures.kept ∙ ap (option_map tree_of) c.in-Some.is in
-    leaves_written w c.lower_node.new.places.items (tree_of c.in-Some.tree) (places_stand w c.lower_node.new.places.items (tree_of c.in-Some.tree) places kept)
+    leaves_written w c.lower_node.new.places.items (tree_of c.in-Some.tree) places kept
 
 pub returns-clause-fits : goal.returns-clause-fits
 returns-clause-fits c =
