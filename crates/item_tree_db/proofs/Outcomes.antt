@@ -12,21 +12,24 @@ use Rattle.item_tree_db.proofs.BodyTexts.{ignores_bodies}
 record IsSettled (t u : Table) (es : List EditView) : Type 0 where
   pub sound : IsSound u
   pub after : IsAfter (state_of t) es (state_of u)
+  pub bodies : IgnoresBodies (state_of t) es (state_of u)
 
 settled_by : (t u : Table) (es : List EditView) → IsSound t → u ≡ after_all t es → IsSettled t u es
 settled_by t u es h e =
     let all = history t es h in
-    record { sound = subst IsSound (sym e) all.0; after = subst (λ (v : Table). IsAfter (state_of t) es (state_of v)) (sym e) all.1 }
+    let after : IsAfter (state_of t) es (state_of u) = subst (λ (v : Table). IsAfter (state_of t) es (state_of v)) (sym e) all.1 in
+    record { sound = subst IsSound (sym e) all.0; after = after; bodies = ignores_bodies (state_of t) (state_of u) es after }
 
 -- what callers learn of a list of edits, s being what they see before it
 pub record IsSettledAll (s : State) (u : Table) (es : List EditView) (r : Result ℕ AllRefused) : Type 0 where
   pub sound : IsSound u
   pub ok : OnOk r (IsAfter s es (state_of u))
+  pub bodies : OnOk r (IgnoresBodies s es (state_of u))
   pub refused : IfErr r (λ all. IsAfter s (take all.place es) (state_of u))
 
 all_by : (t u : Table) (es : List EditView) (r : Result ℕ AllRefused) → IsSound t → OnOk r (u ≡ after_all t es) → IfErr r (λ all. u ≡ after_all t (take all.place es)) → IsSettledAll (state_of t) u es r
-all_by t u es (Ok n) h ok err = let s = settled_by t u es h ok in record { sound = s.sound; ok = s.after; refused = tt }
-all_by t u es (Err all) h ok err = let s = settled_by t u (take all.place es) h err in record { sound = s.sound; ok = tt; refused = s.after }
+all_by t u es (Ok n) h ok err = let s = settled_by t u es h ok in record { sound = s.sound; ok = s.after; bodies = s.bodies; refused = tt }
+all_by t u es (Err all) h ok err = let s = settled_by t u (take all.place es) h err in record { sound = s.sound; ok = tt; bodies = tt; refused = s.after }
 
 pub settled_all : (t u : Table) (s : State) (es : List EditView) (r : Result ℕ AllRefused) → state_of t ≡ s → IsSound t → OnOk r (u ≡ after_all t es) → IfErr r (λ all. u ≡ after_all t (take all.place es)) → IsSettledAll s u es r
 settled_all t u s es r e h ok err = subst (λ (z : State). IsSettledAll z u es r) e (all_by t u es r h ok err)
@@ -35,10 +38,10 @@ settled_all t u s es r e h ok err = subst (λ (z : State). IsSettledAll z u es r
 pub record IsSettledOne (s : State) (u : Table) (e : EditView) (r : Result ℕ EditRefused) : Type 0 where
   pub sound : IsSound u
   pub ok : OnOk r (IsAfter s (e ∷ []) (state_of u))
-  pub bodies : OnOk r (IgnoresBodies s e (state_of u))
+  pub bodies : OnOk r (IgnoresBodies s (e ∷ []) (state_of u))
 
 one_by : (t u : Table) (e : EditView) (r : Result ℕ EditRefused) → IsSound t → OnOk r (u ≡ after t e) → OnErr r (u ≡ t) → IsSettledOne (state_of t) u e r
-one_by t u e (Ok n) h ok err = let s = settled_by t u (e ∷ []) h ok in record { sound = s.sound; ok = s.after; bodies = ignores_bodies (state_of t) (state_of u) e s.after }
+one_by t u e (Ok n) h ok err = let s = settled_by t u (e ∷ []) h ok in record { sound = s.sound; ok = s.after; bodies = s.bodies }
 one_by t u e (Err refused) h ok err = record { sound = subst IsSound (sym err) h; ok = tt; bodies = tt }
 
 pub settled_one : (t u : Table) (s : State) (e : EditView) (r : Result ℕ EditRefused) → state_of t ≡ s → IsSound t → OnOk r (u ≡ after t e) → OnErr r (u ≡ t) → IsSettledOne s u e r

@@ -1,5 +1,5 @@
 -- Whole histories: what stands after a list of edits.
-use Rattle.std.specs.Prelude.{◌≡◌, ◌≢◌, ◌⊎◌, ℕ, zero, suc, ◌+◌, ◌<◌, ◌==◌, List, [], ◌∷◌, length, take, Option, None, Some, Bool, not, if◌then◌else◌, option_map, slice_get}
+use Rattle.std.specs.Prelude.{◌≡◌, ◌≢◌, ◌⊎◌, ℕ, zero, suc, ◌+◌, ◌<◌, ◌==◌, List, [], ◌∷◌, length, take, Option, None, Some, Bool, not, if◌then◌else◌, option_map, slice_get, All, IfSome}
 use Rattle.std.specs.Option.{option_or, unwrap_or}
 use Rattle.hir_input.specs.Syntax.{SyntaxView}
 use Rattle.hir_input.specs.Bodies.{without_bodies}
@@ -8,7 +8,7 @@ use Rattle.item_tree.specs.NodeCode.{unfolding_code}
 use Rattle.item_tree.specs.Same.{same}
 use Rattle.item_tree_db.specs.declared.place.Place.{Place}
 use Rattle.item_tree_db.specs.declared.place.Place.TheVariants.{File, Block}
-use Rattle.item_tree_db.specs.State.{State, file_at, present, unfolding_of, unfolding_at, change_number}
+use Rattle.item_tree_db.specs.State.{State, present, unfolding_of, unfolding_at, change_number}
 use Rattle.item_tree_db.specs.Edits.{EditView, set_file, remove_file}
 
 -- what the last element has that has any
@@ -75,9 +75,10 @@ pub record IsAfter (s : State) (edits : List EditView) (u : State) : Type 0 wher
   pub changes : (place : Place) (i : ℕ) → i < length s.crates → change_number u place i ≡ changed_after s edits place i
   pub last_changes : (place : Place) (i : ℕ) → i < length s.crates → IsChangeNumber s edits place i (change_number u place i)
 
--- an edit that leads from s to u and sets a file to its present syntax with other body texts moves no change number of it
-abbrev pub IgnoresBodies : State → EditView → State → Type 0
-IgnoresBodies s (set_file k syntax) u =
-    option_map without_bodies (present s (file_at k)) ≡ Some (without_bodies syntax)
-    → (i : ℕ) → i < length s.crates → change_number u (file_at k) i ≡ change_number s (file_at k) i
-IgnoresBodies s (remove_file k) u = Unit {0}
+-- the edit changes no more of the place than body texts: it leaves what is there but for them, or is one of another place
+abbrev pub ChangesBodiesOnly : State → Place → EditView → Type 0
+ChangesBodiesOnly s place edit = IfSome (sets place edit) (λ left. option_map without_bodies left ≡ option_map without_bodies (present s place))
+
+-- edits that lead from s to u, and change no more of a place than body texts, move no change number of it
+abbrev pub IgnoresBodies : State → List EditView → State → Type 0
+IgnoresBodies s edits u = (place : Place) → All (ChangesBodiesOnly s place) edits → (i : ℕ) → i < length s.crates → change_number u place i ≡ change_number s place i

@@ -59,7 +59,7 @@ impl Sources {
     pub fn edit(&mut self, edit: Edit) -> Result<u64, EditRefused>
         ensures ok { OnOk result (IsAfter self.old (edit_view edit ∷ []) self.new) }
         ensures number { IfOk result (λ number. number ≡ self.new.number) }
-        ensures bodies { OnOk result (IgnoresBodies self.old (edit_view edit) self.new) }
+        ensures bodies { OnOk result (IgnoresBodies self.old (edit_view edit ∷ []) self.new) }
         ensures fits { OnOk result (EditFits self.old.crates self.old.skipped (edit_view edit)) }
 
         ensures err { OnErr result (self.new ≡ self.old) }
@@ -77,6 +77,7 @@ impl Sources {
     pub fn edit_all(&mut self, edits: Vec<Edit>) -> Result<u64, AllRefused>
         ensures ok { OnOk result (IsAfter self.old (map edit_view edits.items) self.new) }
         ensures number { IfOk result (λ number. number ≡ self.new.number) }
+        ensures bodies { OnOk result (IgnoresBodies self.old (map edit_view edits.items) self.new) }
         ensures fits { OnOk result (All (EditFits self.old.crates self.old.skipped) (map edit_view edits.items)) }
 
         ensures place { IfErr result (λ all. slice_get edits.items all.place ≡ Some all.refused.edit) }

@@ -11,6 +11,9 @@ invariant_of-self c = (settled_all c.self.inside.store c.edit_all.new.self c.arg
 pub returns-clause-ok : goal.returns-clause-ok
 returns-clause-ok c = (settled_all c.self.inside.store c.edit_all.new.self c.args.self.now (map edit_view c.args.edits.items) c.edit_all.result c.self.view_is c.self.invariant c.edit_all.ensures.ok c.edit_all.ensures.refused).ok
 
+pub returns-clause-bodies : goal.returns-clause-bodies
+returns-clause-bodies c = (settled_all c.self.inside.store c.edit_all.new.self c.args.self.now (map edit_view c.args.edits.items) c.edit_all.result c.self.view_is c.self.invariant c.edit_all.ensures.ok c.edit_all.ensures.refused).bodies
+
 pub returns-clause-refused : goal.returns-clause-refused
 returns-clause-refused c = (settled_all c.self.inside.store c.edit_all.new.self c.args.self.now (map edit_view c.args.edits.items) c.edit_all.result c.self.view_is c.self.invariant c.edit_all.ensures.ok c.edit_all.ensures.refused).refused
 
