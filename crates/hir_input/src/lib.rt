@@ -12,8 +12,6 @@ mod laws;
 pub mod mod_path;
 pub mod name;
 pub mod span;
-#[cfg(test)]
-mod tests;
 pub mod text;
 mod use_trees;
 

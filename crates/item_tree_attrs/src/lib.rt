@@ -4,8 +4,6 @@
 pub mod collect;
 pub mod merge;
 pub mod query;
-#[cfg(test)]
-mod tests;
 
 pub use collect::{AttrError, AttrsOrCfg, AttrsOwned};
 pub use merge::MergeRefused;

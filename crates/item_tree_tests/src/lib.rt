@@ -6,7 +6,17 @@
 #![tactic(auto)]
 
 #[cfg(test)]
+mod attributes;
+#[cfg(test)]
+mod collected;
+#[cfg(test)]
+mod example;
+#[cfg(test)]
 mod kinds;
+#[cfg(test)]
+mod macro_calls;
+#[cfg(test)]
+mod names;
 #[cfg(test)]
 mod supers;
 #[cfg(test)]
@@ -19,3 +29,5 @@ mod tree;
 mod uses;
 #[cfg(test)]
 mod values;
+#[cfg(test)]
+mod written_uses;

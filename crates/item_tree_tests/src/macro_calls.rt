@@ -1,4 +1,4 @@
-use crate::{EditionYear, ExpandTo, SyntaxContext};
+use hir_input::{EditionYear, ExpandTo, SyntaxContext};
 use std::test::Fail;
 
 #[test]

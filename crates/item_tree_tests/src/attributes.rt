@@ -1,5 +1,5 @@
-use crate::ast::PathNode;
-use crate::{
+use hir_input::ast::PathNode;
+use hir_input::{
     Attr, AttrInput, CfgAtom, CfgExpr, CfgOptions, EditionYear, Literal, Meta, ModPath, Name,
     PathKind, Span, SyntaxContext, Text, TokenTree,
 };

@@ -1,5 +1,5 @@
-use crate::ast::{PathNode, UseTree};
-use crate::{ModPath, Name, PathKind};
+use hir_input::ast::{PathNode, UseTree};
+use hir_input::{ModPath, Name, PathKind};
 use std::alloc::Global;
 use std::test::Fail;
 

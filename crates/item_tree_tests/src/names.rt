@@ -1,4 +1,4 @@
-use crate::{AstIdKind, Crate, Edition, EditionYear, FileAstId, ModPath, Name, PathKind};
+use hir_input::{AstIdKind, Crate, Edition, EditionYear, FileAstId, ModPath, Name, PathKind};
 use std::alloc::Global;
 use std::test::Fail;
 

@@ -1,4 +1,4 @@
-use crate::{AttrError, Attrs, AttrsOrCfg};
+use item_tree_attrs::{AttrError, Attrs, AttrsOrCfg};
 use hir_input::ast::PathNode;
 use hir_input::{
     AttrId, CfgAtom, CfgExpr, CfgOptions, EditionYear, Literal, Meta, ModPath, Name, PathKind,

@@ -1,4 +1,0 @@
-mod attributes;
-mod macro_calls;
-mod names;
-mod use_trees;
