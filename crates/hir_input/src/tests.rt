@@ -1,4 +1,3 @@
 mod attributes;
-mod macro_calls;
 mod names;
 mod use_trees;
