@@ -82,6 +82,3 @@ impl From<MergeRefused> for LowerError {
         LowerError::from(refused.cause)
     }
 }
-
-#[cfg(test)]
-mod tests;

@@ -390,6 +390,3 @@ impl ItemTree {
         Ok(out)
     }
 }
-
-#[cfg(test)]
-mod tests;

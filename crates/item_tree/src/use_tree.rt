@@ -86,6 +86,3 @@ impl UseTree {
         &self.kind
     }
 }
-
-#[cfg(test)]
-mod tests;

@@ -18,13 +18,6 @@ fn flag(alloc: Global, text: &str) -> Result<CfgExpr, Fail> {
     Ok(CfgExpr::Atom(CfgAtom::Flag(make_name(alloc, text)?)))
 }
 
-fn pair(alloc: Global, first: CfgExpr, second: CfgExpr) -> Result<Vec<CfgExpr>, Fail> {
-    let mut both = Vec::new(alloc);
-    both.push(first)?;
-    both.push(second)?;
-    Ok(both)
-}
-
 const CTXT: SyntaxContext = SyntaxContext::Root(EditionYear::E2024);
 
 fn string_literal(alloc: Global) -> Result<Literal, Fail> {
@@ -62,53 +55,6 @@ fn nested_meta(alloc: Global) -> Result<Meta, Fail> {
     })?;
     let condition = CfgExpr::Not(Box::new(alloc, flag(alloc, "x")?)?);
     Ok(Meta::Unsafe(Box::new(alloc, Meta::CfgAttr { condition, metas })?))
-}
-
-#[test]
-fn reads_members_left_to_right(rt: HostRuntime) -> Result<(), Fail> {
-    let alloc = rt.alloc();
-    let options = CfgOptions::new(Vec::new(alloc));
-    let falls = CfgExpr::All(pair(alloc, flag(alloc, "false")?, CfgExpr::Invalid)?);
-    assert_eq!(rt; options.check(&falls), Some(false));
-    let unknown = CfgExpr::All(pair(alloc, CfgExpr::Invalid, flag(alloc, "false")?)?);
-    assert_eq!(rt; options.check(&unknown), None);
-    let holds = CfgExpr::Any(pair(alloc, flag(alloc, "true")?, CfgExpr::Invalid)?);
-    assert_eq!(rt; options.check(&holds), Some(true));
-    Ok(())
-}
-
-#[test]
-fn reads_no_members(rt: HostRuntime) -> Result<(), Fail> {
-    let alloc = rt.alloc();
-    let options = CfgOptions::new(Vec::new(alloc));
-    assert_eq!(rt; options.check(&CfgExpr::All(Vec::new(alloc))), Some(true));
-    assert_eq!(rt; options.check(&CfgExpr::Any(Vec::new(alloc))), Some(false));
-    assert_eq!(rt;
-        options.check(&CfgExpr::Not(Box::new(alloc, CfgExpr::Invalid)?)),
-        None
-    );
-    Ok(())
-}
-
-#[test]
-fn shows_cfgs(rt: HostRuntime) -> Result<(), Fail> {
-    let alloc = rt.alloc();
-    let key_value = CfgExpr::Atom(CfgAtom::KeyValue {
-        key: make_name(alloc, "feature")?,
-        value: make_text(alloc, "a\"b")?,
-    });
-    let inner = CfgExpr::Any(pair(
-        alloc,
-        CfgExpr::Invalid,
-        CfgExpr::Not(Box::new(alloc, key_value)?),
-    )?);
-    let cfg = CfgExpr::All(pair(alloc, flag(alloc, "unix")?, inner)?);
-    let text = cfg.to_string(alloc)?;
-    assert_eq!(rt;
-        text.as_str(),
-        "all(unix, any(invalid, not(feature = \"a\"b\")))"
-    );
-    Ok(())
 }
 
 #[test]

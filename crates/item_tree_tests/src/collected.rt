@@ -1,8 +1,7 @@
 use item_tree_attrs::{AttrError, Attrs, AttrsOrCfg};
 use hir_input::ast::PathNode;
 use hir_input::{
-    AttrId, CfgAtom, CfgExpr, CfgOptions, EditionYear, Literal, Meta, ModPath, Name, PathKind,
-    Span, SyntaxContext, Text, TokenTree,
+    AttrId, CfgAtom, CfgExpr, CfgOptions, EditionYear, Meta, ModPath, Name, PathKind, SyntaxContext,
 };
 use std::alloc::Global;
 use std::test::Fail;
@@ -29,49 +28,6 @@ fn word(alloc: Global, text: &str) -> Result<Meta, Fail> {
         path: make_path(alloc, text)?,
         ctxt: CTXT,
     })
-}
-
-fn doc(alloc: Global) -> Result<Meta, Fail> {
-    Ok(Meta::KeyValue {
-        path: make_path(alloc, "doc")?,
-        value: None,
-        ctxt: CTXT,
-    })
-}
-
-// `cfg_attr(flag, cfg(unix), text)`
-fn cfg_attr(alloc: Global, condition: &str, text: &str) -> Result<Meta, Fail> {
-    let mut metas = Vec::new(alloc);
-    metas.push(Meta::Cfg(flag(alloc, "unix")?))?;
-    metas.push(word(alloc, text)?)?;
-    Ok(Meta::CfgAttr {
-        condition: flag(alloc, condition)?,
-        metas,
-    })
-}
-
-fn not_test(alloc: Global) -> Result<CfgExpr, Fail> {
-    Ok(CfgExpr::Not(Box::new(alloc, flag(alloc, "test")?)?))
-}
-
-fn test_and_unix(alloc: Global) -> Result<CfgOptions, Fail> {
-    let mut atoms = Vec::new(alloc);
-    atoms.push(CfgAtom::Flag(make_name(alloc, "test")?))?;
-    atoms.push(CfgAtom::Flag(make_name(alloc, "unix")?))?;
-    Ok(CfgOptions::new(atoms))
-}
-
-fn many_metas(alloc: Global) -> Result<Vec<Meta>, Fail> {
-    let mut metas = Vec::new(alloc);
-    metas.push(word(alloc, "a")?)?;
-    metas.push(cfg_attr(alloc, "test", "b")?)?;
-    metas.push(Meta::Unsafe(Box::new(alloc, word(alloc, "no_mangle")?)?))?;
-    metas.push(cfg_attr(alloc, "windows", "c")?)?;
-    metas.push(Meta::Cfg(CfgExpr::Invalid))?;
-    metas.push(doc(alloc)?)?;
-    metas.push(Meta::Cfg(not_test(alloc)?))?;
-    metas.push(word(alloc, "d")?)?;
-    Ok(metas)
 }
 
 fn words(alloc: Global, texts: &[&str]) -> Result<AttrsOrCfg, Fail> {
@@ -114,18 +70,6 @@ fn push_names(attrs: Attrs<'_>, text: &mut String) -> Result<(), Fail> {
             text.push_str(" ")?;
         }
     }
-    Ok(())
-}
-
-#[test]
-fn collects_up_to_a_false_cfg(rt: HostRuntime) -> Result<(), Fail> {
-    let alloc = rt.alloc();
-    let metas = many_metas(alloc)?;
-    let options = test_and_unix(alloc)?;
-    let mut skipped = Vec::new(alloc);
-    skipped.push(make_name(alloc, "doc")?)?;
-    let attrs = AttrsOrCfg::lower(alloc, &metas, &options, &skipped).map_err(|_| "refused")?;
-    assert_eq!(rt; shown(alloc, &attrs)?.as_str(), "a b no_mangle not(test)");
     Ok(())
 }
 

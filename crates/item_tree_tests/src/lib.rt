@@ -14,8 +14,6 @@ mod example;
 #[cfg(test)]
 mod kinds;
 #[cfg(test)]
-mod macro_calls;
-#[cfg(test)]
 mod names;
 #[cfg(test)]
 mod supers;

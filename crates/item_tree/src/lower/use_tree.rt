@@ -232,6 +232,3 @@ fn with_supers(above: u32, path: Option<&ModPath>) -> Option<u32>
         _ => Some(above),
     }
 }
-
-#[cfg(test)]
-mod tests;

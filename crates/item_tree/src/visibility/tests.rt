@@ -1,6 +1,4 @@
-use super::{RawVisibility, RawVisibilityId, VisibilityExplicitness, visibility_from_ast};
-use hir_input::ast::{PathNode, Visibility};
-use hir_input::{ModPath, PathKind};
+use super::RawVisibilityId;
 use std::test::Fail;
 
 #[test]
@@ -16,17 +14,5 @@ fn fixed_ids_are_shown_by_what_they_stand_for(rt: HostRuntime) -> Result<(), Fai
         let shown = format!(in rt.alloc(); "{id:?}")?;
         assert_eq!(rt; shown.as_str(), want);
     }
-    Ok(())
-}
-
-#[test]
-fn a_path_is_read(rt: HostRuntime) -> Result<(), Fail> {
-    let alloc = rt.alloc();
-    let path = ModPath::from_segments(PathKind::Crate, Vec::new(alloc)).ok_or("not a path")?;
-    let want = RawVisibility::Module(path.clone()?, VisibilityExplicitness::Explicit);
-    let written = Visibility::InPath(PathNode::Readable(path));
-    let read = visibility_from_ast(alloc, Some(&written))?;
-    assert!(rt; read == want);
-    assert!(rt; read.clone()? == want);
     Ok(())
 }
