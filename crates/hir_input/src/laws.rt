@@ -30,8 +30,7 @@ fn equal_ids()
     ensures spans { DecidesEq ⟦<Span as PartialEq>⟧.eq }
     ensures expansions { DecidesEq ⟦<ExpandTo as PartialEq>⟧.eq }
     ensures path_kinds { DecidesEq ⟦<PathKind as PartialEq>⟧.eq }
-{
-}
+{}
 
 // `==` of what owns memory is true exactly where the values behind it are one.
 fn equal_values()
@@ -48,8 +47,7 @@ fn equal_values()
     ensures inputs { DecidesEq ⟦<AttrInput as PartialEq>⟧.eq }
     ensures attrs { DecidesEq ⟦<Attr as PartialEq>⟧.eq }
     ensures metas { DecidesEqOf meta_view ⟦<Meta as PartialEq>⟧.eq }
-{
-}
+{}
 
 // Values that are equal are hashed alike.
 fn hashes()
@@ -59,8 +57,7 @@ fn hashes()
     ensures path_kinds { HashesAlike ⟦<PathKind as PartialEq>⟧.eq ⟦<PathKind as Hash>⟧.hash_input }
     ensures names { HashesAlike ⟦<Name as PartialEq>⟧.eq ⟦<Name as Hash>⟧.hash_input }
     ensures paths { HashesAlike ⟦<ModPath as PartialEq>⟧.eq ⟦<ModPath as Hash>⟧.hash_input }
-{
-}
+{}
 
 // A copy is its source.
 fn copies()
@@ -87,5 +84,4 @@ fn copies()
     ensures inputs { IsCopied ⟦<AttrInput as Clone>⟧.is_clone }
     ensures attrs { IsCopied ⟦<Attr as Clone>⟧.is_clone }
     ensures metas { IsCopiedOf meta_view ⟦<Meta as Clone>⟧.is_clone }
-{
-}
+{}

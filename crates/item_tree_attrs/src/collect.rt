@@ -113,7 +113,8 @@ impl AttrsOrCfg {
     /// What the metas collect under these options, without the attributes whose path is one of the skipped
     /// names. rust-analyzer's `AttrsOrCfg::lower`.
     ///
-    /// `TooMany` means that more than u32::MAX attributes are collected; any other error is want of memory.
+    /// Where more than u32::MAX attributes are collected, it is refused: as `TooMany`, or as `OutOfMemory` if memory
+    /// was refused first. Otherwise `OutOfMemory` is the only refusal.
     /// A list followed by another collects what `merge` makes of the two.
     #[tactic(auto, using(crate::proofs::Cutting::joins_lists))]
     pub fn lower(

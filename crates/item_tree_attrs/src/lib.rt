@@ -2,6 +2,7 @@
 #![tactic(auto)]
 
 pub mod collect;
+mod laws;
 pub mod merge;
 pub mod query;
 

@@ -22,8 +22,8 @@ impl AttrsOrCfg {
     /// Where a cfg of this side is false, this side is the answer, and no memory is taken.
     /// rust-analyzer's `AttrsOrCfg::merge`.
     ///
-    /// `TooMany` means that this side is enabled and the two have more than u32::MAX attributes together; it is
-    /// looked at before memory. Memory comes from the allocator that this side keeps.
+    /// `TooMany` is the answer exactly where this side is enabled and the two have more than u32::MAX attributes
+    /// together; any other refusal is want of memory, from the allocator that this side keeps.
     pub fn merge(self, right: AttrsOrCfg) -> Result<AttrsOrCfg, MergeRefused>
         ensures value { IfOk result (λ both. collected both ≡ join (collected self) (collected right)) }
         ensures disabled { IsSome (collected self).false_cfg → result ≡ Ok self }
