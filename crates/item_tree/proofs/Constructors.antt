@@ -3,16 +3,16 @@ use Rattle.std.proofs.Common.{◌≡◌, ℕ, ◌≤◌, List, [], ◌∷◌, �
 use Rattle.std.proofs.lemmas.List.{map-append}
 use Rattle.item_tree_attrs.specs.Collected.{attr_limit}
 use Rattle.item_tree.specs.declared.fault.LowerError.{LowerError}
-use Rattle.item_tree.specs.declared.fault.LowerError.TheVariants.{TooManyItems, TooManyVisibilities, TooManyUseTrees, TooManyAttributes, TooManySupers, OutOfMemory}
 use Rattle.item_tree.specs.declared.items.FieldsShape.{FieldsShape}
 use Rattle.item_tree.specs.declared.rows.Rows.{Rows}
 use Rattle.item_tree.specs.Constructor.{ctor_from}
 use Rattle.item_tree.specs.Node.{Ctor, Leaf, Head, struct_item, leaf, empty, more}
 use Rattle.item_tree.specs.Visibility.{meet, meet_all}
-use Rattle.item_tree.specs.Layout.{vis_id, plain_vis, ctor_map, leaf_map, ctor_vis, leaf_vis, leaf_row}
-use Rattle.item_tree.specs.Growth.{Adds, Lowers, IsFault, Meets, MeetsAll, MeetsUpTo, HasId, AreUnmet, IsUnmet, Pushes}
+use Rattle.item_tree.specs.Layout.{vis_id, plain_vis, ctor_map, leaf_map, ctor_vis, leaf_row}
+use Rattle.item_tree.specs.Growth.{Adds, Lowers, sizes_with, Meets, MeetsAll, MeetsUpTo, HasId, sizes_meeting, Pushes}
+use Rattle.item_tree.specs.Size.{IsPassed}
 use Rattle.item_tree.proofs.Arena.{V, Extends, Extends-meet_all, Knows, Knows-meet, Knows-id, meet-twice}
-use Rattle.item_tree.proofs.Lowering.{Adds-nothing, Adds-join, Meets-adds, Lowers-leaf, length-Extends}
+use Rattle.item_tree.proofs.Lowering.{Adds-nothing, Adds-join, Meets-adds, Lowers-leaf, length-Extends, passes-visibilities}
 
 pub has_id : (o a : Rows) (v : V) (i : ℕ) → Meets o a v i → HasId a v i
 has_id o a v i m = record { given = m.given; met = ap (λ z. meet z v) m.met ∙ meet-twice o.arena.keys v ∙ sym m.met }
@@ -66,29 +66,15 @@ ctor_map_from f [] = refl
 ctor_map_from f (v ∷ []) = refl
 ctor_map_from f (v ∷ w ∷ vs) = refl
 
--- ---- faults
-
-AreUnmet-more : (o a : Rows) (vs us : List V) (e : LowerError) → length (meet_all a.arena.keys us) ≤ length (meet_all o.arena.keys vs) → AreUnmet a us e → AreUnmet o vs e
-AreUnmet-more o a vs us TooManyItems h q = absurd q
-AreUnmet-more o a vs us TooManyVisibilities h q = omega (arith, h, q)
-AreUnmet-more o a vs us TooManyUseTrees h q = absurd q
-AreUnmet-more o a vs us TooManyAttributes h q = absurd q
-AreUnmet-more o a vs us TooManySupers h q = absurd q
-AreUnmet-more o a vs us OutOfMemory h q = tt
+-- ---- sizes
 
 -- the first that is left of several passes the limit
-pub AreUnmet-first : (o a : Rows) (v : V) (vs all : List V) (e : LowerError) → meet_all a.arena.keys (v ∷ vs) ≡ meet_all o.arena.keys all → IsUnmet a v e → AreUnmet o all e
-AreUnmet-first o a v vs all e h =
+pub unmet-first : (o a : Rows) (v : V) (vs all : List V) (e : LowerError) → meet_all a.arena.keys (v ∷ vs) ≡ meet_all o.arena.keys all → IsPassed (sizes_meeting a (v ∷ [])) e → IsPassed (sizes_meeting o all) e
+unmet-first o a v vs all e h =
     let x = meet a.arena.keys v in
-    AreUnmet-more o a all (v ∷ []) e (omega (arith, ap length h, length-Extends x (meet_all x vs) (Extends-meet_all x vs)))
+    passes-visibilities (length x) (sizes_meeting o all) e (omega (arith, ap length h, length-Extends x (meet_all x vs) (Extends-meet_all x vs)))
 
-AreUnmet-leaf : (o : Rows) (h : Head) (l : Leaf V) (e : LowerError) → AreUnmet o (leaf_vis l) e → IsFault o 0 (more (leaf h l) empty) e
-AreUnmet-leaf o h l TooManyItems q = absurd q
-AreUnmet-leaf o h l TooManyVisibilities q = q
-AreUnmet-leaf o h l TooManyUseTrees q = absurd q
-AreUnmet-leaf o h l TooManyAttributes q = absurd q
-AreUnmet-leaf o h l TooManySupers q = absurd q
-AreUnmet-leaf o h l OutOfMemory q = tt
-
-pub own_unmet : (o : Rows) (h : Head) (n : List ℕ) (v : V) (s : FieldsShape) (c : Ctor V) (e : LowerError) → IsUnmet o v e → IsFault o 0 (more (leaf h (struct_item n v s c)) empty) e
-own_unmet o h n v s c e q = AreUnmet-leaf o h (struct_item n v s c) e (AreUnmet-first o o v (ctor_vis c) (v ∷ ctor_vis c) e refl q)
+pub own-unmet : (o : Rows) (h : Head) (n : List ℕ) (v : V) (s : FieldsShape) (c : Ctor V) (e : LowerError) → IsPassed (sizes_meeting o (v ∷ [])) e → IsPassed (sizes_with o 0 (more (leaf h (struct_item n v s c)) empty)) e
+own-unmet o h n v s c e =
+    let x = meet o.arena.keys v in
+    passes-visibilities (length x) (sizes_with o 0 (more (leaf h (struct_item n v s c)) empty)) e (omega (arith, length-Extends x (meet_all x (ctor_vis c)) (Extends-meet_all x (ctor_vis c))))

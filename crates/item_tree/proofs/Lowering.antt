@@ -20,9 +20,9 @@ use Rattle.item_tree.specs.Layout.{VisId, vis_id, plain_vis, leaf_map, trunk_map
 use Rattle.item_tree.specs.Column.{is_empty, unless, some_unless, column_of, places_from, plain_place}
 use Rattle.item_tree.specs.Imports.{super_limit}
 use Rattle.item_tree.specs.KeptUse.{use_tree_limit}
-use Rattle.item_tree.specs.Size.{most_attrs, leaf_supers, forest_supers, item_written, items_written, Fits}
+use Rattle.item_tree.specs.Size.{most_attrs, leaf_supers, forest_supers, item_written, items_written, Sizes, IsPassed, only_items, only_visibilities, Fits}
 use Rattle.item_tree.specs.Stored.{item_row, key_in, keys_in, items_in, places_in, column_in, tables_of, AreSound}
-use Rattle.item_tree.specs.Growth.{items_below, attrs_in, kept_in, all_kept_in, row_count, Adds, Lowers, IsFault, Meets, IsUnmet, Puts, Pushes, IsFull}
+use Rattle.item_tree.specs.Growth.{items_below, attrs_in, kept_in, all_kept_in, row_count, Adds, Lowers, sizes_with, Meets, sizes_meeting, Puts, Pushes}
 use Rattle.item_tree.proofs.Arena.{V, Extends, Extends-met, KnowsAll, KnowsAll-meet_all, KnowsForest, KnowsNode, Knows-met, leaf-stable, trunk-stable, bool_cases}
 use Rattle.item_tree.proofs.Column.{column-append, places-append}
 use Rattle.item_tree.proofs.Canon.{unfold-layout}
@@ -199,25 +199,38 @@ Lowers-parent {o} {a} {b} {c} {w} {f} {is} {i} h k t r s m e q few l p =
       within = p.within;
     }
 
--- ---- faults
+-- ---- sizes
 
-pub IsFull-parent :
+pub record AreBelow (a b : Sizes) : Type 0 where
+  pub items : a.items ≤ b.items
+  pub visibilities : a.visibilities ≤ b.visibilities
+  pub use_trees : a.use_trees ≤ b.use_trees
+  pub attributes : a.attributes ≤ b.attributes
+  pub supers : a.supers ≤ b.supers
+
+-- larger sizes pass what smaller ones do
+pub passes : (a b : Sizes) (e : LowerError) → AreBelow a b → IsPassed a e → IsPassed b e
+passes a b TooManyItems h p = omega (arith, h.items, p)
+passes a b TooManyVisibilities h p = omega (arith, h.visibilities, p)
+passes a b TooManyUseTrees h p = omega (arith, h.use_trees, p)
+passes a b TooManyAttributes h p = omega (arith, h.attributes, p)
+passes a b TooManySupers h p = omega (arith, h.supers, p)
+passes a b OutOfMemory h p = tt
+
+pub passes-visibilities : (n : ℕ) (b : Sizes) (e : LowerError) → n ≤ b.visibilities → IsPassed (only_visibilities n) e → IsPassed b e
+passes-visibilities n b e h = passes (only_visibilities n) b e (record { items = omega arith; visibilities = h; use_trees = omega arith; attributes = omega arith; supers = omega arith })
+
+pub full-parent :
     {o a b : Rows} {v : ℕ} {f : Forest} {is : List ℕ} (w : ℕ) (h : Head) (t : Trunk V) (e : LowerError) → Adds o a [] →
-    Lowers a b v f is → IsFull b e → IsFault o w (more (parent h t f) empty) e
-IsFull-parent {o} {a} {b} w h t TooManyItems s l q = omega (arith, q, Adds-count s, Lowers-count l)
-IsFull-parent {o} {a} {b} w h t TooManyVisibilities s l q = absurd q
-IsFull-parent {o} {a} {b} w h t TooManyUseTrees s l q = absurd q
-IsFull-parent {o} {a} {b} w h t TooManyAttributes s l q = absurd q
-IsFull-parent {o} {a} {b} w h t TooManySupers s l q = absurd q
-IsFull-parent w h t OutOfMemory s l q = tt
+    Lowers a b v f is → IsPassed (only_items (row_count b + 1)) e → IsPassed (sizes_with o w (more (parent h t f) empty)) e
+full-parent {o} {a} {b} {v} {f} w h t e s l =
+    passes (only_items (row_count b + 1)) (sizes_with o w (more (parent h t f) empty)) e
+    (record { items = omega (arith, Adds-count s, Lowers-count l); visibilities = omega arith; use_trees = omega arith; attributes = omega arith; supers = omega arith })
 
-pub IsFault-parent : (o : Rows) (w : ℕ) (h : Head) (f : Forest) (e : LowerError) → IsFault o w f e → IsFault o w (more (parent h extern_block f) empty) e
-IsFault-parent o w h f TooManyItems q = omega (arith, q)
-IsFault-parent o w h f TooManyVisibilities q = q
-IsFault-parent o w h f TooManyUseTrees q = q
-IsFault-parent o w h f TooManyAttributes q = omega (arith, q)
-IsFault-parent o w h f TooManySupers q = omega (arith, q)
-IsFault-parent o w h f OutOfMemory q = tt
+pub below-block : (o : Rows) (w : ℕ) (h : Head) (f : Forest) (e : LowerError) → IsPassed (sizes_with o w f) e → IsPassed (sizes_with o w (more (parent h extern_block f) empty)) e
+below-block o w h f e =
+    passes (sizes_with o w f) (sizes_with o w (more (parent h extern_block f) empty)) e
+    (record { items = omega arith; visibilities = omega arith; use_trees = omega arith; attributes = omega arith; supers = omega arith })
 
 -- ---- modules
 
@@ -278,23 +291,20 @@ module _ (ctx : Ctx) (m : ast_module.Module) where
       rw (kept-inline n e s, written-inline n e s)
       (Lowers-parent head k (inline n (value m)) (inline p (plain_vis u)) (Meets-adds v) v.met (λ j. inline (q j) (v.given j)) d few h w)
 
-  pub IsUnmet-module : (o : Rows) (n : List ℕ) (e : LowerError) → m.name ≡ Some n → IsUnmet o (value m) e → IsFault o module_written kept_module e
-  IsUnmet-module o n TooManyItems q h = absurd h
-  IsUnmet-module o n TooManyVisibilities q h =
+  pub unmet-module : (o : Rows) (n : List ℕ) (e : LowerError) → m.name ≡ Some n → IsPassed (sizes_meeting o (value m ∷ [])) e → IsPassed (sizes_with o module_written kept_module) e
+  unmet-module o n e q =
+      let k = meet o.arena.keys (value m) in
+      let h : length k ≤ length (met kept_module o.arena.keys) =
       elim (bool_cases m.semicolon) [
-        | inl s ↦ rw (kept-outline n q s) h
-        | inr s ↦ rw (kept-inline n q s)
-            (omega (arith, h, length-Extends (meet o.arena.keys (value m)) (met below (meet o.arena.keys (value m))) (Extends-met below (meet o.arena.keys (value m)))))
-      ]
-  IsUnmet-module o n TooManyUseTrees q h = absurd h
-  IsUnmet-module o n TooManyAttributes q h = absurd h
-  IsUnmet-module o n TooManySupers q h = absurd h
-  IsUnmet-module o n OutOfMemory q h = tt
+        | inl s ↦ rw (kept-outline n q s) (omega arith)
+        | inr s ↦ rw (kept-inline n q s) (length-Extends k (met below k) (Extends-met below k))
+      ] in
+      passes-visibilities (length k) (sizes_with o module_written kept_module) e h
 
-  pub IsFull-inline :
+  pub full-inline :
       {o a b : Rows} {is : List ℕ} {u : ℕ} (n : List ℕ) (e : LowerError) → m.name ≡ Some n → m.semicolon ≡ false → Meets o a (value m) u →
-      Lowers a b inside below is → IsFull b e → IsFault o module_written kept_module e
-  IsFull-inline n e q s v h f = rw (kept-inline n q s) (IsFull-parent module_written head (inline n (value m)) e (Meets-adds v) h f)
+      Lowers a b inside below is → IsPassed (only_items (row_count b + 1)) e → IsPassed (sizes_with o module_written kept_module) e
+  full-inline n e q s v h f = rw (kept-inline n q s) (full-parent module_written head (inline n (value m)) e (Meets-adds v) h f)
 
 -- ---- extern blocks
 
@@ -372,25 +382,24 @@ module _ (ctx : Ctx) {X : Type 0} (seen : X → ItemView) where
       Lowers a c (written_list (take (i + 1) xs)) (kept_list (take (i + 1) xs)) (is ++ js)
   Lowers-step {a} {b} {c} {is} {js} xs i x e h p q = rw (kept_list-push xs i x e h, written_list-push xs i x e h) (Lowers-join p q)
 
-  pub IsFault-step :
+  pub passed-step :
       {a b : Rows} {is : List ℕ} (xs : List X) (i : ℕ) (x : X) (e : LowerError) → x ≡ get_or xs i x → i < length xs →
-      Lowers a b (written_list (take i xs)) (kept_list (take i xs)) is → IsFault b (item_written (seen x)) (kept_one x) e →
-      IsFault a (written_list xs) (kept_list xs) e
-  IsFault-step {a} {b} xs i x TooManyItems q h p f =
-      omega (arith, f, ap count (kept_list-split xs (i + 1)), count-join (kept_list (take (i + 1) xs)) (kept_list (drop (i + 1) xs)), Lowers-count p, ap count (kept_list-push xs i x q h), count-join (kept_list (take i xs)) (kept_one x))
-  IsFault-step {a} {b} xs i x TooManyVisibilities q h p f =
+      Lowers a b (written_list (take i xs)) (kept_list (take i xs)) is → IsPassed (sizes_with b (item_written (seen x)) (kept_one x)) e →
+      IsPassed (sizes_with a (written_list xs) (kept_list xs)) e
+  passed-step {a} {b} xs i x e q h p =
       let rest = kept_list (drop (i + 1) xs) in
       let here = met (kept_one x) b.arena.keys in
+      let whole : kept_list xs ≡ join (join (kept_list (take i xs)) (kept_one x)) rest = kept_list-split xs (i + 1) ∙ ap (λ f. join f rest) (kept_list-push xs i x q h) in
       let m : met (kept_list xs) a.arena.keys ≡ met rest here =
-      ap (λ z. met z a.arena.keys) (kept_list-split xs (i + 1)) ∙ met-join (kept_list (take (i + 1) xs)) rest a.arena.keys
-      ∙ ap (met rest) (ap (λ z. met z a.arena.keys) (kept_list-push xs i x q h) ∙ met-join (kept_list (take i xs)) (kept_one x) a.arena.keys ∙ ap (met (kept_one x)) (sym p.arena_met)) in
-      omega (arith, f, ap length m, length-Extends here (met rest here) (Extends-met rest here))
-  IsFault-step xs i x TooManyUseTrees q h p f = omega (arith, f, written_list-split xs (i + 1), written_list-push xs i x q h)
-  IsFault-step xs i x TooManyAttributes q h p f =
-      omega (arith, f, ap most_attrs (kept_list-split xs (i + 1)), most_attrs-join (kept_list (take (i + 1) xs)) (kept_list (drop (i + 1) xs)), ap most_attrs (kept_list-push xs i x q h), most_attrs-join (kept_list (take i xs)) (kept_one x))
-  IsFault-step xs i x TooManySupers q h p f =
-      omega (arith, f, ap forest_supers (kept_list-split xs (i + 1)), forest_supers-join (kept_list (take (i + 1) xs)) (kept_list (drop (i + 1) xs)), ap forest_supers (kept_list-push xs i x q h), forest_supers-join (kept_list (take i xs)) (kept_one x))
-  IsFault-step xs i x OutOfMemory q h p f = tt
+      ap (λ z. met z a.arena.keys) whole ∙ met-join (join (kept_list (take i xs)) (kept_one x)) rest a.arena.keys
+      ∙ ap (met rest) (met-join (kept_list (take i xs)) (kept_one x) a.arena.keys ∙ ap (met (kept_one x)) (sym p.arena_met)) in
+      passes (sizes_with b (item_written (seen x)) (kept_one x)) (sizes_with a (written_list xs) (kept_list xs)) e (record {
+        items = omega (arith, Lowers-count p, ap count whole, count-join (join (kept_list (take i xs)) (kept_one x)) rest, count-join (kept_list (take i xs)) (kept_one x));
+        visibilities = omega (arith, ap length m, length-Extends here (met rest here) (Extends-met rest here));
+        use_trees = omega (arith, written_list-split xs (i + 1), written_list-push xs i x q h);
+        attributes = omega (arith, ap most_attrs whole, most_attrs-join (join (kept_list (take i xs)) (kept_one x)) rest, most_attrs-join (kept_list (take i xs)) (kept_one x));
+        supers = omega (arith, ap forest_supers whole, forest_supers-join (join (kept_list (take i xs)) (kept_one x)) rest, forest_supers-join (kept_list (take i xs)) (kept_one x));
+      })
 
 -- ---- the tables of a tree whose rows were made from nothing
 

@@ -1,5 +1,5 @@
 -- What lowering adds to the rows. Only private contracts speak of it.
-use Rattle.std.specs.Prelude.{◌≡◌, ℕ, ◌+◌, ◌*◌, ◌<◌, ◌≤◌, Bool, List, [], ◌∷◌, ◌++◌, length, map, Option, Some, None, Result, MatchResult, option_copied}
+use Rattle.std.specs.Prelude.{◌≡◌, ℕ, ◌+◌, ◌*◌, ◌≤◌, Bool, List, [], ◌∷◌, ◌++◌, length, map, Option, Some, None, Result, MatchResult, option_copied}
 use Rattle.std.specs.declared.vec.Vec.{Vec}
 use Rattle.std.specs.declared.alloc.Global.{Global}
 use Rattle.hir_input.specs.declared.attr.Meta.{Meta}
@@ -14,7 +14,6 @@ use Rattle.item_tree.specs.declared.lower.named.PlainKind as named
 use Rattle.item_tree.specs.declared.lower.named.PlainKind.TheVariants as plain
 use Rattle.item_tree.specs.declared.rows.Rows.{Rows}
 use Rattle.item_tree.specs.declared.fault.LowerError.{LowerError}
-use Rattle.item_tree.specs.declared.fault.LowerError.TheVariants.{TooManyItems, TooManyVisibilities, TooManyUseTrees, TooManyAttributes, TooManySupers, OutOfMemory}
 use Rattle.item_tree.specs.CrateView.{crate_view}
 use Rattle.item_tree.specs.Node.{Node, Forest, empty, add, count, Unfolding}
 use Rattle.item_tree.specs.Kept.{kept, kept_all, top_attrs_of}
@@ -23,7 +22,7 @@ use Rattle.item_tree.specs.Visibility.{meet, meet_all}
 use Rattle.item_tree.specs.Layout.{vis_id, plain_vis, met, kind_bit, ids, Row, row_tag, row_key, row_attrs, row_item, rows_of}
 use Rattle.item_tree.specs.Imports.{super_limit}
 use Rattle.item_tree.specs.KeptUse.{use_tree_limit}
-use Rattle.item_tree.specs.Size.{item_limit, visibility_limit, most_attrs, forest_supers, item_written, items_written}
+use Rattle.item_tree.specs.Size.{item_limit, visibility_limit, most_attrs, forest_supers, item_written, items_written, Sizes, IsPassed, only_visibilities}
 use Rattle.item_tree.specs.Stored.{keys_in, items_in, places_in, column_in}
 
 -- the kind of a plain item
@@ -98,32 +97,23 @@ to_list (Some i) = i ∷ []
 abbrev pub LowersOne : Rows → Rows → ℕ → Option Node → Option ℕ → Type 0
 LowersOne old new w n i = Lowers old new w (add n empty) (to_list i)
 
--- the error names a size that the rows with those of the forest pass, or the use trees of which w are written in one at
--- most, or want of memory
-abbrev pub IsFault : Rows → ℕ → Forest → LowerError → Type 0
-IsFault old w f TooManyItems = item_limit < row_count old + count f
-IsFault old w f TooManyVisibilities = visibility_limit < length (met f old.arena.keys)
-IsFault old w f TooManyUseTrees = use_tree_limit < w
-IsFault old w f TooManyAttributes = attr_limit < most_attrs f
-IsFault old w f TooManySupers = super_limit < forest_supers f
-IsFault old w f OutOfMemory = Unit {0}
+-- the sizes of the rows with those of the forest, of whose use trees w at most are written in one
+abbrev pub sizes_with : Rows → ℕ → Forest → Sizes
+sizes_with old w f = record {
+  items = row_count old + count f;
+  visibilities = length (met f old.arena.keys);
+  use_trees = w;
+  attributes = most_attrs f;
+  supers = forest_supers f;
+}
 
 -- the item is lowered, or refused for a size that it passes
 abbrev pub IsLowered : Ctx → Rows → Rows → ItemView → Result (Option ℕ) LowerError → Type 0
-IsLowered ctx old new i r = MatchResult r (LowersOne old new (item_written i) (kept_in ctx i)) (IsFault old (item_written i) (add (kept_in ctx i) empty))
+IsLowered ctx old new i r = MatchResult r (LowersOne old new (item_written i) (kept_in ctx i)) (IsPassed (sizes_with old (item_written i) (add (kept_in ctx i) empty)))
 
 -- the same of several
 abbrev pub AreLowered : Ctx → Rows → Rows → ItemViews → Result (Vec ℕ Global) LowerError → Type 0
-AreLowered ctx old new is r = MatchResult r (λ ids. Lowers old new (items_written is) (all_kept_in ctx is) ids.items) (IsFault old (items_written is) (all_kept_in ctx is))
-
--- the error names that an owner collects too many attributes, or want of memory
-abbrev pub IsAttrFault : Collected → LowerError → Type 0
-IsAttrFault c TooManyItems = ⊥
-IsAttrFault c TooManyVisibilities = ⊥
-IsAttrFault c TooManyUseTrees = ⊥
-IsAttrFault c TooManyAttributes = attr_limit < length c.attrs
-IsAttrFault c TooManySupers = ⊥
-IsAttrFault c OutOfMemory = Unit {0}
+AreLowered ctx old new is r = MatchResult r (λ ids. Lowers old new (items_written is) (all_kept_in ctx is) ids.items) (IsPassed (sizes_with old (items_written is) (all_kept_in ctx is)))
 
 -- the visibility was met, and this is its id
 pub record Meets (old new : Rows) (v : RawVisibility) (i : ℕ) : Type 0 where
@@ -154,17 +144,9 @@ pub record MeetsUpTo (old new : Rows) (vs rest : List RawVisibility) (is : List 
   pub kept : new ≡ record old { arena = new.arena }
   pub within : IsWithinLimits new
 
--- the error names that the visibilities pass the limit once these are met, or want of memory
-abbrev pub AreUnmet : Rows → List RawVisibility → LowerError → Type 0
-AreUnmet old vs TooManyItems = ⊥
-AreUnmet old vs TooManyVisibilities = visibility_limit < length (meet_all old.arena.keys vs)
-AreUnmet old vs TooManyUseTrees = ⊥
-AreUnmet old vs TooManyAttributes = ⊥
-AreUnmet old vs TooManySupers = ⊥
-AreUnmet old vs OutOfMemory = Unit {0}
-
-abbrev pub IsUnmet : Rows → RawVisibility → LowerError → Type 0
-IsUnmet old v = AreUnmet old (v ∷ [])
+-- what these visibilities pass once they are met
+abbrev pub sizes_meeting : Rows → List RawVisibility → Sizes
+sizes_meeting old vs = only_visibilities (length (meet_all old.arena.keys vs))
 
 -- the value stands at the end of the column, unless it is enabled and empty, and this is its place
 pub record Puts (old new : Vec AttrsOrCfg Global) (c : Collected) (place : ℕ) : Type 0 where
@@ -177,11 +159,3 @@ pub record Pushes (old new : Rows) (r : Row) (i : ℕ) : Type 0 where
   pub added : Adds old new (r ∷ [])
   pub arena_kept : new.arena.keys ≡ old.arena.keys
   pub within : IsWithinLimits new
-
-abbrev pub IsFull : Rows → LowerError → Type 0
-IsFull old TooManyItems = item_limit ≤ row_count old
-IsFull old TooManyVisibilities = ⊥
-IsFull old TooManyUseTrees = ⊥
-IsFull old TooManyAttributes = ⊥
-IsFull old TooManySupers = ⊥
-IsFull old OutOfMemory = Unit {0}

@@ -12,6 +12,7 @@ use Rattle.item_tree.specs.Imports.{most_supers, super_limit}
 use Rattle.item_tree.specs.KeptUse.{kept_tree, use_tree_limit}
 use Rattle.item_tree.specs.Node.{Leaf, use_item, Node, leaf, parent, Forest, empty, more, count, Unfolding}
 use Rattle.item_tree.specs.Layout.{arena_of}
+use Rattle.item_tree.specs.UseItem.{kept_supers}
 
 -- the most items of a tree
 abbrev pub item_limit : ℕ
@@ -80,6 +81,51 @@ abbrev pub fault_of : AttrError → LowerError
 fault_of attrs.TooMany = TooManyAttributes
 fault_of attrs.OutOfMemory = OutOfMemory
 
+-- how much there is of each size
+pub record Sizes : Type 0 where
+  -- items, at every depth
+  pub items : ℕ
+  -- distinct visibilities of modules
+  pub visibilities : ℕ
+  -- use trees written in one of which something is kept
+  pub use_trees : ℕ
+  -- attributes of one owner
+  pub attributes : ℕ
+  -- times that `super` stands in the paths from the root of a use tree to one of its nodes
+  pub supers : ℕ
+
+-- the error names a size that is passed, or want of memory
+abbrev pub IsPassed : Sizes → LowerError → Type 0
+IsPassed s TooManyItems = item_limit < s.items
+IsPassed s TooManyVisibilities = visibility_limit < s.visibilities
+IsPassed s TooManyUseTrees = use_tree_limit < s.use_trees
+IsPassed s TooManyAttributes = attr_limit < s.attributes
+IsPassed s TooManySupers = super_limit < s.supers
+IsPassed s OutOfMemory = Unit {0}
+
+-- where there is so much of one size alone
+abbrev pub no_sizes : Sizes
+no_sizes = record { items = 0; visibilities = 0; use_trees = 0; attributes = 0; supers = 0 }
+
+abbrev pub only_items : ℕ → Sizes
+only_items n = record no_sizes { items = n }
+
+abbrev pub only_visibilities : ℕ → Sizes
+only_visibilities n = record no_sizes { visibilities = n }
+
+abbrev pub only_attributes : ℕ → Sizes
+only_attributes n = record no_sizes { attributes = n }
+
+-- the sizes of a syntax and of what is kept of it
+abbrev pub sizes_of : SyntaxView → Unfolding → Sizes
+sizes_of s u = record {
+  items = count u.forest;
+  visibilities = length (arena_of u.forest);
+  use_trees = most_written s;
+  attributes = all_most_attrs u;
+  supers = forest_supers u.forest;
+}
+
 -- no size is passed
 pub record Fits (u : Unfolding) : Type 0 where
   pub items : count u.forest ≤ item_limit
@@ -94,9 +140,8 @@ pub record FitsWith (s : SyntaxView) (u : Unfolding) : Type 0 where
 
 -- the error names a size that a syntax passes, or what is kept of it, or want of memory
 abbrev pub IsTooLarge : SyntaxView → Unfolding → LowerError → Type 0
-IsTooLarge s u TooManyItems = item_limit < count u.forest
-IsTooLarge s u TooManyVisibilities = visibility_limit < length (arena_of u.forest)
-IsTooLarge s u TooManyUseTrees = use_tree_limit < most_written s
-IsTooLarge s u TooManyAttributes = attr_limit < all_most_attrs u
-IsTooLarge s u TooManySupers = super_limit < forest_supers u.forest
-IsTooLarge s u OutOfMemory = Unit {0}
+IsTooLarge s u = IsPassed (sizes_of s u)
+
+-- the same of a written use tree whose root is kept
+abbrev pub IsUseFault : UseTreeView → LowerError → Type 0
+IsUseFault w = IsPassed (record no_sizes { use_trees = tree_written (Some w); supers = kept_supers (kept_tree w) })

@@ -1,12 +1,12 @@
 //! Lowering of a syntax to its item tree.
-ghost use Rattle.std.specs.Prelude.{◌≡◌, ◌≤◌, IfOk, IfErr, OnOk, [], length, option_copied};
+ghost use Rattle.std.specs.Prelude.{◌≡◌, ◌≤◌, IfOk, IfErr, OnOk, [], ◌∷◌, length, option_copied};
 ghost use Rattle.hir_input.specs.Syntax.{impl_item, impl_view, use_item, use_view, source_file, module_view, item_view, items_view, syntax_view};
 ghost use Rattle.item_tree_attrs.specs.Collected.{attr_limit, collected};
 ghost use Rattle.item_tree.specs.Lowered.{kept_in, kept_without_bodies, FitsIn, IsTooLargeIn};
 ghost use Rattle.item_tree.specs.Sees.{CtorsAreSeen};
 ghost use Rattle.item_tree.specs.KeptUse.{use_tree_limit};
-ghost use Rattle.item_tree.specs.Size.{Fits, IsTooLarge, items_written};
-ghost use Rattle.item_tree.specs.Growth.{IsWithinLimits, IsLowered, AreLowered, IsAttrFault, Meets, IsUnmet, attrs_in, top_attrs_in, file_in, items_below};
+ghost use Rattle.item_tree.specs.Size.{Fits, IsTooLarge, IsPassed, only_attributes, items_written};
+ghost use Rattle.item_tree.specs.Growth.{IsWithinLimits, IsLowered, AreLowered, Meets, sizes_meeting, attrs_in, top_attrs_in, file_in, items_below};
 ghost use Rattle.item_tree.specs.Visibility.{read_visibility};
 
 mod constructor;
@@ -78,7 +78,7 @@ pub fn lower_syntax(
 fn lower_attrs(ctx: Ctx, attrs: &[Meta]) -> Result<AttrsOrCfg, LowerError>
     ensures value { IfOk result (λ lowered. collected lowered ≡ attrs_in ctx.entry attrs.now) }
     ensures fits { OnOk result (length (attrs_in ctx.entry attrs.now).attrs ≤ attr_limit) }
-    ensures fault { IfErr result (IsAttrFault (attrs_in ctx.entry attrs.now)) }
+    ensures fault { IfErr result (IsPassed (only_attributes (length (attrs_in ctx.entry attrs.now).attrs))) }
 {
     Ok(AttrsOrCfg::lower(ctx.alloc, attrs, &ctx.krate.cfg, ctx.skipped)?)
 }
@@ -87,7 +87,8 @@ fn lower_attrs(ctx: Ctx, attrs: &[Meta]) -> Result<AttrsOrCfg, LowerError>
 fn lower_top_attrs(ctx: Ctx, attrs: &[Meta], is_root: bool) -> Result<AttrsOrCfg, LowerError>
     ensures value { IfOk result (λ top. collected top ≡ top_attrs_in ctx.entry is_root attrs.now) }
     ensures fits { OnOk result (length (top_attrs_in ctx.entry is_root attrs.now).attrs ≤ attr_limit) }
-    ensures fault { IfErr result (IsAttrFault (top_attrs_in ctx.entry is_root attrs.now)) }
+    ensures fault { IfErr result
+        (IsPassed (only_attributes (length (top_attrs_in ctx.entry is_root attrs.now).attrs))) }
 {
     if !is_root {
         return lower_attrs(ctx, attrs);
@@ -257,7 +258,8 @@ fn lower_visibility(
 ) -> Result<RawVisibilityId, LowerError>
     requires { IsWithinLimits rows.old }
     ensures met { IfOk result (Meets rows.old rows.new (read_visibility (option_copied visibility.entry))) }
-    ensures fault { IfErr result (IsUnmet rows.old (read_visibility (option_copied visibility.entry))) }
+    ensures fault { IfErr result
+        (IsPassed (sizes_meeting rows.old (read_visibility (option_copied visibility.entry) ∷ []))) }
 {
     let visibility = visibility_from_ast(alloc, visibility)?;
     rows.alloc_visibility(visibility)

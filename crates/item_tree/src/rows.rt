@@ -1,10 +1,11 @@
 //! The table of a tree as it grows: rows in columns, and the arena of visibilities.
-ghost use Rattle.std.specs.Prelude.{◌≡◌, ◌<◌, ◌-◌, ◌^◌, IfOk, IfErr, [], length, option_map};
+ghost use Rattle.std.specs.Prelude.{◌≡◌, ◌+◌, ◌<◌, ◌-◌, ◌^◌, IfOk, IfErr, [], ◌∷◌, length, option_map};
 ghost use Rattle.item_tree_attrs.specs.Collected.{collected};
 ghost use Rattle.item_tree.specs.Column.{plain_place, stored_at};
 ghost use Rattle.item_tree.specs.Layout.{head_of_key};
 ghost use Rattle.item_tree.specs.Stored.{key_in, item_row, column_in};
-ghost use Rattle.item_tree.specs.Growth.{IsWithinLimits, Meets, IsUnmet, Puts, Pushes, IsFull};
+ghost use Rattle.item_tree.specs.Size.{IsPassed, only_items};
+ghost use Rattle.item_tree.specs.Growth.{IsWithinLimits, Meets, Puts, Pushes, row_count, sizes_meeting};
 
 use crate::fault::LowerError;
 use crate::items::{ModItem, ModItemId};
@@ -80,7 +81,7 @@ impl Rows {
     ) -> Result<RawVisibilityId, LowerError>
         requires { IsWithinLimits self.old }
         ensures met { IfOk result (λ id. Meets self.old self.new visibility id) }
-        ensures fault { IfErr result (λ e. IsUnmet self.old visibility e) }
+        ensures fault { IfErr result (IsPassed (sizes_meeting self.old (visibility ∷ []))) }
     {
         match visibility {
             RawVisibility::Public => Ok(RawVisibilityId::from_number(PUBLIC)),
@@ -110,7 +111,7 @@ impl Rows {
     ) -> Result<ModItemId, LowerError>
         requires { IsWithinLimits self.old }
         ensures pushed { IfOk result (λ id. Pushes self.old self.new (head_of_key (key_in key) (collected attrs), item_row item) id) }
-        ensures fault { IfErr result (λ e. IsFull self.old e) }
+        ensures fault { IfErr result (IsPassed (only_items (row_count self.old + 1))) }
     {
         let row = self.items.len();
         if row >= ROW_LIMIT {

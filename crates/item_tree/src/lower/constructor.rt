@@ -4,7 +4,8 @@ ghost use Rattle.hir_input.specs.Syntax.{struct_item, struct_view, fields_view, 
 ghost use Rattle.item_tree.specs.Constructor.{ctor_of, ctor_from, deciding};
 ghost use Rattle.item_tree.specs.Layout.{plain_vis, vis_id, ctor_map, ctor_vis};
 ghost use Rattle.item_tree.specs.Kept.{shape_of};
-ghost use Rattle.item_tree.specs.Growth.{IsWithinLimits, IsLowered, HasId, MeetsAll, AreUnmet};
+ghost use Rattle.item_tree.specs.Growth.{IsWithinLimits, IsLowered, HasId, MeetsAll, sizes_meeting};
+ghost use Rattle.item_tree.specs.Size.{IsPassed};
 ghost use Rattle.item_tree.specs.Shown.{ctor_ids};
 ghost use Rattle.item_tree.specs.Visibility.{read_visibility};
 
@@ -17,7 +18,7 @@ use hir_input::ast;
 use indexmap::IndexSet;
 use std::alloc::{AllocError, Global};
 
-#[tactic(auto, using(crate::proofs::Constructors::has_id, crate::proofs::Constructors::own_unmet))]
+#[tactic(auto, using(crate::proofs::Constructors::has_id))]
 pub(super) fn lower_struct(
     ctx: Ctx,
     rows: &mut Rows,
@@ -65,7 +66,7 @@ fn lower_ctor(
     requires own { HasId rows.old (read_visibility struct_node.now.visibility) visibility }
     ensures met { OnOk result (MeetsAll rows.old rows.new (ctor_vis (ctor_of (fields_view struct_node.now.kind) (read_visibility struct_node.now.visibility)))) }
     ensures given { IfOk result (λ ctor. ctor_map plain_vis (ctor_ids ctor) ≡ ctor_map (vis_id rows.new.arena.keys) (ctor_of (fields_view struct_node.now.kind) (read_visibility struct_node.now.visibility))) }
-    ensures fault { IfErr result (AreUnmet rows.old (ctor_vis (ctor_of (fields_view struct_node.now.kind) (read_visibility struct_node.now.visibility)))) }
+    ensures fault { IfErr result (IsPassed (sizes_meeting rows.old (ctor_vis (ctor_of (fields_view struct_node.now.kind) (read_visibility struct_node.now.visibility))))) }
 {
     match &struct_node.kind {
         ast::StructKind::Record => Ok(StructValueNsCtor::NoValueNsCtor),
@@ -87,7 +88,7 @@ fn lower_tuple_ctor(
     requires { IsWithinLimits rows.old }
     ensures met { OnOk result (MeetsAll rows.old rows.new (ctor_vis (ctor_of (tuple_fields (map (λ f. f.visibility) fields.now)) (read_visibility (option_copied own.entry))))) }
     ensures given { IfOk result (λ ctor. ctor_map plain_vis (ctor_ids ctor) ≡ ctor_map (vis_id rows.new.arena.keys) (ctor_of (tuple_fields (map (λ f. f.visibility) fields.now)) (read_visibility (option_copied own.entry)))) }
-    ensures fault { IfErr result (AreUnmet rows.old (ctor_vis (ctor_of (tuple_fields (map (λ f. f.visibility) fields.now)) (read_visibility (option_copied own.entry))))) }
+    ensures fault { IfErr result (IsPassed (sizes_meeting rows.old (ctor_vis (ctor_of (tuple_fields (map (λ f. f.visibility) fields.now)) (read_visibility (option_copied own.entry)))))) }
 {
     let written = read_visibilities(alloc, own, fields)?;
     let deciding = select_deciding(alloc, written)?;
@@ -159,7 +160,7 @@ fn alloc_visibilities(
     requires { IsWithinLimits rows.old }
     ensures met { OnOk result (MeetsAll rows.old rows.new visibilities.keys) }
     ensures given { IfOk result (λ ids. map plain_vis ids.items ≡ map (vis_id rows.new.arena.keys) visibilities.keys) }
-    ensures fault { IfErr result (AreUnmet rows.old visibilities.keys) }
+    ensures fault { IfErr result (IsPassed (sizes_meeting rows.old visibilities.keys)) }
 {
     let mut ids = Vec::new(alloc);
     for visibility in visibilities {

@@ -6,7 +6,8 @@ ghost use Rattle.item_tree.specs.Tree.{tree_of, trees_of};
 ghost use Rattle.item_tree.specs.KeptUse.{alias_of, kept_prefix, kept_tree, kept_trees, kept_places, all_kept_places, use_tree_limit, ArePlacesOf};
 ghost use Rattle.item_tree.specs.Imports.{imports, supers_in, most_supers, all_most_supers, super_limit};
 ghost use Rattle.item_tree.specs.Leaves.{AreWritten};
-ghost use Rattle.item_tree.specs.UseItem.{UseFits, IsUseFault};
+ghost use Rattle.item_tree.specs.Size.{IsUseFault};
+ghost use Rattle.item_tree.specs.UseItem.{UseFits};
 ghost use Rattle.item_tree.specs.Lowered.{lowered_tree, IfKept};
 
 use crate::fault::LowerError;
@@ -58,7 +59,8 @@ pub fn lower_use_tree(
 #[cycle(count)]
 #[tactic(auto, using(crate::proofs::WrittenNodes::view_listed))]
 fn count_written(node: &ast::UseTree) -> Option<u32>
-    ensures { MatchOption result (use_tree_limit < written_count (use_tree_view node.now)) (λ n. n ≡ written_count (use_tree_view node.now)) }
+    ensures { MatchOption result (use_tree_limit < written_count (use_tree_view node.now))
+        (λ n. n ≡ written_count (use_tree_view node.now)) }
 {
     match &node.list {
         None => Some(1),
@@ -72,7 +74,8 @@ fn count_written(node: &ast::UseTree) -> Option<u32>
 // The same of several.
 #[cycle(count)]
 fn count_all_written(nodes: &[ast::UseTree]) -> Option<u32>
-    ensures { MatchOption result (use_tree_limit < length (all_written_nodes (use_trees_view nodes.now))) (λ n. n ≡ length (all_written_nodes (use_trees_view nodes.now))) }
+    ensures { MatchOption result (use_tree_limit < length (all_written_nodes (use_trees_view nodes.now)))
+        (λ n. n ≡ length (all_written_nodes (use_trees_view nodes.now))) }
 {
     let mut count = 0u32;
     for node in nodes {
@@ -98,8 +101,10 @@ fn lower_node(
 ) -> Result<Option<UseTree>, AllocError>
     requires { next.old + written_count (use_tree_view node.now) ≤ use_tree_limit }
     ensures counted { OnOk result (next.new ≡ next.old + written_count (use_tree_view node.now)) }
-    ensures kept { IfOk result (λ tree. option_map tree_of tree ≡ kept_tree (use_tree_view node.now)) }
-    ensures placed { OnOk result (places.new.items ≡ places.old.items ++ kept_places next.old (use_tree_view node.now)) }
+    ensures kept { IfOk result (λ tree.
+        option_map tree_of tree ≡ kept_tree (use_tree_view node.now)) }
+    ensures placed { OnOk result
+        (places.new.items ≡ places.old.items ++ kept_places next.old (use_tree_view node.now)) }
 {
     let here = *next;
     let Some(list) = &node.list else {
@@ -133,8 +138,10 @@ fn lower_list(
 ) -> Result<Vec<UseTree>, AllocError>
     requires { next.old + length (all_written_nodes (use_trees_view nodes.now)) ≤ use_tree_limit }
     ensures counted { OnOk result (next.new ≡ next.old + length (all_written_nodes (use_trees_view nodes.now))) }
-    ensures kept { IfOk result (λ trees. map tree_of trees.items ≡ kept_trees (use_trees_view nodes.now)) }
-    ensures placed { OnOk result (places.new.items ≡ places.old.items ++ all_kept_places next.old (use_trees_view nodes.now)) }
+    ensures kept { IfOk result (λ trees.
+        map tree_of trees.items ≡ kept_trees (use_trees_view nodes.now)) }
+    ensures placed { OnOk result
+        (places.new.items ≡ places.old.items ++ all_kept_places next.old (use_trees_view nodes.now)) }
 {
     let mut trees = Vec::new(alloc);
     for node in nodes {
@@ -147,7 +154,8 @@ fn lower_list(
 
 // What is kept of a node without a list.
 fn lower_bare(node: &ast::UseTree) -> Result<Option<UseTree>, AllocError>
-    ensures { IfOk result (λ tree. option_map tree_of tree ≡ kept_tree (bare_tree (use_node (use_tree_view node.now)))) }
+    ensures { IfOk result (λ tree.
+        option_map tree_of tree ≡ kept_tree (bare_tree (use_node (use_tree_view node.now)))) }
 {
     match &node.path {
         Some(ast::PathNode::Unreadable) => Ok(None),
@@ -185,7 +193,8 @@ pub(super) fn lower_alias(rename: Option<&ast::Rename>) -> Result<Option<ImportA
 
 // The prefix of a node with a list, if it is kept.
 fn lower_prefix(node: &ast::UseTree) -> Result<Option<Option<ModPath>>, AllocError>
-    ensures { IfOk result (λ prefix. prefix ≡ kept_prefix (use_node (use_tree_view node.now)).path) }
+    ensures { IfOk result (λ prefix.
+        prefix ≡ kept_prefix (use_node (use_tree_view node.now)).path) }
 {
     match &node.path {
         None => Ok(Some(None)),
@@ -225,7 +234,8 @@ fn all_have_room_for_supers(trees: &[UseTree], above: u32) -> bool
 
 // So many, and those of a path, if 32 bits hold their number.
 fn with_supers(above: u32, path: Option<&ModPath>) -> Option<u32>
-    ensures { MatchOption result (super_limit < above + supers_in (option_copied path.entry)) (λ n. n ≡ above + supers_in (option_copied path.entry)) }
+    ensures { MatchOption result (super_limit < above + supers_in (option_copied path.entry))
+        (λ n. n ≡ above + supers_in (option_copied path.entry)) }
 {
     match path.map(ModPath::kind) {
         Some(PathKind::Super(count)) => above.checked_add(count),

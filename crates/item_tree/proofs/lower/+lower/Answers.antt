@@ -1,10 +1,11 @@
-use Rattle.std.proofs.Common.{◌≡◌, ◌≤◌, ◌+◌, length, ◌++◌, take, subst, ap, sym, ◌∙◌, append-nil}
+use Rattle.std.proofs.Common.{◌≡◌, ◌≤◌, ◌+◌, length, [], ◌∷◌, ◌++◌, take, subst, ap, sym, ◌∙◌, append-nil}
 use Rattle.std.proofs.lemmas.Result.{err_from_is_err_and}
 use Rattle.hir_input.specs.Syntax.{item_view}
 use Rattle.item_tree_attrs.specs.Collected.{attr_limit}
 use Rattle.item_tree.specs.Visibility.{read_visibility}
-use Rattle.item_tree.specs.Growth.{attrs_in, Meets, IsUnmet, Lowers, to_list}
-use Rattle.item_tree.proofs.Lowering.{kept_list, written_list, IsUnmet-module, Lowers-step, IsFault-step, Lowers-inline, IsFull-inline}
+use Rattle.item_tree.specs.Growth.{attrs_in, Meets, sizes_meeting, Lowers, to_list}
+use Rattle.item_tree.specs.Size.{IsPassed}
+use Rattle.item_tree.proofs.Lowering.{kept_list, written_list, unmet-module, Lowers-step, passed-step, Lowers-inline, full-inline}
 use Rattle.item_tree.proofs.lower.+lower.Goals as goal
 use Rattle.item_tree.proofs.lower.+lower.Goals.{lower_items-in-Some+in_ok-push, lower_items-in_default}
 
@@ -12,7 +13,7 @@ pub lower_items-returns-in_err-id : goal.lower_items-returns-in_err-id
 lower_items-returns-in_err-id t c =
     let p = err_from_is_err_and c.from_residual.result c.from_residual.ensures.1 in
     rw (p.1, p.2)
-    (IsFault-step c.args.ctx item_view c.args.items.now c.loop-item.item-index c.item-item.result c.in_err-id.field-0.0 c.item-item.is c.loop-item-test.true c.loop-item.invariant c.in_err-id.ensures)
+    (passed-step c.args.ctx item_view c.args.items.now c.loop-item.item-index c.item-item.result c.in_err-id.field-0.0 c.item-item.is c.loop-item-test.true c.loop-item.invariant c.in_err-id.ensures)
 
 pub lower_items-loop-item-preserved : goal.lower_items-loop-item-preserved
 lower_items-loop-item-preserved t c =
@@ -31,14 +32,14 @@ lower_module-returns-in_err-visibility t c =
     let p = err_from_is_err_and c.from_residual-in_err-visibility.result c.from_residual-in_err-visibility.ensures.1 in
     let e = c.in_err-visibility.field-0.0 in
     rw (p.1, p.2)
-    (IsUnmet-module c.args.ctx c.args.mod_node.now c.args.rows.now c.in-Some.name e c.in-Some.is (subst (λ z. IsUnmet c.args.rows.now (read_visibility z) e) c.as_ref.ensures.value c.in_err-visibility.ensures.fault))
+    (unmet-module c.args.ctx c.args.mod_node.now c.args.rows.now c.in-Some.name e c.in-Some.is (subst (λ z. IsPassed (sizes_meeting c.args.rows.now (read_visibility z ∷ [])) e) c.as_ref.ensures.value c.in_err-visibility.ensures.fault))
 
 pub lower_module-returns-in_err-id-2 : goal.lower_module-returns-in_err-id-2
 lower_module-returns-in_err-id-2 t c =
     let p = err_from_is_err_and c.from_residual-in_err-id-2.result c.from_residual-in_err-id-2.ensures.1 in
     let m = subst (λ z. Meets c.args.rows.now c.lower_visibility.new.rows (read_visibility z) c.in_ok-visibility.visibility) c.as_ref.ensures.value c.in_ok-visibility.ensures.met in
     rw (p.1, p.2)
-    (IsFull-inline c.args.ctx c.args.mod_node.now c.in-Some.name c.in_err-id-2.field-0.0 c.in-Some.is c.if-mod_node.false m c.in_ok-items.ensures c.in_err-id-2.ensures.fault)
+    (full-inline c.args.ctx c.args.mod_node.now c.in-Some.name c.in_err-id-2.field-0.0 c.in-Some.is c.if-mod_node.false m c.in_ok-items.ensures c.in_err-id-2.ensures.fault)
 
 pub lower_module-returns : goal.lower_module-returns
 lower_module-returns t c =

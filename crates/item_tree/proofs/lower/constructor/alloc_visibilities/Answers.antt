@@ -1,7 +1,7 @@
 use Rattle.std.proofs.lemmas.Result.{err_from_is_err_and}
 use Rattle.std.proofs.Common.{sym, ◌∙◌, ap}
 use Rattle.item_tree.specs.Visibility.{meet_all}
-use Rattle.item_tree.proofs.Constructors.{AreUnmet-first, MeetsUpTo-step}
+use Rattle.item_tree.proofs.Constructors.{unmet-first, MeetsUpTo-step}
 use Rattle.item_tree.proofs.lower.constructor.alloc_visibilities.Goals as goal
 
 pub returns-in_err-alloc_visibility-clause-fault : goal.returns-in_err-alloc_visibility-clause-fault
@@ -9,7 +9,7 @@ returns-in_err-alloc_visibility-clause-fault c =
     let p = err_from_is_err_and c.from_residual.result c.from_residual.ensures.1 in
     let k = c.loop-visibility.rows.arena.keys in
     rw (p.1, p.2)
-    (AreUnmet-first c.args.rows.now c.loop-visibility.rows c.in-Some.visibility c.next.new.self c.args.visibilities.keys c.in_err-alloc_visibility.field-0.0
+    (unmet-first c.args.rows.now c.loop-visibility.rows c.in-Some.visibility c.next.new.self c.args.visibilities.keys c.in_err-alloc_visibility.field-0.0
     (ap (meet_all k) (sym c.in-Some.ensures.steps) ∙ c.loop-visibility.invariant.met) c.in_err-alloc_visibility.ensures.fault)
 
 pub loop-visibility-preserved : goal.loop-visibility-preserved

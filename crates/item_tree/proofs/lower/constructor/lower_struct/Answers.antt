@@ -1,12 +1,24 @@
-use Rattle.std.proofs.Common.{◌≤◌, length, subst, ◌∙◌, ap}
+use Rattle.std.proofs.Common.{◌≤◌, [], ◌∷◌, length, subst, ◌∙◌, ap}
+use Rattle.std.proofs.lemmas.Result.{err_from_is_err_and}
 use Rattle.hir_input.specs.Syntax.{fields_view}
 use Rattle.item_tree_attrs.specs.Collected.{attr_limit}
 use Rattle.item_tree.specs.Constructor.{ctor_of}
 use Rattle.item_tree.specs.Kept.{shape_of}
 use Rattle.item_tree.specs.Visibility.{read_visibility}
-use Rattle.item_tree.specs.Growth.{attrs_in, Meets}
-use Rattle.item_tree.proofs.Constructors.{Lowers-struct}
+use Rattle.item_tree.specs.Growth.{attrs_in, Meets, sizes_meeting}
+use Rattle.item_tree.specs.Size.{IsPassed}
+use Rattle.item_tree.proofs.Constructors.{Lowers-struct, own-unmet}
 use Rattle.item_tree.proofs.lower.constructor.lower_struct.Goals as goal
+
+pub returns-in_err-visibility : goal.returns-in_err-visibility
+returns-in_err-visibility c =
+    let node = c.args.struct_node.now in
+    let fields = fields_view node.kind in
+    let v = read_visibility node.visibility in
+    let p = err_from_is_err_and c.from_residual-in_err-visibility.result c.from_residual-in_err-visibility.ensures.1 in
+    let e = c.in_err-visibility.field-0.0 in
+    rw (p.1, p.2, c.in-Some.is)
+    (own-unmet c.args.rows.now (record { hash = node.hash; number = node.number; attrs = attrs_in c.args.ctx node.attrs.items }) c.in-Some.name v (shape_of fields) (ctor_of fields v) e (subst (λ z. IsPassed (sizes_meeting c.args.rows.now (read_visibility z ∷ [])) e) c.as_ref.ensures.value c.in_err-visibility.ensures.fault))
 
 pub returns : goal.returns
 returns c =

@@ -3,21 +3,21 @@ use Rattle.std.proofs.lemmas.Result.{err_from_is_err_and}
 use Rattle.item_tree_attrs.specs.Collected.{attr_limit}
 use Rattle.item_tree.specs.Growth.{attrs_in}
 use Rattle.item_tree.specs.Node.{extern_block}
-use Rattle.item_tree.proofs.Lowering.{block_head, Adds-nothing, Lowers-parent, IsFull-parent, IsFault-parent, kept-block, written-block}
+use Rattle.item_tree.proofs.Lowering.{block_head, Adds-nothing, Lowers-parent, full-parent, below-block, kept-block, written-block}
 use Rattle.item_tree.proofs.lower.extern_block.lower_extern_block.Goals as goal
 
 pub returns-in_err-children : goal.returns-in_err-children
 returns-in_err-children c =
     let n = c.args.block_node.now in
     let p = err_from_is_err_and c.from_residual-in_err-children.result c.from_residual-in_err-children.ensures.1 in
-    rw (p.1, p.2, kept-block c.args.ctx n, written-block n) (IsFault-parent c.args.rows.now _ (block_head c.args.ctx n) _ c.in_err-children.field-0.0 c.in_err-children.ensures)
+    rw (p.1, p.2, kept-block c.args.ctx n, written-block n) (below-block c.args.rows.now _ (block_head c.args.ctx n) _ c.in_err-children.field-0.0 c.in_err-children.ensures)
 
 pub returns-in_err-id : goal.returns-in_err-id
 returns-in_err-id c =
     let n = c.args.block_node.now in
     let p = err_from_is_err_and c.from_residual-in_err-id.result c.from_residual-in_err-id.ensures.1 in
     rw (p.1, p.2, kept-block c.args.ctx n)
-    (IsFull-parent _ (block_head c.args.ctx n) extern_block c.in_err-id.field-0.0 (Adds-nothing c.args.rows.now) c.in_ok-children.ensures c.in_err-id.ensures.fault)
+    (full-parent _ (block_head c.args.ctx n) extern_block c.in_err-id.field-0.0 (Adds-nothing c.args.rows.now) c.in_ok-children.ensures c.in_err-id.ensures.fault)
 
 pub returns : goal.returns
 returns c =

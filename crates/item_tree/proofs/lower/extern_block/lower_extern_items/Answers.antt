@@ -2,7 +2,7 @@ use Rattle.std.proofs.Common.{◌≡◌, ◌+◌, ◌++◌, take, subst, ap, sym
 use Rattle.std.proofs.lemmas.Result.{err_from_is_err_and}
 use Rattle.hir_input.specs.Syntax.{extern_item_view}
 use Rattle.item_tree.specs.Growth.{Lowers, to_list}
-use Rattle.item_tree.proofs.Lowering.{kept_list, written_list, Lowers-step, IsFault-step}
+use Rattle.item_tree.proofs.Lowering.{kept_list, written_list, Lowers-step, passed-step}
 use Rattle.item_tree.proofs.lower.extern_block.lower_extern_items.Goals as goal
 use Rattle.item_tree.proofs.lower.extern_block.lower_extern_items.Goals.{in-Some+in_ok-push, in_default}
 
@@ -10,7 +10,7 @@ pub returns-in_err-id : goal.returns-in_err-id
 returns-in_err-id c =
     let p = err_from_is_err_and c.from_residual.result c.from_residual.ensures.1 in
     rw (p.1, p.2)
-    (IsFault-step c.args.ctx extern_item_view c.args.items.now c.loop-item.item-index c.item-item.result c.in_err-id.field-0.0 c.item-item.is c.loop-item-test.true c.loop-item.invariant c.in_err-id.ensures)
+    (passed-step c.args.ctx extern_item_view c.args.items.now c.loop-item.item-index c.item-item.result c.in_err-id.field-0.0 c.item-item.is c.loop-item-test.true c.loop-item.invariant c.in_err-id.ensures)
 
 pub loop-item-preserved : goal.loop-item-preserved
 loop-item-preserved c =
