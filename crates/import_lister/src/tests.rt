@@ -85,22 +85,17 @@ fn only_use(tree: &ItemTree) -> Result<&Use, Fail> {
     }
 }
 
-// Whether an import has this index and kind, and a path of `MOST` with this name behind it, or none.
-fn is_listed(import: Option<&Listed>, index: u32, text: &str, kind: ImportKind) -> bool {
-    match import {
-        Some(import) => {
-            import.index == UseTreeIdx(index)
-                && import.kind == kind
-                && import.path.kind() == MOST
-                && import.path.segments().first().map_or("", Name::text) == text
-        }
-        None => false,
+// The name behind `MOST`, if there is one.
+fn name_below_most(path: &ModPath) -> &str {
+    match path.segments().first() {
+        Some(name) => name.text(),
+        None => "",
     }
 }
 
-fn is_named(alias: &Option<ImportAlias>, text: &str) -> bool {
-    match alias {
-        Some(ImportAlias::Alias(name)) => name.text() == text,
+fn is_renamed(import: &Listed) -> bool {
+    match &import.alias {
+        Some(ImportAlias::Alias(name)) => name.text() == "b",
         _ => false,
     }
 }
@@ -112,12 +107,18 @@ fn imports_are_counted_and_listed(rt: HostRuntime) -> Result<(), Fail> {
     let item = only_use(&tree)?;
     assert_eq!(rt; count_imports(alloc, item)?, 2);
     let list = list_imports(alloc, item)?;
-    assert_eq!(rt; list.len(), 2);
-    assert!(rt; is_listed(list.get(0), 1, "", ImportKind::TypeOnly));
-    assert!(rt; is_listed(list.get(1), 2, "a", ImportKind::Plain));
-    assert!(rt;
-        list.get(1)
-            .is_some_and(|import| is_named(&import.alias, "b"))
-    );
+    let [first, second] = list.as_slice() else {
+        return Err(Fail::new("not two imports"));
+    };
+    assert_eq!(rt; first.index, UseTreeIdx(1));
+    assert_eq!(rt; second.index, UseTreeIdx(2));
+    assert_eq!(rt; first.kind, ImportKind::TypeOnly);
+    assert_eq!(rt; second.kind, ImportKind::Plain);
+    assert!(rt; first.path.kind() == MOST);
+    assert!(rt; second.path.kind() == MOST);
+    assert_eq!(rt; name_below_most(&first.path), "");
+    assert_eq!(rt; name_below_most(&second.path), "a");
+    assert!(rt; first.alias.is_none());
+    assert!(rt; is_renamed(second));
     Ok(())
 }
