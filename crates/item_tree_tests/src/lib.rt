@@ -1,5 +1,5 @@
-//! Tests that cross crates: what stands where a request for memory or an edit is refused, what tells trees apart,
-//! the constructors of structs, and the counts of items.
+//! Tests that cross crates, of what only a call can show: what stands where a request for memory is refused, the
+//! constructor of a struct, ids of other trees, and the counts of items.
 //!
 //! A plain run refuses no memory, and compares each answer. `tests/refused_memory.sh` runs the tests whose names hold
 //! `when_memory_is_refused` once for each request that they make, with that one refused.
@@ -15,8 +15,6 @@ mod example;
 mod kinds;
 #[cfg(test)]
 mod names;
-#[cfg(test)]
-mod supers;
 #[cfg(test)]
 mod syntax;
 #[cfg(test)]

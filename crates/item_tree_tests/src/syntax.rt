@@ -1,7 +1,7 @@
 //! Syntaxes that the tests lower.
 use hir_input::ast::{
-    ExternBlock, ExternItem, Fn, Impl, Item, MacroCall, MacroDef, MacroRules, Module, PathNode,
-    Rename, Struct, StructKind, Syntax, Trait, TupleField, Use, UseTree, Visibility,
+    ExternBlock, ExternItem, Fn, Impl, Item, MacroCall, MacroRules, Module, PathNode, Rename,
+    Struct, StructKind, Syntax, Trait, TupleField, Use, UseTree, Visibility,
 };
 use hir_input::{
     CfgAtom, CfgExpr, CfgOptions, EditionYear, ExpandTo, HirFileId, Meta, ModPath, Name, PathKind,
@@ -22,14 +22,17 @@ pub fn path(alloc: Global, kind: PathKind, text: &str) -> Result<Option<ModPath>
     Ok(ModPath::from_segments(kind, segments))
 }
 
+fn path_node(alloc: Global, kind: PathKind, text: &str) -> Result<Option<PathNode>, AllocError> {
+    match path(alloc, kind, text)? {
+        Some(path) => Ok(Some(PathNode::Readable(path))),
+        None => Ok(None),
+    }
+}
+
 // `#[word]`
 pub fn attribute(alloc: Global, word: &str) -> Result<Meta, AllocError> {
-    let path = match path(alloc, PathKind::Plain, word)? {
-        Some(path) => Some(PathNode::Readable(path)),
-        None => None,
-    };
     Ok(Meta::Path {
-        path,
+        path: path_node(alloc, PathKind::Plain, word)?,
         ctxt: SyntaxContext::Root(EditionYear::E2024),
     })
 }
@@ -58,64 +61,10 @@ pub fn condition(alloc: Global, flag: &str) -> Result<Meta, AllocError> {
     Ok(Meta::Cfg(condition))
 }
 
-pub fn function(
-    alloc: Global,
-    hash: u16,
-    attrs: Vec<Meta>,
-    visibility: Option<Visibility>,
-) -> Result<Item, AllocError> {
-    Ok(Item::Fn(Fn {
-        hash,
-        number: 0,
-        attrs,
-        name: name(alloc, "f")?,
-        visibility,
-        body: String::from_str(alloc, "{}")?,
-    }))
-}
-
-// `fn f() {}`
-pub fn one_function(alloc: Global, attrs: Vec<Meta>) -> Result<Syntax, AllocError> {
-    let mut items = Vec::new(alloc);
-    items.push(function(alloc, 48783, attrs, None)?)?;
-    Ok(file(alloc, items))
-}
-
-// `pub(super) mod m { #[a] #[cfg(x)] pub(in crate::type) fn f() {} struct S; }`
-pub fn nested(alloc: Global) -> Result<Syntax, AllocError> {
-    let visibility = within(alloc, PathKind::Crate, "type")?;
-    let mut inner = Vec::new(alloc);
-    let mut attrs = Vec::new(alloc);
-    attrs.push(attribute(alloc, "a")?)?;
-    attrs.push(condition(alloc, "x")?)?;
-    inner.push(function(alloc, 2, attrs, Some(visibility))?)?;
-    inner.push(Item::Struct(Struct {
-        hash: 3,
-        number: 0,
-        attrs: Vec::new(alloc),
-        name: name(alloc, "S")?,
-        visibility: None,
-        kind: StructKind::Unit,
-        body: String::new(alloc),
-    }))?;
-    let mut items = Vec::new(alloc);
-    items.push(Item::Module(Module {
-        hash: 1,
-        number: 0,
-        attrs: Vec::new(alloc),
-        name: name(alloc, "m")?,
-        visibility: Some(Visibility::PubSuper),
-        semicolon: false,
-        items: Some(inner),
-        body: String::new(alloc),
-    }))?;
-    Ok(file(alloc, items))
-}
-
 // A use tree without a list: a path, which is none where it would be plain and without names, and a star behind it or not.
 pub fn bare(alloc: Global, kind: PathKind, text: &str, star: bool) -> Result<UseTree, AllocError> {
     Ok(UseTree {
-        path: path(alloc, kind, text)?.map(PathNode::Readable),
+        path: path_node(alloc, kind, text)?,
         star,
         rename: None,
         list: None,
@@ -156,31 +105,11 @@ pub fn below(
     list: Vec<UseTree>,
 ) -> Result<UseTree, AllocError> {
     Ok(UseTree {
-        path: path(alloc, kind, text)?.map(PathNode::Readable),
+        path: path_node(alloc, kind, text)?,
         star: false,
         rename: None,
         list: Some(list),
     })
-}
-
-pub fn use_item(alloc: Global, visibility: Option<Visibility>, tree: UseTree) -> Item {
-    Item::Use(Use {
-        hash: 1,
-        number: 0,
-        attrs: Vec::new(alloc),
-        visibility,
-        use_tree: Some(tree),
-        body: String::new(alloc),
-    })
-}
-
-// `use TREE;`
-pub fn one_use(
-    alloc: Global,
-    visibility: Option<Visibility>,
-    tree: UseTree,
-) -> Result<Syntax, AllocError> {
-    Ok(file(alloc, vec![in alloc; use_item(alloc, visibility, tree)]?))
 }
 
 // A file of these items, without attributes.
@@ -204,27 +133,6 @@ pub fn module(alloc: Global, text: &str, items: Vec<Item>) -> Result<Item, Alloc
     }))
 }
 
-pub fn impl_item(alloc: Global, is_trait_impl: bool) -> Item {
-    Item::Impl(Impl {
-        hash: 2,
-        number: 0,
-        attrs: Vec::new(alloc),
-        is_trait_impl,
-        body: String::new(alloc),
-    })
-}
-
-pub fn trait_item(alloc: Global, text: &str) -> Result<Item, AllocError> {
-    Ok(Item::Trait(Trait {
-        hash: 3,
-        number: 0,
-        attrs: Vec::new(alloc),
-        name: name(alloc, text)?,
-        visibility: None,
-        body: String::new(alloc),
-    }))
-}
-
 // `macro_rules! m {}`
 pub fn macro_rules(alloc: Global) -> Result<Item, AllocError> {
     Ok(Item::MacroRules(MacroRules {
@@ -234,31 +142,6 @@ pub fn macro_rules(alloc: Global) -> Result<Item, AllocError> {
         name: name(alloc, "m")?,
         body: String::new(alloc),
     }))
-}
-
-// `pub macro m2() {}`
-pub fn macro_def(alloc: Global) -> Result<Item, AllocError> {
-    Ok(Item::MacroDef(MacroDef {
-        hash: 5,
-        number: 0,
-        attrs: Vec::new(alloc),
-        name: name(alloc, "m2")?,
-        visibility: Some(Visibility::Pub),
-        body: String::new(alloc),
-    }))
-}
-
-// `m!();`
-pub fn macro_call(alloc: Global, path: Option<PathNode>) -> MacroCall {
-    MacroCall {
-        hash: 6,
-        number: 0,
-        attrs: Vec::new(alloc),
-        path,
-        expand_to: ExpandTo::Items,
-        ctxt: SyntaxContext::Root(EditionYear::E2024),
-        body: String::new(alloc),
-    }
 }
 
 pub fn extern_block(alloc: Global, items: Vec<ExternItem>) -> Item {
@@ -280,23 +163,129 @@ pub fn within(alloc: Global, kind: PathKind, text: &str) -> Result<Visibility, A
     Ok(Visibility::InPath(node))
 }
 
-// `VIS struct T(VIS A, ..);`
+// `use TREE;`
+pub fn one_use(alloc: Global, tree: UseTree) -> Result<Syntax, AllocError> {
+    let item = Item::Use(Use {
+        hash: 1,
+        number: 0,
+        attrs: Vec::new(alloc),
+        visibility: None,
+        use_tree: Some(tree),
+        body: String::new(alloc),
+    });
+    Ok(file(alloc, vec![in alloc; item]?))
+}
+
+// `m!();`
+pub fn macro_call(alloc: Global) -> Result<MacroCall, AllocError> {
+    Ok(MacroCall {
+        hash: 6,
+        number: 0,
+        attrs: Vec::new(alloc),
+        path: path_node(alloc, PathKind::Plain, "m")?,
+        expand_to: ExpandTo::Items,
+        ctxt: SyntaxContext::Root(EditionYear::E2024),
+        body: String::new(alloc),
+    })
+}
+
+fn function_with(
+    alloc: Global,
+    hash: u16,
+    attrs: Vec<Meta>,
+    visibility: Option<Visibility>,
+) -> Result<Item, AllocError> {
+    Ok(Item::Fn(Fn {
+        hash,
+        number: 0,
+        attrs,
+        name: name(alloc, "f")?,
+        visibility,
+        body: String::from_str(alloc, "{}")?,
+    }))
+}
+
+// `fn f() {}`
+pub fn function(alloc: Global, hash: u16) -> Result<Item, AllocError> {
+    function_with(alloc, hash, Vec::new(alloc), None)
+}
+
+// `fn f() {}`, with attributes.
+pub fn one_function(alloc: Global, attrs: Vec<Meta>) -> Result<Syntax, AllocError> {
+    let item = function_with(alloc, 48783, attrs, None)?;
+    Ok(file(alloc, vec![in alloc; item]?))
+}
+
+// `struct S;`
+pub fn unit_struct(alloc: Global) -> Result<Item, AllocError> {
+    Ok(Item::Struct(Struct {
+        hash: 3,
+        number: 0,
+        attrs: Vec::new(alloc),
+        name: name(alloc, "S")?,
+        visibility: None,
+        kind: StructKind::Unit,
+        body: String::new(alloc),
+    }))
+}
+
+// `pub(super) mod m { #[a] #[cfg(x)] pub(in crate::type) fn f() {} struct S; }`
+pub fn nested(alloc: Global) -> Result<Syntax, AllocError> {
+    let visibility = within(alloc, PathKind::Crate, "type")?;
+    let attrs = vec![in alloc; attribute(alloc, "a")?, condition(alloc, "x")?]?;
+    let f = function_with(alloc, 2, attrs, Some(visibility))?;
+    let module = Item::Module(Module {
+        hash: 1,
+        number: 0,
+        attrs: Vec::new(alloc),
+        name: name(alloc, "m")?,
+        visibility: Some(Visibility::PubSuper),
+        semicolon: false,
+        items: Some(vec![in alloc; f, unit_struct(alloc)?]?),
+        body: String::new(alloc),
+    });
+    Ok(file(alloc, vec![in alloc; module]?))
+}
+
+// `impl S {}`
+pub fn impl_item(alloc: Global) -> Item {
+    Item::Impl(Impl {
+        hash: 2,
+        number: 0,
+        attrs: Vec::new(alloc),
+        is_trait_impl: false,
+        body: String::new(alloc),
+    })
+}
+
+// `trait T {}`
+pub fn trait_item(alloc: Global) -> Result<Item, AllocError> {
+    Ok(Item::Trait(Trait {
+        hash: 3,
+        number: 0,
+        attrs: Vec::new(alloc),
+        name: name(alloc, "T")?,
+        visibility: None,
+        body: String::new(alloc),
+    }))
+}
+
+// `VIS struct T(VIS A, VIS B, VIS C);`
 pub fn tuple_struct(
     alloc: Global,
     visibility: Visibility,
-    fields: Vec<Option<Visibility>>,
+    fields: [Visibility; 3],
 ) -> Result<Syntax, AllocError> {
-    let mut list = Vec::new(alloc);
-    for visibility in fields {
-        list.push(TupleField { visibility })?;
-    }
+    let fields = fields.map(|visibility| TupleField {
+        visibility: Some(visibility),
+    });
     let item = Item::Struct(Struct {
         hash: 8,
         number: 0,
         attrs: Vec::new(alloc),
         name: name(alloc, "T")?,
         visibility: Some(visibility),
-        kind: StructKind::Tuple(list),
+        kind: StructKind::Tuple(Vec::from_array(alloc, fields)?),
         body: String::new(alloc),
     });
     Ok(file(alloc, vec![in alloc; item]?))

@@ -5,10 +5,10 @@ use item_tree_db::{Edit, Place, Sources};
 use std::alloc::{AllocError, Global};
 use std::test::Fail;
 
-pub const FILE: HirFileId = HirFileId(5);
+const FILE: HirFileId = HirFileId(5);
 
 // A crate with the flag `test` and a crate without options.
-pub fn table(alloc: Global) -> Result<Sources, AllocError> {
+fn table(alloc: Global) -> Result<Sources, AllocError> {
     let mut crates = Vec::new(alloc);
     crates.push(crate_data(alloc, Some("test"))?)?;
     crates.push(crate_data(alloc, None)?)?;

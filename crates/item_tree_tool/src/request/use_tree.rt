@@ -101,6 +101,3 @@ pub(crate) fn use_tree_at(
         None => Ok(None),
     }
 }
-
-#[cfg(test)]
-mod tests;
