@@ -5,7 +5,6 @@ use Rattle.std.specs.Cmp.Lexicographic.{pointwise_decides}
 use Rattle.std.proofs.lemmas.Bool.Decides.{Decides-and, Decides-like}
 use lib.Pointwise.{bytes_decides}
 use Rattle.hir_input.specs.declared.ast.PathNode.TheVariants.{Readable, Unreadable}
-use Rattle.hir_input.specs.declared.attr.AttrInput.TheVariants.{Literal, TokenTree}
 use Rattle.hir_input.specs.contracts.edition.EditionYearPartialEq.TheImpl as years
 use Rattle.hir_input.specs.contracts.edition.EditionPartialEq.TheImpl as editions
 use Rattle.hir_input.specs.contracts.ids.SyntaxContextPartialEq.TheImpl as contexts
@@ -56,9 +55,7 @@ pub tokens_decide : DecidesEq token_trees.ghosts.eq
 tokens_decide a b = search rules
 
 input_decides : DecidesEq inputs.ghosts.eq
-input_decides (Literal l) (Literal m) = Decides-like _ (ap Literal) (λ e. cc) (literal_decides l m)
-input_decides (TokenTree t) (TokenTree u) = Decides-like _ (ap TokenTree) (λ e. cc) (tokens_decide t u)
-input_decides a b = (λ h. cc, λ e. cc)
+input_decides a b = search rules
 
 pub attr_decides : DecidesEq attrs.ghosts.eq
 attr_decides a b =

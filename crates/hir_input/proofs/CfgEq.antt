@@ -1,10 +1,11 @@
 -- `==` at conditions decides whether their plain data are one.
-use Rattle.std.proofs.Common.{◌≡◌, Bool, true, false, ◌&&◌, ◌||◌, List, [], ◌∷◌, map, refl, sym, ap, ◌∙◌, subst}
+use Rattle.std.proofs.Common.{◌≡◌, Bool, true, false, ◌||◌, List, [], ◌∷◌, map, refl, sym, ap, ◌∙◌, subst, rules}
 use Rattle.std.specs.Bool.{Decides}
 use Rattle.std.specs.List.{list_any}
-use Rattle.std.specs.Cmp.{first_so, second_so}
 use Rattle.std.specs.Cmp.Lexicographic.{pointwise}
-use lib.Pointwise.{bytes_decides}
+pub use Rattle.std.proofs.lemmas.Bool.Decides.{Decides-like as same_fact}
+use Rattle.std.proofs.lemmas.Bool.Decides.{Decides-and, Decides-like}
+use Rattle.hir_input.specs.Equality.{DecidesEq, DecidesEqOf}
 use Rattle.hir_input.specs.declared.cfg.CfgAtom.{CfgAtom}
 use Rattle.hir_input.specs.declared.cfg.CfgAtom.TheVariants.{Flag, KeyValue}
 use Rattle.hir_input.specs.declared.cfg.CfgExpr.{CfgExpr, roll-CfgExpr, out-CfgExpr, out-roll-CfgExpr, roll-out-CfgExpr, ind-CfgExpr, map-CfgExpr, fold-roll-CfgExpr}
@@ -14,19 +15,8 @@ use Rattle.hir_input.specs.contracts.cfg.CfgExprPartialEq.TheImpl as cfgs
 use Rattle.hir_input.specs.contracts.cfg.CfgExprPartialEq.TheImpl.Laws as cfg_laws
 use Rattle.hir_input.specs.Cfg.{is_atom, is_set, CfgView, cfg_and, atom, all_of, any_of, not_of, cfgs_from, cfg_step, cfg_view}
 
--- two tests together, and a fact that says the same
-pub pair_decides : {P Q : Type 0} (p q : Bool) → Decides p P → Decides q Q → Decides (p && q) (P × Q)
-pair_decides p q dp dq = (λ h. (dp.0 (first_so p q h), dq.0 (second_so p q h)), λ both. rw (dp.1 both.0) (dq.1 both.1))
-
-pub same_fact : {P Q : Type 0} (p : Bool) → (P → Q) → (Q → P) → Decides p P → Decides p Q
-same_fact p to from d = (λ h. to (d.0 h), λ fact. d.1 (from fact))
-
-pub atom_decides : (a b : CfgAtom) → Decides (atoms.ghosts.eq a b) (a ≡ b)
-atom_decides (Flag m) (Flag n) = let d = bytes_decides m n in (λ h. ap Flag (d.0 h), λ e. d.1 cc)
-atom_decides (KeyValue k v) (KeyValue l w) =
-    same_fact _ (λ e i. KeyValue (e.0 i) (e.1 i)) (λ e. (cc, cc)) (pair_decides _ _ (bytes_decides k l) (bytes_decides v w))
-atom_decides (Flag m) (KeyValue l w) = (λ h. cc, λ e. cc)
-atom_decides (KeyValue k v) (Flag n) = (λ h. cc, λ e. cc)
+pub atom_decides : DecidesEq atoms.ghosts.eq
+atom_decides a b = search rules
 
 -- it is the test by which atoms are looked up
 eq_is : (a b : CfgAtom) → atoms.ghosts.eq a b ≡ is_atom a b
@@ -64,16 +54,16 @@ module _ {S : Type 0} (cfg_of : S → CfgExpr) (decided : (s : S) → IsDecided 
   members_decide : (ss : List S) (bs : List CfgExpr) → Decides (pointwise cfgs.ghosts.eq (map cfg_of ss) bs) (cfgs_from (map cfg_view (map cfg_of ss)) ≡ cfgs_from (map cfg_view bs))
   members_decide [] [] = (λ h. refl, λ e. refl)
   members_decide (s ∷ ss) (b ∷ bs) =
-      same_fact _ (λ e i. cfg_and (e.0 i) (e.1 i)) (λ e. (cc, cc)) (pair_decides _ _ (decided s b) (members_decide ss bs))
+      Decides-like _ (λ e i. cfg_and (e.0 i) (e.1 i)) (λ e. (cc, cc)) (Decides-and _ _ (decided s b) (members_decide ss bs))
   members_decide [] (b ∷ bs) = (λ h. cc, λ e. cc)
   members_decide (s ∷ ss) [] = (λ h. cc, λ e. cc)
 
   layer_decides : (y : CfgExpr-F S) (z : CfgExpr-F CfgExpr) → Decides (layer_eq (map-CfgExpr S CfgExpr cfg_of y) z) (cfg_step (map-CfgExpr CfgExpr CfgView cfg_view (map-CfgExpr S CfgExpr cfg_of y)) ≡ cfg_step (map-CfgExpr CfgExpr CfgView cfg_view z))
   layer_decides CfgExpr-F.Invalid CfgExpr-F.Invalid = (λ h. refl, λ e. refl)
-  layer_decides (CfgExpr-F.Atom a) (CfgExpr-F.Atom b) = let d = atom_decides a b in (λ h. ap atom (d.0 h), λ e. d.1 cc)
-  layer_decides (CfgExpr-F.All v) (CfgExpr-F.All w) = let d = members_decide v.items w.items in (λ h. ap all_of (d.0 h), λ e. d.1 cc)
-  layer_decides (CfgExpr-F.Any v) (CfgExpr-F.Any w) = let d = members_decide v.items w.items in (λ h. ap any_of (d.0 h), λ e. d.1 cc)
-  layer_decides (CfgExpr-F.Not c) (CfgExpr-F.Not b) = let d = decided c.value b.value in (λ h. ap not_of (d.0 h), λ e. d.1 cc)
+  layer_decides (CfgExpr-F.Atom a) (CfgExpr-F.Atom b) = Decides-like _ (ap atom) (λ e. cc) (atom_decides a b)
+  layer_decides (CfgExpr-F.All v) (CfgExpr-F.All w) = Decides-like _ (ap all_of) (λ e. cc) (members_decide v.items w.items)
+  layer_decides (CfgExpr-F.Any v) (CfgExpr-F.Any w) = Decides-like _ (ap any_of) (λ e. cc) (members_decide v.items w.items)
+  layer_decides (CfgExpr-F.Not c) (CfgExpr-F.Not b) = Decides-like _ (ap not_of) (λ e. cc) (decided c.value b.value)
   layer_decides y z = (λ h. cc, λ e. cc)
 
 rolled_decides : (x z : CfgExpr-F CfgExpr) → Decides (layer_eq x z) (cfg_step (map-CfgExpr CfgExpr CfgView cfg_view x) ≡ cfg_step (map-CfgExpr CfgExpr CfgView cfg_view z)) → Decides (cfgs.ghosts.eq (roll-CfgExpr x) (roll-CfgExpr z)) (cfg_view (roll-CfgExpr x) ≡ cfg_view (roll-CfgExpr z))
@@ -81,7 +71,7 @@ rolled_decides x z d =
     let same = fold-roll-CfgExpr CfgView cfg_step in
     (λ h. same x ∙ d.0 (sym (layer_is x z) ∙ h) ∙ sym (same z), λ e. layer_is x z ∙ d.1 (sym (same x) ∙ e ∙ same z))
 
-pub cfg_decides : (a b : CfgExpr) → Decides (cfgs.ghosts.eq a b) (cfg_view a ≡ cfg_view b)
+pub cfg_decides : DecidesEqOf cfg_view cfgs.ghosts.eq
 cfg_decides = ind-CfgExpr IsDecided (λ x y e b.
     let z = out-CfgExpr b in
     let of_layer = subst (λ w. Decides (layer_eq w z) (cfg_step (map-CfgExpr CfgExpr CfgView cfg_view w) ≡ cfg_step (map-CfgExpr CfgExpr CfgView cfg_view z))) e (layer_decides (λ s. s.0) (λ s. s.1) y z) in

@@ -13,6 +13,7 @@ use Rattle.hir_input.specs.contracts.attr.TokenTreePartialEq.TheImpl as token_tr
 use Rattle.hir_input.specs.contracts.cfg.CfgExprPartialEq.TheImpl as cfgs
 use Rattle.hir_input.specs.contracts.attr.MetaPartialEq.TheImpl as metas
 use Rattle.hir_input.specs.contracts.attr.MetaPartialEq.TheImpl.Laws as meta_laws
+use Rattle.hir_input.specs.Equality.{DecidesEqOf}
 use Rattle.hir_input.specs.Attr.{MetaView, path_meta, key_value_meta, token_tree_meta, cfg_meta, cfg_attr_meta, unsafe_meta, meta_and, metas_from, meta_step, meta_view}
 use Rattle.hir_input.proofs.AttrEq.{option_decides, context_decides, literal_decides, tokens_decide, path_node_decides}
 use Rattle.hir_input.proofs.CfgEq.{cfg_decides}
@@ -71,7 +72,7 @@ rolled_decides x z d =
     let same = fold-roll-Meta MetaView meta_step in
     (λ h. same x ∙ d.0 (sym (layer_is x z) ∙ h) ∙ sym (same z), λ e. layer_is x z ∙ d.1 (sym (same x) ∙ e ∙ same z))
 
-pub meta_decides : (a b : Meta) → Decides (metas.ghosts.eq a b) (meta_view a ≡ meta_view b)
+pub meta_decides : DecidesEqOf meta_view metas.ghosts.eq
 meta_decides = ind-Meta IsDecided (λ x y e b.
     let z = out-Meta b in
     let of_layer = subst (λ w. Decides (layer_eq w z) (meta_step (map-Meta Meta MetaView meta_view w) ≡ meta_step (map-Meta Meta MetaView meta_view z))) e (layer_decides (λ s. s.0) (λ s. s.1) y z) in

@@ -1,19 +1,10 @@
 -- What a use tree is seen as.
-use Rattle.std.proofs.Common.{◌≡◌, Bool, Option, Some, None, option_map, map, Vec, Global, refl, ap, ◌∙◌, rules}
-use Rattle.hir_input.specs.declared.ast.PathNode.{PathNode}
-use Rattle.hir_input.specs.declared.ast.Rename.{Rename}
-use Rattle.hir_input.specs.declared.ast.UseTree.{UseTree, the_lemmas}
-use Rattle.hir_input.specs.declared.ast.UseTree.TheViews.{out-UseTree, roll-UseTree}
+use Rattle.std.proofs.Common.{◌≡◌, Option, Some, None, option_map, map, Vec, Global, refl, ap, ◌∙◌}
+use Rattle.hir_input.specs.declared.ast.UseTree.{UseTree}
+use Rattle.hir_input.specs.declared.ast.UseTree.TheViews.{out-UseTree}
 use Rattle.hir_input.specs.declared.ast.UseTree.TheFolds.{fold_out-UseTree}
 use Rattle.hir_input.specs.declared.ast.UseTree.TheShapes.{former-UseTree-list}
 use Rattle.hir_input.specs.UseTreeView.{UseTreeView, bare_tree, listed_tree, tree_from, use_tree_step, use_tree_view, use_trees_view}
-
--- a use tree that is made
-pub use_tree_view-made : (path : Option PathNode) (star : Bool) (rename : Option Rename) (list : Option (Vec UseTree Global))
-    → use_tree_view (roll-UseTree (record { path = path; star = star; rename = rename; list = list }))
-    ≡ tree_from (record { path = path; star = star; rename = rename }) (option_map (λ v. map use_tree_view v.items) list)
-use_tree_view-made path star rename None = search (rules, the_lemmas)
-use_tree_view-made path star rename (Some v) = search (rules, the_lemmas)
 
 items_of-former : (o : Option (Vec UseTree Global)) → option_map (λ v. v.items) ((former-UseTree-list).map UseTree UseTreeView use_tree_view o) ≡ option_map (λ v. map use_tree_view v.items) o
 items_of-former None = refl

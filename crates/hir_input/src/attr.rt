@@ -60,7 +60,8 @@ impl Attr {
     /// The string and its span, if the input is a literal that has a string.
     /// rust-analyzer's `Attr::string_value_with_span`.
     pub fn string_value_with_span(&self) -> Option<(&str, Span)>
-        ensures { option_map (λ found. (found.0.now, found.1)) result ≡ string_with_span_of self.now }
+        ensures { option_map (λ found. (found.0.now, found.1)) result
+            ≡ string_with_span_of self.now }
     {
         match &self.input {
             Some(AttrInput::Literal(literal)) => match &literal.string {

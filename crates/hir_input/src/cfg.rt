@@ -80,7 +80,8 @@ fn write_cfg<W: fmt::Write>(cfg: &CfgExpr, f: &mut fmt::Formatter<W>) -> fmt::Re
 #[cycle(write_cfg)]
 #[tactic(auto, using(crate::proofs::CfgLemmas::cfg_texts, std::proofs::lemmas::Grind::common_steps))]
 fn write_members<W: fmt::Write>(members: &[CfgExpr], f: &mut fmt::Formatter<W>) -> fmt::Result
-    ensures { WritesOnOk W.write_str_gives f.old result (by_commas (map (λ c. shown_cfg (cfg_view c)) members.now)) f.new }
+    ensures { let texts = map (λ c. shown_cfg (cfg_view c)) members.now in
+        WritesOnOk W.write_str_gives f.old result (by_commas texts) f.new }
 {
     if members.is_empty() {
         return Ok(());

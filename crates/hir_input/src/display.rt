@@ -82,7 +82,8 @@ impl ModPath {
 // `super`, n times.
 fn write_supers<W: fmt::Write>(n: u32, f: &mut fmt::Formatter<W>) -> fmt::Result
     requires { 0 < n }
-    ensures { WritesOnOk W.write_str_gives f.old result (by_colons (replicate n (codes "super"))) f.new }
+    ensures { let words = replicate n (codes "super") in
+        WritesOnOk W.write_str_gives f.old result (by_colons words) f.new }
 {
     f.write_str("super")?;
     for _i in 1..n {
@@ -111,7 +112,8 @@ fn write_names<W: fmt::Write>(
     edition: &Edition,
     f: &mut fmt::Formatter<W>,
 ) -> fmt::Result
-    ensures { WritesOnOk W.write_str_gives f.old result (shown_more edition.now.reserved.items names.now) f.new }
+    ensures { let text = shown_more edition.now.reserved.items names.now in
+        WritesOnOk W.write_str_gives f.old result text f.new }
 {
     for name in names {
         f.write_str("::")?;
@@ -126,7 +128,8 @@ fn write_plain<W: fmt::Write>(
     edition: &Edition,
     f: &mut fmt::Formatter<W>,
 ) -> fmt::Result
-    ensures { WritesOnOk W.write_str_gives f.old result (by_colons (map (shown_name edition.now.reserved.items) names.now)) f.new }
+    ensures { let texts = map (shown_name edition.now.reserved.items) names.now in
+        WritesOnOk W.write_str_gives f.old result (by_colons texts) f.new }
 {
     let Some((first, more)) = names.split_first() else {
         return Ok(());
@@ -142,7 +145,8 @@ fn write_path<W: fmt::Write>(
     edition: &Edition,
     f: &mut fmt::Formatter<W>,
 ) -> fmt::Result
-    ensures { WritesOnOk W.write_str_gives f.old result (shown_path edition.now.reserved.items path.now) f.new }
+    ensures { let text = shown_path edition.now.reserved.items path.now in
+        WritesOnOk W.write_str_gives f.old result text f.new }
 {
     let names = path.segments();
     match path.kind() {

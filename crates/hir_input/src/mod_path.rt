@@ -43,7 +43,8 @@ impl Model for ModPath {
 impl ModPath {
     /// The path of this kind with these names, or `None` for a plain path without names.
     pub fn from_segments(kind: PathKind, segments: Vec<Name>) -> Option<ModPath>
-        ensures { SomeIff result (HasWords kind segments.items) (record { kind = kind; names = segments.items }) }
+        ensures { SomeIff result (HasWords kind segments.items)
+            (record { kind = kind; names = segments.items }) }
     {
         if matches!(kind, PathKind::Plain) && segments.is_empty() {
             return None;
@@ -102,7 +103,8 @@ impl PartialEq for ModPath {
 
     fn eq(&self, other: &ModPath) -> bool
         ensures decides { IsTrue result ↔ (self.now ≡ other.now) }
-        ensures gives { result ≡ eq_of_both (on (λ p. p.kind) ⟦<PathKind as PartialEq>⟧.eq) (on (λ p. p.names) (pointwise (pointwise nat_eq))) self.now other.now }
+        ensures gives { let names = on (λ p. p.names) (pointwise (pointwise nat_eq)) in
+            result ≡ eq_of_both (on (λ p. p.kind) ⟦<PathKind as PartialEq>⟧.eq) names self.now other.now }
     {
         self.kind() == other.kind() && self.segments() == other.segments()
     }

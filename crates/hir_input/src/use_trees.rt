@@ -41,7 +41,8 @@ impl UseTree {
     /// The node at a place. Each node is counted before those below it, so the tree itself stands at 0. Past the
     /// last node there is nothing. It takes no memory.
     pub fn at(&self, place: u32) -> Option<&UseTree>
-        ensures { option_map (λ t. use_tree_view t.now) result ≡ slice_get (written_nodes (use_tree_view self.now)) place }
+        ensures { let nodes = written_nodes (use_tree_view self.now) in
+            option_map (λ t. use_tree_view t.now) result ≡ slice_get nodes place }
     {
         let mut left = place;
         find(self, &mut left)
