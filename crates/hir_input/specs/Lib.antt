@@ -1,3 +1,4 @@
+pub mod Equality
 pub mod Name
 pub mod Edition
 pub mod Path
