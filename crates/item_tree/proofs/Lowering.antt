@@ -7,7 +7,7 @@ use Rattle.hir_input.specs.declared.ast.ExternItem.{ExternItem}
 use Rattle.hir_input.specs.declared.ast.ExternItem.TheVariants as external
 use Rattle.hir_input.specs.declared.ast.Module as ast_module
 use Rattle.hir_input.specs.Attr.{meta_view}
-use Rattle.hir_input.specs.Syntax.{NodeView, NamedView, ItemView, node_from, named_from, module_from, extern_block_from, items_from, item_view, module_view, extern_item_view, extern_block_view}
+use Rattle.hir_input.specs.Syntax.{NodeView, NamedView, ItemView, SyntaxView, node_from, named_from, module_from, extern_block_from, items_from, item_view, module_view, extern_item_view, extern_block_view}
 use Rattle.hir_input.proofs.SyntaxViews.{module_view-fields}
 use Rattle.std.specs.Prelude.{max}
 use Rattle.item_tree_attrs.specs.Collected.{Collected, collected, collected_from, attr_limit}
@@ -15,15 +15,17 @@ use Rattle.item_tree.specs.declared.fault.LowerError.{LowerError}
 use Rattle.item_tree.specs.declared.fault.LowerError.TheVariants.{TooManyItems, TooManyVisibilities, TooManyUseTrees, TooManyAttributes, TooManySupers, OutOfMemory}
 use Rattle.item_tree.specs.declared.rows.Rows.{Rows}
 use Rattle.item_tree.specs.Node.{Leaf, Trunk, trunk_kind, leaf_kind, Head, Node, Forest, leaf, parent, empty, more, add, outline, inline, extern_block, count, Unfolding}
-use Rattle.item_tree.specs.Visibility.{read_visibility, meet, meet_all}
+use Rattle.item_tree.specs.Meeting.{meet, meet_all, met, node_met}
+use Rattle.item_tree.specs.Visibility.{read_visibility}
 use Rattle.item_tree.specs.Kept.{head_of, module_node, kept, kept_all}
-use Rattle.item_tree.specs.Layout.{VisId, vis_id, plain_vis, leaf_map, trunk_map, leaf_vis, trunk_vis, met, node_met, arena_of, node_walk, walk, node_id, ids, Row, leaf_row, parent_row, row_tag, row_key, row_attrs, row_item, kind_bit, node_rows, rows_of, layout, unfold_tables}
+use Rattle.item_tree.specs.Layout.{VisId, vis_id, plain_vis, leaf_map, trunk_map, leaf_vis, trunk_vis, arena_of, node_walk, walk, node_id, ids, Row, leaf_row, parent_row, row_tag, row_key, row_attrs, row_item, kind_bit, node_rows, rows_of, layout, unfold_tables}
 use Rattle.item_tree.specs.Column.{is_empty, unless, some_unless, column_of, places_from, plain_place}
 use Rattle.item_tree.specs.Imports.{super_limit}
 use Rattle.item_tree.specs.KeptUse.{use_tree_limit}
-use Rattle.item_tree.specs.Size.{most_attrs, leaf_supers, forest_supers, item_written, items_written, Fits}
+use Rattle.item_tree.specs.Size.{visibility_limit, most_attrs, leaf_supers, forest_supers, item_written, items_written, most_written, Fits, IsTooLarge}
 use Rattle.item_tree.specs.Stored.{item_row, key_in, keys_in, items_in, places_in, column_in, tables_of, AreSound}
 use Rattle.item_tree.specs.Growth.{kept_below, written_below, row_count, Adds, Lowers, IsFault, Meets, IsUnmet, Puts, Pushes, IsFull}
+use Rattle.item_tree.proofs.Distinct.{arena_met}
 use Rattle.item_tree.proofs.Arena.{V, Extends, Extends-met, KnowsAll, KnowsAll-meet_all, KnowsForest, KnowsNode, Knows-met, leaf-stable, trunk-stable, bool_cases}
 use Rattle.item_tree.proofs.Column.{column-append, places-append}
 use Rattle.item_tree.proofs.Canon.{unfold-layout}
@@ -375,6 +377,17 @@ module _ (options : List CfgAtom) (skipped : List (List ℕ)) {X : Type 0} (seen
       omega (arith, f, ap forest_supers (kept_list-split xs (i + 1)), forest_supers-join (kept_list (take (i + 1) xs)) (kept_list (drop (i + 1) xs)), ap forest_supers (kept_list-push xs i x q h), forest_supers-join (kept_list (take i xs)) (kept_one x))
   IsFault-step xs i x OutOfMemory q h p f = tt
 
+-- ---- a size that is passed by rows made from nothing is one of the tree
+
+pub fault-size :
+    (old : Rows) (f : Forest) (c : Collected) (s : SyntaxView) (e : LowerError) → old.items.items ≡ [] → old.arena.keys ≡ [] → IsFault old (most_written s) f e → IsTooLarge s (record { top_attrs = c; forest = f }) e
+fault-size old f c s TooManyItems items arena h = omega (arith, h, ap length items)
+fault-size old f c s TooManyVisibilities items arena h = subst (λ z. visibility_limit < length z) (ap (met f) arena ∙ sym (arena_met f)) h
+fault-size old f c s TooManyUseTrees items arena h = h
+fault-size old f c s TooManyAttributes items arena h = omega (arith, h)
+fault-size old f c s TooManySupers items arena h = h
+fault-size old f c s OutOfMemory items arena h = tt
+
 -- ---- the tables of a tree whose rows were made from nothing
 
 module _
@@ -389,7 +402,7 @@ module _
   rows = rows_of (arena_of f) f 0
 
   arena_is : new.arena.keys ≡ arena_of f
-  arena_is = h.arena_met ∙ ap (met f) arena_empty
+  arena_is = h.arena_met ∙ ap (met f) arena_empty ∙ sym (arena_met f)
 
   added : Adds old new rows
   added = subst (λ z. Adds old new z) (λ i. rows_of (arena_is i) f (length (items_empty i))) h.added

@@ -17,8 +17,8 @@ use Rattle.item_tree.specs.declared.fault.LowerError.TheVariants.{TooManyItems, 
 use Rattle.item_tree.specs.Node.{Node, Forest, empty, add, count}
 use Rattle.item_tree.specs.Kept.{kept_all}
 use Rattle.item_tree.specs.Column.{is_empty, unless, some_unless, column_of, places_from, plain_place}
-use Rattle.item_tree.specs.Visibility.{meet, meet_all}
-use Rattle.item_tree.specs.Layout.{vis_id, plain_vis, met, kind_bit, ids, Row, row_tag, row_key, row_attrs, row_item, rows_of}
+use Rattle.item_tree.specs.Meeting.{meet, meet_all, met}
+use Rattle.item_tree.specs.Layout.{vis_id, plain_vis, kind_bit, ids, Row, row_tag, row_key, row_attrs, row_item, rows_of}
 use Rattle.item_tree.specs.Imports.{super_limit}
 use Rattle.item_tree.specs.KeptUse.{use_tree_limit}
 use Rattle.item_tree.specs.Size.{item_limit, visibility_limit, most_attrs, forest_supers, items_written}
