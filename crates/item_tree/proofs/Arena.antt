@@ -10,8 +10,9 @@ use Rattle.item_tree.specs.declared.visibility.VisibilityExplicitness.{Visibilit
 use Rattle.item_tree.specs.declared.visibility.RawVisibility.{RawVisibility}
 use Rattle.item_tree.specs.declared.visibility.RawVisibility.TheVariants.{Module, PubSelf, PubCrate, Public}
 use Rattle.item_tree.specs.Node.{Ctor, no_ctor, ctor_with, ctor_with_min, Leaf, plain, constant, struct_item, outline, use_item, extern_crate, impl_item, macro_call, macro_rules, Trunk, inline, extern_block, Node, Forest, leaf, parent, empty, more}
-use Rattle.item_tree.specs.Layout.{place, place_of, vis_id, or_public, vis_value, value_at, plain_vis, ctor_map, leaf_map, trunk_map, ctor_vis, leaf_vis, trunk_vis, node_met, met}
-use Rattle.item_tree.specs.Visibility.{same, meet, meet_all}
+use Rattle.item_tree.specs.Layout.{place, place_of, vis_id, or_public, vis_value, value_at, plain_vis, ctor_map, leaf_map, trunk_map, ctor_vis, leaf_vis, trunk_vis}
+use Rattle.item_tree.specs.Meeting.{meet, meet_all, node_met, met}
+use Rattle.item_tree.specs.Visibility.{same}
 use Rattle.item_tree.proofs.VisibilityEq.{same-sound, same-itself}
 
 pub bool_cases : (b : Bool) → (b ≡ true) ⊎ (b ≡ false)
@@ -25,14 +26,14 @@ eqb-other a b h =
 abbrev pub V : Type 0
 V = RawVisibility
 
-or_parts : (a b : Bool) → (a || b) ≡ false → (a ≡ false) × (b ≡ false)
+pub or_parts : (a b : Bool) → (a || b) ≡ false → (a ≡ false) × (b ≡ false)
 or_parts true b h = cc
 or_parts false b h = (refl, h)
 
-place-here : (x : V) (xs : List V) (v : V) → same v x ≡ true → place_of (x ∷ xs) v ≡ 0
+pub place-here : (x : V) (xs : List V) (v : V) → same v x ≡ true → place_of (x ∷ xs) v ≡ 0
 place-here x xs v e = rw e refl
 
-place-later : (x : V) (xs : List V) (v : V) → same v x ≡ false → place_of (x ∷ xs) v ≡ suc (place_of xs v)
+pub place-later : (x : V) (xs : List V) (v : V) → same v x ≡ false → place_of (x ∷ xs) v ≡ suc (place_of xs v)
 place-later x xs v e = rw e (omega arith)
 
 abbrev pub HasPlace : List V → V → Type 0
@@ -74,7 +75,7 @@ HasPlace-push (x ∷ xs) v h =
     let p = or_parts (same v x) (list_any (same v) xs) h in
     HasPlace-cons x (xs ++ v ∷ []) v p.0 (HasPlace-push xs v p.1)
 
-pub place-push : (xs : List V) (v : V) → list_any (same v) xs ≡ false → place_of (xs ++ v ∷ []) v ≡ place_of xs v
+place-push : (xs : List V) (v : V) → list_any (same v) xs ≡ false → place_of (xs ++ v ∷ []) v ≡ place_of xs v
 place-push [] v h = place-here v [] v (same-itself v)
 place-push (x ∷ xs) v h =
     let p = or_parts (same v x) (list_any (same v) xs) h in
@@ -319,14 +320,18 @@ plain-place k h =
     let d : eqb k 4294967292 ≡ false = eqb-other k 4294967292 (omega arith) in
     rw (a, b, c, d) refl
 
+-- a value that was inserted was met
+pub inserted-met : (xs ys : List V) (v : V) (p : Path) (e : VisibilityExplicitness) → v ≡ Module p e → ys ≡ insert xs v → ys ≡ meet xs v
+inserted-met xs ys v p e m i = i ∙ ap (insert xs) m ∙ ap (meet xs) (sym m)
+
 -- the number that stands for a value which was inserted
 pub inserted : (xs ys : List V) (v : V) (p : Path) (e : VisibilityExplicitness) (k : ℕ) → v ≡ Module p e → ys ≡ insert xs v → k ≡ place_of xs v → k < 4294967292 → (ys ≡ meet xs v) × (plain_vis k ≡ vis_id ys v)
 inserted xs ys v p e k m i q h = (
-  i ∙ ap (insert xs) m ∙ ap (meet xs) (sym m),
+  inserted-met xs ys v p e m i,
   plain-place k h ∙ ap place (q ∙ sym (place-insert xs v) ∙ ap (λ z. place_of z v) (sym i) ∙ ap (place_of ys) m) ∙ ap (vis_id ys) (sym m),
 )
 
-pub place-absent : (xs : List V) (v : V) → list_any (same v) xs ≡ false → place_of xs v ≡ length xs
+place-absent : (xs : List V) (v : V) → list_any (same v) xs ≡ false → place_of xs v ≡ length xs
 place-absent [] v h = refl
 place-absent (x ∷ xs) v h =
     let p = or_parts (same v x) (list_any (same v) xs) h in

@@ -5,7 +5,8 @@ use Rattle.hir_input.specs.declared.ids.AstIdKind.{AstIdKind}
 use Rattle.hir_input.specs.declared.ids.AstIdKind.TheVariants as kind
 use Rattle.item_tree.specs.declared.visibility.RawVisibility.{RawVisibility}
 use Rattle.item_tree_attrs.specs.Collected.{Collected}
-use Rattle.item_tree.proofs.Arena.{KnowsNode, KnowsForest, Knows-met, leaf-back, trunk-back}
+use Rattle.item_tree.proofs.Arena.{KnowsNode, KnowsForest, leaf-back, trunk-back}
+use Rattle.item_tree.proofs.Distinct.{Knows-arena}
 use Rattle.item_tree.specs.Node.{Node, Forest, leaf, parent, empty, more, node_kind, Unfolding}
 use Rattle.item_tree.specs.Layout.{vis_id, trunk_map, Row, parent_row, row_key, row_attrs, row_item, arena_of, node_walk, walk, node_id, ids, node_rows, rows_of, kind_bit, layout, at, gather, row_node, build, zip_rows, tables_from, unfold_tables}
 use Rattle.item_tree.specs.Column.{is_empty, unless, column_of, attrs_stored}
@@ -84,7 +85,7 @@ pub unfold-layout : (u : Unfolding) → unfold_tables (layout u) ≡ u
 unfold-layout u =
     let arena = arena_of u.forest in
     let rs = rows_of arena u.forest 0 in
-    let b : build arena [] rs ≡ walk u.forest = build-forest arena u.forest [] 0 (Knows-met u.forest []) refl in
+    let b : build arena [] rs ≡ walk u.forest = build-forest arena u.forest [] 0 (Knows-arena u.forest) refl in
     let g : gather (build arena [] rs) (ids 0 u.forest) ≡ u.forest = ap (λ z. gather z (ids 0 u.forest)) b ∙ gather-ids (walk u.forest) 0 u.forest (has_walk u.forest) in
     let f : (unfold_tables (layout u)).forest ≡ u.forest = ap (λ z. gather (build arena [] z) (ids 0 u.forest)) (rows-back (ids 0 u.forest) arena rs u.top_attrs) ∙ g in
     let t : (unfold_tables (layout u)).top_attrs ≡ u.top_attrs = top-back (ids 0 u.forest) arena rs u.top_attrs in

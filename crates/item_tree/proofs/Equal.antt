@@ -34,7 +34,6 @@ use Rattle.hir_input.specs.Cfg.{CfgView, cfg_view}
 use Rattle.hir_input.proofs.AttrEq.{attr_decides}
 use Rattle.hir_input.proofs.CfgEq.{cfg_decides}
 use Rattle.hir_input.proofs.PathEq.{path_decides}
-use Rattle.item_tree.specs.declared.visibility.RawVisibility.{RawVisibility}
 use Rattle.item_tree.specs.declared.items.FieldsShape.{FieldsShape}
 use Rattle.item_tree.specs.contracts.items.FieldsShape.{the_type as shape_type}
 use Rattle.item_tree.specs.contracts.items.FieldsShapePartialEq.TheImpl as shape_eqs
@@ -53,7 +52,6 @@ use Rattle.item_tree.specs.contracts.rows.AstKeyPartialEq.TheImpl as key_eqs
 use Rattle.item_tree.specs.declared.rows.Rows.{Rows}
 use Rattle.item_tree.specs.Node.{ctor_with, ctor_with_min, Leaf, plain, constant, struct_item, outline, use_item, extern_crate, impl_item, macro_call, macro_rules, Trunk, inline, extern_block, Unfolding}
 use Rattle.item_tree.specs.Layout.{plain_vis, leaf_map, trunk_map, leaf_vis, trunk_vis, RowItem, leaf_row, parent_row, row_kind, layout}
-use Rattle.item_tree.specs.Visibility.{same as same_vis}
 use Rattle.item_tree.specs.Same.{same_of_equal, equal_of_same}
 use Rattle.item_tree.specs.Shown.{ctor_ids}
 use Rattle.item_tree.specs.TreeCode.{use_item_code}
@@ -61,7 +59,7 @@ use Rattle.item_tree.specs.UseItem.{UseItem}
 use Rattle.item_tree.specs.Stored.{leaf_plain, parent_plain, module_row, item_row, key_in, tables_of}
 use Rattle.item_tree.proofs.VisOnce.{raw_vis, raw-plain}
 use Rattle.item_tree.proofs.UseEq.{option_decides, aliases_decide}
-use Rattle.item_tree.proofs.VisibilityEq.{same-sound, same-itself}
+use Rattle.item_tree.proofs.VisibilityEq.{raw_eq, raw_decides}
 use Rattle.item_tree.proofs.Arena.{Agree, leaf_map-map, trunk_map-map, leaf_map-agree, trunk_map-agree, leaf_map-itself, trunk_map-itself}
 use Rattle.item_tree.specs.Column.{plain_place}
 use Rattle.item_tree.proofs.Column.{plain_place-injective}
@@ -72,16 +70,16 @@ use Rattle.item_tree.proofs.Canon.{layout-injective}
 decides_by : {X : Type 0} (E : X → X → Bool) → ((x y : X) → E x y ≡ true → x ≡ y) → ((x : X) → E x x ≡ true) → (x y : X) → Decides (E x y) (x ≡ y)
 decides_by E sound itself x y = (sound x y, λ e. subst (λ z. E x z ≡ true) e (itself x))
 
-never : {P : Type 0} → (P → ⊥) → Decides false P
+pub never : {P : Type 0} → (P → ⊥) → Decides false P
 never f = (λ h. absurd (false≢true h), λ p. absurd (f p))
 
-number_decides : (i j : ℕ) → Decides (i == j) (i ≡ j)
+pub number_decides : (i j : ℕ) → Decides (i == j) (i ≡ j)
 number_decides i j = (eqb-true i j, eq-eqb i j)
 
-abbrev numbers_eq : List ℕ → List ℕ → Bool
+abbrev pub numbers_eq : List ℕ → List ℕ → Bool
 numbers_eq = pointwise ◌==◌
 
-numbers_decide : (xs ys : List ℕ) → Decides (numbers_eq xs ys) (xs ≡ ys)
+pub numbers_decide : (xs ys : List ℕ) → Decides (numbers_eq xs ys) (xs ≡ ys)
 numbers_decide = pointwise_decides number_decides
 
 -- tests of elements, lifted to lists
@@ -121,22 +119,22 @@ parent-injective t u is js h = (sym (trunk-raw t) ∙ ap (λ z. (trunk_in z).0) 
 
 -- ---- the parts of items
 
-shape_decides : (x y : FieldsShape) → Decides (shape_eqs.ghosts.eq x y) (x ≡ y)
+pub shape_decides : (x y : FieldsShape) → Decides (shape_eqs.ghosts.eq x y) (x ≡ y)
 shape_decides = decides_by shape_eqs.ghosts.eq (λ x y h. same_true shape_type (search rules) x y h) shape_laws.laws-law.refl
 
-expand_decides : (x y : ExpandTo) → Decides (expand_eqs.ghosts.eq x y) (x ≡ y)
+pub expand_decides : (x y : ExpandTo) → Decides (expand_eqs.ghosts.eq x y) (x ≡ y)
 expand_decides = decides_by expand_eqs.ghosts.eq (λ x y h. same_true expand_type (search rules) x y h) expand_laws.laws-law.refl
 
 year_decides : (x y : EditionYear) → Decides (year_eqs.ghosts.eq x y) (x ≡ y)
 year_decides = decides_by year_eqs.ghosts.eq (λ x y h. same_true year_type (search rules) x y h) year_laws.laws-law.refl
 
-context_decides : (x y : SyntaxContext) → Decides (context_eqs.ghosts.eq x y) (x ≡ y)
+pub context_decides : (x y : SyntaxContext) → Decides (context_eqs.ghosts.eq x y) (x ≡ y)
 context_decides (Root a) (Root b) = Decides-like _ (ap Root) (λ e. cc) (year_decides a b)
 context_decides (Expanded m) (Expanded n) = Decides-like _ (ap Expanded) (λ e. cc) (number_decides m n)
 context_decides (Root a) (Expanded n) = never (λ e. cc)
 context_decides (Expanded m) (Root b) = never (λ e. cc)
 
-ctor_decides : (x y : StructValueNsCtor) → Decides (ctor_eqs.ghosts.eq x y) (ctor_ids x ≡ ctor_ids y)
+pub ctor_decides : (x y : StructValueNsCtor) → Decides (ctor_eqs.ghosts.eq x y) (ctor_ids x ≡ ctor_ids y)
 ctor_decides NoValueNsCtor NoValueNsCtor = (λ h. refl, λ e. refl)
 ctor_decides (ValueNsCtorWithVis i) (ValueNsCtorWithVis j) = Decides-like _ (ap ctor_with) (λ e. cc) (number_decides i j)
 ctor_decides (ValueNsCtorWithMinVis v) (ValueNsCtorWithMinVis w) = Decides-like _ (ap ctor_with_min) (λ e. cc) (numbers_decide v.items w.items)
@@ -233,13 +231,10 @@ item_decides x y = never (λ e. let k : item_kind x ≡ item_kind y = sym (item-
 
 -- ---- visibilities, tags and keys
 
-vis_decides : (v w : RawVisibility) → Decides (same_vis v w) (v ≡ w)
-vis_decides = decides_by same_vis same-sound same-itself
-
 abbrev pub tag_eq : AstIdKind → AstIdKind → Bool
 tag_eq = tag_eqs.ghosts.eq
 
-tag_decides : (x y : AstIdKind) → Decides (tag_eq x y) (x ≡ y)
+pub tag_decides : (x y : AstIdKind) → Decides (tag_eq x y) (x ≡ y)
 tag_decides = decides_by tag_eq (λ x y h. same_true tag_type (search rules) x y h) tag_laws.laws-law.refl
 
 abbrev pub key_eq : AstKey → AstKey → Bool
@@ -311,9 +306,9 @@ module _ (u w : Unfolding) (is js : List ℕ) (m n : ℕ) (s t : Rows) (cs : lay
   pub arena-decides :
       pointwise ◌==◌ is js ≡ true → m ≡ n → pointwise tag_eq s.tags.items t.tags.items ≡ true → pointwise key_eq s.keys.items t.keys.items ≡ true →
       pointwise item_eqs.ghosts.eq s.items.items t.items.items ≡ true → pointwise ◌==◌ s.places.items t.places.items ≡ true →
-      pointwise attrs_eq s.column.items t.column.items ≡ true → Decides (pointwise same_vis s.arena.keys t.arena.keys) (u ≡ w)
+      pointwise attrs_eq s.column.items t.column.items ≡ true → Decides (pointwise raw_eq s.arena.keys t.arena.keys) (u ≡ w)
   arena-decides a e b c d f g =
-      let arenas = pointwise_decides vis_decides s.arena.keys t.arena.keys in (
+      let arenas = pointwise_decides raw_decides s.arena.keys t.arena.keys in (
         (λ h. let q : tables_of is m s ≡ tables_of js n t = λ i. record {
           top = (numbers_decide is js).0 a i;
           tags = (pointwise_decides tag_decides s.tags.items t.tags.items).0 b i;

@@ -11,6 +11,7 @@ pub mod CallLemmas
 pub mod Calling
 pub mod VisibilityEq
 pub mod Arena
+pub mod Distinct
 pub mod Column
 pub mod Pieces
 pub mod Canon
@@ -20,6 +21,7 @@ pub mod VisOnce
 pub mod Walking
 pub mod Counted
 pub mod Equal
+pub mod ItemEq
 pub mod Lowering
 pub mod Constructors
 pub mod Seen

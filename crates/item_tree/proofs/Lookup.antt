@@ -1,5 +1,5 @@
 -- What stands in the rows of a layout.
-use Rattle.std.proofs.Common.{◌≡◌, ℕ, zero, suc, ◌+◌, ◌/◌, ◌%◌, ◌<◌, ◌≤◌, eqb, inl, inr, false, List, [], ◌∷◌, ◌++◌, length, map, get_or, Option, Some, None, refl, ap, sym, ◌∙◌, subst, arith, append-nil, eq-eqb}
+use Rattle.std.proofs.Common.{◌≡◌, ℕ, ◌/◌, ◌%◌, ◌<◌, ◌≤◌, eqb, inl, inr, false, List, [], ◌∷◌, ◌++◌, length, map, get_or, Some, None, refl, ap, sym, ◌∙◌, subst, append-nil, eq-eqb}
 use Rattle.std.specs.Option.{option_map_or}
 use Rattle.std.specs.Prelude.{slice_get, is_some, IsSome, option_map, vec_len}
 use Rattle.std.proofs.lemmas.List.{length-map}
@@ -13,46 +13,21 @@ use Rattle.item_tree.specs.declared.items.ModKind.TheVariants.{Inline, Outline}
 use Rattle.item_tree.specs.declared.items.ModItem.{ModItem}
 use Rattle.item_tree.specs.declared.rows.AstKey.{AstKey}
 use Rattle.item_tree.specs.declared.rows.Rows.{Rows}
-use Rattle.item_tree.specs.Node.{Leaf, plain, constant, struct_item, outline, use_item, extern_crate, impl_item, macro_call, macro_rules, Trunk, inline, extern_block, leaf_kind, trunk_kind, Head, Node, Forest, leaf, parent, empty, more, nodes, node_head, node_kind, node_ast, file_id, Unfolding}
-use Rattle.item_tree.specs.Layout.{leaf_map, trunk_map, vis_id, value_at, plain_vis, Row, RowItem, leaf_row, parent_row, row_tag, key_of, row_key, row_attrs, row_item, arena_of, node_walk, walk, ids, node_rows, rows_of, kind_bit, layout, at_row, at, node_at, vis_at}
+use Rattle.item_tree.specs.Node.{Leaf, plain, constant, struct_item, outline, use_item, extern_crate, impl_item, macro_call, macro_rules, Trunk, inline, extern_block, leaf_kind, trunk_kind, Head, Node, Forest, leaf, parent, nodes, node_head, node_kind, node_ast, file_id, Unfolding}
+use Rattle.item_tree.specs.Layout.{leaf_map, trunk_map, vis_id, value_at, plain_vis, Row, RowItem, leaf_row, parent_row, row_tag, key_of, row_key, row_attrs, row_item, arena_of, node_walk, walk, ids, rows_of, kind_bit, layout, at_row, at, node_at, vis_at}
 use Rattle.item_tree.specs.Column.{is_empty, unless, some_unless, column_of, plain_place, stored_at}
 use Rattle.item_tree.specs.Reach.{child_ids}
 use Rattle.item_tree.specs.Shown.{IsContained, IsLeaf, IsParent, IsModule, lent_attrs, attrs_at}
 use Rattle.item_tree.specs.Stored.{item_row, leaf_plain, parent_plain, module_row, key_in, column_in, tables_of}
-use Rattle.item_tree.proofs.Arena.{KnowsNode, KnowsForest, Knows-met, leaf-at, trunk-at, leaf_map-map, trunk_map-map, bool_cases}
+use Rattle.item_tree.proofs.Arena.{KnowsNode, leaf-at, trunk-at, leaf_map-map, trunk_map-map, bool_cases}
 use Rattle.item_tree.proofs.Column.{lent-back, lent-each, places-length}
 use Rattle.item_tree.proofs.Canon.{has_walk}
-use Rattle.item_tree.proofs.Reached.{map-at-ids, row_children, children-stored}
-use Rattle.item_tree.proofs.Pieces.{HasFrom, HasFrom-left, HasFrom-right}
+use Rattle.item_tree.proofs.Reached.{map-at-ids, row_children, children-stored, row-there, get-within, bit-at, row_of, length-rows_of, row-found, node-last, stored-last}
+use Rattle.item_tree.proofs.Pieces.{HasFrom, HasFrom-left}
 
 pub top-stands : (f : Forest) → map (node_at f) (ids 0 f) ≡ map Some (nodes f)
 unfolding node_at
 top-stands f = map-at-ids (walk f) 0 f (has_walk f)
-
-pub IsSome-within : {X : Type 0} (xs : List X) (k : ℕ) → IsSome (slice_get xs k) → k < length xs
-IsSome-within [] k h = cc
-IsSome-within (x ∷ xs) zero h = omega arith
-IsSome-within (x ∷ xs) (suc k) h = let r = IsSome-within xs k h in omega arith
-
--- rows and nodes, one by one
-module _ {X : Type 0} (R : X → Node → Type 0) where
-  abbrev pub RowsAre : List X → List Node → Type 0
-  RowsAre [] [] = Unit {0}
-  RowsAre [] (n ∷ ns) = ⊥
-  RowsAre (r ∷ rs) [] = ⊥
-  RowsAre (r ∷ rs) (n ∷ ns) = R r n × RowsAre rs ns
-
-  pub RowsAre-append : (rs qs : List X) (ns ms : List Node) → RowsAre rs ns → RowsAre qs ms → RowsAre (rs ++ qs) (ns ++ ms)
-  RowsAre-append [] qs [] ms h k = k
-  RowsAre-append [] qs (n ∷ ns) ms h k = absurd h
-  RowsAre-append (r ∷ rs) qs [] ms h k = absurd h
-  RowsAre-append (r ∷ rs) qs (n ∷ ns) ms h k = (h.0, RowsAre-append rs qs ns ms h.1 k)
-
-  pub RowsAre-length : (rs : List X) (ns : List Node) → RowsAre rs ns → length rs ≡ length ns
-  RowsAre-length [] [] h = refl
-  RowsAre-length [] (n ∷ ns) h = absurd h
-  RowsAre-length (r ∷ rs) [] h = absurd h
-  RowsAre-length (r ∷ rs) (n ∷ ns) h = ap suc (RowsAre-length rs ns h.1)
 
 pub leaf_kind-map : {V W : Type 0} (f : V → W) (l : Leaf V) → leaf_kind l ≡ leaf_kind (leaf_map f l)
 leaf_kind-map f (plain k n v) = refl
@@ -81,21 +56,13 @@ module _ (arena : List RawVisibility) (ns : List Node) where
     pub tag : node_kind n ≡ row_tag r
     pub item : ItemIs r.0 r.1 n
 
-  mutual
-    pub rows_are-node : (n : Node) (b : ℕ) → KnowsNode n arena → HasFrom ns b (node_walk n) → RowsAre RowIs (node_rows arena n b) (node_walk n)
-    rows_are-node (leaf h l) b k w = (record { head = refl; tag = leaf_kind-map (vis_id arena) l; item = (l, refl, leaf-at arena l k) }, tt)
-    rows_are-node (parent h t f) b k w =
-        let u = HasFrom-left ns b (walk f) (parent h t f ∷ []) w in
-        RowsAre-append RowIs (rows_of arena f b) ((h, parent_row (trunk_map (vis_id arena) t) (ids b f)) ∷ []) (walk f) (parent h t f ∷ [])
-        (rows_are-forest f b k.1 u)
-        (record { head = refl; tag = trunk_kind-map (vis_id arena) t; item = (t, f, refl, trunk-at arena t k.0, map-at-ids ns b f u) }, tt)
-
-    pub rows_are-forest : (f : Forest) (b : ℕ) → KnowsForest f arena → HasFrom ns b (walk f) → RowsAre RowIs (rows_of arena f b) (walk f)
-    rows_are-forest empty b k w = tt
-    rows_are-forest (more n f) b k w =
-        RowsAre-append RowIs (node_rows arena n b) (rows_of arena f (b + length (node_walk n))) (node_walk n) (walk f)
-        (rows_are-node n b k.0 (HasFrom-left ns b (node_walk n) (walk f) w))
-        (rows_are-forest f (b + length (node_walk n)) k.1 (HasFrom-right ns b (node_walk n) (walk f) w))
+  pub row_is : (b : ℕ) (n : Node) → HasFrom ns b (node_walk n) → KnowsNode n arena → RowIs (row_of arena b n) n
+  row_is b (leaf h l) w k = record { head = refl; tag = leaf_kind-map (vis_id arena) l; item = (l, refl, leaf-at arena l k) }
+  row_is b (parent h t f) w k = record {
+    head = refl;
+    tag = trunk_kind-map (vis_id arena) t;
+    item = (t, f, refl, trunk-at arena t k.0, map-at-ids ns b f (HasFrom-left ns b (walk f) (parent h t f ∷ []) w));
+  }
 
 -- What a row shows.
 abbrev pub IsRowShown : Unfolding → ℕ → FileAstId → RowItem → Type 0
@@ -120,34 +87,8 @@ pub IsModule-row : (u : Unfolding) (i : ℕ) (a : FileAstId) (name : List ℕ) (
 IsModule-row u i a name v (Inline items) h = IsParent-row u i a (inline name v) items.items h
 IsModule-row u i a name v Outline h = IsLeaf-row u i a (outline name v) h
 
--- the row and the node at a place
-module _ {X : Type 0} (R : X → Node → Type 0) where
-  pub record Found (rs : List X) (ns : List Node) (k : ℕ) : Type 0 where
-    pub row : X
-    pub node : Node
-    pub row_at : slice_get rs k ≡ Some row
-    pub node_there : slice_get ns k ≡ Some node
-    pub related : R row node
-
-  pub RowsAre-found : (rs : List X) (ns : List Node) (k : ℕ) → RowsAre R rs ns → k < length ns → Found rs ns k
-  RowsAre-found [] [] k h l = absurd (omega arith)
-  RowsAre-found [] (n ∷ ns) k h l = absurd h
-  RowsAre-found (q ∷ rs) [] k h l = absurd h
-  RowsAre-found (q ∷ rs) (n ∷ ns) zero h l = record { row = q; node = n; row_at = refl; node_there = refl; related = h.0 }
-  RowsAre-found (q ∷ rs) (n ∷ ns) (suc k) h l =
-      let w = RowsAre-found rs ns k h.1 (omega arith) in
-      record { row = w.row; node = w.node; row_at = w.row_at; node_there = w.node_there; related = w.related }
-
-at_row-some : (o : Option Node) (b : ℕ) → IsSome (at_row o b) → IsSome o
-at_row-some None b h = cc
-at_row-some (Some n) b h = refl
-
 at_row-is : (n : Node) (b : ℕ) → IsSome (at_row (Some n) b) → at_row (Some n) b ≡ Some n
-at_row-is n b h =
-    elim (bool_cases (eqb (kind_bit (node_kind n)) b)) [
-      | inl e ↦ rw e refl
-      | inr e ↦ absurd (let z : is_some (at_row (Some n) b) ≡ false = rw e refl in cc)
-    ]
+at_row-is n b h = rw (eq-eqb (kind_bit (node_kind n)) b (bit-at n b h)) refl
 
 is_some-at_row : (n : Node) (b : ℕ) → is_some (at_row (Some n) b) ≡ eqb (kind_bit (node_kind n)) b
 is_some-at_row n b =
@@ -164,11 +105,8 @@ module _ (u : Unfolding) (top : List ℕ) (place : ℕ) (t : Rows) (canon : layo
   abbrev rs : List Row
   rs = rows_of (arena_of u.forest) u.forest 0
 
-  rows_are : RowsAre (RowIs (arena_of f) (walk f)) rs (walk f)
-  rows_are = rows_are-forest (arena_of f) (walk f) f 0 (Knows-met f []) (has_walk f)
-
   rows-len : length rs ≡ length (walk f)
-  rows-len = RowsAre-length (RowIs (arena_of f) (walk f)) rs (walk f) rows_are
+  rows-len = length-rows_of (arena_of f) f 0
 
   pub top-stands_for : map (node_at f) top ≡ map Some (nodes f)
   top-stands_for = ap (map (node_at f)) (sym (ap (λ z. z.top) canon)) ∙ top-stands f
@@ -185,8 +123,23 @@ module _ (u : Unfolding) (top : List ℕ) (place : ℕ) (t : Rows) (canon : layo
   pub items-len : vec_len t.items ≡ length (walk f)
   items-len = t.items.ok.0 ∙ sym (length-map t.items.items item_row) ∙ ap (λ z. length z.items) (sym canon) ∙ length-map rs row_item ∙ rows-len
 
-  pub found : (k : ℕ) → k < length (walk f) → Found (RowIs (arena_of f) (walk f)) rs (walk f) k
-  found k h = RowsAre-found (RowIs (arena_of f) (walk f)) rs (walk f) k rows_are h
+  -- the row and the node at a place
+  pub record Found (k : ℕ) : Type 0 where
+    pub row : Row
+    pub node : Node
+    pub row_at : slice_get rs k ≡ Some row
+    pub node_there : slice_get (walk f) k ≡ Some node
+    pub related : RowIs (arena_of f) (walk f) row node
+
+  pub found : (k : ℕ) → k < length (walk f) → Found k
+  found k h =
+      let r = row-found u k h in record {
+        row = row_of (arena_of f) r.first r.node;
+        node = r.node;
+        row_at = subst (λ j. slice_get rs j ≡ Some (row_of (arena_of f) r.first r.node)) r.row (stored-last u r.first r.node r.lies);
+        node_there = subst (λ j. slice_get (walk f) j ≡ Some r.node) r.row (node-last u r.first r.node r.lies);
+        related = row_is (arena_of f) (walk f) r.first r.node r.lies.walked r.lies.known;
+      }
 
   -- the tag of a row is the node's kind
   tag-read : (k : ℕ) (x : AstIdKind) (h : k < length (walk f)) → x ≡ get_or t.tags.items k x → x ≡ node_kind (found k h).node
@@ -229,7 +182,7 @@ module _ (u : Unfolding) (top : List ℕ) (place : ℕ) (t : Rows) (canon : layo
 
   pub within : (i : ℕ) → IsSome (node_at f i) → i / 2 < length (walk f)
   unfolding node_at
-  within i h = IsSome-within (walk f) (i / 2) (at_row-some (slice_get (walk f) (i / 2)) (i % 2) h)
+  within i h = get-within (walk f) (i / 2) (row-there (slice_get (walk f) (i / 2)) (i % 2) h)
 
   at-found : (i : ℕ) (h : IsSome (node_at f i)) → node_at f i ≡ Some (found (i / 2) (within i h)).node
   unfolding node_at

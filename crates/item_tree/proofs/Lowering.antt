@@ -5,7 +5,7 @@ use Rattle.hir_input.specs.declared.ast.ExternBlock as ast_block
 use Rattle.hir_input.specs.declared.ast.ExternItem.{ExternItem}
 use Rattle.hir_input.specs.declared.ast.ExternItem.TheVariants as external
 use Rattle.hir_input.specs.declared.ast.Module as ast_module
-use Rattle.hir_input.specs.Syntax.{NodeView, NamedView, ItemView, node_from, named_from, module_from, extern_block_from, items_from, item_view, module_view, extern_item_view, extern_block_view}
+use Rattle.hir_input.specs.Syntax.{NodeView, NamedView, ItemView, SyntaxView, node_from, named_from, module_from, extern_block_from, items_from, item_view, module_view, extern_item_view, extern_block_view}
 use Rattle.hir_input.proofs.SyntaxViews.{module_view-fields}
 use Rattle.std.specs.Prelude.{max}
 use Rattle.item_tree_attrs.specs.Collected.{Collected, collected, attr_limit}
@@ -14,15 +14,17 @@ use Rattle.item_tree.specs.declared.fault.LowerError.TheVariants.{TooManyItems, 
 use Rattle.item_tree.specs.declared.lower.Ctx.{Ctx}
 use Rattle.item_tree.specs.declared.rows.Rows.{Rows}
 use Rattle.item_tree.specs.Node.{Leaf, Trunk, trunk_kind, leaf_kind, Head, Node, Forest, leaf, parent, empty, more, add, outline, inline, extern_block, count, Unfolding}
-use Rattle.item_tree.specs.Visibility.{read_visibility, meet, meet_all}
+use Rattle.item_tree.specs.Meeting.{meet, meet_all, met, node_met}
+use Rattle.item_tree.specs.Visibility.{read_visibility}
 use Rattle.item_tree.specs.Kept.{head_of, module_node}
-use Rattle.item_tree.specs.Layout.{VisId, vis_id, plain_vis, leaf_map, trunk_map, leaf_vis, trunk_vis, met, node_met, arena_of, node_walk, walk, node_id, ids, Row, leaf_row, parent_row, row_tag, row_key, row_attrs, row_item, kind_bit, node_rows, rows_of, layout, unfold_tables}
+use Rattle.item_tree.specs.Layout.{VisId, vis_id, plain_vis, leaf_map, trunk_map, leaf_vis, trunk_vis, arena_of, node_walk, walk, node_id, ids, Row, leaf_row, parent_row, row_tag, row_key, row_attrs, row_item, kind_bit, node_rows, rows_of, layout, unfold_tables}
 use Rattle.item_tree.specs.Column.{is_empty, unless, some_unless, column_of, places_from, plain_place}
 use Rattle.item_tree.specs.Imports.{super_limit}
 use Rattle.item_tree.specs.KeptUse.{use_tree_limit}
-use Rattle.item_tree.specs.Size.{most_attrs, leaf_supers, forest_supers, item_written, items_written, Sizes, IsPassed, only_items, only_visibilities, Fits}
+use Rattle.item_tree.specs.Size.{most_attrs, leaf_supers, forest_supers, item_written, items_written, Sizes, IsPassed, only_items, only_visibilities, most_written, sizes_of, Fits, IsTooLarge}
 use Rattle.item_tree.specs.Stored.{item_row, key_in, keys_in, items_in, places_in, column_in, tables_of, AreSound}
 use Rattle.item_tree.specs.Growth.{items_below, attrs_in, kept_in, all_kept_in, row_count, Adds, Lowers, sizes_with, Meets, sizes_meeting, Puts, Pushes}
+use Rattle.item_tree.proofs.Distinct.{arena_met}
 use Rattle.item_tree.proofs.Arena.{V, Extends, Extends-met, KnowsAll, KnowsAll-meet_all, KnowsForest, KnowsNode, Knows-met, leaf-stable, trunk-stable, bool_cases}
 use Rattle.item_tree.proofs.Column.{column-append, places-append}
 use Rattle.item_tree.proofs.Canon.{unfold-layout}
@@ -401,6 +403,22 @@ module _ (ctx : Ctx) {X : Type 0} (seen : X → ItemView) where
         supers = omega (arith, ap forest_supers whole, forest_supers-join (join (kept_list (take i xs)) (kept_one x)) rest, forest_supers-join (kept_list (take i xs)) (kept_one x));
       })
 
+-- ---- a size that is passed by rows made from nothing is one of the tree
+
+pub passed-from_nothing :
+    (old : Rows) (f : Forest) (c : Collected) (s : SyntaxView) (e : LowerError) → old.items.items ≡ [] → old.arena.keys ≡ [] →
+    IsPassed (sizes_with old (most_written s) f) e → IsTooLarge s (record { top_attrs = c; forest = f }) e
+passed-from_nothing old f c s e items arena h =
+    let u : Unfolding = record { top_attrs = c; forest = f } in
+    let m : met f old.arena.keys ≡ arena_of f = ap (met f) arena ∙ sym (arena_met f) in
+    passes (sizes_with old (most_written s) f) (sizes_of s u) e (record {
+      items = omega (arith, ap length items);
+      visibilities = omega (arith, ap length m);
+      use_trees = omega arith;
+      attributes = omega arith;
+      supers = omega arith;
+    }) h
+
 -- ---- the tables of a tree whose rows were made from nothing
 
 module _
@@ -415,7 +433,7 @@ module _
   rows = rows_of (arena_of f) f 0
 
   arena_is : new.arena.keys ≡ arena_of f
-  arena_is = h.arena_met ∙ ap (met f) arena_empty
+  arena_is = h.arena_met ∙ ap (met f) arena_empty ∙ sym (arena_met f)
 
   added : Adds old new rows
   added = subst (λ z. Adds old new z) (λ i. rows_of (arena_is i) f (length (items_empty i))) h.added

@@ -1,5 +1,5 @@
 -- A walk from the top meets each id of a tree once.
-use Rattle.std.proofs.Common.{◌≡◌, ℕ, zero, suc, false, ◌+◌, ◌/◌, ◌%◌, ◌<◌, ◌≤◌, eqb, inl, inr, List, [], ◌∷◌, ◌++◌, length, map, Option, Some, None, refl, ap, sym, ◌∙◌, subst, arith, length-append}
+use Rattle.std.proofs.Common.{◌≡◌, ℕ, zero, suc, false, ◌+◌, ◌*◌, ◌/◌, ◌%◌, ◌<◌, ◌≤◌, eqb, inl, inr, List, [], ◌∷◌, ◌++◌, length, map, Option, Some, None, refl, ap, sym, ◌∙◌, subst, arith, length-append}
 use Rattle.std.specs.Prelude.{◌≢◌, slice_get, is_some, IsSome, All, option_map}
 use Rattle.std.specs.List.{flat_map, AllPairs, Contains}
 use Rattle.std.specs.Option.{option_map_or}
@@ -8,12 +8,13 @@ use Rattle.std.proofs.lemmas.List.Elements.{All-nil, All-cons, All-head, All-tai
 use Rattle.std.proofs.lemmas.List.Kept.{AllPairs-cons}
 use Rattle.item_tree.specs.declared.visibility.RawVisibility.{RawVisibility}
 use Rattle.item_tree.specs.Node.{Trunk, Head, Node, Forest, leaf, parent, empty, more, nodes, node_kind, Unfolding}
-use Rattle.item_tree.specs.Layout.{vis_id, trunk_map, arena_of, Row, RowItem, leaf_row, parent_row, node_rows, rows_of, kind_bit, node_row, node_id, ids, node_walk, walk, at_row, at, node_at}
+use Rattle.item_tree.specs.Layout.{vis_id, leaf_map, trunk_map, arena_of, Row, RowItem, leaf_row, parent_row, node_rows, rows_of, kind_bit, node_row, node_id, ids, node_walk, walk, at_row, at, node_at}
 use Rattle.item_tree.specs.Reach.{inner_ids, node_ids, forest_ids, met_before, top_ids, child_ids, ids_from, all_ids}
 use Rattle.item_tree.specs.Shown.{IsContained, StandFor}
 use Rattle.item_tree.specs.Walk.{children, children_at, IsWalkedOnce}
-use Rattle.item_tree.proofs.Arena.{bool_cases}
-use Rattle.item_tree.proofs.Canon.{kind_bit-small, at-node_id, has_walk}
+use Rattle.item_tree.proofs.Arena.{bool_cases, KnowsNode, KnowsForest}
+use Rattle.item_tree.proofs.Distinct.{Knows-arena}
+use Rattle.item_tree.proofs.Canon.{kind_bit-small, at-id, at-node_id, has_walk}
 use Rattle.item_tree.proofs.Pieces.{HasFrom, HasFrom-left, HasFrom-right, HasFrom-all}
 
 -- ---- the id of a node that stands somewhere in the walk
@@ -88,29 +89,43 @@ inner-stand ns b (parent h t f) w = map-at-ids ns b f (HasFrom-left ns b (walk f
 
 -- ---- each row is that of one node
 
-bit-at : (n : Node) (b : ℕ) → IsSome (at_row (Some n) b) → kind_bit (node_kind n) ≡ b
+pub bit-at : (n : Node) (b : ℕ) → IsSome (at_row (Some n) b) → kind_bit (node_kind n) ≡ b
 bit-at n b s =
     elim (bool_cases (eqb (kind_bit (node_kind n)) b)) [
       | inl e ↦ eqb-true (kind_bit (node_kind n)) b e
       | inr e ↦ absurd (let z : is_some (at_row (Some n) b) ≡ false = rw e refl in cc)
     ]
 
-row-there : (o : Option Node) (b : ℕ) → IsSome (at_row o b) → IsSome o
+pub row-there : (o : Option Node) (b : ℕ) → IsSome (at_row o b) → IsSome o
 row-there None b h = cc
 row-there (Some n) b h = refl
 
-get-within : {X : Type 0} (xs : List X) (k : ℕ) → IsSome (slice_get xs k) → k < length xs
+pub get-within : {X : Type 0} (xs : List X) (k : ℕ) → IsSome (slice_get xs k) → k < length xs
 get-within [] k h = cc
 get-within (x ∷ xs) zero h = omega arith
 get-within (x ∷ xs) (suc k) h = let r = get-within xs k h in omega arith
 
+pub get-there : {X : Type 0} (xs : List X) (k : ℕ) → k < length xs → (x : X) × (slice_get xs k ≡ Some x)
+get-there [] k h = absurd (omega arith)
+get-there (x ∷ xs) zero h = (x, refl)
+get-there (x ∷ xs) (suc k) h = get-there xs k (omega arith)
+
 module _ (arena : List RawVisibility) where
+  -- the row of a node, which is the last of its walk's
+  abbrev pub row_of : ℕ → Node → Row
+  row_of b (leaf h l) = (h, leaf_row (leaf_map (vis_id arena) l))
+  row_of b (parent h t f) = (h, parent_row (trunk_map (vis_id arena) t) (ids b f))
+
+  children-row_of : (b : ℕ) (n : Node) → row_children (row_of b n).1 ≡ inner_ids b n
+  children-row_of b (leaf h l) = refl
+  children-row_of b (parent h t f) = refl
+
   mutual
     length-node_rows : (n : Node) (b : ℕ) → length (node_rows arena n b) ≡ length (node_walk n)
     length-node_rows (leaf h l) b = refl
     length-node_rows (parent h t f) b = length-append (rows_of arena f b) _ ∙ ap (λ k. k + 1) (length-rows_of f b) ∙ sym (length-append (walk f) (parent h t f ∷ []))
 
-    length-rows_of : (f : Forest) (b : ℕ) → length (rows_of arena f b) ≡ length (walk f)
+    pub length-rows_of : (f : Forest) (b : ℕ) → length (rows_of arena f b) ≡ length (walk f)
     length-rows_of empty b = refl
     length-rows_of (more n f) b =
         length-append (node_rows arena n b) (rows_of arena f (b + length (node_walk n))) ∙ rw (length-node_rows n b, length-rows_of f (b + length (node_walk n))) (sym (length-append (node_walk n) (walk f)))
@@ -131,32 +146,35 @@ module _ (u : Unfolding) where
   pub record Lies (b : ℕ) (n : Node) : Type 0 where
     pub walked : HasFrom ns b (node_walk n)
     pub stored : HasFrom rs b (node_rows arena n b)
+    pub known : KnowsNode n arena
 
   pub record AllLie (b : ℕ) (f : Forest) : Type 0 where
     pub walked : HasFrom ns b (walk f)
     pub stored : HasFrom rs b (rows_of arena f b)
+    pub known : KnowsForest f arena
 
   lies-first : (b : ℕ) (n : Node) (f : Forest) → AllLie b (more n f) → Lies b n
-  lies-first b n f w = record { walked = HasFrom-left ns b (node_walk n) (walk f) w.walked; stored = HasFrom-left rs b (node_rows arena n b) (rows_of arena f (b + length (node_walk n))) w.stored }
+  lies-first b n f w = record { walked = HasFrom-left ns b (node_walk n) (walk f) w.walked; stored = HasFrom-left rs b (node_rows arena n b) (rows_of arena f (b + length (node_walk n))) w.stored; known = w.known.0 }
 
   lie-others : (b : ℕ) (n : Node) (f : Forest) → AllLie b (more n f) → AllLie (b + length (node_walk n)) f
   lie-others b n f w = record {
     walked = HasFrom-right ns b (node_walk n) (walk f) w.walked;
     stored = subst (λ k. HasFrom rs (b + k) (rows_of arena f (b + length (node_walk n)))) (length-node_rows arena n b) (HasFrom-right rs b (node_rows arena n b) (rows_of arena f (b + length (node_walk n))) w.stored);
+    known = w.known.1;
   }
 
   lie-below : (b : ℕ) (h : Head) (t : Trunk RawVisibility) (f : Forest) → Lies b (parent h t f) → AllLie b f
-  lie-below b h t f w = record { walked = HasFrom-left ns b (walk f) (parent h t f ∷ []) w.walked; stored = HasFrom-left rs b (rows_of arena f b) _ w.stored }
+  lie-below b h t f w = record { walked = HasFrom-left ns b (walk f) (parent h t f ∷ []) w.walked; stored = HasFrom-left rs b (rows_of arena f b) _ w.stored; known = w.known.1 }
 
   -- the last of its walk
-  node-last : (b : ℕ) (n : Node) → Lies b n → slice_get ns (node_row b n) ≡ Some n
+  pub node-last : (b : ℕ) (n : Node) → Lies b n → slice_get ns (node_row b n) ≡ Some n
   node-last b (leaf h m) w = w.walked.0
   node-last b (parent h t f) w = (HasFrom-right ns b (walk f) (parent h t f ∷ []) w.walked).0
 
-  row-lasts : (b : ℕ) (n : Node) → Lies b n → option_map (λ r. row_children r.1) (slice_get rs (node_row b n)) ≡ Some (inner_ids b n)
-  row-lasts b (leaf h m) w = ap (option_map (λ r. row_children r.1)) w.stored.0
-  row-lasts b (parent h t f) w =
-      ap (option_map (λ r. row_children r.1)) (subst (λ k. slice_get rs (b + k) ≡ Some (h, parent_row (trunk_map (vis_id arena) t) (ids b f))) (length-rows_of arena f b) (HasFrom-right rs b (rows_of arena f b) ((h, parent_row (trunk_map (vis_id arena) t) (ids b f)) ∷ []) w.stored).0)
+  pub stored-last : (b : ℕ) (n : Node) → Lies b n → slice_get rs (node_row b n) ≡ Some (row_of arena b n)
+  stored-last b (leaf h m) w = w.stored.0
+  stored-last b (parent h t f) w =
+      subst (λ k. slice_get rs (b + k) ≡ Some (row_of arena b (parent h t f))) (length-rows_of arena f b) (HasFrom-right rs b (rows_of arena f b) (row_of arena b (parent h t f) ∷ []) w.stored).0
 
   -- an id that stands for a node is that of the node of its row
   node_id-is : (i b : ℕ) (n : Node) → IsSome (at ns i) → Lies b n → node_row b n ≡ i / 2 → node_id b n ≡ i
@@ -257,7 +275,7 @@ module _ (u : Unfolding) where
   Met = IsMet 0 (0 + length ns)
 
   lain : AllLie 0 u.forest
-  lain = record { walked = has_walk u.forest; stored = HasFrom-all rs }
+  lain = record { walked = has_walk u.forest; stored = HasFrom-all rs; known = Knows-arena u.forest }
 
   meets : (i : ℕ) → IsContained u i → Contains (forest_ids 0 u.forest) i
   unfolding node_at
@@ -272,12 +290,30 @@ module _ (u : Unfolding) where
   at-each : (P : ℕ → Type 0) → ((b : ℕ) (n : Node) → Lies b n → P (node_id b n)) → (i : ℕ) → IsContained u i → P i
   at-each P h i s = let m = met i (meets i s) in subst P m.id (h m.first m.node m.lies)
 
+  -- in each row stands a node of the walk
+  pub record IsRow (k : ℕ) : Type 0 where
+    pub first : ℕ
+    pub node : Node
+    pub lies : Lies first node
+    pub row : node_row first node ≡ k
+
+  pub row-found : (k : ℕ) → k < length ns → IsRow k
+  unfolding node_at
+  row-found k h =
+      let there = get-there ns k h in
+      let i = 2 * k + kind_bit (node_kind there.0) in
+      let m = met i (meets i (ap is_some (at-id ns k there.0 there.1))) in
+      let bit = kind_bit-small (node_kind there.0) in
+      let other = kind_bit-small (node_kind m.node) in
+      let id : node_id m.first m.node ≡ i = m.id in
+      record { first = m.first; node = m.node; lies = m.lies; row = omega arith }
+
   -- the children of a row are those of its id
   pub children-stored : (i : ℕ) (r : Row) → IsContained u i → slice_get rs (i / 2) ≡ Some r → row_children r.1 ≡ child_ids u i
   children-stored i r s e =
       let stored : option_map (λ q. row_children q.1) (slice_get rs (i / 2)) ≡ Some (child_ids u i) =
       at-each (λ j. option_map (λ q. row_children q.1) (slice_get rs (j / 2)) ≡ Some (child_ids u j))
-      (λ b n w. ap (λ k. option_map (λ q. row_children q.1) (slice_get rs k)) (row-of_id b n) ∙ row-lasts b n w ∙ ap Some (sym (child_ids-at u b n w.walked))) i s in
+      (λ b n w. ap (λ k. option_map (λ q. row_children q.1) (slice_get rs k)) (row-of_id b n) ∙ ap (option_map (λ q. row_children q.1)) (stored-last b n w) ∙ ap Some (children-row_of arena b n ∙ sym (child_ids-at u b n w.walked))) i s in
       let read : Some (row_children r.1) ≡ Some (child_ids u i) = ap (option_map (λ q. row_children q.1)) (sym e) ∙ stored in
       cc
 

@@ -10,36 +10,11 @@ use Rattle.hir_input.specs.Path.{Path}
 use Rattle.item_tree.specs.Constructor.{is_private, is_pub_crate, crate_or_public, or_one, deciding_by, deciding}
 use Rattle.item_tree.specs.Same.{agree}
 use Rattle.item_tree.specs.Sees.{Where, inside, in_crate, outside, Place, seen_from, sees_all, written_vis, CtorIsSeen, CtorIsSeenIn, CtorsAreSeenIn, CtorsAreSeen}
-use Rattle.item_tree.specs.Visibility.{same, meet, meet_all}
+use Rattle.item_tree.specs.Visibility.{same, firsts_behind, distinct}
 use Rattle.item_tree.proofs.Arena.{V, bool_cases}
 use Rattle.item_tree.proofs.Constructors.{ctor_vis_from}
+use Rattle.item_tree.proofs.Distinct.{IsModule, AreModules, AreModules-distinct}
 use Rattle.item_tree.proofs.VisibilityEq.{same-sound}
-
-abbrev IsModule : V → Type 0
-IsModule (Module q e) = Unit {0}
-IsModule v = ⊥
-
-abbrev AreModules : List V → Type 0
-AreModules [] = Unit {0}
-AreModules (v ∷ vs) = IsModule v × AreModules vs
-
-AreModules-push : (ms : List V) (q : Path) (e : VisibilityExplicitness) → AreModules ms → AreModules (ms ++ Module q e ∷ [])
-AreModules-push [] q e h = (tt, tt)
-AreModules-push (m ∷ ms) q e h = (h.0, AreModules-push ms q e h.1)
-
-AreModules-meet : (ms : List V) (v : V) → AreModules ms → AreModules (meet ms v)
-AreModules-meet ms (Module q e) h =
-    elim (bool_cases (list_any (same (Module q e)) ms)) [
-      | inl t ↦ rw t h
-      | inr t ↦ rw t (AreModules-push ms q e h)
-    ]
-AreModules-meet ms (PubSelf e) h = h
-AreModules-meet ms PubCrate h = h
-AreModules-meet ms Public h = h
-
-AreModules-meet_all : (ms vs : List V) → AreModules ms → AreModules (meet_all ms vs)
-AreModules-meet_all ms [] h = h
-AreModules-meet_all ms (v ∷ vs) h = AreModules-meet_all (meet ms v) vs (AreModules-meet ms v h)
 
 -- From a place that is not inside, what is public is seen and what is private is not, and who sees a module's sees the crate's.
 module _ (p : V → Bool) (public : p Public ≡ true) (private : (e : VisibilityExplicitness) → p (PubSelf e) ≡ false) (wider : (q : Path) (e : VisibilityExplicitness) → p (Module q e) ≡ true → p PubCrate ≡ true) where
@@ -62,10 +37,6 @@ module _ (p : V → Bool) (public : p Public ≡ true) (private : (e : Visibilit
   All-push [] v h t = (t, tt)
   All-push (m ∷ ms) v h t = (h.0, All-push ms v h.1 t)
 
-  All-pushed : (ms : List V) (v : V) → All (ms ++ v ∷ []) → All ms × (p v ≡ true)
-  All-pushed [] v h = (tt, h.0)
-  All-pushed (m ∷ ms) v h = let r = All-pushed ms v h.1 in ((h.0, r.0), r.1)
-
   All-same : (ms : List V) (v : V) → list_any (same v) ms ≡ true → All ms → p v ≡ true
   All-same [] v t h = absurd (false≢true t)
   All-same (m ∷ ms) v t h = elim (bool_cases (same v m)) [
@@ -73,28 +44,18 @@ module _ (p : V → Bool) (public : p Public ≡ true) (private : (e : Visibilit
     | inr s ↦ All-same ms v (subst (λ b. (b || list_any (same v) ms) ≡ true) s t) h.1
   ]
 
-  All-meet : (ms : List V) (v : V) → All ms → p v ≡ true → All (meet ms v)
-  All-meet ms (Module q e) h t =
-      elim (bool_cases (list_any (same (Module q e)) ms)) [
-        | inl s ↦ rw s h
-        | inr s ↦ rw s (All-push ms (Module q e) h t)
-      ]
-  All-meet ms (PubSelf e) h t = h
-  All-meet ms PubCrate h t = h
-  All-meet ms Public h t = h
-
-  All-met : (ms : List V) (q : Path) (e : VisibilityExplicitness) → All (meet ms (Module q e)) → All ms × (p (Module q e) ≡ true)
-  All-met ms q e h =
-      elim (bool_cases (list_any (same (Module q e)) ms)) [
-        | inl s ↦ let k : All ms = rw s at h in (k, All-same ms (Module q e) s k)
-        | inr s ↦ let k : All (ms ++ Module q e ∷ []) = rw s at h in All-pushed ms (Module q e) k
-      ]
-
   -- ---- who sees all of them sees those that decide
 
-  All-meet_all : (ms vs : List V) → All ms → All vs → All (meet_all ms vs)
-  All-meet_all ms [] h k = h
-  All-meet_all ms (v ∷ vs) h k = All-meet_all (meet ms v) vs (All-meet ms v h k.0) k.1
+  All-firsts : (before vs : List V) → All vs → All (firsts_behind before vs)
+  All-firsts before [] h = tt
+  All-firsts before (Module q e ∷ vs) h =
+      elim (bool_cases (list_any (same (Module q e)) before)) [
+        | inl t ↦ rw t (All-firsts (before ++ Module q e ∷ []) vs h.1)
+        | inr t ↦ rw t (h.0, All-firsts (before ++ Module q e ∷ []) vs h.1)
+      ]
+  All-firsts before (PubSelf e ∷ vs) h = All-firsts before vs h.1
+  All-firsts before (PubCrate ∷ vs) h = All-firsts before vs h.1
+  All-firsts before (Public ∷ vs) h = All-firsts before vs h.1
 
   All-found : (vs : List V) (v : V) → find is_private vs ≡ Some v → All vs → p v ≡ true
   All-found [] v e h = cc
@@ -117,7 +78,7 @@ module _ (p : V → Bool) (public : p Public ≡ true) (private : (e : Visibilit
 
   deciding-seen : (o : Option V) (vs : List V) → find is_private vs ≡ o → All vs → All (deciding_by o vs)
   deciding-seen (Some v) vs e h = (All-found vs v e h, tt)
-  deciding-seen None vs e h = widest-seen (meet_all [] vs) (list_any is_pub_crate vs) (All-meet_all [] vs tt h) (crate-seen vs h)
+  deciding-seen None vs e h = widest-seen (distinct vs) (list_any is_pub_crate vs) (All-firsts [] vs h) (crate-seen vs h)
 
   -- ---- and who sees those sees all
 
@@ -128,15 +89,19 @@ module _ (p : V → Bool) (public : p Public ≡ true) (private : (e : Visibilit
   found-hidden (PubCrate ∷ vs) v e = found-hidden vs v e
   found-hidden (Public ∷ vs) v e = found-hidden vs v e
 
-  All-met_all : (ms vs : List V) → find is_private vs ≡ None → All (meet_all ms vs) → (list_any is_pub_crate vs ≡ true → p PubCrate ≡ true) → All ms × All vs
-  All-met_all ms [] e h f = (h, tt)
-  All-met_all ms (PubSelf x ∷ vs) e h f = cc
-  All-met_all ms (PubCrate ∷ vs) e h f = let r = All-met_all ms vs e h (λ t. f refl) in (r.0, (f refl, r.1))
-  All-met_all ms (Public ∷ vs) e h f = let r = All-met_all ms vs e h f in (r.0, (public, r.1))
-  All-met_all ms (Module q x ∷ vs) e h f =
-      let r = All-met_all (meet ms (Module q x)) vs e h f in
-      let s = All-met ms q x r.0 in
-      (s.0, (s.1, r.1))
+  All-behind : (before vs : List V) → find is_private vs ≡ None → All before → All (firsts_behind before vs) → (list_any is_pub_crate vs ≡ true → p PubCrate ≡ true) → All vs
+  All-behind before [] e b h f = tt
+  All-behind before (PubSelf x ∷ vs) e b h f = cc
+  All-behind before (PubCrate ∷ vs) e b h f = (f refl, All-behind before vs e b h (λ t. f refl))
+  All-behind before (Public ∷ vs) e b h f = (public, All-behind before vs e b h f)
+  All-behind before (Module q x ∷ vs) e b h f =
+      let more = before ++ Module q x ∷ [] in
+      elim (bool_cases (list_any (same (Module q x)) before)) [
+        | inl t ↦ let k : All (firsts_behind more vs) = rw t at h in
+            let seen = All-same before (Module q x) t b in
+            (seen, All-behind more vs e (All-push before (Module q x) b seen) k f)
+        | inr t ↦ let k : All (Module q x ∷ firsts_behind more vs) = rw t at h in (k.0, All-behind more vs e (All-push before (Module q x) b k.0) k.1 f)
+      ]
 
   module_wider : (m : V) → IsModule m → p m ≡ true → p PubCrate ≡ true
   module_wider (Module q x) k h = wider q x h
@@ -152,8 +117,8 @@ module _ (p : V → Bool) (public : p Public ≡ true) (private : (e : Visibilit
   all-seen : (o : Option V) (vs : List V) → find is_private vs ≡ o → All (deciding_by o vs) → All vs
   all-seen (Some v) vs e h = absurd (false≢true (sym (found-hidden vs v e) ∙ h.0))
   all-seen None vs e h =
-      let r = widest-back (meet_all [] vs) (list_any is_pub_crate vs) (AreModules-meet_all [] vs tt) h in
-      (All-met_all [] vs e r.0 r.1).1
+      let r = widest-back (distinct vs) (list_any is_pub_crate vs) (AreModules-distinct vs) h in
+      All-behind [] vs e tt r.0 r.1
 
   pub decide : (vs : List V) → list_all p (deciding vs) ≡ list_all p vs
   decide vs =

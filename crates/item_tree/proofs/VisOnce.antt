@@ -1,18 +1,19 @@
 -- A visibility has one id, so an id lends one item.
-use Rattle.std.proofs.Common.{◌≡◌, ◌⊎◌, ℕ, zero, suc, eqb, inl, inr, false, List, [], ◌∷◌, ◌++◌, length, map, Option, Some, refl, ap, sym, ◌∙◌, subst}
-use Rattle.std.specs.Prelude.{slice_get}
-use Rattle.std.specs.List.{list_any}
+use Rattle.std.proofs.Common.{◌≡◌, ℕ, zero, suc, eqb, inl, inr, true, List, [], ◌∷◌, map, Option, Some, refl, ap, sym, ◌∙◌, subst, arith}
+use Rattle.std.specs.Prelude.{◌≢◌, slice_get, All}
+use Rattle.std.specs.List.{AllPairs}
+use Rattle.std.proofs.lemmas.List.Elements.{All-head, All-tail}
 use Rattle.std.proofs.lemmas.Bool.{eqb-true}
-use Rattle.hir_input.specs.Path.{Path}
-use Rattle.item_tree.specs.declared.visibility.VisibilityExplicitness.{VisibilityExplicitness}
 use Rattle.item_tree.specs.declared.visibility.VisibilityExplicitness.TheVariants.{Explicit, Implicit}
 use Rattle.item_tree.specs.declared.visibility.RawVisibility.{RawVisibility}
 use Rattle.item_tree.specs.declared.visibility.RawVisibility.TheVariants.{Module, PubSelf, PubCrate, Public}
-use Rattle.item_tree.specs.Node.{Ctor, no_ctor, ctor_with, ctor_with_min, Leaf, plain, constant, struct_item, outline, use_item, extern_crate, impl_item, macro_call, macro_rules, Trunk, inline, extern_block, leaf_kind, trunk_kind, Node, Forest, leaf, parent, empty, more, file_id, Unfolding}
-use Rattle.item_tree.specs.Layout.{VisId, fixed, place, place_of, vis_id, plain_vis, value_at, ctor_map, leaf_map, trunk_map, leaf_vis, trunk_vis, node_met, met, arena_of, vis_at}
-use Rattle.item_tree.specs.Visibility.{same, meet, meet_all}
+use Rattle.item_tree.specs.Node.{Ctor, no_ctor, ctor_with, ctor_with_min, Leaf, plain, constant, struct_item, outline, use_item, extern_crate, impl_item, macro_call, macro_rules, Trunk, inline, extern_block, leaf_kind, trunk_kind, Forest, leaf, parent, file_id, Unfolding}
+use Rattle.item_tree.specs.Layout.{VisId, fixed, place, place_of, vis_id, plain_vis, value_at, ctor_map, leaf_map, trunk_map, forest_vis, arena_of, vis_at}
+use Rattle.item_tree.specs.Visibility.{same, distinct}
 use Rattle.item_tree.specs.Shown.{Lent, lent_leaf, lent_parent, IsLent, LendAlike}
-use Rattle.item_tree.proofs.Arena.{bool_cases, place-right, place-push, place-absent}
+use Rattle.item_tree.proofs.Arena.{bool_cases, place-here, place-later}
+use Rattle.item_tree.proofs.Distinct.{distinct_once, IsModule, AreModules-distinct, AreModules-at}
+use Rattle.item_tree.proofs.VisibilityEq.{same-sound, same-itself}
 
 -- ---- a stored number stands for one visibility
 
@@ -46,47 +47,34 @@ raw-plain i =
 abbrev IsArena : List RawVisibility → Type 0
 IsArena xs = (k : ℕ) (v : RawVisibility) → slice_get xs k ≡ Some v → vis_id xs v ≡ place k
 
-get-push : (xs : List RawVisibility) (v w : RawVisibility) (k : ℕ) → slice_get (xs ++ v ∷ []) k ≡ Some w → (slice_get xs k ≡ Some w) ⊎ ((k ≡ length xs) × (v ≡ w))
-get-push [] v w zero h = inr (refl, cc)
-get-push [] v w (suc k) h = absurd (cc)
-get-push (x ∷ xs) v w zero h = inl h
-get-push (x ∷ xs) v w (suc k) h = elim (get-push xs v w k h) [ inl p ↦ inl p | inr p ↦ inr (ap suc p.0, p.1) ]
+All-at : {X : Type 0} (P : X → Type 0) (xs : List X) (k : ℕ) (v : X) → All P xs → slice_get xs k ≡ Some v → P v
+All-at P [] k v a h = absurd (cc)
+All-at P (x ∷ xs) zero v a h = let q : x ≡ v = cc in subst P q (All-head P x xs a)
+All-at P (x ∷ xs) (suc k) v a h = All-at P xs k v (All-tail P x xs a) h
 
-place-kept : (xs ys : List RawVisibility) (w : RawVisibility) (k : ℕ) → slice_get xs k ≡ Some w → vis_id xs w ≡ place k → vis_id (xs ++ ys) w ≡ place k
-place-kept xs ys (Module p e) k g h = let q : place_of xs (Module p e) ≡ k = cc in ap place (place-right xs ys (Module p e) (subst (λ j. slice_get xs j ≡ Some (Module p e)) (sym q) g) ∙ q)
-place-kept xs ys (PubSelf e) k g h = h
-place-kept xs ys PubCrate k g h = h
-place-kept xs ys Public k g h = h
-
-IsArena-push : (xs : List RawVisibility) (p : Path) (e : VisibilityExplicitness) → list_any (same (Module p e)) xs ≡ false → IsArena xs → IsArena (xs ++ Module p e ∷ [])
-IsArena-push xs p e n a = λ k w h.
-    elim (get-push xs (Module p e) w k h) [
-      | inl g ↦ place-kept xs (Module p e ∷ []) w k g (a k w g)
-      | inr q ↦ subst (λ z. vis_id (xs ++ Module p e ∷ []) z ≡ place k) q.1 (ap place (place-push xs (Module p e) n ∙ place-absent xs (Module p e) n ∙ sym q.0))
+-- where nothing repeats, a visibility stands at one place
+place-once : (xs : List RawVisibility) (k : ℕ) (v : RawVisibility) → AllPairs (λ v w. v ≢ w) xs → slice_get xs k ≡ Some v → place_of xs v ≡ k
+place-once [] k v o h = absurd (cc)
+place-once (x ∷ xs) zero v o h = let q : x ≡ v = cc in place-here x xs v (subst (λ z. same v z ≡ true) (sym q) (same-itself v))
+place-once (x ∷ xs) (suc k) v o h =
+    let first : All (λ w. x ≢ w) xs = λ j d l. o 0 (suc j) d (omega arith) (omega arith) in
+    let others : AllPairs (λ v w. v ≢ w) xs = λ i j d l m. o (suc i) (suc j) d (omega arith) (omega arith) in
+    elim (bool_cases (same v x)) [
+      | inl e ↦ absurd (All-at (λ w. x ≢ w) xs k v first h (sym (same-sound v x e)))
+      | inr e ↦ place-later x xs v e ∙ ap suc (place-once xs k v others h)
     ]
 
-IsArena-meet : (xs : List RawVisibility) (v : RawVisibility) → IsArena xs → IsArena (meet xs v)
-IsArena-meet xs (Module p e) a =
-    elim (bool_cases (list_any (same (Module p e)) xs)) [ inl h ↦ rw h a | inr h ↦ rw h (IsArena-push xs p e h a) ]
-IsArena-meet xs (PubSelf e) a = a
-IsArena-meet xs PubCrate a = a
-IsArena-meet xs Public a = a
-
-IsArena-meet_all : (xs vs : List RawVisibility) → IsArena xs → IsArena (meet_all xs vs)
-IsArena-meet_all xs [] a = a
-IsArena-meet_all xs (v ∷ vs) a = IsArena-meet_all (meet xs v) vs (IsArena-meet xs v a)
-
-mutual
-  IsArena-node_met : (n : Node) (xs : List RawVisibility) → IsArena xs → IsArena (node_met n xs)
-  IsArena-node_met (leaf h l) xs a = IsArena-meet_all xs (leaf_vis l) a
-  IsArena-node_met (parent h t f) xs a = IsArena-met f (meet_all xs (trunk_vis t)) (IsArena-meet_all xs (trunk_vis t) a)
-
-  IsArena-met : (f : Forest) (xs : List RawVisibility) → IsArena xs → IsArena (met f xs)
-  IsArena-met empty xs a = a
-  IsArena-met (more n f) xs a = IsArena-met f (node_met n xs) (IsArena-node_met n xs a)
+vis_id-module : (xs : List RawVisibility) (v : RawVisibility) → IsModule v → vis_id xs v ≡ place (place_of xs v)
+vis_id-module xs (Module p e) m = refl
+vis_id-module xs (PubSelf e) m = absurd m
+vis_id-module xs PubCrate m = absurd m
+vis_id-module xs Public m = absurd m
 
 IsArena-arena_of : (f : Forest) → IsArena (arena_of f)
-IsArena-arena_of f = IsArena-met f [] (λ k v h. absurd (cc))
+unfolding arena_of
+IsArena-arena_of f = λ k v h.
+    vis_id-module (distinct (forest_vis f)) v (AreModules-at (distinct (forest_vis f)) k v (AreModules-distinct (forest_vis f)) h)
+    ∙ ap place (place-once (distinct (forest_vis f)) k v (distinct_once (forest_vis f)) h)
 
 -- ---- so a visibility has one id
 

@@ -18,8 +18,8 @@ use Rattle.item_tree.specs.CrateView.{crate_view}
 use Rattle.item_tree.specs.Node.{Node, Forest, empty, add, count, Unfolding}
 use Rattle.item_tree.specs.Kept.{kept, kept_all, top_attrs_of}
 use Rattle.item_tree.specs.Column.{is_empty, unless, some_unless, column_of, places_from, plain_place}
-use Rattle.item_tree.specs.Visibility.{meet, meet_all}
-use Rattle.item_tree.specs.Layout.{vis_id, plain_vis, met, kind_bit, ids, Row, row_tag, row_key, row_attrs, row_item, rows_of}
+use Rattle.item_tree.specs.Meeting.{meet, meet_all, met}
+use Rattle.item_tree.specs.Layout.{vis_id, plain_vis, kind_bit, ids, Row, row_tag, row_key, row_attrs, row_item, rows_of}
 use Rattle.item_tree.specs.Imports.{super_limit}
 use Rattle.item_tree.specs.KeptUse.{use_tree_limit}
 use Rattle.item_tree.specs.Size.{item_limit, visibility_limit, most_attrs, forest_supers, item_written, items_written, Sizes, IsPassed, only_visibilities}

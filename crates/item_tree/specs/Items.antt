@@ -1,7 +1,9 @@
 -- Items by their values.
-use Rattle.std.specs.Prelude.{◌≡◌, ℕ, List, Option, Some, None}
+use Rattle.std.specs.Prelude.{ℕ, List, Option, Some, None}
 use Rattle.item_tree.specs.declared.items.ExternBlock.{ExternBlock}
+use Rattle.item_tree.specs.declared.items.FieldsShape.{FieldsShape}
 use Rattle.item_tree.specs.declared.items.Struct.{Struct}
+use Rattle.item_tree.specs.Node.{Ctor}
 use Rattle.item_tree.specs.Shown.{ctor_ids}
 use Rattle.item_tree.specs.declared.items.ModKind.{ModKind}
 use Rattle.item_tree.specs.declared.items.ModKind.TheVariants.{Inline, Outline}
@@ -12,19 +14,25 @@ abbrev pub inline_ids : ModKind → Option (List ℕ)
 inline_ids (Inline v) = Some v.items
 inline_ids Outline = None
 
--- name, visibility and items are the same
-pub record IsCopyOfMod (item copy : Mod) : Type 0 where
-  pub name : copy.name ≡ item.name
-  pub visibility : copy.visibility ≡ item.visibility
-  pub kind : inline_ids copy.kind ≡ inline_ids item.kind
+-- a module by its values: its name, the id of its visibility, and the ids of the items in it
+pub record ModValue : Type 0 where
+  pub name : List ℕ
+  pub visibility : ℕ
+  pub items : Option (List ℕ)
 
--- name, visibility, shape and constructor are the same
-pub record IsCopyOfStruct (item copy : Struct) : Type 0 where
-  pub name : copy.name ≡ item.name
-  pub visibility : copy.visibility ≡ item.visibility
-  pub shape : copy.shape ≡ item.shape
-  pub ctor : ctor_ids copy.value_ns_ctor ≡ ctor_ids item.value_ns_ctor
+abbrev pub mod_value : Mod → ModValue
+mod_value m = record { name = m.name; visibility = m.visibility; items = inline_ids m.kind }
 
--- the items are the same
-pub record IsCopyOfExternBlock (item copy : ExternBlock) : Type 0 where
-  pub children : copy.children.items ≡ item.children.items
+-- a struct by its values: its name, the id of its visibility, its shape, and its constructor over ids
+pub record StructValue : Type 0 where
+  pub name : List ℕ
+  pub visibility : ℕ
+  pub shape : FieldsShape
+  pub ctor : Ctor ℕ
+
+abbrev pub struct_value : Struct → StructValue
+struct_value s = record { name = s.name; visibility = s.visibility; shape = s.shape; ctor = ctor_ids s.value_ns_ctor }
+
+-- an extern block by the ids of its children
+abbrev pub block_value : ExternBlock → List ℕ
+block_value b = b.children.items

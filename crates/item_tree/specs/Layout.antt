@@ -7,7 +7,7 @@ use Rattle.item_tree_attrs.specs.Collected.{Collected}
 use Rattle.item_tree.specs.declared.visibility.RawVisibility.{RawVisibility}
 use Rattle.item_tree.specs.declared.visibility.RawVisibility.TheVariants.{Module, PubSelf, PubCrate, Public}
 use Rattle.item_tree.specs.declared.visibility.VisibilityExplicitness.TheVariants.{Explicit, Implicit}
-use Rattle.item_tree.specs.Visibility.{same, meet_all}
+use Rattle.item_tree.specs.Visibility.{same, distinct}
 use Rattle.item_tree.specs.Node.{Ctor, no_ctor, ctor_with, ctor_with_min, Leaf, plain, constant, struct_item, outline, use_item, extern_crate, impl_item, macro_call, macro_rules, Trunk, inline, extern_block, leaf_kind, trunk_kind, Head, Node, Forest, leaf, parent, empty, more, add, node_kind, Unfolding}
 use Rattle.item_tree.specs.Column.{is_empty, unless, some_unless, column_of, places_from, attrs_stored}
 
@@ -98,19 +98,19 @@ abbrev mutual
   walk empty = []
   walk (more n f) = node_walk n ++ walk f
 
--- the arena after the walk that meets a node's own visibilities before its children
+-- the visibilities in the walk that meets a node's own before those of its children
 abbrev mutual
-  pub node_met : Node → List RawVisibility → List RawVisibility
-  node_met (leaf h l) arena = meet_all arena (leaf_vis l)
-  node_met (parent h t f) arena = met f (meet_all arena (trunk_vis t))
+  pub node_vis : Node → List RawVisibility
+  node_vis (leaf h l) = leaf_vis l
+  node_vis (parent h t f) = trunk_vis t ++ forest_vis f
 
-  pub met : Forest → List RawVisibility → List RawVisibility
-  met empty arena = arena
-  met (more n f) arena = met f (node_met n arena)
+  pub forest_vis : Forest → List RawVisibility
+  forest_vis empty = []
+  forest_vis (more n f) = node_vis n ++ forest_vis f
 
 -- the distinct visibilities of modules in a forest, by first meeting
-abbrev pub arena_of : Forest → List RawVisibility
-arena_of f = met f []
+unfoldable pub arena_of : Forest → List RawVisibility
+arena_of f = distinct (forest_vis f)
 
 -- ---- ids, rows and tables
 

@@ -1,6 +1,7 @@
 pub mod Visibility
 pub mod Constructor
 pub mod Items
+pub mod IdOrder
 pub mod CrateView
 pub mod CrateCode
 pub mod Tree
@@ -18,6 +19,7 @@ pub mod Kept
 pub mod Sees
 pub mod Column
 pub mod Layout
+pub mod Meeting
 pub mod Reach
 pub mod Shown
 pub mod Walk

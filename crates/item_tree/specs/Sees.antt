@@ -3,11 +3,12 @@ use Rattle.std.specs.Prelude.{◌≡◌, Bool, true, false, List, [], ◌∷◌,
 use Rattle.std.specs.List.{list_any, list_all}
 use Rattle.hir_input.specs.Path.{Path}
 use Rattle.hir_input.specs.Syntax.{NamedView, FieldsView, record_fields, tuple_fields, ItemView, struct_item, listed_module, ItemViews, no_items, item_and, SyntaxView, source_file, error}
-use Rattle.hir_input.specs.contracts.mod_path.ModPathPartialEq.TheImpl as paths
 use Rattle.item_tree.specs.declared.visibility.RawVisibility.{RawVisibility}
 use Rattle.item_tree.specs.declared.visibility.RawVisibility.TheVariants.{Module, PubSelf, PubCrate, Public}
 use Rattle.item_tree.specs.Constructor.{ctor_of}
 use Rattle.item_tree.specs.Layout.{ctor_vis}
+use Rattle.item_tree.specs.Same.{same}
+use Rattle.item_tree.specs.TreeCode.{path_code}
 use Rattle.item_tree.specs.Visibility.{read_visibility}
 
 -- where a place is: in the module that all of this stands in, elsewhere in the crate, or outside of the crate
@@ -26,7 +27,7 @@ abbrev pub seen_from : Where → List Path → RawVisibility → Bool
 seen_from inside modules v = true
 seen_from in_crate modules Public = true
 seen_from in_crate modules PubCrate = true
-seen_from in_crate modules (Module p e) = list_any (paths.ghosts.eq p) modules
+seen_from in_crate modules (Module p e) = list_any (same path_code p) modules
 seen_from in_crate modules (PubSelf e) = false
 seen_from outside modules Public = true
 seen_from outside modules v = false

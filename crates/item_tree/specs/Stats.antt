@@ -2,12 +2,14 @@
 use Rattle.std.specs.Prelude.{ℕ, ◌+◌, Bool, if◌then◌else◌}
 use Rattle.hir_input.specs.declared.ids.AstIdKind.{AstIdKind}
 use Rattle.hir_input.specs.declared.ids.AstIdKind.TheVariants as kind
-use Rattle.hir_input.specs.contracts.ids.AstIdKindPartialEq.TheImpl as kinds
+use Rattle.hir_input.specs.contracts.ids.AstIdKind as kinds
 use Rattle.item_tree.specs.Node.{Node, Forest, leaf, parent, empty, more, leaf_kind, trunk_kind}
+use Rattle.item_tree.specs.Same.{same}
 use Rattle.item_tree.specs.declared.tree.ItemTreeDataStats.{ItemTreeDataStats}
 
+-- whether two kinds are the same
 abbrev pub kind_is : AstIdKind → AstIdKind → Bool
-kind_is k other = kinds.ghosts.eq other k
+kind_is = same kinds.the_row.coded
 
 abbrev pub one_if : Bool → ℕ
 one_if b = if b then 1 else 0
@@ -30,3 +32,7 @@ stats_of f = record {
   macro_calls = count_of kind.MacroCall f;
   macro_rules = count_of kind.MacroRules f;
 }
+
+-- no items of these kinds
+abbrev pub no_stats : ItemTreeDataStats
+no_stats = record { traits = 0; impls = 0; mods = 0; macro_calls = 0; macro_rules = 0 }

@@ -1,6 +1,8 @@
 -- The tables of a tree as they stand in memory. Only private contracts speak of them.
-use Rattle.std.specs.Prelude.{◌≡◌, ℕ, List, map, Option}
+use Rattle.std.specs.Prelude.{◌≡◌, ℕ, Bool, List, map, Option}
 use Rattle.hir_input.specs.Syntax.{fn_kind, union_kind, enum_kind, static_kind, trait_kind, type_alias_kind, macro_def_kind}
+use Rattle.hir_input.specs.declared.ids.AstIdKind.{AstIdKind}
+use Rattle.hir_input.specs.contracts.ids.AstIdKindPartialEq.TheImpl as kinds
 use Rattle.item_tree_attrs.specs.Collected.{Collected, collected}
 use Rattle.item_tree.specs.declared.items.ModItem.{ModItem}
 use Rattle.item_tree.specs.declared.items.ModItem.TheVariants as item
@@ -42,6 +44,10 @@ item_row (item.ExternBlock x) = parent_plain extern_block x.children.items
 item_row (item.Impl x) = leaf_plain (impl_item x.is_trait_impl)
 item_row (item.MacroCall x) = leaf_plain (macro_call x.path x.expand_to x.ctxt)
 item_row (item.MacroRules x) = leaf_plain (macro_rules x.name)
+
+-- whether a tag is this kind, as the code tests it
+abbrev pub has_tag : AstIdKind → AstIdKind → Bool
+has_tag k tag = kinds.ghosts.eq tag k
 
 abbrev pub key_in : AstKey → Key
 key_in k = record { hash = k.hash; number = k.number }

@@ -8,7 +8,8 @@ use Rattle.hir_input.specs.declared.mod_path.PathKind.TheVariants.{Super}
 use Rattle.item_tree.specs.declared.visibility.RawVisibility.{RawVisibility}
 use Rattle.item_tree.specs.declared.visibility.RawVisibility.TheVariants.{Module, PubSelf, PubCrate, Public}
 use Rattle.item_tree.specs.declared.visibility.VisibilityExplicitness.TheVariants.{Explicit, Implicit}
-use Rattle.item_tree.specs.contracts.visibility.RawVisibilityPartialEq.TheImpl as raw
+use Rattle.item_tree.specs.contracts.visibility.RawVisibility as raw
+use Rattle.item_tree.specs.Same.{same as same_by}
 
 -- what a written visibility is read as
 abbrev pub read_visibility : Option Visibility → RawVisibility
@@ -20,15 +21,16 @@ read_visibility (Some written.PubSuper) = Module (record { kind = Super 1; names
 read_visibility (Some (written.InPath (Readable path))) = Module path Explicit
 read_visibility (Some (written.InPath Unreadable)) = PubSelf Implicit
 
+-- whether two are the same
 abbrev pub same : RawVisibility → RawVisibility → Bool
-same = raw.ghosts.eq
+same = same_by raw.the_row.coded
 
--- visibilities of modules once v was met: if it is that of a module, it stands among them once
-abbrev pub meet : List RawVisibility → RawVisibility → List RawVisibility
-meet ms (Module p e) = if list_any (same (Module p e)) ms then ms else ms ++ Module p e ∷ []
-meet ms v = ms
+-- the visibilities of modules among several that stand behind others: each where no equal one stands before it
+abbrev pub firsts_behind : List RawVisibility → List RawVisibility → List RawVisibility
+firsts_behind before [] = []
+firsts_behind before (Module p e ∷ vs) = (if list_any (same (Module p e)) before then [] else Module p e ∷ []) ++ firsts_behind (before ++ Module p e ∷ []) vs
+firsts_behind before (v ∷ vs) = firsts_behind before vs
 
--- and once several were met: in order of first appearance
-abbrev pub meet_all : List RawVisibility → List RawVisibility → List RawVisibility
-meet_all ms [] = ms
-meet_all ms (v ∷ vs) = meet_all (meet ms v) vs
+-- the distinct visibilities of modules among several, by first appearance
+abbrev pub distinct : List RawVisibility → List RawVisibility
+distinct vs = firsts_behind [] vs

@@ -72,6 +72,7 @@ impl From<AttrError> for LowerError {
     }
 }
 
+/// Keeps the cause alone: both sides that the refusal hands back are dropped.
 impl From<MergeRefused> for LowerError {
     ghost use Rattle.std.specs.Prelude.{◌≡◌};
     ghost use Rattle.item_tree.specs.Size.{fault_of};

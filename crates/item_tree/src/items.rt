@@ -1,5 +1,6 @@
 //! The items of a tree, and their ids.
 ghost use Rattle.std.specs.Prelude.{◌≡◌, ◌↔◌, ◌≢◌, ◌+◌, ◌*◌, ◌/◌, ◌%◌, ◌<◌, ◌^◌, IsTrue};
+ghost use Rattle.hir_input.specs.declared.ids.AstIdKind.TheVariants as kinds;
 ghost use Rattle.item_tree.specs.declared.items.FieldsShape.TheVariants.{Record};
 ghost use Rattle.item_tree.specs.Layout.{kind_bit, row_kind};
 ghost use Rattle.item_tree.specs.Stored.{item_row};
@@ -11,12 +12,13 @@ mod copy;
 use crate::use_tree::{ImportAlias, UseTree};
 use crate::visibility::RawVisibilityId;
 use hir_input::{AstIdKind, ExpandTo, ModPath, Name, SyntaxContext};
+use std::cmp::Ordering;
 use std::marker::Model;
 
 /// The id of an item in its tree.
 ///
-/// Ids are ordered and hashed as numbers; which of two ids is less is not promised.
-#[derive(Clone, Copy, Debug, PartialEq, Eq, PartialOrd, Ord, Hash)]
+/// The order of ids is total and agrees with `==`; which of two ids is less is not promised.
+#[derive(Clone, Copy, Debug, PartialEq, Eq, Hash)]
 pub struct ModItemId {
     id: u32,
 }
@@ -29,6 +31,37 @@ impl Model for ModItemId {
     ghost view = { λ i. i.id };
 
     ghost inverse = { λ n. record { id = n } };
+}
+
+impl PartialOrd for ModItemId {
+    ghost use Rattle.std.specs.Ordering.{as_partial_cmp};
+    ghost use Rattle.item_tree.specs.IdOrder.{id_cmp, id_cmp_partial};
+
+    ghost partial_cmp = { as_partial_cmp id_cmp };
+
+    ghost laws = { id_cmp_partial };
+
+    fn partial_cmp(&self, other: &ModItemId) -> Option<Ordering> {
+        Some(self.cmp(other))
+    }
+}
+
+impl Ord for ModItemId {
+    ghost use Rattle.std.specs.Prelude.{refl};
+    ghost use Rattle.item_tree.specs.IdOrder.{id_cmp, id_cmp_total, id_cmp_ties};
+
+    ghost cmp = { id_cmp };
+
+    ghost total = { id_cmp_total };
+
+    ghost matches_partial_cmp = { λ i j. refl };
+
+    ghost matches_eq = { id_cmp_ties };
+
+    #[tactic(auto, unfolding(crate::specs::IdOrder::id_cmp))]
+    fn cmp(&self, other: &ModItemId) -> Ordering {
+        self.id.cmp(&other.id)
+    }
 }
 
 impl ModItemId {
@@ -70,8 +103,12 @@ fn low_bit(kind: AstIdKind) -> u32
 
 /// What all item types have. rust-analyzer's `ItemTreeNode`.
 pub trait ItemTreeNode {
+    ghost use Rattle.hir_input.specs.declared.ids.AstIdKind.{AstIdKind};
+
     /// The kind of the syntax node that such an item is lowered from.
     const KIND: AstIdKind;
+
+    ghost KIND: { AstIdKind };
 }
 
 /// How the fields of a struct are written.
@@ -140,7 +177,7 @@ pub struct Function {
 }
 
 /// An impl, of a trait or of the type alone.
-#[derive(Debug, Drop, PartialEq, Eq)]
+#[derive(Clone, Copy, Debug, PartialEq, Eq)]
 pub struct Impl {
     pub is_trait_impl: bool,
 }
@@ -290,66 +327,98 @@ impl Eq for Use {
 }
 
 impl ItemTreeNode for Const {
+    ghost KIND = { kinds.Const };
+
     const KIND: AstIdKind = AstIdKind::Const;
 }
 
 impl ItemTreeNode for Enum {
+    ghost KIND = { kinds.Enum };
+
     const KIND: AstIdKind = AstIdKind::Enum;
 }
 
 impl ItemTreeNode for ExternBlock {
+    ghost KIND = { kinds.ExternBlock };
+
     const KIND: AstIdKind = AstIdKind::ExternBlock;
 }
 
 impl ItemTreeNode for ExternCrate {
+    ghost KIND = { kinds.ExternCrate };
+
     const KIND: AstIdKind = AstIdKind::ExternCrate;
 }
 
 impl ItemTreeNode for Function {
+    ghost KIND = { kinds.Fn };
+
     const KIND: AstIdKind = AstIdKind::Fn;
 }
 
 impl ItemTreeNode for Impl {
+    ghost KIND = { kinds.Impl };
+
     const KIND: AstIdKind = AstIdKind::Impl;
 }
 
 impl ItemTreeNode for Macro2 {
+    ghost KIND = { kinds.MacroDef };
+
     const KIND: AstIdKind = AstIdKind::MacroDef;
 }
 
 impl ItemTreeNode for MacroCall {
+    ghost KIND = { kinds.MacroCall };
+
     const KIND: AstIdKind = AstIdKind::MacroCall;
 }
 
 impl ItemTreeNode for MacroRules {
+    ghost KIND = { kinds.MacroRules };
+
     const KIND: AstIdKind = AstIdKind::MacroRules;
 }
 
 impl ItemTreeNode for Mod {
+    ghost KIND = { kinds.Module };
+
     const KIND: AstIdKind = AstIdKind::Module;
 }
 
 impl ItemTreeNode for Static {
+    ghost KIND = { kinds.Static };
+
     const KIND: AstIdKind = AstIdKind::Static;
 }
 
 impl ItemTreeNode for Struct {
+    ghost KIND = { kinds.Struct };
+
     const KIND: AstIdKind = AstIdKind::Struct;
 }
 
 impl ItemTreeNode for Trait {
+    ghost KIND = { kinds.Trait };
+
     const KIND: AstIdKind = AstIdKind::Trait;
 }
 
 impl ItemTreeNode for TypeAlias {
+    ghost KIND = { kinds.TypeAlias };
+
     const KIND: AstIdKind = AstIdKind::TypeAlias;
 }
 
 impl ItemTreeNode for Union {
+    ghost KIND = { kinds.Union };
+
     const KIND: AstIdKind = AstIdKind::Union;
 }
 
 impl ItemTreeNode for Use {
+    ghost KIND = { kinds.Use };
+
     const KIND: AstIdKind = AstIdKind::Use;
 }
 

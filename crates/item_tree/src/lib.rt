@@ -4,6 +4,7 @@
 pub mod crate_data;
 pub mod fault;
 pub mod items;
+mod laws;
 mod line;
 pub mod lower;
 pub mod pretty;

@@ -6,8 +6,8 @@ ghost use Rattle.item_tree.specs.Layout.{node_at, unfold_tables};
 ghost use Rattle.item_tree.specs.Reach.{top_ids};
 ghost use Rattle.item_tree.specs.Shown.{IsContained, HasVisibility, IsShown, StandFor, lent_attrs, attrs_at};
 ghost use Rattle.item_tree.specs.Size.{Fits};
-ghost use Rattle.item_tree.specs.Stats.{stats_of, kind_is};
-ghost use Rattle.item_tree.specs.Stored.{AreSound, tables_of};
+ghost use Rattle.item_tree.specs.Stats.{stats_of};
+ghost use Rattle.item_tree.specs.Stored.{AreSound, has_tag, tables_of};
 ghost use Rattle.item_tree.specs.Walk.{IsWalkedOnce};
 
 use crate::items::{
@@ -83,6 +83,7 @@ pub struct ItemTreeDataStats {
 
 impl ItemTree {
     /// The empty tree. Takes no memory.
+    #[tactic(auto, unfolding(crate::specs::Layout::arena_of))]
     pub fn empty(alloc: Global) -> ItemTree
         ensures { result ≡ nothing }
     {
@@ -197,7 +198,7 @@ impl ItemTree {
 }
 
 fn count_kind(tags: &[AstIdKind], kind: AstIdKind) -> usize
-    ensures { result ≡ count_by (kind_is kind) tags.now }
+    ensures { result ≡ count_by (has_tag kind) tags.now }
 {
     tags.iter().filter(|tag| **tag == kind).count()
 }

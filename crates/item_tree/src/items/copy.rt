@@ -2,8 +2,8 @@
 ghost use Rattle.std.specs.Prelude.{◌≡◌};
 
 use crate::items::{
-    Const, Enum, ExternBlock, ExternCrate, Function, Impl, Macro2, MacroCall, MacroRules, Mod,
-    ModKind, Static, Struct, StructValueNsCtor, Trait, TypeAlias, Union, Use,
+    Const, Enum, ExternBlock, ExternCrate, Function, Macro2, MacroCall, MacroRules, Mod, ModKind,
+    Static, Struct, StructValueNsCtor, Trait, TypeAlias, Union, Use,
 };
 use std::alloc::AllocError;
 
@@ -32,9 +32,9 @@ impl Clone for Enum {
 }
 
 impl Clone for ExternBlock {
-    ghost use Rattle.item_tree.specs.Items.{IsCopyOfExternBlock};
+    ghost use Rattle.item_tree.specs.Items.{block_value};
 
-    ghost is_clone = { IsCopyOfExternBlock };
+    ghost is_clone = { λ block copy. block_value copy ≡ block_value block };
 
     fn clone(&self) -> Result<ExternBlock, AllocError> {
         Ok(ExternBlock {
@@ -65,16 +65,6 @@ impl Clone for Function {
         Ok(Function {
             name,
             visibility: self.visibility,
-        })
-    }
-}
-
-impl Clone for Impl {
-    ghost is_clone = { λ item copy. copy ≡ item };
-
-    fn clone(&self) -> Result<Impl, AllocError> {
-        Ok(Impl {
-            is_trait_impl: self.is_trait_impl,
         })
     }
 }
@@ -130,9 +120,9 @@ impl Clone for ModKind {
 }
 
 impl Clone for Mod {
-    ghost use Rattle.item_tree.specs.Items.{IsCopyOfMod};
+    ghost use Rattle.item_tree.specs.Items.{mod_value};
 
-    ghost is_clone = { IsCopyOfMod };
+    ghost is_clone = { λ item copy. mod_value copy ≡ mod_value item };
 
     fn clone(&self) -> Result<Mod, AllocError> {
         let name = self.name.clone()?;
@@ -176,9 +166,9 @@ impl Clone for StructValueNsCtor {
 }
 
 impl Clone for Struct {
-    ghost use Rattle.item_tree.specs.Items.{IsCopyOfStruct};
+    ghost use Rattle.item_tree.specs.Items.{struct_value};
 
-    ghost is_clone = { IsCopyOfStruct };
+    ghost is_clone = { λ item copy. struct_value copy ≡ struct_value item };
 
     fn clone(&self) -> Result<Struct, AllocError> {
         let name = self.name.clone()?;

@@ -113,6 +113,7 @@ fn read_visibilities(
 }
 
 // Those visibilities that decide who sees what needs all of them.
+#[tactic(auto, using(crate::proofs::Distinct::meet_distinct, crate::proofs::VisibilityEq::any_raw))]
 fn select_deciding(
     alloc: Global,
     written: Vec<RawVisibility>,

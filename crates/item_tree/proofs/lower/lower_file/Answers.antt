@@ -1,8 +1,9 @@
-use Rattle.std.proofs.Common.{◌∙◌, refl}
-use Rattle.hir_input.specs.Syntax.{items_view}
+use Rattle.std.proofs.Common.{◌∙◌, refl, []}
+use Rattle.std.proofs.lemmas.Result.{err_from_is_err_and}
+use Rattle.hir_input.specs.Syntax.{items_view, source_file}
 use Rattle.item_tree_attrs.specs.Collected.{collected}
 use Rattle.item_tree.specs.Growth.{all_kept_in}
-use Rattle.item_tree.proofs.Lowering.{tables-unfold, tables-fit, tables-sound}
+use Rattle.item_tree.proofs.Lowering.{tables-unfold, tables-fit, tables-sound, passed-from_nothing}
 use Rattle.item_tree.proofs.lower.lower_file.Goals as goal
 
 pub from_rows-requires : goal.from_rows-requires
@@ -26,3 +27,11 @@ returns-clause-fits c =
     let f = all_kept_in c.args.ctx (items_view c.args.items.now) in
     let whole = record c.lower_items.new.rows { column = c.push_attrs.new.column } in
     tables-fit c.new-rows.result c.lower_items.new.rows whole f (collected c.args.top_attrs) c.in_ok-top_level.top_level.items c.in_ok-top_place.top_place e.tags e.keys e.items e.places e.column e.arena c.requires c.in_ok-top_level.ensures c.in_ok-top_place.ensures refl
+
+pub returns-in_err-top_level-clause-too_large : goal.returns-in_err-top_level-clause-too_large
+returns-in_err-top_level-clause-too_large c =
+    let p = err_from_is_err_and c.from_residual.result c.from_residual.ensures.1 in
+    let e = c.new-rows.ensures in
+    let is = items_view c.args.items.now in
+    rw (p.1, p.2)
+    (passed-from_nothing c.new-rows.result (all_kept_in c.args.ctx is) (collected c.args.top_attrs) (source_file [] is) c.in_err-top_level.field-0.0 e.items e.arena c.in_err-top_level.ensures)

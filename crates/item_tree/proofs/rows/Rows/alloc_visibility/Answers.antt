@@ -1,6 +1,7 @@
-use Rattle.std.proofs.Common.{◌<◌, refl, ap, ◌∙◌, subst}
+use Rattle.std.proofs.Common.{◌<◌, cond, [], ◌∷◌, ◌++◌, length, arith, refl, ap, ◌∙◌, subst}
 use Rattle.item_tree.specs.Layout.{plain_vis}
-use Rattle.item_tree.proofs.Arena.{inserted, inserted-fits}
+use Rattle.item_tree.proofs.Arena.{inserted, inserted-met, inserted-fits}
+use Rattle.item_tree.proofs.VisibilityEq.{any_raw, place_raw}
 use Rattle.item_tree.proofs.rows.Rows.alloc_visibility.Goals as goal
 
 pub returns-else-place-clause-met : goal.returns-else-place-clause-met
@@ -8,7 +9,10 @@ returns-else-place-clause-met c =
     let k = c.in_ok-place-in-Module in
     let xs = c.args.self.now.arena.keys in
     let ys = c.insert_full.new.self.keys in
-    let p = inserted xs ys c.args.visibility c.in-Module.field-0 c.in-Module.field-1 k.place c.in-Module.is k.ensures.keys k.ensures.index c.if-place.false in
+    let v = c.args.visibility in
+    let keys = k.ensures.keys ∙ ap (λ b. cond b xs (xs ++ v ∷ [])) (any_raw v xs) in
+    let index = k.ensures.index ∙ place_raw v xs in
+    let p = inserted xs ys v c.in-Module.field-0 c.in-Module.field-1 k.place c.in-Module.is keys index c.if-place.false in
     record {
       met = p.0;
       given = ap plain_vis c.from_number-in-Module.ensures ∙ p.1;
@@ -20,6 +24,14 @@ returns-else-place-clause-met c =
       within = record {
         items = c.requires.items;
         column = c.requires.column;
-        visibilities = inserted-fits xs ys c.args.visibility 4294967292 k.ensures.keys (subst (λ z. z < 4294967292) k.ensures.index c.if-place.false) c.requires.visibilities;
+        visibilities = inserted-fits xs ys v 4294967292 keys (subst (λ z. z < 4294967292) index c.if-place.false) c.requires.visibilities;
       };
     }
+
+pub returns-then-place-clause-fault : goal.returns-then-place-clause-fault
+returns-then-place-clause-fault c =
+    let k = c.in_ok-place-in-Module in
+    let xs = c.args.self.now.arena.keys in
+    let v = c.args.visibility in
+    let met = inserted-met xs c.insert_full.new.self.keys v c.in-Module.field-0 c.in-Module.field-1 c.in-Module.is (k.ensures.keys ∙ ap (λ b. cond b xs (xs ++ v ∷ [])) (any_raw v xs)) in
+    omega (arith, ap length met, k.ensures.within, c.if-place.true)

@@ -3,7 +3,7 @@ use lib.Pointwise.{pointwise}
 use Rattle.std.specs.Bool.{Decides}
 use Rattle.item_tree.specs.NodeCode.{unfolding_code}
 use Rattle.item_tree.specs.Layout.{layout}
-use Rattle.item_tree.specs.Visibility.{same as same_vis}
+use Rattle.item_tree.proofs.VisibilityEq.{raw_eq}
 use Rattle.item_tree.specs.Stored.{tables_of}
 use Rattle.item_tree.proofs.Equal.{was-true, was-false, top-differs, top_place-differs, tags-differ, keys-differ, items-differ, places-differ, column-differs, arena-decides}
 use Rattle.item_tree.proofs.UseEq.{tells}
@@ -62,8 +62,8 @@ returns-then-ne-6 c =
 pub returns : goal.returns
 returns c =
     let a = (goal.at.returns c).After-other in
-    let b : c.eq.result ≡ pointwise same_vis c.self.inside.rows.arena.keys c.other.inside.rows.arena.keys =
-    c.eq.ensures ∙ (λ i. pointwise same_vis (c.as_slice.ensures.keys i) (c.as_slice-2.ensures.keys i)) in
+    let b : c.eq.result ≡ pointwise raw_eq c.self.inside.rows.arena.keys c.other.inside.rows.arena.keys =
+    c.eq.ensures ∙ (λ i. pointwise raw_eq (c.as_slice.ensures.keys i) (c.as_slice-2.ensures.keys i)) in
     let d = subst (λ z. Decides z (c.args.self.now ≡ c.args.other.now)) (sym b)
     (arena-decides c.args.self.now c.args.other.now c.self.inside.top_level.items c.other.inside.top_level.items c.self.inside.top_place c.other.inside.top_place c.self.inside.rows c.other.inside.rows (left a) (right a)
     (was-true _ c.if-ne.ensures) c.if-self-other.false (was-true _ c.if-ne-2.ensures) (was-true _ c.if-ne-3.ensures) (was-true _ c.if-ne-4.ensures) (was-true _ c.if-ne-5.ensures) (was-true _ c.if-ne-6.ensures)) in
