@@ -1,7 +1,7 @@
 -- Equal tables, by the items' own tests.
 use lib.Pointwise.{pointwise, pointwise_decides}
 use Rattle.std.proofs.Common.{◌≡◌, ℕ, Bool, true, false, List, [], ◌∷◌, map, refl, ap, sym, ◌∙◌, subst, rules, eq-eqb, Option, None, Some}
-use Rattle.std.specs.Prelude.{◌==◌, ◌&&◌, not}
+use Rattle.std.specs.Prelude.{◌==◌, ◌&&◌}
 use Rattle.std.specs.Bool.{Decides}
 use Rattle.std.specs.Cmp.{booleans_Decides}
 use denote.Enum.Bare.{same_true}
@@ -265,59 +265,41 @@ place_decides i j = Decides-like _ (ap plain_place) (plain_place-injective i j) 
 
 -- ---- trees
 
-pub was-true : (b : Bool) → false ≡ not b → b ≡ true
-was-true true h = refl
-was-true false h = cc
+-- a further test, where those before it hold and where they do not
+pub and-then : {x y v b : Bool} → x ≡ true → b ≡ y → v ≡ b → v ≡ (x && y)
+and-then {x} {y} {v} {b} h e k = rw h (k ∙ e)
 
-pub was-false : (b : Bool) → true ≡ not b → b ≡ false
-was-false true h = cc
-was-false false h = refl
+pub and-else : {x v : Bool} (y : Bool) → x ≡ false → v ≡ x → v ≡ (x && y)
+and-else {x} {v} y h k = rw h (k ∙ h)
 
--- What the tests of two trees say of what they unfold to.
+and : {P Q : Type 0} (x y z : Bool) → z ≡ (x && y) → Decides x P → Decides y Q → Decides z (P × Q)
+and {P} {Q} x y z i p q = subst (λ r. Decides r (P × Q)) (sym i) (Decides-and x y p q)
+
+-- The tests of the columns of two trees, one after the other, decide whether they unfold alike.
 module _ (u w : Unfolding) (is js : List ℕ) (m n : ℕ) (s t : Rows) (cs : layout u ≡ tables_of is m s) (ct : layout w ≡ tables_of js n t) where
-  tables-same : u ≡ w → tables_of is m s ≡ tables_of js n t
-  tables-same e = sym cs ∙ ap layout e ∙ ct
-
-  different : {P : Type 0} (b : Bool) → Decides b P → b ≡ false → (tables_of is m s ≡ tables_of js n t → P) → Decides false (u ≡ w)
-  different b d h f = never (λ e. false≢true (sym h ∙ d.1 (f (tables-same e))))
-
-  pub top-differs : pointwise ◌==◌ is js ≡ false → Decides false (u ≡ w)
-  top-differs h = different (pointwise ◌==◌ is js) (numbers_decide is js) h (ap (λ z. z.top))
-
-  pub tags-differ : pointwise tag_eq s.tags.items t.tags.items ≡ false → Decides false (u ≡ w)
-  tags-differ h = different (pointwise tag_eq s.tags.items t.tags.items) (pointwise_decides tag_decides s.tags.items t.tags.items) h (ap (λ z. z.tags))
-
-  pub keys-differ : pointwise key_eq s.keys.items t.keys.items ≡ false → Decides false (u ≡ w)
-  keys-differ h = different (pointwise key_eq s.keys.items t.keys.items) (maps_decide key_eq key_in key_decides s.keys.items t.keys.items) h (ap (λ z. z.keys))
-
-  pub items-differ : pointwise item_eqs.ghosts.eq s.items.items t.items.items ≡ false → Decides false (u ≡ w)
-  items-differ h = different (pointwise item_eqs.ghosts.eq s.items.items t.items.items) (maps_decide item_eqs.ghosts.eq item_row item_decides s.items.items t.items.items) h (ap (λ z. z.items))
-
-  pub top_place-differs : (m ≡ n → ⊥) → Decides false (u ≡ w)
-  top_place-differs h = never (λ e. h (plain_place-injective m n (ap (λ z. z.top_place) (tables-same e))))
-
-  pub places-differ : pointwise ◌==◌ s.places.items t.places.items ≡ false → Decides false (u ≡ w)
-  places-differ h = different (pointwise ◌==◌ s.places.items t.places.items) (maps_decide ◌==◌ plain_place place_decides s.places.items t.places.items) h (ap (λ z. z.places))
-
-  pub column-differs : pointwise attrs_eq s.column.items t.column.items ≡ false → Decides false (u ≡ w)
-  column-differs h = different (pointwise attrs_eq s.column.items t.column.items) (maps_decide attrs_eq collected attrs_decide s.column.items t.column.items) h (ap (λ z. z.column))
-
-  -- where all other columns agree, the arenas decide
-  pub arena-decides :
-      pointwise ◌==◌ is js ≡ true → m ≡ n → pointwise tag_eq s.tags.items t.tags.items ≡ true → pointwise key_eq s.keys.items t.keys.items ≡ true →
-      pointwise item_eqs.ghosts.eq s.items.items t.items.items ≡ true → pointwise ◌==◌ s.places.items t.places.items ≡ true →
-      pointwise attrs_eq s.column.items t.column.items ≡ true → Decides (pointwise raw_eq s.arena.keys t.arena.keys) (u ≡ w)
-  arena-decides a e b c d f g =
-      let arenas = pointwise_decides raw_decides s.arena.keys t.arena.keys in (
-        (λ h. let q : tables_of is m s ≡ tables_of js n t = λ i. record {
-          top = (numbers_decide is js).0 a i;
-          tags = (pointwise_decides tag_decides s.tags.items t.tags.items).0 b i;
-          keys = (maps_decide key_eq key_in key_decides s.keys.items t.keys.items).0 c i;
-          items = (maps_decide item_eqs.ghosts.eq item_row item_decides s.items.items t.items.items).0 d i;
-          places = (maps_decide ◌==◌ plain_place place_decides s.places.items t.places.items).0 f i;
-          top_place = plain_place (e i);
-          column = (maps_decide attrs_eq collected attrs_decide s.column.items t.column.items).0 g i;
-          arena = arenas.0 h i;
-        } in layout-injective u w (cs ∙ q ∙ sym ct)),
-        (λ x. arenas.1 (ap (λ z. z.arena) (tables-same x))),
-      )
+  pub columns-decide :
+      (a b c d e f g : Bool) → a ≡ (pointwise ◌==◌ is js && m == n) → b ≡ (a && pointwise tag_eq s.tags.items t.tags.items) →
+      c ≡ (b && pointwise key_eq s.keys.items t.keys.items) → d ≡ (c && pointwise item_eqs.ghosts.eq s.items.items t.items.items) →
+      e ≡ (d && pointwise ◌==◌ s.places.items t.places.items) → f ≡ (e && pointwise attrs_eq s.column.items t.column.items) →
+      g ≡ (f && pointwise raw_eq s.arena.keys t.arena.keys) → Decides g (u ≡ w)
+  columns-decide a b c d e f g ia ib ic id ie if' ig =
+      let tables = and f _ g ig (and e _ f if' (and d _ e ie (and c _ d id (and b _ c ic (and a _ b ib (and (pointwise ◌==◌ is js) (m == n) a ia (numbers_decide is js) (place_decides m n))
+      (pointwise_decides tag_decides s.tags.items t.tags.items))
+      (maps_decide key_eq key_in key_decides s.keys.items t.keys.items))
+      (maps_decide item_eqs.ghosts.eq item_row item_decides s.items.items t.items.items))
+      (maps_decide ◌==◌ plain_place place_decides s.places.items t.places.items))
+      (maps_decide attrs_eq collected attrs_decide s.column.items t.column.items))
+      (pointwise_decides raw_decides s.arena.keys t.arena.keys) in
+      Decides-like g
+      (λ p. layout-injective u w (cs ∙ (λ i. record {
+        top = p.0.0.0.0.0.0.0 i;
+        top_place = p.0.0.0.0.0.0.1 i;
+        tags = p.0.0.0.0.0.1 i;
+        keys = p.0.0.0.0.1 i;
+        items = p.0.0.0.1 i;
+        places = p.0.0.1 i;
+        column = p.0.1 i;
+        arena = p.1 i;
+      }) ∙ sym ct))
+      (λ e. let t = sym cs ∙ ap layout e ∙ ct in (((((((ap (λ z. z.top) t, ap (λ z. z.top_place) t), ap (λ z. z.tags) t), ap (λ z. z.keys) t), ap (λ z. z.items) t), ap (λ z. z.places) t), ap (λ z. z.column) t), ap (λ z. z.arena) t))
+      tables

@@ -1,5 +1,6 @@
 -- What lowering adds to the rows, piece by piece.
 use Rattle.std.proofs.Common.{◌≡◌, ℕ, ◌+◌, ◌*◌, ◌<◌, ◌≤◌, Bool, true, false, List, [], ◌∷◌, ◌++◌, length, map, get_or, take, drop, Option, Some, None, option_map, refl, ap, sym, ◌∙◌, subst, arith, add-zero, append_assoc, append-nil, length-append, inl, inr, Vec, Global}
+use Rattle.std.proofs.lemmas.Bool.{cases_Bool}
 use Rattle.std.proofs.lemmas.List.{map-append, length-map, take_more, take-append-drop}
 use Rattle.hir_input.specs.declared.ast.ExternBlock as ast_block
 use Rattle.hir_input.specs.declared.ast.ExternItem.{ExternItem}
@@ -25,7 +26,7 @@ use Rattle.item_tree.specs.Size.{most_attrs, leaf_supers, forest_supers, item_wr
 use Rattle.item_tree.specs.Stored.{item_row, key_in, keys_in, items_in, places_in, column_in, tables_of, AreSound}
 use Rattle.item_tree.specs.Growth.{items_below, attrs_in, kept_in, all_kept_in, row_count, Adds, Lowers, sizes_with, Meets, sizes_meeting, Puts, Pushes}
 use Rattle.item_tree.proofs.Distinct.{arena_met}
-use Rattle.item_tree.proofs.Arena.{V, Extends, Extends-met, KnowsAll, KnowsAll-meet_all, KnowsForest, KnowsNode, Knows-met, leaf-stable, trunk-stable, bool_cases}
+use Rattle.item_tree.proofs.Arena.{V, Extends, Extends-met, KnowsAll, KnowsAll-meet_all, KnowsForest, KnowsNode, Knows-met, leaf-stable, trunk-stable}
 use Rattle.item_tree.proofs.Column.{column-append, places-append}
 use Rattle.item_tree.proofs.Canon.{unfold-layout}
 use Rattle.item_tree.proofs.Lookup.{trunk_kind-map, leaf_kind-map}
@@ -297,7 +298,7 @@ module _ (ctx : Ctx) (m : ast_module.Module) where
   unmet-module o n e q =
       let k = meet o.arena.keys (value m) in
       let h : length k ≤ length (met kept_module o.arena.keys) =
-      elim (bool_cases m.semicolon) [
+      elim (cases_Bool m.semicolon) [
         | inl s ↦ rw (kept-outline n q s) (omega arith)
         | inr s ↦ rw (kept-inline n q s) (length-Extends k (met below k) (Extends-met below k))
       ] in
@@ -381,8 +382,8 @@ module _ (ctx : Ctx) {X : Type 0} (seen : X → ItemView) where
   pub Lowers-step :
       {a b c : Rows} {is js : List ℕ} (xs : List X) (i : ℕ) (x : X) → x ≡ get_or xs i x → i < length xs →
       Lowers a b (written_list (take i xs)) (kept_list (take i xs)) is → Lowers b c (item_written (seen x)) (kept_one x) js →
-      Lowers a c (written_list (take (i + 1) xs)) (kept_list (take (i + 1) xs)) (is ++ js)
-  Lowers-step {a} {b} {c} {is} {js} xs i x e h p q = rw (kept_list-push xs i x e h, written_list-push xs i x e h) (Lowers-join p q)
+      (ks : List ℕ) → is ++ js ≡ ks → Lowers a c (written_list (take (i + 1) xs)) (kept_list (take (i + 1) xs)) ks
+  Lowers-step {a} {b} {c} {is} {js} xs i x e h p q ks k = rw (← k, kept_list-push xs i x e h, written_list-push xs i x e h) (Lowers-join p q)
 
   pub passed-step :
       {a b : Rows} {is : List ℕ} (xs : List X) (i : ℕ) (x : X) (e : LowerError) → x ≡ get_or xs i x → i < length xs →

@@ -8,6 +8,7 @@ use Rattle.hir_input.specs.Syntax.{NamedView, PlainKind, fn_kind, union_kind, en
 use Rattle.item_tree_attrs.specs.declared.collect.AttrsOrCfg.{AttrsOrCfg}
 use Rattle.item_tree_attrs.specs.Collected.{Collected, collected, collected_from, attr_limit}
 use Rattle.item_tree.specs.declared.visibility.RawVisibility.{RawVisibility}
+use Rattle.item_tree.specs.declared.items.StructValueNsCtor.{StructValueNsCtor}
 use Rattle.item_tree.specs.declared.lower.Ctx.{Ctx}
 use Rattle.item_tree.specs.declared.lower.named.NamedNode.{NamedNode}
 use Rattle.item_tree.specs.declared.lower.named.PlainKind as named
@@ -15,14 +16,15 @@ use Rattle.item_tree.specs.declared.lower.named.PlainKind.TheVariants as plain
 use Rattle.item_tree.specs.declared.rows.Rows.{Rows}
 use Rattle.item_tree.specs.declared.fault.LowerError.{LowerError}
 use Rattle.item_tree.specs.CrateView.{crate_view}
-use Rattle.item_tree.specs.Node.{Node, Forest, empty, add, count, Unfolding}
+use Rattle.item_tree.specs.Node.{Ctor, Node, Forest, empty, add, count, Unfolding}
 use Rattle.item_tree.specs.Kept.{kept, kept_all, top_attrs_of}
 use Rattle.item_tree.specs.Column.{is_empty, unless, some_unless, column_of, places_from, plain_place}
 use Rattle.item_tree.specs.Meeting.{meet, meet_all, met}
-use Rattle.item_tree.specs.Layout.{vis_id, plain_vis, kind_bit, ids, Row, row_tag, row_key, row_attrs, row_item, rows_of}
+use Rattle.item_tree.specs.Layout.{vis_id, plain_vis, ctor_map, ctor_vis, kind_bit, ids, Row, row_tag, row_key, row_attrs, row_item, rows_of}
 use Rattle.item_tree.specs.Imports.{super_limit}
 use Rattle.item_tree.specs.KeptUse.{use_tree_limit}
 use Rattle.item_tree.specs.Size.{item_limit, visibility_limit, most_attrs, forest_supers, item_written, items_written, Sizes, IsPassed, only_visibilities}
+use Rattle.item_tree.specs.Shown.{ctor_ids}
 use Rattle.item_tree.specs.Stored.{keys_in, items_in, places_in, column_in}
 
 -- the kind of a plain item
@@ -147,6 +149,15 @@ pub record MeetsUpTo (old new : Rows) (vs rest : List RawVisibility) (is : List 
 -- what these visibilities pass once they are met
 abbrev pub sizes_meeting : Rows → List RawVisibility → Sizes
 sizes_meeting old vs = only_visibilities (length (meet_all old.arena.keys vs))
+
+-- the visibilities of a constructor were met, and this is the constructor of their ids
+pub record MeetsCtor (old new : Rows) (c : Ctor RawVisibility) (ctor : StructValueNsCtor) : Type 0 where
+  pub met : MeetsAll old new (ctor_vis c)
+  pub given : ctor_map plain_vis (ctor_ids ctor) ≡ ctor_map (vis_id new.arena.keys) c
+
+-- the constructor is lowered, or refused for its visibilities
+abbrev pub CtorIsLowered : Rows → Rows → Ctor RawVisibility → Result StructValueNsCtor LowerError → Type 0
+CtorIsLowered old new c r = MatchResult r (MeetsCtor old new c) (IsPassed (sizes_meeting old (ctor_vis c)))
 
 -- the value stands at the end of the column, unless it is enabled and empty, and this is its place
 pub record Puts (old new : Vec AttrsOrCfg Global) (c : Collected) (place : ℕ) : Type 0 where

@@ -257,28 +257,14 @@ impl PartialEq for ItemTree {
         ensures gives { result ≡ same unfolding_code self.now other.now }
         ensures lend { IsTrue result → LendAlike self.now other.now }
     {
-        if self.top_level != other.top_level {
-            return false;
-        }
-        if self.top_place != other.top_place {
-            return false;
-        }
-        if self.rows.tags != other.rows.tags {
-            return false;
-        }
-        if self.rows.keys != other.rows.keys {
-            return false;
-        }
-        if self.rows.items != other.rows.items {
-            return false;
-        }
-        if self.rows.places != other.rows.places {
-            return false;
-        }
-        if self.rows.column != other.rows.column {
-            return false;
-        }
-        self.rows.arena.as_slice() == other.rows.arena.as_slice()
+        self.top_level == other.top_level
+            && self.top_place == other.top_place
+            && self.rows.tags == other.rows.tags
+            && self.rows.keys == other.rows.keys
+            && self.rows.items == other.rows.items
+            && self.rows.places == other.rows.places
+            && self.rows.column == other.rows.column
+            && self.rows.arena.as_slice() == other.rows.arena.as_slice()
     }
 }
 

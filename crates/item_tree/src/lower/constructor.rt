@@ -2,9 +2,9 @@
 ghost use Rattle.std.specs.Prelude.{◌≡◌, ◌∷◌, [], IfOk, IfErr, OnOk, map, option_copied};
 ghost use Rattle.hir_input.specs.Syntax.{struct_item, struct_view, fields_view, tuple_fields};
 ghost use Rattle.item_tree.specs.Constructor.{ctor_of, ctor_from, deciding};
-ghost use Rattle.item_tree.specs.Layout.{plain_vis, vis_id, ctor_map, ctor_vis};
+ghost use Rattle.item_tree.specs.Layout.{plain_vis, vis_id};
 ghost use Rattle.item_tree.specs.Kept.{shape_of};
-ghost use Rattle.item_tree.specs.Growth.{IsWithinLimits, IsLowered, HasId, MeetsAll, sizes_meeting};
+ghost use Rattle.item_tree.specs.Growth.{IsWithinLimits, IsLowered, CtorIsLowered, HasId, MeetsAll, sizes_meeting};
 ghost use Rattle.item_tree.specs.Size.{IsPassed};
 ghost use Rattle.item_tree.specs.Shown.{ctor_ids};
 ghost use Rattle.item_tree.specs.Visibility.{read_visibility};
@@ -64,9 +64,8 @@ fn lower_ctor(
 ) -> Result<StructValueNsCtor, LowerError>
     requires within { IsWithinLimits rows.old }
     requires own { HasId rows.old (read_visibility struct_node.now.visibility) visibility }
-    ensures met { OnOk result (MeetsAll rows.old rows.new (ctor_vis (ctor_of (fields_view struct_node.now.kind) (read_visibility struct_node.now.visibility)))) }
-    ensures given { IfOk result (λ ctor. ctor_map plain_vis (ctor_ids ctor) ≡ ctor_map (vis_id rows.new.arena.keys) (ctor_of (fields_view struct_node.now.kind) (read_visibility struct_node.now.visibility))) }
-    ensures fault { IfErr result (IsPassed (sizes_meeting rows.old (ctor_vis (ctor_of (fields_view struct_node.now.kind) (read_visibility struct_node.now.visibility))))) }
+    ensures { CtorIsLowered rows.old rows.new
+        (ctor_of (fields_view struct_node.now.kind) (read_visibility struct_node.now.visibility)) result }
 {
     match &struct_node.kind {
         ast::StructKind::Record => Ok(StructValueNsCtor::NoValueNsCtor),
@@ -86,9 +85,8 @@ fn lower_tuple_ctor(
     fields: &[ast::TupleField],
 ) -> Result<StructValueNsCtor, LowerError>
     requires { IsWithinLimits rows.old }
-    ensures met { OnOk result (MeetsAll rows.old rows.new (ctor_vis (ctor_of (tuple_fields (map (λ f. f.visibility) fields.now)) (read_visibility (option_copied own.entry))))) }
-    ensures given { IfOk result (λ ctor. ctor_map plain_vis (ctor_ids ctor) ≡ ctor_map (vis_id rows.new.arena.keys) (ctor_of (tuple_fields (map (λ f. f.visibility) fields.now)) (read_visibility (option_copied own.entry)))) }
-    ensures fault { IfErr result (IsPassed (sizes_meeting rows.old (ctor_vis (ctor_of (tuple_fields (map (λ f. f.visibility) fields.now)) (read_visibility (option_copied own.entry)))))) }
+    ensures { CtorIsLowered rows.old rows.new
+        (ctor_of (tuple_fields (map (λ f. f.visibility) fields.now)) (read_visibility (option_copied own.entry))) result }
 {
     let written = read_visibilities(alloc, own, fields)?;
     let deciding = select_deciding(alloc, written)?;
@@ -102,7 +100,8 @@ fn read_visibilities(
     own: Option<&ast::Visibility>,
     fields: &[ast::TupleField],
 ) -> Result<Vec<RawVisibility>, AllocError>
-    ensures { IfOk result (λ all. all.items ≡ read_visibility (option_copied own.entry) ∷ map read_visibility (map (λ f. f.visibility) fields.now)) }
+    ensures { IfOk result (λ all. all.items ≡
+        map read_visibility (option_copied own.entry ∷ map (λ f. f.visibility) fields.now)) }
 {
     let mut all = Vec::new(alloc);
     all.push(visibility_from_ast(alloc, own)?)?;
@@ -160,7 +159,8 @@ fn alloc_visibilities(
 ) -> Result<Vec<RawVisibilityId>, LowerError>
     requires { IsWithinLimits rows.old }
     ensures met { OnOk result (MeetsAll rows.old rows.new visibilities.keys) }
-    ensures given { IfOk result (λ ids. map plain_vis ids.items ≡ map (vis_id rows.new.arena.keys) visibilities.keys) }
+    ensures given { IfOk result (λ ids.
+        map plain_vis ids.items ≡ map (vis_id rows.new.arena.keys) visibilities.keys) }
     ensures fault { IfErr result (IsPassed (sizes_meeting rows.old visibilities.keys)) }
 {
     let mut ids = Vec::new(alloc);

@@ -3,9 +3,9 @@ use Rattle.std.proofs.lemmas.Result.{err_from_is_err_and}
 use Rattle.hir_input.specs.Syntax.{item_view}
 use Rattle.item_tree_attrs.specs.Collected.{attr_limit}
 use Rattle.item_tree.specs.Visibility.{read_visibility}
-use Rattle.item_tree.specs.Growth.{attrs_in, Meets, sizes_meeting, Lowers, to_list}
+use Rattle.item_tree.specs.Growth.{attrs_in, Meets, sizes_meeting, to_list}
 use Rattle.item_tree.specs.Size.{IsPassed}
-use Rattle.item_tree.proofs.Lowering.{kept_list, written_list, unmet-module, Lowers-step, passed-step, Lowers-inline, full-inline}
+use Rattle.item_tree.proofs.Lowering.{unmet-module, Lowers-step, passed-step, Lowers-inline, full-inline}
 use Rattle.item_tree.proofs.lower.+lower.Goals as goal
 use Rattle.item_tree.proofs.lower.+lower.Goals.{lower_items-in-Some+in_ok-push, lower_items-in_default}
 
@@ -17,14 +17,11 @@ lower_items-returns-in_err-id t c =
 
 pub lower_items-loop-item-preserved : goal.lower_items-loop-item-preserved
 lower_items-loop-item-preserved t c =
-    let s = Lowers-step c.args.ctx item_view c.args.items.now c.loop-item.item-index c.item-item.result c.item-item.is c.loop-item-test.true c.loop-item.invariant c.in_ok-id.ensures in
-    let done = take (c.loop-item.item-index + 1) c.args.items.now in
-    let into = λ (js : _) (e : c.loop-item.ids.items ++ to_list c.in_ok-id.field-0 ≡ js). subst (λ zs. Lowers c.args.rows.now c.lower_item.new.rows (written_list c.args.ctx item_view done) (kept_list c.args.ctx item_view done) zs) e s in
+    let ids = c.loop-item.ids.items in
+    let step = Lowers-step c.args.ctx item_view c.args.items.now c.loop-item.item-index c.item-item.result c.item-item.is c.loop-item-test.true c.loop-item.invariant c.in_ok-id.ensures c.match-branch-2.ids.items in
     elim c.match-branch-2.branch [
-      | lower_items-in-Some+in_ok-push w ↦
-          into c.match-branch-2.ids.items (ap (λ z. c.loop-item.ids.items ++ to_list z) w.in-Some.is ∙ sym w.in_ok-push.ensures.items ∙ sym (ap (λ v. v.items) w.ids-is))
-      | lower_items-in_default w ↦
-          into c.match-branch-2.ids.items (ap (λ z. c.loop-item.ids.items ++ to_list z) w.in_default.is ∙ append-nil c.loop-item.ids.items ∙ sym (ap (λ v. v.items) w.ids-is))
+      | lower_items-in-Some+in_ok-push w ↦ step (ap (λ z. ids ++ to_list z) w.in-Some.is ∙ sym w.in_ok-push.ensures.items ∙ sym (ap (λ v. v.items) w.ids-is))
+      | lower_items-in_default w ↦ step (ap (λ z. ids ++ to_list z) w.in_default.is ∙ append-nil ids ∙ sym (ap (λ v. v.items) w.ids-is))
     ]
 
 pub lower_module-returns-in_err-visibility : goal.lower_module-returns-in_err-visibility
