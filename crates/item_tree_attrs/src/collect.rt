@@ -123,9 +123,12 @@ impl AttrsOrCfg {
         cfg_options: &CfgOptions,
         skipped: &[Name],
     ) -> Result<AttrsOrCfg, AttrError>
-        ensures value { IfOk result (λ attrs. collected attrs ≡ collected_from cfg_options.now skipped.now (map meta_view metas.now)) }
-        ensures fits { OnOk result (length (collected_from cfg_options.now skipped.now (map meta_view metas.now)).attrs ≤ attr_limit) }
-        ensures too_many { IsErrOf result TooMany → attr_limit < length (collected_from cfg_options.now skipped.now (map meta_view metas.now)).attrs }
+        ensures value { let all = collected_from cfg_options.now skipped.now (map meta_view metas.now) in
+            IfOk result (λ attrs. collected attrs ≡ all) }
+        ensures fits { let all = collected_from cfg_options.now skipped.now (map meta_view metas.now) in
+            OnOk result (length all.attrs ≤ attr_limit) }
+        ensures too_many { let all = collected_from cfg_options.now skipped.now (map meta_view metas.now) in
+            IsErrOf result TooMany → attr_limit < length all.attrs }
         ensures joined { JoinsLists (collected_from cfg_options.now skipped.now) }
     {
         let mut attrs = Vec::new(alloc);
@@ -211,7 +214,8 @@ fn key_value_event<'a>(
     ctxt: SyntaxContext,
     skipped: &[Name],
 ) -> Result<Option<Event<'a>>, AllocError>
-    ensures { IfOk result (λ event. found event ≡ attr_events skipped.now path.now (option_map literal value.now) ctxt) }
+    ensures { let events = attr_events skipped.now path.now (option_map literal value.now) ctxt in
+        IfOk result (λ event. found event ≡ events) }
 {
     let Some(value) = value else {
         return path_event(alloc, path, ctxt, skipped);
@@ -236,7 +240,8 @@ fn token_tree_event<'a>(
     ctxt: SyntaxContext,
     skipped: &[Name],
 ) -> Result<Option<Event<'a>>, AllocError>
-    ensures { IfOk result (λ event. found event ≡ attr_events skipped.now path.now (Some (token_tree tokens.now)) ctxt) }
+    ensures { let events = attr_events skipped.now path.now (Some (token_tree tokens.now)) ctxt in
+        IfOk result (λ event. found event ≡ events) }
 {
     if is_left_out(path, skipped) {
         return Ok(None);
@@ -273,7 +278,8 @@ fn take<'a>(
     event: Option<Event<'a>>,
     attrs: &mut Vec<Attr>,
 ) -> Result<Option<&'a CfgExpr>, AllocError>
-    ensures { IfOk result (λ met. Adds attrs.old.items attrs.new.items met (cut (found event.entry))) }
+    ensures { let one = cut (found event.entry) in
+        IfOk result (λ met. Adds attrs.old.items attrs.new.items met one) }
 {
     match event {
         Some(Left(attr)) => {
@@ -294,7 +300,8 @@ fn collect<'a>(
     skipped: &[Name],
     attrs: &mut Vec<Attr>,
 ) -> Result<Option<&'a CfgExpr>, AllocError>
-    ensures { IfOk result (λ met. Adds attrs.old.items attrs.new.items met (cut (events cfg_options.now skipped.now (meta_view meta.now)))) }
+    ensures { let all = cut (events cfg_options.now skipped.now (meta_view meta.now)) in
+        IfOk result (λ met. Adds attrs.old.items attrs.new.items met all) }
 {
     match meta {
         Meta::Path { path, ctxt } => take(path_event(alloc, path, *ctxt, skipped)?, attrs),
@@ -327,7 +334,8 @@ fn collect_all<'a>(
     skipped: &[Name],
     attrs: &mut Vec<Attr>,
 ) -> Result<Option<&'a CfgExpr>, AllocError>
-    ensures { IfOk result (λ met. Adds attrs.old.items attrs.new.items met (collected_from cfg_options.now skipped.now (map meta_view metas.now))) }
+    ensures { let all = collected_from cfg_options.now skipped.now (map meta_view metas.now) in
+        IfOk result (λ met. Adds attrs.old.items attrs.new.items met all) }
 {
     for meta in metas {
         if let Some(cfg) = collect(alloc, meta, cfg_options, skipped, attrs)? {

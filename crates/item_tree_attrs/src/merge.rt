@@ -25,9 +25,11 @@ impl AttrsOrCfg {
     /// `TooMany` is the answer exactly where this side is enabled and the two have more than u32::MAX attributes
     /// together; any other refusal is want of memory, from the allocator that this side keeps.
     pub fn merge(self, right: AttrsOrCfg) -> Result<AttrsOrCfg, MergeRefused>
-        ensures value { IfOk result (λ both. collected both ≡ join (collected self) (collected right)) }
+        ensures value { let joined = join (collected self) (collected right) in
+            IfOk result (λ both. collected both ≡ joined) }
         ensures disabled { IsSome (collected self).false_cfg → result ≡ Ok self }
-        ensures too_many { IsErrAnd result (λ e. e.cause ≡ TooMany) ↔ IsTooManyTogether (collected self) (collected right) }
+        ensures too_many { IsErrAnd result (λ e. e.cause ≡ TooMany)
+            ↔ IsTooManyTogether (collected self) (collected right) }
         ensures unchanged { IfErr result (λ e. (e.left ≡ self) × (e.right ≡ right)) }
         ensures associative { IsAssociative join }
     {
@@ -40,8 +42,10 @@ impl AttrsOrCfg {
 
 // Enabled attributes with the right side behind them.
 fn put_before(mut left: AttrsOwned, right: AttrsOrCfg) -> Result<AttrsOrCfg, MergeRefused>
-    ensures value { IfOk result (λ both. collected both ≡ record { attrs = left ++ (collected right).attrs; false_cfg = (collected right).false_cfg }) }
-    ensures too_many { IsErrAnd result (λ e. e.cause ≡ TooMany) ↔ (attr_limit < length left + length (collected right).attrs) }
+    ensures value { IfOk result (λ both. collected both
+        ≡ record { attrs = left ++ (collected right).attrs; false_cfg = (collected right).false_cfg }) }
+    ensures too_many { IsErrAnd result (λ e. e.cause ≡ TooMany)
+        ↔ (attr_limit < length left + length (collected right).attrs) }
     ensures unchanged { IfErr result (λ e. (e.left ≡ enabled left) × (e.right ≡ right)) }
 {
     match right {
@@ -68,7 +72,8 @@ impl AttrsOwned {
     // Puts others before these.
     fn prepend(&mut self, others: &mut AttrsOwned) -> Result<(), AttrError>
         ensures ok { OnOk result (self.new ≡ others.old ++ self.old) }
-        ensures too_many { IsErrOf result TooMany ↔ (attr_limit < length others.old + length self.old) }
+        ensures too_many { IsErrOf result TooMany
+            ↔ (attr_limit < length others.old + length self.old) }
         ensures err { OnErr result ((self.new ≡ self.old) × (others.new ≡ others.old)) }
     {
         if others.attrs.len() + self.attrs.len() > u32::MAX as usize {

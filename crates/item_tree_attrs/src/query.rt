@@ -95,14 +95,16 @@ impl<'a> Attrs<'a> {
 
     /// Whether there is an attribute `proc_macro`. rust-analyzer's `Attrs::is_proc_macro`.
     pub fn is_proc_macro(&self) -> bool
-        ensures { IsTrue result ↔ (0 < length (filter (has_key (codes "proc_macro")) (listed self.now))) }
+        ensures { let found = filter (has_key (codes "proc_macro")) (listed self.now) in
+            IsTrue result ↔ (0 < length found) }
     {
         self.by_key("proc_macro").exists()
     }
 
     /// Whether there is an attribute `proc_macro_attribute`. rust-analyzer's `Attrs::is_proc_macro_attribute`.
     pub fn is_proc_macro_attribute(&self) -> bool
-        ensures { IsTrue result ↔ (0 < length (filter (has_key (codes "proc_macro_attribute")) (listed self.now))) }
+        ensures { let found = filter (has_key (codes "proc_macro_attribute")) (listed self.now) in
+            IsTrue result ↔ (0 < length found) }
     {
         self.by_key("proc_macro_attribute").exists()
     }
@@ -184,7 +186,8 @@ impl<'a> AttrQuery<'a> {
     /// The string of the first attribute that has one, and its span.
     /// rust-analyzer's `AttrQuery::string_value_with_span`.
     pub fn string_value_with_span(self) -> Option<(&'a str, Span)>
-        ensures { option_map (λ found. (found.0.now, found.1)) result ≡ first (filter_map string_with_span_of (asked self.entry)) }
+        ensures { option_map (λ found. (found.0.now, found.1)) result
+            ≡ first (filter_map string_with_span_of (asked self.entry)) }
     {
         for attr in self.attrs() {
             if let Some(found) = attr.string_value_with_span() {
