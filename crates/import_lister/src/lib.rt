@@ -59,6 +59,3 @@ pub fn list_imports(alloc: Global, item: &Use) -> Result<Vec<Listed>, AllocError
     }
     Ok(list)
 }
-
-#[cfg(test)]
-mod tests;

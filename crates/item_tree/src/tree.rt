@@ -273,6 +273,3 @@ impl Eq for ItemTree {
 
     ghost laws = { same_is_equivalence _ };
 }
-
-#[cfg(test)]
-mod tests;

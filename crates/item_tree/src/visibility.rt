@@ -176,6 +176,3 @@ pub fn visibility_from_ast(
         }
     }
 }
-
-#[cfg(test)]
-mod tests;

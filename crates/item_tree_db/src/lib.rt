@@ -7,8 +7,6 @@ mod rows;
 mod shelf;
 pub mod sources;
 mod store;
-#[cfg(test)]
-mod tests;
 
 pub use edit::{AllRefused, Edit, EditRefused};
 pub use place::Place;

@@ -1,8 +1,8 @@
-use item_tree_attrs::{AttrError, Attrs, AttrsOrCfg};
 use hir_input::ast::PathNode;
 use hir_input::{
     AttrId, CfgAtom, CfgExpr, CfgOptions, EditionYear, Meta, ModPath, Name, PathKind, SyntaxContext,
 };
+use item_tree_attrs::{AttrError, Attrs, AttrsOrCfg};
 use std::alloc::Global;
 use std::test::Fail;
 

@@ -1,5 +1,7 @@
-//! Tests that cross crates, of what only a call can show: what stands where a request for memory is refused, the
-//! constructor of a struct, ids of other trees, and the counts of items.
+//! Tests of what only a call can show, of every library: values and their copies, what stands where a request for memory is
+//! refused, constructors, ids of other trees, counts of items, tables as `Debug` shows them, and one small example of use.
+//!
+//! A crate with tests is proved twice; these call what is public, so no other library has any.
 //!
 //! A plain run refuses no memory, and compares each answer. `tests/refused_memory.sh` runs the tests whose names hold
 //! `when_memory_is_refused` once for each request that they make, with that one refused.
@@ -10,9 +12,15 @@ mod attributes;
 #[cfg(test)]
 mod collected;
 #[cfg(test)]
+mod copies;
+#[cfg(test)]
+mod edits;
+#[cfg(test)]
 mod example;
 #[cfg(test)]
 mod kinds;
+#[cfg(test)]
+mod lists;
 #[cfg(test)]
 mod names;
 #[cfg(test)]
@@ -20,10 +28,14 @@ mod syntax;
 #[cfg(test)]
 mod table;
 #[cfg(test)]
+mod tables;
+#[cfg(test)]
 mod tree;
 #[cfg(test)]
 mod uses;
 #[cfg(test)]
 mod values;
+#[cfg(test)]
+mod walks;
 #[cfg(test)]
 mod written_uses;

@@ -175,6 +175,3 @@ pub fn is_same_tree(
     let right = lower_syntax(alloc, right, false, krate, skipped)?;
     Ok(left == right)
 }
-
-#[cfg(test)]
-mod tests;

@@ -1,7 +1,7 @@
-use crate::{Edit, Place, Sources, file_item_tree};
 use hir_input::ast::{Fn, Item, Syntax};
 use hir_input::{CfgOptions, Crate, HirFileId, Name};
 use item_tree::{CrateData, EditFault, ItemTree};
+use item_tree_db::{Edit, Place, Sources, file_item_tree};
 use std::alloc::{AllocError, Global};
 use std::test::Fail;
 

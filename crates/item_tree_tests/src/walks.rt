@@ -1,9 +1,9 @@
-use crate::{count_items, is_same_tree, outline, preorder};
 use hir_input::ast::{ExternBlock, ExternItem, Fn, Item, Module, Syntax};
 use hir_input::{CfgOptions, HirFileId, Name};
 use item_tree::{CrateData, ItemTree, lower_syntax};
 use std::alloc::Global;
 use std::test::Fail;
+use tree_walk::{count_items, is_same_tree, outline, preorder};
 
 fn function(alloc: Global, hash: u16) -> Result<Fn, Fail> {
     Ok(Fn {

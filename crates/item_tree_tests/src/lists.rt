@@ -1,6 +1,6 @@
-use crate::{Listed, count_imports, list_imports};
 use hir_input::ast::{self, Item, PathNode, Rename, Syntax, UseTree};
 use hir_input::{CfgOptions, HirFileId, ModPath, Name, PathKind};
+use import_lister::{Listed, count_imports, list_imports};
 use item_tree::{
     CrateData, ImportAlias, ImportKind, ItemTree, ModItemKind, Use, UseTreeIdx, lower_syntax,
 };
