@@ -13,9 +13,9 @@ abbrev pub held : BTreeMap (String Global) Value → Data
 held m = object (members_view m.entries)
 
 -- the members, with a null for the one at this key
-abbrev pub drop_member : List ℕ → Members → Members
-drop_member key no_members = no_members
-drop_member key (member l e ms) = match_ordering (slice_cmp nat_cmp key l) (member l e (drop_member key ms)) (member l null ms) (member l e (drop_member key ms))
+abbrev pub with_null : List ℕ → Members → Members
+with_null key no_members = no_members
+with_null key (member l e ms) = match_ordering (slice_cmp nat_cmp key l) (member l e (with_null key ms)) (member l null ms) (member l e (with_null key ms))
 
 -- the object after its member at this key was taken out, which leaves a null
 unfoldable pub without : List ℕ → Data → Data
@@ -24,4 +24,4 @@ without key (boolean b) = boolean b
 without key (number n) = number n
 without key (string s) = string s
 without key (array ds) = array ds
-without key (object ms) = object (drop_member key ms)
+without key (object ms) = object (with_null key ms)

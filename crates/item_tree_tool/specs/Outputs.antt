@@ -61,7 +61,7 @@ TreePasses s (set_file k syntax) OutOfMemory = ⊥
 TreePasses s (set_file k syntax) error = IsPassed s.crates s.skipped (file_at k) syntax error
 TreePasses s (remove_file k) error = ⊥
 
--- the edit at this place, counted from 0, passes this size: its number is past the last, or its tree is too large
+-- the edit at this place, counted from 0, passes this size: its number is past the last, or it has a number and its tree is too large
 abbrev pub PassesAt : State → List EditView → ℕ → EditFault → Type 0
 PassesAt s edits place TooManyEdits = (place < length edits) × (last_number < s.number + place + 1)
-PassesAt s edits place (Lower error) = (edit : EditView) × (slice_get edits place ≡ Some edit) × TreePasses s edit error
+PassesAt s edits place (Lower error) = (s.number + place + 1 ≤ last_number) × ((edit : EditView) × (slice_get edits place ≡ Some edit) × TreePasses s edit error)

@@ -11,7 +11,8 @@ use std::io::{Read, Write};
 /// Reads a request in JSON up to the reader's end, makes its edits, and writes the texts of its shows.
 ///
 /// After any error but `Write` nothing was written, and after `Write` a beginning of the output was, but not
-/// all of it. At most 16,777,216 reads give bytes, each with room for at least 4,096.
+/// all of it. At most 16,777,216 reads are made, each with room for 4,096 bytes, and none after one that failed:
+/// a reader that is not at its end then has failed too.
 pub fn run<R: Read, W: Write>(alloc: Global, input: &mut R, output: &mut W) -> Result<(), RunError>
     ensures { MatchResult result
         (λ _. IsDone (R.remaining input.old) (R.remaining input.new) (W.contents output.old) (W.contents output.new))

@@ -19,7 +19,7 @@ pub(crate) fn read_to_end<R: Read>(alloc: Global, input: &mut R) -> Result<Vec<u
 {
     let mut bytes = Vec::new(alloc);
     let mut room = [0u8; ROOM];
-    for _ in 0..MOST_READS {
+    for _reads in 0..MOST_READS {
         match input.read(&mut room) {
             Ok(0) => return Ok(bytes),
             Ok(count) => {

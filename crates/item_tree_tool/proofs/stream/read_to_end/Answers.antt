@@ -1,5 +1,5 @@
 use Rattle.std.proofs.KnownBytes.{Consumes-trans}
-use Rattle.std.proofs.Common.{◌≡◌, ◌<◌, ℕ, List, ◌++◌, rules, ap, ◌∙◌, subst, append-nil, length, take}
+use Rattle.std.proofs.Common.{◌≡◌, ◌<◌, ℕ, List, ◌++◌, arith, rules, ap, ◌∙◌, subst, append-nil, length, take}
 use Rattle.std.specs.Prelude.{Option}
 use Rattle.std.specs.Io.KnownBytes.{Consumes}
 use Rattle.item_tree_tool.proofs.stream.read_to_end.Goals as goal
@@ -10,6 +10,7 @@ Consumes-none old new bytes room n e h = subst (λ l. Consumes old new l) (ap (�
 
 pub returns-in-Ok-eq0-clause-ok : goal.returns-in-Ok-eq0-clause-ok
 returns-in-Ok-eq0-clause-ok g c =
-    let more = Consumes-trans _ _ _ _ _ c.loop.invariant.1 c.in-Ok-eq0.ensures.bytes.0 in
+    let more = Consumes-trans _ _ _ _ _ c.loop-reads.invariant.read c.in-Ok-eq0.ensures.bytes.0 in
     let room : 0 < length c.read.new.buf = search rules in
-    (Consumes-none _ _ _ _ _ c.in-Ok-eq0.field-0-test more, c.in-Ok-eq0.ensures.bytes.1 c.in-Ok-eq0.field-0-test room)
+    let few = c.loop-reads.invariant.few in
+    (Consumes-none _ _ _ _ _ c.in-Ok-eq0.field-0-test more, c.in-Ok-eq0.ensures.bytes.1 c.in-Ok-eq0.field-0-test room, omega arith)

@@ -2,13 +2,14 @@
 use Rattle.std.proofs.Common.{Some, option_map, ap, sym, ◌∙◌}
 use Rattle.serde_json.specs.Data.{object}
 use Rattle.serde_json.specs.View.{view, members_view}
+use Rattle.serde_json.proofs.Views.{view-lookup}
 use Rattle.item_tree_tool.specs.Held.{held, without}
-use Rattle.item_tree_tool.proofs.Held.{view_lookup, members_set, drop_absent}
+use Rattle.item_tree_tool.proofs.Held.{members_set, drop_absent}
 use Rattle.item_tree_tool.proofs.request.member.removed.Goals as goal
 
 pub returns-in-Some-clause-taken : goal.returns-in-Some-clause-taken
 returns-in-Some-clause-taken c =
-    ap (λ v. Some (view v)) c.take.ensures.taken ∙ ap (option_map view) c.in-Some.ensures.value ∙ view_lookup c.args.key.now c.args.members.now.entries
+    ap (λ v. Some (view v)) c.take.ensures.taken ∙ ap (option_map view) c.in-Some.ensures.value ∙ view-lookup c.args.key.now c.args.members.now.entries
 
 pub returns-in-Some-clause-left : goal.returns-in-Some-clause-left
 unfolding without
@@ -17,10 +18,10 @@ returns-in-Some-clause-left c =
     ap (λ es. object (members_view es)) writes.0 ∙ ap object (members_set c.args.key.now c.args.members.now.entries c.take.new.self c.take.ensures.left)
 
 pub returns-in-None-clause-taken : goal.returns-in-None-clause-taken
-returns-in-None-clause-taken c = ap (option_map view) c.in-None.ensures.value ∙ view_lookup c.args.key.now c.args.members.now.entries
+returns-in-None-clause-taken c = ap (option_map view) c.in-None.ensures.value ∙ view-lookup c.args.key.now c.args.members.now.entries
 
 pub returns-in-None-clause-left : goal.returns-in-None-clause-left
 unfolding without
 returns-in-None-clause-left c =
-    let absent = ap (option_map view) c.in-None.ensures.value ∙ view_lookup c.args.key.now c.args.members.now.entries in
+    let absent = ap (option_map view) c.in-None.ensures.value ∙ view-lookup c.args.key.now c.args.members.now.entries in
     ap held c.get_mut.follows.holds-at-none ∙ ap object (sym (drop_absent c.args.key.now (members_view c.args.members.now.entries) (sym absent)))
