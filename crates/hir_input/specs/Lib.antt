@@ -5,10 +5,8 @@ pub mod Path
 pub mod Id
 pub mod Cfg
 pub mod Attr
-pub mod AttrCode
 pub mod UseTreeView
-pub mod UseTreeCode
 pub mod Words
 pub mod Syntax
-pub mod SyntaxCode
 pub mod Bodies
+pub mod Code

@@ -11,7 +11,7 @@ use Rattle.hir_input.specs.Attr.{MetaView, metas_from, meta_view}
 use Rattle.hir_input.specs.Cfg.{CfgView, cfg_view, truth}
 use Rattle.hir_input.proofs.MetaLemmas.{meta_view-CfgAttr}
 use Rattle.item_tree_attrs.specs.Collected.{Collected, events, events_in, is_false, cut, collected_from, join}
-use Rattle.item_tree_attrs.specs.Collecting.{Adds}
+use Rattle.item_tree_attrs.specs.Inner.Collecting.{Adds}
 use Rattle.item_tree_attrs.proofs.Cutting.{joins_lists}
 
 -- ---- a `cfg_attr` that is not false

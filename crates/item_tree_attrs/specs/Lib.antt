@@ -1,5 +1,5 @@
 pub mod Collected
-pub mod CollectedCode
-pub mod Collecting
+pub mod Inner
 pub mod Key
 pub mod Query
+pub mod Code

@@ -4,7 +4,7 @@ ghost use Rattle.hir_input.specs.Attr.{meta_view, path_meta, key_value_meta, tok
 ghost use Rattle.hir_input.specs.Cfg.{cfg_view, truth};
 ghost use Rattle.hir_input.specs.declared.attr.AttrInput.TheVariants.{Literal as literal, TokenTree as token_tree};
 ghost use Rattle.item_tree_attrs.specs.Collected.{attr_events, attr_limit, cfg_events, collected, collected_from, cut, events, is_false, is_skipped, join, nothing, path_of, IsUnit, JoinsLists};
-ghost use Rattle.item_tree_attrs.specs.Collecting.{found, Adds};
+ghost use Rattle.item_tree_attrs.specs.Inner.Collecting.{found, Adds};
 ghost use Rattle.item_tree_attrs.specs.declared.collect.AttrError.TheVariants.{TooMany};
 
 use either::{Either, Left, Right};

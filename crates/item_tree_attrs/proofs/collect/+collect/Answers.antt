@@ -1,7 +1,7 @@
 use Rattle.std.proofs.Common.{◌+◌, map, None, Some, sym, ap, ◌∙◌, subst}
 use Rattle.hir_input.specs.Attr.{meta_view}
 use Rattle.item_tree_attrs.specs.Collected.{cut, events, collected_from}
-use Rattle.item_tree_attrs.specs.Collecting.{Adds}
+use Rattle.item_tree_attrs.specs.Inner.Collecting.{Adds}
 use Rattle.item_tree_attrs.proofs.CollectSteps.{cut-CfgAttr, collected_of-take, collected_of-split, Adds-next, Adds-stop}
 use Rattle.item_tree_attrs.proofs.collect.+collect.Goals as goal
 

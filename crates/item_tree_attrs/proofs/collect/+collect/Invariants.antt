@@ -1,7 +1,7 @@
 use Rattle.std.proofs.Common.{map, take, None}
 use Rattle.hir_input.specs.Attr.{meta_view}
 use Rattle.item_tree_attrs.specs.Collected.{collected_from}
-use Rattle.item_tree_attrs.specs.Collecting.{Adds}
+use Rattle.item_tree_attrs.specs.Inner.Collecting.{Adds}
 use Rattle.item_tree_attrs.proofs.collect.+collect.Given as goal
 
 abbrev pub invariant-collect_all-loop-meta : goal.invariant-collect_all-loop-meta

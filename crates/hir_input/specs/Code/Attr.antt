@@ -1,4 +1,4 @@
--- Codes of conditions and of metas, which the model of a type that holds them asks for. No contract says more by them.
+-- Codes of conditions and of metas.
 use Rattle.std.specs.Prelude.{◌≡◌, List, Option, refl}
 use Rattle.std.specs.Coded.{Coded, coded×, coded_list, coded_option}
 use Rattle.std.proofs.Common.{ap}
@@ -14,18 +14,8 @@ use Rattle.hir_input.specs.contracts.attr.Literal as literal
 use Rattle.hir_input.specs.contracts.ids.SyntaxContext as context
 use Rattle.hir_input.specs.contracts.attr.TokenTree as token_tree
 use Rattle.hir_input.specs.Cfg.{CfgView, CfgViews, invalid, atom, all_of, any_of, not_of, no_cfgs, cfg_and}
+use Rattle.hir_input.specs.Code.Parts.{front, behind}
 use Rattle.hir_input.specs.Attr.{MetaView, MetaViews, path_meta, key_value_meta, token_tree_meta, cfg_meta, cfg_attr_meta, unsafe_meta, no_metas, meta_and}
-
--- the two parts of a code
-abbrev pub front : Gv → Gv
-front gnil = gnil
-front (gnum n) = gnil
-front (gcons a b) = a
-
-abbrev pub behind : Gv → Gv
-behind gnil = gnil
-behind (gnum n) = gnil
-behind (gcons a b) = b
 
 -- ---- conditions
 

@@ -1,9 +1,9 @@
--- A code of collected values, which the model of a type that holds them asks for. No contract says more by it.
+-- A code of collected values.
 use Rattle.std.specs.Prelude.{List, Option, refl}
 use Rattle.std.specs.Coded.{Coded, code_by, coded×, coded_list, coded_option}
 use Rattle.hir_input.specs.declared.attr.Attr.{Attr}
 use Rattle.hir_input.specs.contracts.attr.Attr as attr
-use Rattle.hir_input.specs.AttrCode.{cfg_code}
+use Rattle.hir_input.specs.Code.Attr.{cfg_code}
 use Rattle.hir_input.specs.Cfg.{CfgView}
 use Rattle.item_tree_attrs.specs.Collected.{Collected}
 

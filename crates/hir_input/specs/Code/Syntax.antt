@@ -1,4 +1,4 @@
--- A code of the syntax's view, which the model of a type that holds syntaxes asks for. No contract says more by it.
+-- A code of the syntax's view.
 use Rattle.std.specs.Prelude.{◌≡◌, ℕ, List, Bool, Option, refl}
 use Rattle.std.specs.Coded.{Coded, code_by, coded×, coded_list, coded_option, coded_bool, coded_ℕ}
 use Rattle.std.proofs.Common.{ap, arith}
@@ -17,9 +17,10 @@ use Rattle.hir_input.specs.contracts.ast.PathNode as path_node
 use Rattle.hir_input.specs.contracts.ast.Rename as rename
 use Rattle.hir_input.specs.contracts.ast.Visibility as visibility
 use Rattle.hir_input.specs.Attr.{MetaView}
-use Rattle.hir_input.specs.AttrCode.{front, behind, attrs_code}
+use Rattle.hir_input.specs.Code.Parts.{front, behind, number_of}
+use Rattle.hir_input.specs.Code.Attr.{attrs_code}
 use Rattle.hir_input.specs.UseTreeView.{UseTreeView}
-use Rattle.hir_input.specs.UseTreeCode.{use_tree_code}
+use Rattle.hir_input.specs.Code.UseTree.{use_tree_code}
 use Rattle.hir_input.specs.Syntax.{NodeView, NamedView, UseView, CallView, PlainKind, fn_kind, union_kind, enum_kind, static_kind, trait_kind, type_alias_kind, macro_def_kind, ast_kind, FieldsView, record_fields, tuple_fields, no_fields, ItemView, plain_item, const_item, struct_item, bare_module, listed_module, use_item, extern_crate, bare_extern_block, listed_extern_block, impl_item, macro_call, macro_rules, asm_item, ItemViews, no_items, item_and, SyntaxView, source_file, error}
 
 -- ---- nodes without the items in them
@@ -118,12 +119,6 @@ abbrev pub macro_rules_code : Coded (NodeView × Option (List ℕ))
 macro_rules_code = coded× node_code name_code
 
 -- ---- items
-
--- the number in front of a code
-abbrev pub number_of : Gv → ℕ
-number_of gnil = 0
-number_of (gnum n) = n
-number_of (gcons a b) = number_of a
 
 abbrev mutual
   pub item_to : ItemView → Gv

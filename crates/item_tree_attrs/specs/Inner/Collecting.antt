@@ -1,4 +1,4 @@
--- What the steps of collecting say of what they found. No public contract cites these words.
+-- What the steps of collecting say of what they found.
 use Rattle.std.specs.Prelude.{◌≡◌, List, [], ◌∷◌, ◌++◌, Option, None, Some, option_map}
 use Rattle.std.specs.Borrow.{Bor}
 use Rattle.either.specs.declared.Either.{Either}

@@ -1,0 +1,2 @@
+-- Codes of the views, which the model of a type that holds them asks for. No contract says more by them.
+pub mod Collected
