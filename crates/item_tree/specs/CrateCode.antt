@@ -5,7 +5,7 @@ use Rattle.hir_input.specs.declared.cfg.CfgAtom.{CfgAtom}
 use Rattle.hir_input.specs.declared.ids.HirFileId.{HirFileId}
 use Rattle.hir_input.specs.contracts.ids.HirFileId as file
 use Rattle.hir_input.specs.Attr.{MetaView}
-use Rattle.hir_input.specs.AttrCode.{options_code, attrs_code}
+use Rattle.hir_input.specs.Code.Attr.{options_code, attrs_code}
 use Rattle.item_tree.specs.CrateView.{CrateView}
 
 abbrev pub crate_code : Coded CrateView

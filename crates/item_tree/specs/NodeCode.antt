@@ -8,12 +8,12 @@ use Rattle.hir_input.specs.declared.expand_to.ExpandTo.{ExpandTo}
 use Rattle.hir_input.specs.contracts.ids.SyntaxContext as context
 use Rattle.hir_input.specs.contracts.expand_to.ExpandTo as expand_to
 use Rattle.hir_input.specs.contracts.mod_path.ModPath as mod_path
-use Rattle.hir_input.specs.AttrCode.{front, behind}
+use Rattle.hir_input.specs.Code.Parts.{front, behind, number_of}
 use Rattle.hir_input.specs.Path.{Path}
 use Rattle.hir_input.specs.Syntax.{PlainKind}
-use Rattle.hir_input.specs.SyntaxCode.{plain_kind_code, number_of}
+use Rattle.hir_input.specs.Code.Syntax.{plain_kind_code}
 use Rattle.item_tree_attrs.specs.Collected.{Collected}
-use Rattle.item_tree_attrs.specs.CollectedCode.{collected_code}
+use Rattle.item_tree_attrs.specs.Code.Collected.{collected_code}
 use Rattle.item_tree.specs.declared.visibility.RawVisibility.{RawVisibility}
 use Rattle.item_tree.specs.contracts.visibility.RawVisibility as raw
 use Rattle.item_tree.specs.declared.items.FieldsShape.{FieldsShape}

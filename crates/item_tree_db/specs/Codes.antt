@@ -2,7 +2,7 @@
 use Rattle.std.specs.Prelude.{ℕ, List, Option, refl}
 use Rattle.std.specs.Coded.{Coded, code_by, coded×, coded_list, coded_option, coded_ℕ}
 use Rattle.hir_input.specs.Syntax.{SyntaxView}
-use Rattle.hir_input.specs.SyntaxCode.{syntax_code}
+use Rattle.hir_input.specs.Code.Syntax.{syntax_code}
 use Rattle.item_tree.specs.CrateView.{CrateView}
 use Rattle.item_tree.specs.CrateCode.{crate_code}
 use Rattle.item_tree.specs.Node.{Unfolding}
