@@ -1,7 +1,7 @@
 #!/usr/bin/env python3
 """Writes a request in the shape of real files to standard output.
 
-    generate.py files N     N files of some sixty items in one crate, each shown as a page and as its imports
+    generate.py files N     N files of some fifty items at the top in one crate, each shown as a page and as its imports
     generate.py rising N    N files of one function, set in rising order; the first and the last are shown
     generate.py falling N   the same in falling order
     generate.py crates N    50 small files in N crates, each with its own options; one tree is shown
@@ -12,7 +12,9 @@ The same arguments give the same bytes.
 
 import argparse
 import json
+import math
 import random
+import statistics
 import sys
 
 SYLLABLES = "ab ac al an ar at be ca ce co de di el en er ex fi fo ge ha in is ka le li lo ma me mi mo na ne no or pa pe po ra re ri ro sa se si so ta te ti to un ur va ve vi wa".split()
@@ -110,9 +112,10 @@ class Files:
             item["body"] = self.body()
         return item
 
-    def file(self):
-        """Some forty items at the top in the middle, some sixty on average."""
-        items = [self.item() for _ in range(max(1, min(400, int(self.random.lognormvariate(3.5, 1.0)))))]
+    def file(self, number):
+        """Any fifty files in a row have the same numbers of items at the top: 3 to 339, 33 in the middle and 53 on average."""
+        part = (number * 17 % 50 + 0.5) / 50
+        items = [self.item() for _ in range(round(math.exp(statistics.NormalDist(3.5, 1.0).inv_cdf(part))))]
         return {"root": "source_file", "attrs": self.attrs(), "items": items}
 
     def small_file(self):
@@ -134,7 +137,7 @@ def request(crates, edits, shows):
 def files(made, count):
     options = [{"key": "feature", "value": f} for f in FEATURES[:5]]
     shows = [{"show": kind, "crate": 0, "file": n} for n in range(count) for kind in ("page", "imports")]
-    return request([crate(options)], [set_file(n, made.file()) for n in range(count)], shows)
+    return request([crate(options)], [set_file(n, made.file(n)) for n in range(count)], shows)
 
 
 def small_files(made, numbers):

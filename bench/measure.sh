@@ -24,7 +24,7 @@ trap 'rm -rf "$work"' EXIT
 
 # The seconds, the kilobytes at the peak and the instructions of a run on the request.
 measured() {
-    local seconds peak instructions=-
+    local user system seconds peak instructions=-
     /usr/bin/time -f '%U %S %M' -o "$work/time" "$program" < "$work/request" > "$work/output"
     read -r user system peak < "$work/time"
     seconds=$(awk "BEGIN { print $user + $system }")
@@ -40,16 +40,17 @@ growth() { [ "$2" = - ] && echo - || awk "BEGIN { if ($1 > 0) printf \"%.2f\", $
 line() { printf '%-9s %8s %12s %9s %10s %15s\n' "$@"; }
 
 shape() {
-    local name=$1 n=$2 times seconds peak instructions first=
+    local name=$1 n=$2 times seconds peak instructions bytes first=
     for times in 1 2 4; do
         python3 "$here/generate.py" "$name" $((n * times)) > "$work/request"
+        bytes=$(stat -c %s "$work/request")
         read -r seconds peak instructions < <(measured)
-        line "$name" $((n * times)) "$(stat -c %s "$work/request")" "$seconds" "$peak" "$instructions"
-        [ -n "$first" ] || first="$seconds $peak $instructions"
+        line "$name" $((n * times)) "$bytes" "$seconds" "$peak" "$instructions"
+        [ -n "$first" ] || first="$seconds $peak $instructions $bytes"
     done
     # shellcheck disable=SC2086
     set -- $first
-    line '' 'growth' '' "$(growth "$1" "$seconds")" "$(growth "$2" "$peak")" "$(growth "$3" "$instructions")"
+    line '' growth "$(growth "$4" "$bytes")" "$(growth "$1" "$seconds")" "$(growth "$2" "$peak")" "$(growth "$3" "$instructions")"
 }
 
 line shape parts bytes seconds peak_kB instructions

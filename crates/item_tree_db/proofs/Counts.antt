@@ -1,5 +1,7 @@
 -- Each entry has a row for each crate.
-use Rattle.std.proofs.Common.{◌≡◌, ℕ, suc, List, [], ◌∷◌, length, cond, true, false, Some, None, Option, IfSome, refl, sym, ap, ◌∙◌}
+use Rattle.std.proofs.Common.{◌≡◌, ℕ, suc, List, [], ◌∷◌, ◌++◌, length, map, take, drop, cond, true, false, Some, None, Option, IfSome, refl, sym, ap, ◌∙◌}
+use Rattle.std.specs.Prelude.{replicate}
+use Rattle.std.proofs.Math.Seq.{take-append_seam}
 use Rattle.std.proofs.lemmas.List.{length-map, length-replicate}
 use Rattle.std.proofs.lemmas.Option.{IfSome_then}
 use Rattle.std.specs.FinMap.Entries.{by_order}
@@ -7,13 +9,25 @@ use Rattle.std.specs.Ordering.{nat_cmp, eq_by_cmp}
 use Rattle.std.specs.declared.cmp.Ordering.TheVariants.{Less, Equal, Greater}
 use Rattle.item_tree_db.specs.declared.rows.Row.{Row}
 use Rattle.item_tree_db.specs.State.{find}
-use Rattle.item_tree_db.specs.Settled.{settled}
+use Rattle.item_tree_db.specs.Settled.{settled, settled_row, empty_row}
 use Rattle.item_tree_db.specs.Slots.{Placed, HasRows, put, removed, set_to, placed_or_nothing}
 
 length-settled : (n : ℕ) (xs ys : List Row) → length (settled n xs ys) ≡ length xs
 length-settled n [] ys = refl
 length-settled n (x ∷ xs) [] = refl
 length-settled n (x ∷ xs) (y ∷ ys) = ap suc (length-settled n xs ys)
+
+-- each tree is set for the first time
+settled_first : (n start : ℕ) (rows : List Row) → map (settled_row n (empty_row start)) rows ≡ settled n (replicate (length rows) (empty_row start)) rows
+settled_first n start [] = refl
+settled_first n start (row ∷ rows) = ap (λ (l : List Row). settled_row n (empty_row start) row ∷ l) (settled_first n start rows)
+
+-- the whole vector, after its elements were lent and each tree was set for the first time
+pub first_written : (n start len : ℕ) (rows lent after : List Row) → lent ≡ rows → after ≡ map (settled_row n (empty_row start)) lent → len ≡ length rows → take len (after ++ drop (length after) rows) ≡ settled n (replicate (length rows) (empty_row start)) rows
+first_written n start len rows lent after p q h =
+    let same : after ≡ map (settled_row n (empty_row start)) rows = q ∙ ap (map (settled_row n (empty_row start))) p in
+    let long : len ≡ length after = h ∙ sym (length-map rows (settled_row n (empty_row start))) ∙ ap length (sym same) in
+    ap (λ k. take k (after ++ drop (length after) rows)) long ∙ take-append_seam after (drop (length after) rows) ∙ same ∙ settled_first n start rows
 
 module _ {S : Type 0} where
   pub rows_of_found : (count : ℕ) (l : List (ℕ × Placed S)) (k : ℕ) → HasRows count l → IfSome (find l k) (λ e. length e.rows ≡ count)

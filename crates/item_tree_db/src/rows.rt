@@ -1,5 +1,5 @@
 //! The trees of one place, one for each crate, with their change numbers.
-ghost use Rattle.std.specs.Prelude.{◌≡◌, All, IfErr, IfOk, length, map, replicate};
+ghost use Rattle.std.specs.Prelude.{◌≡◌, All, IfErr, IfOk, length, map};
 ghost use Rattle.hir_input.specs.Syntax.{syntax_view};
 ghost use Rattle.item_tree.specs.CrateView.{crate_view};
 ghost use Rattle.item_tree.specs.Size.{FitsWith, IsTooLarge};
@@ -10,7 +10,7 @@ ghost use Rattle.item_tree_db.specs.Settled.{settled, settled_row, empty_row, cl
 use hir_input::ast::Syntax;
 use hir_input::{HirFileId, Name};
 use item_tree::{CrateData, ItemTree, LowerError, lower_syntax};
-use std::alloc::{AllocError, Global};
+use std::alloc::Global;
 use std::mem;
 
 /// A crate's tree of a place, and the number of the last edit at which it became another.
@@ -53,32 +53,18 @@ pub fn clear(rows: &mut [Row], alloc: Global, number: u64)
     }
 }
 
-// The rows of a place that was never set.
-fn empty_rows(alloc: Global, count: usize, start: u64) -> Result<Vec<Row>, AllocError>
-    ensures { IfOk result (λ rows. rows.items ≡ replicate count (empty_row start)) }
+/// Makes new rows those of a place that is set for the first time: its trees were empty before. Takes no memory.
+pub fn settle_first(rows: &mut [Row], alloc: Global, start: u64, number: u64)
+    ensures { rows.new ≡ map (settled_row number (empty_row start)) rows.old }
 {
-    let mut rows = Vec::new(alloc);
-    for _ in 0..count {
-        rows.push(Row {
+    for row in rows.iter_mut() {
+        let mut first = Row {
             tree: ItemTree::empty(alloc),
             changed: start,
-        })?;
+        };
+        settle_row(&mut first, row, number);
+        mem::swap(&mut first, row);
     }
-    Ok(rows)
-}
-
-/// The rows of a place that is set for the first time.
-pub fn first_rows(
-    alloc: Global,
-    fresh: Vec<Row>,
-    start: u64,
-    number: u64,
-) -> Result<Vec<Row>, AllocError>
-    ensures { IfOk result (λ rows. rows.items ≡ settled number (replicate (length fresh.items) (empty_row start)) fresh.items) }
-{
-    let mut rows = empty_rows(alloc, fresh.len(), start)?;
-    settle(&mut rows, fresh, number);
-    Ok(rows)
 }
 
 // The syntax of a file lowered for one crate, under its own options.
@@ -114,7 +100,7 @@ pub fn lower_all(
     ensures fits { IfOk result (λ rows. All (λ row. FitsWith (syntax_view syntax.now) row.tree) rows.items) }
     ensures refused { IfErr result (IsPassed (map crate_view crates.now) skipped.now (file_at file.0) (syntax_view syntax.now)) }
 {
-    let mut rows = Vec::new(alloc);
+    let mut rows = Vec::with_capacity(alloc, crates.len())?;
     for krate in crates {
         let row = lower_row(alloc, krate, skipped, file, syntax, number)?;
         rows.push(row)?;

@@ -4,7 +4,7 @@ ghost use Rattle.item_tree_db.specs.State.{find};
 ghost use Rattle.item_tree_db.specs.Settled.{settled, cleared};
 ghost use Rattle.item_tree_db.specs.Slots.{put, set_to, removed, placed_or_nothing, row_in};
 
-use crate::rows::{Row, clear, first_rows, settle};
+use crate::rows::{Row, clear, settle, settle_first};
 use std::alloc::Global;
 use std::collections::BTreeMap;
 use std::marker::Model;
@@ -126,7 +126,7 @@ impl<S: Drop> Shelf<S> {
         alloc: Global,
         key: u32,
         syntax: S,
-        fresh: Vec<Row>,
+        mut fresh: Vec<Row>,
         start: u64,
         number: u64,
     ) -> Result<(), S>
@@ -141,10 +141,8 @@ impl<S: Drop> Shelf<S> {
                 Ok(())
             }
             None => {
-                let Ok(rows) = first_rows(alloc, fresh, start, number) else {
-                    return Err(syntax);
-                };
-                match self.slots.insert(key, Entry::new(syntax, rows)) {
+                settle_first(&mut fresh, alloc, start, number);
+                match self.slots.insert(key, Entry::new(syntax, fresh)) {
                     Ok(_) => Ok(()),
                     Err(failed) => {
                         let (_, entry) = failed.value;

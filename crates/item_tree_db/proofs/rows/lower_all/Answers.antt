@@ -13,7 +13,7 @@ use Rattle.item_tree_db.proofs.rows.lower_all.Goals as goal
 
 pub returns-in_err-row-clause-refused : goal.returns-in_err-row-clause-refused
 returns-in_err-row-clause-refused c =
-    let p = err_from_is_err_and c.from_residual.result c.from_residual.ensures.1 in
+    let p = err_from_is_err_and c.from_residual-in_err-row.result c.from_residual-in_err-row.ensures.1 in
     rw (p.1, p.2) (passed_at c.args.crates.now c.args.skipped.now (file_at c.args.file.0) (syntax_view c.args.syntax.now) c.loop-krate.krate-index c.krate-item.result c.in_err-row.field-0.0 c.krate-item.is c.loop-krate-test.true c.in_err-row.ensures.refused)
 
 pub loop-krate-preserved : goal.loop-krate-preserved
