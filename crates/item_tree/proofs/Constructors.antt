@@ -6,19 +6,16 @@ use Rattle.item_tree.specs.declared.fault.LowerError.{LowerError}
 use Rattle.item_tree.specs.declared.items.FieldsShape.{FieldsShape}
 use Rattle.item_tree.specs.declared.rows.Rows.{Rows}
 use Rattle.item_tree.specs.Constructor.{ctor_from}
-use Rattle.item_tree.specs.Node.{Ctor, Leaf, Head, struct_item, leaf, empty, more}
+use Rattle.item_tree.specs.Node.{Ctor, Head, struct_item, leaf, empty, more}
 use Rattle.item_tree.specs.Meeting.{meet, meet_all}
 use Rattle.item_tree.specs.Layout.{vis_id, plain_vis, ctor_map, leaf_map, ctor_vis, leaf_vis, leaf_row}
-use Rattle.item_tree.specs.Growth.{Adds, Lowers, sizes_with, Meets, MeetsAll, MeetsUpTo, HasId, sizes_meeting, Pushes}
+use Rattle.item_tree.specs.Growth.{Lowers, sizes_with, Meets, MeetsAll, MeetsUpTo, HasId, sizes_meeting, Pushes}
 use Rattle.item_tree.specs.Size.{IsPassed}
 use Rattle.item_tree.proofs.Arena.{V, Extends, Extends-meet_all, Knows, Knows-meet, Knows-id, meet-twice}
-use Rattle.item_tree.proofs.Lowering.{Adds-nothing, Adds-join, Meets-adds, Lowers-leaf, length-Extends, passes-visibilities}
+use Rattle.item_tree.proofs.Lowering.{kept-adds, Adds-join, Lowers-leaf, length-Extends, passes-visibilities}
 
 pub has_id : (o a : Rows) (v : V) (i : ℕ) → Meets o a v i → HasId a v i
 has_id o a v i m = record { given = m.given; met = ap (λ z. meet z v) m.met ∙ meet-twice o.arena.keys v ∙ sym m.met }
-
-MeetsAll-adds : {a b : Rows} {vs : List V} → MeetsAll a b vs → Adds a b []
-MeetsAll-adds {a} {b} m = subst (λ z. Adds a z []) (sym m.kept) (let n = Adds-nothing a in record { tags = n.tags; keys = n.keys; items = n.items; places = n.places; column = n.column })
 
 -- the id of a visibility stays while more are met
 id-stays : {o a : Rows} {v : V} {i : ℕ} {ys : List V} → Meets o a v i → Extends a.arena.keys ys → plain_vis i ≡ vis_id ys v
@@ -37,14 +34,7 @@ MeetsUpTo-step {o} {a} {b} {v} {vs} {all} {i} {is} {js} rest e h m push =
           rw (push, map-append plain_vis is (i ∷ []))
           (append_assoc (map plain_vis is) (plain_vis i ∷ []) (map (vis_id end) vs) ∙ (λ j. map plain_vis is ++ id j ∷ map (vis_id end) vs) ∙ ap (λ z. map plain_vis is ++ map (vis_id end) z) (sym e)
           ∙ subst (λ k. map plain_vis is ++ map (vis_id k) rest ≡ map (vis_id k) all) whole h.given);
-      kept = λ j. record {
-        tags = (m.tags_kept ∙ ap (λ r. r.tags) h.kept) j;
-        keys = (m.keys_kept ∙ ap (λ r. r.keys) h.kept) j;
-        items = (m.items_kept ∙ ap (λ r. r.items) h.kept) j;
-        places = (m.places_kept ∙ ap (λ r. r.places) h.kept) j;
-        column = (m.column_kept ∙ ap (λ r. r.column) h.kept) j;
-        arena = b.arena;
-      };
+      kept = m.kept ∙ ap (λ (r : Rows). record r { arena = b.arena }) h.kept;
       within = m.within;
     }
 
@@ -53,7 +43,7 @@ pub Lowers-struct :
     p ≡ n → t ≡ s → q ≡ h → length h.attrs.attrs ≤ attr_limit → Pushes b d (q, leaf_row (leaf_map plain_vis (struct_item p u t k))) i → Lowers o d 0 (more (leaf h (struct_item n v s c)) empty) (i ∷ [])
 Lowers-struct {o} {a} {b} {d} {i} {u} h q n p v s t c k m w x e y z few push =
     let given = id-stays m (subst (λ z. Extends a.arena.keys z) (sym w.met) (Extends-meet_all a.arena.keys (ctor_vis c))) in
-    Lowers-leaf h q (struct_item n v s c) (leaf_map plain_vis (struct_item p u t k)) (Adds-join (Meets-adds m) (MeetsAll-adds w))
+    Lowers-leaf h q (struct_item n v s c) (leaf_map plain_vis (struct_item p u t k)) (Adds-join (kept-adds o a m.kept) (kept-adds a b w.kept))
     (w.met ∙ ap (λ r. meet_all r (ctor_vis c)) m.met) (λ j. struct_item (e j) (given j) (y j) (x j)) z few (omega arith) (omega arith) push
 
 pub ctor_vis_from : (vs : List V) → ctor_vis (ctor_from vs) ≡ vs

@@ -18,7 +18,7 @@ use Rattle.item_tree.specs.Node.{Leaf, Trunk, trunk_kind, leaf_kind, Head, Node,
 use Rattle.item_tree.specs.Meeting.{meet, meet_all, met, node_met}
 use Rattle.item_tree.specs.Visibility.{read_visibility}
 use Rattle.item_tree.specs.Kept.{head_of, module_node}
-use Rattle.item_tree.specs.Layout.{VisId, vis_id, plain_vis, leaf_map, trunk_map, leaf_vis, trunk_vis, arena_of, node_walk, walk, node_id, ids, Row, leaf_row, parent_row, row_tag, row_key, row_attrs, row_item, kind_bit, node_rows, rows_of, layout, unfold_tables}
+use Rattle.item_tree.specs.Layout.{VisId, vis_id, plain_vis, leaf_map, trunk_map, leaf_vis, trunk_vis, arena_of, node_walk, walk, node_id, ids, Row, leaf_row, parent_row, row_tag, row_key, row_attrs, row_item, kind_bit, node_rows, rows_of, Tables, layout, unfold_tables}
 use Rattle.item_tree.specs.Column.{is_empty, unless, some_unless, column_of, places_from, plain_place}
 use Rattle.item_tree.specs.Imports.{super_limit}
 use Rattle.item_tree.specs.KeptUse.{use_tree_limit}
@@ -117,16 +117,9 @@ pub Adds-count : {a b : Rows} {rs : List Row} → Adds a b rs → row_count b �
 Adds-count {a} {b} {rs} h =
     omega (arith, ap length h.items, length-append (items_in a) (map row_item rs), length-map rs row_item, length-map a.items.items item_row, length-map b.items.items item_row)
 
-pub Meets-adds : {a b : Rows} {v : V} {i : ℕ} → Meets a b v i → Adds a b []
-Meets-adds {a} {b} h =
-    let n = Adds-nothing a in
-    record {
-      tags = ap (λ z. z.items) h.tags_kept ∙ n.tags;
-      keys = ap (λ z. map key_in z.items) h.keys_kept ∙ n.keys;
-      items = ap (λ z. map item_row z.items) h.items_kept ∙ n.items;
-      places = ap (λ z. map plain_place z.items) h.places_kept ∙ n.places;
-      column = ap (λ z. map collected z.items) h.column_kept ∙ n.column;
-    }
+-- nothing but the arena changed
+pub kept-adds : (a b : Rows) → b ≡ record a { arena = b.arena } → Adds a b []
+kept-adds a b k = subst (λ z. Adds a z []) (sym k) (let n = Adds-nothing a in record { tags = n.tags; keys = n.keys; items = n.items; places = n.places; column = n.column })
 
 pub Lowers-count : {old new : Rows} {w : ℕ} {f : Forest} {is : List ℕ} → Lowers old new w f is → row_count new ≡ row_count old + count f
 Lowers-count {old} {new} {w} {f} h = Adds-count h.added ∙ ap (λ z. row_count old + z) (length-rows new.arena.keys f (row_count old) ∙ length-walk f)
@@ -292,7 +285,7 @@ module _ (ctx : Ctx) (m : ast_module.Module) where
       Lowers a b inside below is → Pushes b c (k, parent_row (inline p (plain_vis u)) is) i → Lowers o c module_written kept_module (i ∷ [])
   Lowers-inline {o} {a} {b} {c} {is} {i} {u} k n p e s q d few v h w =
       rw (kept-inline n e s, written-inline n e s)
-      (Lowers-parent head k (inline n (value m)) (inline p (plain_vis u)) (Meets-adds v) v.met (λ j. inline (q j) (v.given j)) d few h w)
+      (Lowers-parent head k (inline n (value m)) (inline p (plain_vis u)) (kept-adds o a v.kept) v.met (λ j. inline (q j) (v.given j)) d few h w)
 
   pub unmet-module : (o : Rows) (n : List ℕ) (e : LowerError) → m.name ≡ Some n → IsPassed (sizes_meeting o (value m ∷ [])) e → IsPassed (sizes_with o module_written kept_module) e
   unmet-module o n e q =
@@ -307,7 +300,7 @@ module _ (ctx : Ctx) (m : ast_module.Module) where
   pub full-inline :
       {o a b : Rows} {is : List ℕ} {u : ℕ} (n : List ℕ) (e : LowerError) → m.name ≡ Some n → m.semicolon ≡ false → Meets o a (value m) u →
       Lowers a b inside below is → IsPassed (only_items (row_count b + 1)) e → IsPassed (sizes_with o module_written kept_module) e
-  full-inline n e q s v h f = rw (kept-inline n q s) (full-parent module_written head (inline n (value m)) e (Meets-adds v) h f)
+  full-inline {o} {a} {b} n e q s v h f = rw (kept-inline n q s) (full-parent module_written head (inline n (value m)) e (kept-adds o a v.kept) h f)
 
 -- ---- extern blocks
 
@@ -422,12 +415,17 @@ passed-from_nothing old f c s e items arena h =
 
 -- ---- the tables of a tree whose rows were made from nothing
 
+pub record Unfolds (t : Tables) (u : Unfolding) : Type 0 where
+  pub unfolded : unfold_tables t ≡ u
+  pub fit : Fits u
+  pub sound : AreSound t
+
 module _
     (old new whole : Rows) {w : ℕ} (f : Forest) (c : Collected) (top : List ℕ) (place : ℕ)
     (tags_empty : old.tags.items ≡ []) (keys_empty : old.keys.items ≡ []) (items_empty : old.items.items ≡ [])
     (places_empty : old.places.items ≡ []) (column_empty : old.column.items ≡ []) (arena_empty : old.arena.keys ≡ [])
     (few : length c.attrs ≤ attr_limit) (h : Lowers old new w f top) (k : Puts new.column whole.column c place) (same : whole ≡ record new { column = whole.column }) where
-  abbrev u : Unfolding
+  abbrev pub u : Unfolding
   u = record { top_attrs = c; forest = f }
 
   abbrev rows : List Row
@@ -456,16 +454,13 @@ module _
       let arena : arena_of f ≡ whole.arena.keys = sym (ap (λ z. z.arena.keys) same ∙ arena_is) in
       λ i. record { top = t i; tags = tags i; keys = keys i; items = items i; places = places i; top_place = top_place i; column = column i; arena = arena i }
 
-  pub tables-unfold : unfold_tables (tables_of top place whole) ≡ u
-  tables-unfold = ap unfold_tables (sym tables-layout) ∙ unfold-layout u
-
-  pub tables-fit : Fits u
-  tables-fit = record {
-    items = omega (arith, h.within.items, Lowers-count h, ap length items_empty);
-    visibilities = omega (arith, h.within.visibilities, ap length arena_is);
-    attributes = omega (arith, few, h.attributes);
-    supers = h.supers;
-  }
-
-  pub tables-sound : AreSound (tables_of top place whole)
-  tables-sound = record { laid_out = ap layout tables-unfold ∙ tables-layout; fits = subst (λ z. Fits z) (sym tables-unfold) tables-fit }
+  pub tables : Unfolds (tables_of top place whole) u
+  tables =
+      let unfolded : unfold_tables (tables_of top place whole) ≡ u = ap unfold_tables (sym tables-layout) ∙ unfold-layout u in
+      let fit : Fits u = record {
+        items = omega (arith, h.within.items, Lowers-count h, ap length items_empty);
+        visibilities = omega (arith, h.within.visibilities, ap length arena_is);
+        attributes = omega (arith, few, h.attributes);
+        supers = h.supers;
+      } in
+      record { unfolded = unfolded; fit = fit; sound = record { laid_out = ap layout unfolded ∙ tables-layout; fits = subst (λ z. Fits z) (sym unfolded) fit } }

@@ -95,10 +95,6 @@ abbrev pub to_list : Option ℕ → List ℕ
 to_list None = []
 to_list (Some i) = i ∷ []
 
--- the same of one node, or of none
-abbrev pub LowersOne : Rows → Rows → ℕ → Option Node → Option ℕ → Type 0
-LowersOne old new w n i = Lowers old new w (add n empty) (to_list i)
-
 -- the sizes of the rows with those of the forest, of whose use trees w at most are written in one
 abbrev pub sizes_with : Rows → ℕ → Forest → Sizes
 sizes_with old w f = record {
@@ -111,7 +107,9 @@ sizes_with old w f = record {
 
 -- the item is lowered, or refused for a size that it passes
 abbrev pub IsLowered : Ctx → Rows → Rows → ItemView → Result (Option ℕ) LowerError → Type 0
-IsLowered ctx old new i r = MatchResult r (LowersOne old new (item_written i) (kept_in ctx i)) (IsPassed (sizes_with old (item_written i) (add (kept_in ctx i) empty)))
+IsLowered ctx old new i r =
+    let f = add (kept_in ctx i) empty in
+    MatchResult r (λ id. Lowers old new (item_written i) f (to_list id)) (IsPassed (sizes_with old (item_written i) f))
 
 -- the same of several
 abbrev pub AreLowered : Ctx → Rows → Rows → ItemViews → Result (Vec ℕ Global) LowerError → Type 0
@@ -121,11 +119,7 @@ AreLowered ctx old new is r = MatchResult r (λ ids. Lowers old new (items_writt
 pub record Meets (old new : Rows) (v : RawVisibility) (i : ℕ) : Type 0 where
   pub met : new.arena.keys ≡ meet old.arena.keys v
   pub given : plain_vis i ≡ vis_id new.arena.keys v
-  pub tags_kept : new.tags ≡ old.tags
-  pub keys_kept : new.keys ≡ old.keys
-  pub items_kept : new.items ≡ old.items
-  pub places_kept : new.places ≡ old.places
-  pub column_kept : new.column ≡ old.column
+  pub kept : new ≡ record old { arena = new.arena }
   pub within : IsWithinLimits new
 
 -- the visibility was met before, and this is its id

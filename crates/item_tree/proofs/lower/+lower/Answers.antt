@@ -1,4 +1,4 @@
-use Rattle.std.proofs.Common.{◌≡◌, ◌≤◌, ◌+◌, length, [], ◌∷◌, ◌++◌, take, subst, ap, sym, ◌∙◌, append-nil}
+use Rattle.std.proofs.Common.{◌≤◌, length, [], ◌∷◌, ◌++◌, subst, ap, sym, ◌∙◌, append-nil}
 use Rattle.std.proofs.lemmas.Result.{err_from_is_err_and}
 use Rattle.hir_input.specs.Syntax.{item_view}
 use Rattle.item_tree_attrs.specs.Collected.{attr_limit}

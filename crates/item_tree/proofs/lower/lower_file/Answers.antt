@@ -1,9 +1,9 @@
-use Rattle.std.proofs.Common.{◌∙◌, refl, []}
+use Rattle.std.proofs.Common.{◌∙◌, refl, rules, []}
 use Rattle.std.proofs.lemmas.Result.{err_from_is_err_and}
 use Rattle.hir_input.specs.Syntax.{items_view, source_file}
 use Rattle.item_tree_attrs.specs.Collected.{collected}
 use Rattle.item_tree.specs.Growth.{all_kept_in}
-use Rattle.item_tree.proofs.Lowering.{tables-unfold, tables-fit, tables-sound, passed-from_nothing}
+use Rattle.item_tree.proofs.Lowering.{tables, passed-from_nothing}
 use Rattle.item_tree.proofs.lower.lower_file.Goals as goal
 
 pub from_rows-requires : goal.from_rows-requires
@@ -11,22 +11,15 @@ from_rows-requires c =
     let e = c.new-rows.ensures in
     let f = all_kept_in c.args.ctx (items_view c.args.items.now) in
     let whole = record c.lower_items.new.rows { column = c.push_attrs.new.column } in
-    tables-sound c.new-rows.result c.lower_items.new.rows whole f (collected c.args.top_attrs) c.in_ok-top_level.top_level.items c.in_ok-top_place.top_place e.tags e.keys e.items e.places e.column e.arena c.requires c.in_ok-top_level.ensures c.in_ok-top_place.ensures refl
+    (tables c.new-rows.result c.lower_items.new.rows whole f (collected c.args.top_attrs) c.in_ok-top_level.top_level.items c.in_ok-top_place.top_place e.tags e.keys e.items e.places e.column e.arena c.requires c.in_ok-top_level.ensures c.in_ok-top_place.ensures refl).sound
 
-pub returns-clause-kept : goal.returns-clause-kept
-returns-clause-kept c =
+pub returns : goal.returns
+returns c =
     let e = c.new-rows.ensures in
     let f = all_kept_in c.args.ctx (items_view c.args.items.now) in
     let whole = record c.lower_items.new.rows { column = c.push_attrs.new.column } in
-    c.from_rows.ensures
-    ∙ tables-unfold c.new-rows.result c.lower_items.new.rows whole f (collected c.args.top_attrs) c.in_ok-top_level.top_level.items c.in_ok-top_place.top_place e.tags e.keys e.items e.places e.column e.arena c.requires c.in_ok-top_level.ensures c.in_ok-top_place.ensures refl
-
-pub returns-clause-fits : goal.returns-clause-fits
-returns-clause-fits c =
-    let e = c.new-rows.ensures in
-    let f = all_kept_in c.args.ctx (items_view c.args.items.now) in
-    let whole = record c.lower_items.new.rows { column = c.push_attrs.new.column } in
-    tables-fit c.new-rows.result c.lower_items.new.rows whole f (collected c.args.top_attrs) c.in_ok-top_level.top_level.items c.in_ok-top_place.top_place e.tags e.keys e.items e.places e.column e.arena c.requires c.in_ok-top_level.ensures c.in_ok-top_place.ensures refl
+    let t = tables c.new-rows.result c.lower_items.new.rows whole f (collected c.args.top_attrs) c.in_ok-top_level.top_level.items c.in_ok-top_place.top_place e.tags e.keys e.items e.places e.column e.arena c.requires c.in_ok-top_level.ensures c.in_ok-top_place.ensures refl in
+    record { kept = c.from_rows.ensures ∙ t.unfolded; fits = t.fit; use_trees = c.in_ok-top_level.ensures.use_trees; too_large = search rules }
 
 pub returns-in_err-top_level-clause-too_large : goal.returns-in_err-top_level-clause-too_large
 returns-in_err-top_level-clause-too_large c =

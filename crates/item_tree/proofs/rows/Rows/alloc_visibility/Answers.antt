@@ -1,5 +1,6 @@
 use Rattle.std.proofs.Common.{◌<◌, cond, [], ◌∷◌, ◌++◌, length, arith, refl, ap, ◌∙◌, subst}
 use Rattle.item_tree.specs.Layout.{plain_vis}
+use Rattle.item_tree.specs.Size.{visibility_limit}
 use Rattle.item_tree.proofs.Arena.{inserted, inserted-met, inserted-fits}
 use Rattle.item_tree.proofs.VisibilityEq.{any_raw, place_raw}
 use Rattle.item_tree.proofs.rows.Rows.alloc_visibility.Goals as goal
@@ -16,15 +17,11 @@ returns-else-place-clause-met c =
     record {
       met = p.0;
       given = ap plain_vis c.from_number-in-Module.ensures ∙ p.1;
-      tags_kept = refl;
-      keys_kept = refl;
-      items_kept = refl;
-      places_kept = refl;
-      column_kept = refl;
+      kept = refl;
       within = record {
         items = c.requires.items;
         column = c.requires.column;
-        visibilities = inserted-fits xs ys v 4294967292 keys (subst (λ z. z < 4294967292) index c.if-place.false) c.requires.visibilities;
+        visibilities = inserted-fits xs ys v visibility_limit keys (subst (λ z. z < visibility_limit) index c.if-place.false) c.requires.visibilities;
       };
     }
 
