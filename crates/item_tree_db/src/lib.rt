@@ -2,6 +2,7 @@
 #![tactic(auto)]
 
 pub mod edit;
+mod laws;
 pub mod place;
 mod rows;
 mod shelf;

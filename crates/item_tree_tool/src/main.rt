@@ -4,6 +4,7 @@
 mod answer;
 pub mod error;
 mod imports;
+mod laws;
 mod request;
 pub mod run;
 mod show;
