@@ -1,4 +1,5 @@
 //! Why a run fails.
+ghost use Rattle.hir_input.specs.Equality.{DecidesEq, IsCopied};
 ghost use Rattle.std.specs.Prelude.{◌≡◌};
 ghost use Rattle.item_tree_tool.specs.Status.{status_of};
 
@@ -41,3 +42,9 @@ impl RunError {
         }
     }
 }
+
+// `==` decides whether two errors are one, and a copy is its source: the derives are held to it by these clauses.
+fn laws()
+    ensures equal { DecidesEq ⟦<RunError as PartialEq>⟧.eq }
+    ensures copied { IsCopied ⟦<RunError as Clone>⟧.is_clone }
+{}

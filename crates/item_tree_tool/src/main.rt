@@ -4,7 +4,6 @@
 mod answer;
 pub mod error;
 mod imports;
-mod laws;
 mod request;
 pub mod run;
 mod show;
