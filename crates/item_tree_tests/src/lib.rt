@@ -1,16 +1,12 @@
-//! Tests of what only a call can show, of every library: values and their copies, what stands where a request for memory is
-//! refused, constructors, ids of other trees, counts of items, tables as `Debug` shows them, and one small example of use.
+//! Tests of what only a call can show, of every library above `item_tree_attrs`: copies, what stands where a request for memory
+//! is refused, constructors, ids of other trees, counts of items, tables as `Debug` shows them, and one small example of use.
 //!
-//! A crate with tests is proved twice; these call what is public, so no other library has any.
+//! A crate with tests is proved twice; these call what is public, so no library has any.
 //!
 //! A plain run refuses no memory, and compares each answer. `tests/refused_memory.sh` runs the tests whose names hold
 //! `when_memory_is_refused` once for each request that they make, with that one refused.
 #![tactic(auto)]
 
-#[cfg(test)]
-mod attributes;
-#[cfg(test)]
-mod collected;
 #[cfg(test)]
 mod copies;
 #[cfg(test)]
@@ -21,8 +17,6 @@ mod example;
 mod kinds;
 #[cfg(test)]
 mod lists;
-#[cfg(test)]
-mod names;
 #[cfg(test)]
 mod syntax;
 #[cfg(test)]
@@ -37,5 +31,3 @@ mod uses;
 mod values;
 #[cfg(test)]
 mod walks;
-#[cfg(test)]
-mod written_uses;
