@@ -1,6 +1,6 @@
 -- Syntaxes that differ in body texts alone.
-use Rattle.std.specs.Prelude.{[]}
-use Rattle.hir_input.specs.Syntax.{NodeView, NamedView, UseView, CallView, ItemView, ItemViews, plain_item, const_item, struct_item, bare_module, listed_module, use_item, extern_crate, bare_extern_block, listed_extern_block, impl_item, macro_call, macro_rules, asm_item, no_items, item_and, SyntaxView, source_file, error}
+use Rattle.std.specs.Prelude.{[], map}
+use Rattle.hir_input.specs.Syntax.{NodeView, NamedView, UseView, CallView, ItemView, ItemViews, plain_item, const_item, struct_item, bare_module, listed_module, use_item, extern_crate, bare_extern_block, listed_extern_block, impl_item, macro_call, macro_rules, asm_item, no_items, item_and, StmtView, item_stmt, call_stmt, other_stmt, TailView, no_tail, call_tail, other_tail, SyntaxView, source_file, macro_items, macro_stmts, block_expr, error}
 
 abbrev pub node_without_body : NodeView → NodeView
 node_without_body n = record { hash = n.hash; number = n.number; attrs = n.attrs; body = [] }
@@ -35,6 +35,18 @@ abbrev mutual
   items_without_bodies no_items = no_items
   items_without_bodies (item_and i is) = item_and (item_without_bodies i) (items_without_bodies is)
 
+abbrev pub stmt_without_bodies : StmtView → StmtView
+stmt_without_bodies (item_stmt i) = item_stmt (item_without_bodies i)
+stmt_without_bodies (call_stmt c) = call_stmt (call_without_body c)
+stmt_without_bodies other_stmt = other_stmt
+
+abbrev pub tail_without_body : TailView → TailView
+tail_without_body (call_tail c) = call_tail (call_without_body c)
+tail_without_body tail = tail
+
 abbrev pub without_bodies : SyntaxView → SyntaxView
 without_bodies (source_file attrs is) = source_file attrs (items_without_bodies is)
+without_bodies (macro_items is) = macro_items (items_without_bodies is)
+without_bodies (macro_stmts stmts tail) = macro_stmts (map stmt_without_bodies stmts) (tail_without_body tail)
+without_bodies (block_expr attrs stmts tail) = block_expr attrs (map stmt_without_bodies stmts) (tail_without_body tail)
 without_bodies error = error

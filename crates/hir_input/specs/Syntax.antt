@@ -29,7 +29,12 @@ use Rattle.hir_input.specs.declared.ast.PathNode.{PathNode}
 use Rattle.hir_input.specs.declared.ast.Rename.{Rename}
 use Rattle.hir_input.specs.declared.ast.Visibility.{Visibility}
 use Rattle.hir_input.specs.declared.ast.Syntax.{Syntax}
-use Rattle.hir_input.specs.declared.ast.Syntax.TheVariants.{SourceFile, Error}
+use Rattle.hir_input.specs.declared.ast.Syntax.TheVariants.{SourceFile, MacroItems, MacroStmts, Error}
+use Rattle.hir_input.specs.declared.ast.BlockExpr.{BlockExpr}
+use Rattle.hir_input.specs.declared.ast.Stmt.{Stmt}
+use Rattle.hir_input.specs.declared.ast.Stmt.TheVariants as stmt
+use Rattle.hir_input.specs.declared.ast.Tail.{Tail}
+use Rattle.hir_input.specs.declared.ast.Tail.TheVariants as tail
 use Rattle.hir_input.specs.declared.ast.ExternItem.{ExternItem}
 use Rattle.hir_input.specs.declared.ast.ExternItem.TheVariants as external
 use Rattle.hir_input.specs.declared.ast.Item.{Item}
@@ -111,9 +116,41 @@ mutual
     no_items : ItemViews
     item_and : ItemView → ItemViews → ItemViews
 
+-- a statement: an item, a macro call, or what is neither
+pub data StmtView : Type 0 where
+  item_stmt : ItemView → StmtView
+  call_stmt : CallView → StmtView
+  other_stmt : StmtView
+
+-- what stands behind the last statement
+pub data TailView : Type 0 where
+  no_tail : TailView
+  call_tail : CallView → TailView
+  other_tail : TailView
+
+-- the syntax of a file, of a macro's result, or of a block
 pub data SyntaxView : Type 0 where
   source_file : List MetaView → ItemViews → SyntaxView
+  macro_items : ItemViews → SyntaxView
+  macro_stmts : List StmtView → TailView → SyntaxView
+  block_expr : List MetaView → List StmtView → TailView → SyntaxView
   error : SyntaxView
+
+-- the items of statements in order: item statements and macro calls in statement place, and a macro call in the tail last
+abbrev pub stmt_items : List StmtView → TailView → ItemViews
+stmt_items [] (call_tail c) = item_and (macro_call c) no_items
+stmt_items [] tail = no_items
+stmt_items (item_stmt i ∷ stmts) tail = item_and i (stmt_items stmts tail)
+stmt_items (call_stmt c ∷ stmts) tail = item_and (macro_call c) (stmt_items stmts tail)
+stmt_items (other_stmt ∷ stmts) tail = stmt_items stmts tail
+
+-- the items of a syntax in order
+abbrev pub items_of : SyntaxView → ItemViews
+items_of (source_file attrs is) = is
+items_of (macro_items is) = is
+items_of (macro_stmts stmts tail) = stmt_items stmts tail
+items_of (block_expr attrs stmts tail) = stmt_items stmts tail
+items_of error = no_items
 
 -- a list of items
 abbrev pub items_from : List ItemView → ItemViews
@@ -230,6 +267,24 @@ module_view = fold-Module ItemView ItemView item_step module_step
 abbrev pub items_view : List Item → ItemViews
 items_view is = items_from (map item_view is)
 
+abbrev pub stmt_view : Stmt → StmtView
+stmt_view (stmt.Item i) = item_stmt (item_view i)
+stmt_view (stmt.MacroCall c) = call_stmt (call_view c)
+stmt_view stmt.Other = other_stmt
+
+abbrev pub tail_view : Tail → TailView
+tail_view tail.Nothing = no_tail
+tail_view (tail.MacroCall c) = call_tail (call_view c)
+tail_view tail.Other = other_tail
+
+abbrev pub stmts_view : List Stmt → List StmtView
+stmts_view stmts = map stmt_view stmts
+
 abbrev pub syntax_view : Syntax → SyntaxView
 syntax_view (SourceFile attrs items) = source_file (map meta_view attrs.items) (items_view items.items)
+syntax_view (MacroItems items) = macro_items (items_view items.items)
+syntax_view (MacroStmts stmts tail) = macro_stmts (stmts_view stmts.items) (tail_view tail)
 syntax_view Error = error
+
+abbrev pub block_view : BlockExpr → SyntaxView
+block_view b = block_expr (map meta_view b.attrs.items) (stmts_view b.stmts.items) (tail_view b.tail)

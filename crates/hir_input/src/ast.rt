@@ -13,8 +13,38 @@ use crate::name::Name;
 #[derive(Debug, Drop)]
 pub enum Syntax {
     SourceFile { attrs: Vec<Meta>, items: Vec<Item> },
+    /// The result of a macro call in the place of items.
+    MacroItems { items: Vec<Item> },
+    /// The result of a macro call in the place of statements.
+    MacroStmts { stmts: Vec<Stmt>, tail: Tail },
     /// What could not be parsed or expanded.
     Error,
+}
+
+/// A block expression, which may have items of its own.
+#[derive(Debug, Drop)]
+pub struct BlockExpr {
+    pub attrs: Vec<Meta>,
+    pub stmts: Vec<Stmt>,
+    pub tail: Tail,
+}
+
+/// A statement.
+#[derive(Debug, Drop)]
+pub enum Stmt {
+    Item(Item),
+    /// A macro call in the place of a statement.
+    MacroCall(MacroCall),
+    /// A `let`, or an expression.
+    Other,
+}
+
+/// The expression behind the last statement.
+#[derive(Debug, Drop)]
+pub enum Tail {
+    Nothing,
+    MacroCall(MacroCall),
+    Other,
 }
 
 /// An item, of a file or of a module.

@@ -21,7 +21,7 @@ use Rattle.hir_input.specs.Code.Parts.{front, behind, number_of}
 use Rattle.hir_input.specs.Code.Attr.{attrs_code}
 use Rattle.hir_input.specs.UseTreeView.{UseTreeView}
 use Rattle.hir_input.specs.Code.UseTree.{use_tree_code}
-use Rattle.hir_input.specs.Syntax.{NodeView, NamedView, UseView, CallView, PlainKind, fn_kind, union_kind, enum_kind, static_kind, trait_kind, type_alias_kind, macro_def_kind, ast_kind, FieldsView, record_fields, tuple_fields, no_fields, ItemView, plain_item, const_item, struct_item, bare_module, listed_module, use_item, extern_crate, bare_extern_block, listed_extern_block, impl_item, macro_call, macro_rules, asm_item, ItemViews, no_items, item_and, SyntaxView, source_file, error}
+use Rattle.hir_input.specs.Syntax.{NodeView, NamedView, UseView, CallView, PlainKind, fn_kind, union_kind, enum_kind, static_kind, trait_kind, type_alias_kind, macro_def_kind, ast_kind, FieldsView, record_fields, tuple_fields, no_fields, ItemView, plain_item, const_item, struct_item, bare_module, listed_module, use_item, extern_crate, bare_extern_block, listed_extern_block, impl_item, macro_call, macro_rules, asm_item, ItemViews, no_items, item_and, StmtView, item_stmt, call_stmt, other_stmt, TailView, no_tail, call_tail, other_tail, SyntaxView, source_file, macro_items, macro_stmts, block_expr, error}
 
 -- ---- nodes without the items in them
 
@@ -173,17 +173,57 @@ items_code = record { code = items_to; inj = items_inj }
 
 -- ---- syntaxes
 
+abbrev pub stmt_to : StmtView → Gv
+stmt_to other_stmt = gnum 2
+stmt_to (item_stmt i) = gcons (gnum 0) (item_to i)
+stmt_to (call_stmt c) = gcons (gnum 1) (call_code.code c)
+
+pub stmt_inj : (s t : StmtView) → stmt_to s ≡ stmt_to t → s ≡ t
+stmt_inj other_stmt other_stmt h = refl
+stmt_inj (item_stmt i) (item_stmt j) h = ap item_stmt (item_inj i j (ap behind h))
+stmt_inj (call_stmt c) (call_stmt d) h = ap call_stmt (call_code.inj c d (ap behind h))
+stmt_inj s t h = let e : number_of (stmt_to s) ≡ number_of (stmt_to t) = ap number_of h in absurd (omega arith)
+
+abbrev pub stmt_code : Coded StmtView
+stmt_code = record { code = stmt_to; inj = stmt_inj }
+
+abbrev pub tail_to : TailView → Gv
+tail_to no_tail = gnum 0
+tail_to (call_tail c) = gcons gnil (call_code.code c)
+tail_to other_tail = gnum 1
+
+pub tail_inj : (s t : TailView) → tail_to s ≡ tail_to t → s ≡ t
+tail_inj no_tail no_tail h = refl
+tail_inj (call_tail c) (call_tail d) h = ap call_tail (call_code.inj c d (ap behind h))
+tail_inj other_tail other_tail h = refl
+tail_inj _ _ h = cc
+
+abbrev pub tail_code : Coded TailView
+tail_code = record { code = tail_to; inj = tail_inj }
+
 abbrev pub source_code : Coded (List MetaView × ItemViews)
 source_code = coded× attrs_code items_code
 
+abbrev pub stmts_code : Coded (List StmtView × TailView)
+stmts_code = coded× (coded_list stmt_code) tail_code
+
+abbrev pub block_code : Coded (List MetaView × (List StmtView × TailView))
+block_code = coded× attrs_code stmts_code
+
 abbrev pub syntax_to : SyntaxView → Gv
-syntax_to error = gnum 0
-syntax_to (source_file attrs is) = gcons gnil (source_code.code (attrs, is))
+syntax_to error = gnum 4
+syntax_to (source_file attrs is) = gcons (gnum 0) (source_code.code (attrs, is))
+syntax_to (macro_items is) = gcons (gnum 1) (items_to is)
+syntax_to (macro_stmts stmts tail) = gcons (gnum 2) (stmts_code.code (stmts, tail))
+syntax_to (block_expr attrs stmts tail) = gcons (gnum 3) (block_code.code (attrs, (stmts, tail)))
 
 pub syntax_inj : (s t : SyntaxView) → syntax_to s ≡ syntax_to t → s ≡ t
 syntax_inj error error h = refl
 syntax_inj (source_file attrs is) (source_file others js) h = ap (λ p. source_file p.0 p.1) (source_code.inj (attrs, is) (others, js) (ap behind h))
-syntax_inj _ _ h = cc
+syntax_inj (macro_items is) (macro_items js) h = ap macro_items (items_inj is js (ap behind h))
+syntax_inj (macro_stmts stmts tail) (macro_stmts others last) h = ap (λ p. macro_stmts p.0 p.1) (stmts_code.inj (stmts, tail) (others, last) (ap behind h))
+syntax_inj (block_expr attrs stmts tail) (block_expr metas others last) h = ap (λ p. block_expr p.0 p.1.0 p.1.1) (block_code.inj (attrs, (stmts, tail)) (metas, (others, last)) (ap behind h))
+syntax_inj s t h = let e : number_of (syntax_to s) ≡ number_of (syntax_to t) = ap number_of h in absurd (omega arith)
 
 abbrev pub syntax_code : Coded SyntaxView
 syntax_code = record { code = syntax_to; inj = syntax_inj }
