@@ -1,12 +1,13 @@
 -- What is kept does not depend on body texts.
-use Rattle.std.proofs.Common.{◌≡◌, ℕ, Bool, List, refl, ap}
+use Rattle.std.proofs.Common.{◌≡◌, ℕ, Bool, List, [], ◌∷◌, map, refl, ap, ◌∙◌}
 use Rattle.std.specs.Prelude.{Some, option_map}
 use Rattle.hir_input.specs.declared.cfg.CfgAtom.{CfgAtom}
-use Rattle.hir_input.specs.Syntax.{ItemView, ItemViews, plain_item, const_item, struct_item, bare_module, listed_module, use_item, extern_crate, bare_extern_block, listed_extern_block, impl_item, macro_call, macro_rules, asm_item, no_items, item_and, SyntaxView, source_file, error}
-use Rattle.hir_input.specs.Bodies.{item_without_bodies, items_without_bodies, without_bodies}
+use Rattle.hir_input.specs.Syntax.{ItemView, ItemViews, plain_item, const_item, struct_item, bare_module, listed_module, use_item, extern_crate, bare_extern_block, listed_extern_block, impl_item, macro_call, macro_rules, asm_item, no_items, item_and, StmtView, item_stmt, call_stmt, other_stmt, TailView, no_tail, call_tail, other_tail, stmt_items, SyntaxView, source_file, macro_items, macro_stmts, block_expr, error}
+use Rattle.hir_input.specs.Bodies.{item_without_bodies, items_without_bodies, call_without_body, stmt_without_bodies, tail_without_body, without_bodies}
+use Rattle.item_tree_attrs.specs.Collected.{nothing}
 use Rattle.item_tree.specs.CrateView.{CrateView}
 use Rattle.item_tree.specs.Visibility.{read_visibility}
-use Rattle.item_tree.specs.Kept.{head_of, module_node, kept, kept_all, top_attrs_of, kept_syntax}
+use Rattle.item_tree.specs.Kept.{head_of, module_node, kept, kept_all, kept_top, kept_syntax}
 use Rattle.item_tree.specs.Node.{parent, extern_block, add}
 
 module _ (options : List CfgAtom) (skipped : List (List ℕ)) where
@@ -31,7 +32,23 @@ module _ (options : List CfgAtom) (skipped : List (List ℕ)) where
     kept_all-items_without_bodies no_items = refl
     kept_all-items_without_bodies (item_and i is) = λ j. add (kept-item_without_bodies i j) (kept_all-items_without_bodies is j)
 
+-- the items of statements without bodies
+stmt_items-without_bodies : (stmts : List StmtView) (tail : TailView) → stmt_items (map stmt_without_bodies stmts) (tail_without_body tail) ≡ items_without_bodies (stmt_items stmts tail)
+stmt_items-without_bodies [] no_tail = refl
+stmt_items-without_bodies [] (call_tail c) = refl
+stmt_items-without_bodies [] other_tail = refl
+stmt_items-without_bodies (item_stmt i ∷ stmts) tail = ap (item_and (item_without_bodies i)) (stmt_items-without_bodies stmts tail)
+stmt_items-without_bodies (call_stmt c ∷ stmts) tail = ap (item_and (macro_call (call_without_body c))) (stmt_items-without_bodies stmts tail)
+stmt_items-without_bodies (other_stmt ∷ stmts) tail = stmt_items-without_bodies stmts tail
+
 pub kept_without_bodies : (is_root : Bool) (krate : CrateView) (skipped : List (List ℕ)) (s : SyntaxView) → kept_syntax is_root krate skipped (without_bodies s) ≡ kept_syntax is_root krate skipped s
 kept_without_bodies is_root krate skipped (source_file attrs is) =
-    ap (λ f. record { top_attrs = top_attrs_of is_root krate skipped attrs; forest = f }) (kept_all-items_without_bodies krate.options skipped is)
+    ap (λ f. record { top_attrs = kept_top is_root krate skipped (source_file attrs is); forest = f }) (kept_all-items_without_bodies krate.options skipped is)
+kept_without_bodies is_root krate skipped (macro_items is) =
+    ap (λ f. record { top_attrs = nothing; forest = f }) (kept_all-items_without_bodies krate.options skipped is)
+kept_without_bodies is_root krate skipped (macro_stmts stmts tail) =
+    ap (λ f. record { top_attrs = nothing; forest = f }) (ap (kept_all krate.options skipped) (stmt_items-without_bodies stmts tail) ∙ kept_all-items_without_bodies krate.options skipped (stmt_items stmts tail))
+kept_without_bodies is_root krate skipped (block_expr attrs stmts tail) =
+    ap (λ f. record { top_attrs = kept_top is_root krate skipped (block_expr attrs stmts tail); forest = f })
+    (ap (kept_all krate.options skipped) (stmt_items-without_bodies stmts tail) ∙ kept_all-items_without_bodies krate.options skipped (stmt_items stmts tail))
 kept_without_bodies is_root krate skipped error = refl

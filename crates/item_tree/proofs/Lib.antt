@@ -23,6 +23,7 @@ pub mod Counted
 pub mod Equal
 pub mod ItemEq
 pub mod Lowering
+pub mod Statements
 pub mod Constructors
 pub mod Seen
 pub mod BodyTexts

@@ -54,6 +54,10 @@ pub met-join : (f g : Forest) (xs : List V) → met (join f g) xs ≡ met g (met
 met-join empty g xs = refl
 met-join (more n f) g xs = met-join f g (node_met n xs)
 
+pub add-join : (o : Option Node) (f g : Forest) → add o (join f g) ≡ join (add o f) g
+add-join None f g = refl
+add-join (Some n) f g = refl
+
 pub ids-join : (f g : Forest) (b : ℕ) → ids b (join f g) ≡ ids b f ++ ids (b + length (walk f)) g
 ids-join empty g b = rw add-zero refl
 ids-join (more n f) g b =
@@ -334,10 +338,6 @@ written-block n = written-block_from (node_from n.hash n.number n.attrs.items n.
 
 -- of a list of what is seen as items
 module _ (ctx : Ctx) {X : Type 0} (seen : X → ItemView) where
-  add-join : (o : Option Node) (f g : Forest) → add o (join f g) ≡ join (add o f) g
-  add-join None f g = refl
-  add-join (Some n) f g = refl
-
   abbrev pub kept_list : List X → Forest
   kept_list xs = all_kept_in ctx (items_from (map seen xs))
 

@@ -61,8 +61,8 @@ module _ (ctx : Ctx) where
   abbrev pub all_kept_in : ItemViews → Forest
   all_kept_in is = kept_all ctx.krate.now.cfg ctx.skipped.now is
 
-  abbrev pub file_in : Collected → ItemViews → Unfolding
-  file_in top_attrs is = record { top_attrs = top_attrs; forest = all_kept_in is }
+  abbrev pub tree_in : Collected → ItemViews → Unfolding
+  tree_in top_attrs is = record { top_attrs = top_attrs; forest = all_kept_in is }
 
 abbrev pub row_count : Rows → ℕ
 row_count r = length r.items.items

@@ -6,15 +6,15 @@ use Rattle.hir_input.specs.declared.ast.PathNode.TheVariants.{Readable, Unreadab
 use Rattle.hir_input.specs.declared.cfg.CfgAtom.{CfgAtom}
 use Rattle.hir_input.specs.Attr.{MetaView}
 use Rattle.hir_input.specs.Path.{Path}
-use Rattle.hir_input.specs.Syntax.{NodeView, NamedView, FieldsView, record_fields, tuple_fields, no_fields, ItemView, ItemViews, plain_item, const_item, bare_module, listed_module, bare_extern_block, listed_extern_block, asm_item, no_items, item_and, SyntaxView, source_file, error}
+use Rattle.hir_input.specs.Syntax.{NodeView, NamedView, FieldsView, record_fields, tuple_fields, no_fields, ItemView, ItemViews, plain_item, const_item, bare_module, listed_module, bare_extern_block, listed_extern_block, asm_item, no_items, item_and, SyntaxView, source_file, block_expr, items_of}
 use Rattle.hir_input.specs.Syntax as syntax
-use Rattle.item_tree_attrs.specs.Collected.{Collected, collected_from, join}
+use Rattle.item_tree_attrs.specs.Collected.{Collected, collected_from, join, nothing}
 use Rattle.item_tree.specs.declared.visibility.RawVisibility.{RawVisibility}
 use Rattle.item_tree.specs.declared.items.FieldsShape.{FieldsShape}
 use Rattle.item_tree.specs.declared.items.FieldsShape.TheVariants as shape
 use Rattle.item_tree.specs.Constructor.{ctor_of}
 use Rattle.item_tree.specs.CrateView.{CrateView}
-use Rattle.item_tree.specs.Node.{Leaf, Head, Node, Forest, leaf, parent, empty, add, plain, constant, struct_item, outline, use_item, extern_crate, impl_item, macro_call, macro_rules, inline, extern_block, Unfolding, nothing}
+use Rattle.item_tree.specs.Node.{Leaf, Head, Node, Forest, leaf, parent, empty, add, plain, constant, struct_item, outline, use_item, extern_crate, impl_item, macro_call, macro_rules, inline, extern_block, Unfolding}
 use Rattle.item_tree.specs.KeptUse.{alias_of, kept_tree}
 use Rattle.item_tree.specs.Visibility.{read_visibility}
 
@@ -71,7 +71,12 @@ abbrev pub top_attrs_of : Bool → CrateView → List (List ℕ) → List MetaVi
 top_attrs_of true krate skipped attrs = join (collected_from krate.options skipped krate.attrs) (collected_from krate.options skipped attrs)
 top_attrs_of false krate skipped attrs = collected_from krate.options skipped attrs
 
--- of a whole syntax, which is that of the crate's root file or not
+-- those of a whole syntax, which is that of the crate's root file or not: a block has its own, all else has none
+abbrev pub kept_top : Bool → CrateView → List (List ℕ) → SyntaxView → Collected
+kept_top is_root krate skipped (source_file attrs is) = top_attrs_of is_root krate skipped attrs
+kept_top is_root krate skipped (block_expr attrs stmts tail) = collected_from krate.options skipped attrs
+kept_top is_root krate skipped _ = nothing
+
+-- what is kept of a whole syntax
 abbrev pub kept_syntax : Bool → CrateView → List (List ℕ) → SyntaxView → Unfolding
-kept_syntax is_root krate skipped (source_file attrs is) = record { top_attrs = top_attrs_of is_root krate skipped attrs; forest = kept_all krate.options skipped is }
-kept_syntax is_root krate skipped error = nothing
+kept_syntax is_root krate skipped s = record { top_attrs = kept_top is_root krate skipped s; forest = kept_all krate.options skipped (items_of s) }

@@ -32,3 +32,4 @@ pub mod PageByIds
 pub mod Same
 pub mod Stored
 pub mod Growth
+pub mod Statements

@@ -2,7 +2,7 @@
 use Rattle.std.specs.Prelude.{◌≡◌, Bool, true, false, List, [], ◌∷◌, map}
 use Rattle.std.specs.List.{list_any, list_all}
 use Rattle.hir_input.specs.Path.{Path}
-use Rattle.hir_input.specs.Syntax.{NamedView, FieldsView, record_fields, tuple_fields, ItemView, struct_item, listed_module, ItemViews, no_items, item_and, SyntaxView, source_file, error}
+use Rattle.hir_input.specs.Syntax.{NamedView, FieldsView, record_fields, tuple_fields, ItemView, struct_item, listed_module, ItemViews, no_items, item_and, SyntaxView, items_of}
 use Rattle.item_tree.specs.declared.visibility.RawVisibility.{RawVisibility}
 use Rattle.item_tree.specs.declared.visibility.RawVisibility.TheVariants.{Module, PubSelf, PubCrate, Public}
 use Rattle.item_tree.specs.Constructor.{ctor_of}
@@ -57,6 +57,5 @@ abbrev mutual
   CtorsAreSeenIn place no_items = Unit {0}
   CtorsAreSeenIn place (item_and i is) = CtorIsSeenIn place i × CtorsAreSeenIn place is
 
-abbrev pub CtorsAreSeen : SyntaxView → Type 0
-CtorsAreSeen (source_file attrs is) = (place : Place) → CtorsAreSeenIn place is
-CtorsAreSeen error = Unit {0}
+pub record CtorsAreSeen (s : SyntaxView) : Type 0 where
+  pub everywhere : (place : Place) → CtorsAreSeenIn place (items_of s)

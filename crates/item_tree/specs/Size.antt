@@ -1,6 +1,6 @@
 -- The sizes that a tree may have.
 use Rattle.std.specs.Prelude.{ℕ, ◌<◌, ◌≤◌, ◌-◌, ◌^◌, max, length, Option, Some, None, if◌then◌else◌}
-use Rattle.hir_input.specs.Syntax.{ItemView, listed_module, ItemViews, no_items, item_and, SyntaxView, source_file, error}
+use Rattle.hir_input.specs.Syntax.{ItemView, listed_module, ItemViews, no_items, item_and, SyntaxView, items_of}
 use Rattle.hir_input.specs.Syntax as syntax
 use Rattle.hir_input.specs.UseTreeView.{UseTreeView, written_count}
 use Rattle.item_tree_attrs.specs.declared.collect.AttrError.{AttrError}
@@ -73,8 +73,7 @@ abbrev mutual
 
 -- of a whole syntax
 abbrev pub most_written : SyntaxView → ℕ
-most_written (source_file attrs is) = items_written is
-most_written error = 0
+most_written s = items_written (items_of s)
 
 -- an error of attributes as one of lowering
 abbrev pub fault_of : AttrError → LowerError

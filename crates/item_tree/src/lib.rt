@@ -20,7 +20,7 @@ pub use items::{
     MacroCall, MacroRules, Mod, ModItemId, ModKind, Static, Struct, StructValueNsCtor, Trait,
     TypeAlias, Union, Use,
 };
-pub use lower::{lower_syntax, lower_use_tree};
+pub use lower::{lower_block, lower_syntax, lower_use_tree};
 pub use tree::{ItemTree, ItemTreeDataStats, ModItemKind};
 pub use use_tree::{ImportAlias, ImportAliasDisplay, ImportKind, UseTree, UseTreeIdx, UseTreeKind};
 pub use visibility::{RawVisibility, RawVisibilityId, VisibilityExplicitness, visibility_from_ast};

@@ -1,18 +1,20 @@
 //! Lowering of a syntax to its item tree.
-ghost use Rattle.std.specs.Prelude.{◌≡◌, ◌≤◌, IfOk, IfErr, OnOk, [], ◌∷◌, length, option_copied};
-ghost use Rattle.hir_input.specs.Syntax.{impl_item, impl_view, use_item, use_view, source_file, module_view, item_view, items_view, syntax_view};
+ghost use Rattle.std.specs.Prelude.{◌≡◌, ◌≤◌, IfOk, IfErr, OnOk, [], ◌∷◌, false, length, option_copied};
+ghost use Rattle.hir_input.specs.Syntax.{impl_item, impl_view, use_item, use_view, macro_items, module_view, item_view, items_view, syntax_view, block_view};
 ghost use Rattle.item_tree_attrs.specs.Collected.{attr_limit, collected};
 ghost use Rattle.item_tree.specs.Lowered.{kept_in, kept_without_bodies, FitsIn, IsTooLargeIn};
 ghost use Rattle.item_tree.specs.Sees.{CtorsAreSeen};
 ghost use Rattle.item_tree.specs.KeptUse.{use_tree_limit};
 ghost use Rattle.item_tree.specs.Size.{Fits, IsTooLarge, IsPassed, only_attributes, items_written};
-ghost use Rattle.item_tree.specs.Growth.{IsWithinLimits, IsLowered, AreLowered, Meets, sizes_meeting, attrs_in, top_attrs_in, file_in, items_below};
+ghost use Rattle.item_tree.specs.Growth.{IsWithinLimits, IsLowered, AreLowered, Meets, sizes_meeting, attrs_in, top_attrs_in, tree_in, items_below};
+ghost use Rattle.item_tree.specs.Statements.{body_items};
 ghost use Rattle.item_tree.specs.Visibility.{read_visibility};
 
 mod constructor;
 mod extern_block;
 mod macros;
 mod named;
+mod stmts;
 mod use_tree;
 
 use crate::crate_data::CrateData;
@@ -24,6 +26,7 @@ use crate::lower::macros::{lower_macro_call, lower_macro_rules};
 use crate::lower::named::{
     NamedNode, PlainKind, lower_const, lower_extern_crate, lower_named, named,
 };
+use crate::lower::stmts::lower_stmts;
 use crate::rows::{Rows, ast_key, push_attrs};
 use crate::tree::ItemTree;
 use crate::visibility::{RawVisibilityId, visibility_from_ast};
@@ -40,9 +43,18 @@ struct Ctx<'a> {
     skipped: &'a [Name],
 }
 
+/// What a tree is lowered from.
+#[derive(Clone, Copy)]
+enum Body<'a> {
+    Items(&'a [ast::Item]),
+    Stmts(&'a [ast::Stmt], &'a ast::Tail),
+}
+
 /// The tree of a syntax in a crate: exactly its kept items, with the attributes that their metas collect under the
 /// crate's options, without those of the skipped names. `is_root` tells whether the syntax is that of the crate's
-/// root file, whose top attributes stand behind the crate's own.
+/// root file, whose top attributes stand behind the crate's own. A macro's result has no top attributes.
+///
+/// Stands for rust-analyzer's `file_item_tree_query`.
 ///
 /// Errors: `TooManyItems`, `TooManyVisibilities`, `TooManyUseTrees`, `TooManyAttributes` and `TooManySupers` only
 /// where that size is passed, and `OutOfMemory`.
@@ -54,11 +66,12 @@ pub fn lower_syntax(
     krate: &CrateData,
     skipped: &[Name],
 ) -> Result<ItemTree, LowerError>
-    ensures kept { IfOk result (λ tree. tree ≡ kept_in krate.now is_root skipped.now syntax.now) }
-    ensures bodies { IfOk result (λ tree. tree ≡ kept_without_bodies krate.now is_root skipped.now syntax.now) }
+    ensures kept { IfOk result (λ tree. tree ≡ kept_in krate.now is_root skipped.now (syntax_view syntax.now)) }
+    ensures bodies { IfOk result
+        (λ tree. tree ≡ kept_without_bodies krate.now is_root skipped.now (syntax_view syntax.now)) }
     ensures constructors { OnOk result (CtorsAreSeen (syntax_view syntax.now)) }
-    ensures fits { OnOk result (FitsIn krate.now is_root skipped.now syntax.now) }
-    ensures too_large { IfErr result (IsTooLargeIn krate.now is_root skipped.now syntax.now) }
+    ensures fits { OnOk result (FitsIn krate.now is_root skipped.now (syntax_view syntax.now)) }
+    ensures too_large { IfErr result (IsTooLargeIn krate.now is_root skipped.now (syntax_view syntax.now)) }
 {
     let ctx = Ctx {
         alloc,
@@ -68,10 +81,43 @@ pub fn lower_syntax(
     match syntax {
         ast::Syntax::SourceFile { attrs, items } => {
             let top_attrs = lower_top_attrs(ctx, attrs, is_root)?;
-            lower_file(ctx, top_attrs, items)
+            lower_body(ctx, top_attrs, Body::Items(items))
+        }
+        ast::Syntax::MacroItems { items } => {
+            lower_body(ctx, AttrsOrCfg::empty(alloc), Body::Items(items))
+        }
+        ast::Syntax::MacroStmts { stmts, tail } => {
+            lower_body(ctx, AttrsOrCfg::empty(alloc), Body::Stmts(stmts, tail))
         }
         ast::Syntax::Error => Ok(ItemTree::empty(alloc)),
     }
+}
+
+/// The tree of a block in a crate: its item statements, and its macro calls in the place of statements, in order, and
+/// a macro call in the tail last. The top attributes are the block's own.
+///
+/// Stands for rust-analyzer's `block_item_tree_query`. Errors: as `lower_syntax`.
+#[tactic(auto, using(crate::proofs::BodyTexts::kept_without_bodies, crate::proofs::Seen::ctors_are_seen))]
+pub fn lower_block(
+    alloc: Global,
+    block: &ast::BlockExpr,
+    krate: &CrateData,
+    skipped: &[Name],
+) -> Result<ItemTree, LowerError>
+    ensures kept { IfOk result (λ tree. tree ≡ kept_in krate.now false skipped.now (block_view block.now)) }
+    ensures bodies { IfOk result
+        (λ tree. tree ≡ kept_without_bodies krate.now false skipped.now (block_view block.now)) }
+    ensures constructors { OnOk result (CtorsAreSeen (block_view block.now)) }
+    ensures fits { OnOk result (FitsIn krate.now false skipped.now (block_view block.now)) }
+    ensures too_large { IfErr result (IsTooLargeIn krate.now false skipped.now (block_view block.now)) }
+{
+    let ctx = Ctx {
+        alloc,
+        krate,
+        skipped,
+    };
+    let top_attrs = lower_attrs(ctx, &block.attrs)?;
+    lower_body(ctx, top_attrs, Body::Stmts(&block.stmts, &block.tail))
 }
 
 // What metas collect.
@@ -104,19 +150,29 @@ fn lower_top_attrs(ctx: Ctx, attrs: &[Meta], is_root: bool) -> Result<AttrsOrCfg
     }
 }
 
-// The tree of a source file's items.
-fn lower_file(ctx: Ctx, top_attrs: AttrsOrCfg, items: &[ast::Item]) -> Result<ItemTree, LowerError>
+// The tree of a body under these top attributes.
+fn lower_body(ctx: Ctx, top_attrs: AttrsOrCfg, body: Body) -> Result<ItemTree, LowerError>
     requires { length (collected top_attrs).attrs ≤ attr_limit }
-    ensures kept { IfOk result (λ tree. tree ≡ file_in ctx.entry (collected top_attrs) (items_view items.now)) }
-    ensures fits { OnOk result (Fits (file_in ctx.entry (collected top_attrs) (items_view items.now))) }
-    ensures use_trees { OnOk result (items_written (items_view items.now) ≤ use_tree_limit) }
-    ensures too_large { IfErr result (IsTooLarge (source_file [] (items_view items.now))
-        (file_in ctx.entry (collected top_attrs) (items_view items.now))) }
+    ensures kept { IfOk result (λ tree. tree ≡ tree_in ctx.entry (collected top_attrs) (body_items body.entry)) }
+    ensures fits { OnOk result (Fits (tree_in ctx.entry (collected top_attrs) (body_items body.entry))) }
+    ensures use_trees { OnOk result (items_written (body_items body.entry) ≤ use_tree_limit) }
+    ensures too_large { IfErr result (IsTooLarge (macro_items (body_items body.entry))
+        (tree_in ctx.entry (collected top_attrs) (body_items body.entry))) }
 {
     let mut rows = Rows::new(ctx.alloc);
-    let top_level = lower_items(ctx, &mut rows, items)?;
+    let top_level = lower_top_level(ctx, &mut rows, body)?;
     let top_place = push_attrs(&mut rows.column, top_attrs)?;
     Ok(ItemTree::from_rows(top_level, top_place, rows))
+}
+
+fn lower_top_level(ctx: Ctx, rows: &mut Rows, body: Body) -> Result<Vec<ModItemId>, LowerError>
+    requires { IsWithinLimits rows.old }
+    ensures { AreLowered ctx.entry rows.old rows.new (body_items body.entry) result }
+{
+    match body {
+        Body::Items(items) => lower_items(ctx, rows, items),
+        Body::Stmts(stmts, tail) => lower_stmts(ctx, rows, stmts, tail),
+    }
 }
 
 #[cycle(lower)]

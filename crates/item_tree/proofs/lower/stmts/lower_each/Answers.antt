@@ -1,0 +1,22 @@
+use Rattle.std.proofs.Common.{◌++◌, ap, sym, ◌∙◌, append-nil}
+use Rattle.std.proofs.lemmas.Result.{err_from_is_err_and}
+use Rattle.item_tree.specs.Statements.{stmt_item}
+use Rattle.item_tree.specs.Growth.{to_list}
+use Rattle.item_tree.proofs.Lowering.{Lowers-step, passed-step}
+use Rattle.item_tree.proofs.lower.stmts.lower_each.Goals as goal
+use Rattle.item_tree.proofs.lower.stmts.lower_each.Goals.{in-Some+in_ok-push, in_default}
+
+pub returns-in_err-id : goal.returns-in_err-id
+returns-in_err-id c =
+    let p = err_from_is_err_and c.from_residual.result c.from_residual.ensures.1 in
+    rw (p.1, p.2)
+    (passed-step c.args.ctx stmt_item c.args.stmts.now c.loop-stmt.stmt-index c.stmt-item.result c.in_err-id.field-0.0 c.stmt-item.is c.loop-stmt-test.true c.loop-stmt.invariant c.in_err-id.ensures)
+
+pub loop-stmt-preserved : goal.loop-stmt-preserved
+loop-stmt-preserved c =
+    let ids = c.loop-stmt.ids.items in
+    let step = Lowers-step c.args.ctx stmt_item c.args.stmts.now c.loop-stmt.stmt-index c.stmt-item.result c.stmt-item.is c.loop-stmt-test.true c.loop-stmt.invariant c.in_ok-id.ensures c.match-branch-2.ids.items in
+    elim c.match-branch-2.branch [
+      | in-Some+in_ok-push w ↦ step (ap (λ z. ids ++ to_list z) w.in-Some.is ∙ sym w.in_ok-push.ensures.items ∙ sym (ap (λ v. v.items) w.ids-is))
+      | in_default w ↦ step (ap (λ z. ids ++ to_list z) w.in_default.is ∙ append-nil ids ∙ sym (ap (λ v. v.items) w.ids-is))
+    ]

@@ -1,0 +1,63 @@
+//! Lowering of statements.
+ghost use Rattle.std.specs.Prelude.{map};
+ghost use Rattle.hir_input.specs.Syntax.{items_from, stmt_items, stmts_view, tail_view};
+ghost use Rattle.item_tree.specs.Growth.{IsWithinLimits, IsLowered, AreLowered};
+ghost use Rattle.item_tree.specs.Statements.{stmt_item, tail_item};
+
+use crate::fault::LowerError;
+use crate::items::ModItemId;
+use crate::lower::macros::lower_macro_call;
+use crate::lower::{Ctx, lower_item};
+use crate::rows::Rows;
+use hir_input::ast;
+
+// The items of statements and, last, of their tail.
+pub(super) fn lower_stmts(
+    ctx: Ctx,
+    rows: &mut Rows,
+    stmts: &[ast::Stmt],
+    tail: &ast::Tail,
+) -> Result<Vec<ModItemId>, LowerError>
+    requires { IsWithinLimits rows.old }
+    ensures { AreLowered ctx.entry rows.old rows.new (stmt_items (stmts_view stmts.now) (tail_view tail.now)) result }
+{
+    let mut ids = lower_each(ctx, rows, stmts)?;
+    if let Some(id) = lower_tail(ctx, rows, tail)? {
+        ids.push(id)?;
+    }
+    Ok(ids)
+}
+
+fn lower_each(ctx: Ctx, rows: &mut Rows, stmts: &[ast::Stmt]) -> Result<Vec<ModItemId>, LowerError>
+    requires { IsWithinLimits rows.old }
+    ensures { AreLowered ctx.entry rows.old rows.new (items_from (map stmt_item stmts.now)) result }
+{
+    let mut ids = Vec::new(ctx.alloc);
+    for stmt in stmts {
+        if let Some(id) = lower_stmt(ctx, rows, stmt)? {
+            ids.push(id)?;
+        }
+    }
+    Ok(ids)
+}
+
+fn lower_stmt(ctx: Ctx, rows: &mut Rows, stmt: &ast::Stmt) -> Result<Option<ModItemId>, LowerError>
+    requires { IsWithinLimits rows.old }
+    ensures { IsLowered ctx.entry rows.old rows.new (stmt_item stmt.now) result }
+{
+    match stmt {
+        ast::Stmt::Item(item) => lower_item(ctx, rows, item),
+        ast::Stmt::MacroCall(node) => lower_macro_call(ctx, rows, node),
+        ast::Stmt::Other => Ok(None),
+    }
+}
+
+fn lower_tail(ctx: Ctx, rows: &mut Rows, tail: &ast::Tail) -> Result<Option<ModItemId>, LowerError>
+    requires { IsWithinLimits rows.old }
+    ensures { IsLowered ctx.entry rows.old rows.new (tail_item tail.now) result }
+{
+    match tail {
+        ast::Tail::MacroCall(node) => lower_macro_call(ctx, rows, node),
+        ast::Tail::Nothing | ast::Tail::Other => Ok(None),
+    }
+}
