@@ -5,13 +5,13 @@ use Rattle.std.specs.Cmp.Lexicographic.{pointwise_decides}
 use Rattle.std.proofs.lemmas.Bool.Decides.{Decides-and, Decides-like}
 use lib.Pointwise.{bytes_decides}
 use Rattle.hir_input.specs.declared.ast.PathNode.TheVariants.{Readable, Unreadable}
+use Rattle.hir_input.specs.declared.attr.AttrInput.TheVariants.{Literal, TokenTree}
 use Rattle.hir_input.specs.contracts.edition.EditionYearPartialEq.TheImpl as years
 use Rattle.hir_input.specs.contracts.edition.EditionPartialEq.TheImpl as editions
 use Rattle.hir_input.specs.contracts.ids.SyntaxContextPartialEq.TheImpl as contexts
 use Rattle.hir_input.specs.contracts.span.SpanPartialEq.TheImpl as spans
 use Rattle.hir_input.specs.contracts.ast.PathNodePartialEq.TheImpl as nodes
 use Rattle.hir_input.specs.contracts.attr.LiteralPartialEq.TheImpl as literals
-use Rattle.hir_input.specs.contracts.attr.TokenTreePartialEq.TheImpl as token_trees
 use Rattle.hir_input.specs.contracts.attr.AttrInputPartialEq.TheImpl as inputs
 use Rattle.hir_input.specs.contracts.attr.AttrPartialEq.TheImpl as attrs
 use Rattle.hir_input.specs.Edition.{edition_view}
@@ -51,11 +51,10 @@ literal_decides a b =
     (λ e. (ap (λ l. l.rendered) e, (ap (λ l. l.string) e, ap (λ l. l.span) e)))
     (Decides-and _ _ (bytes_decides a.rendered b.rendered) (Decides-and _ _ (option_decides _ bytes_decides a.string b.string) (span_decides a.span b.span)))
 
-pub tokens_decide : DecidesEq token_trees.ghosts.eq
-tokens_decide a b = search rules
-
-input_decides : DecidesEq inputs.ghosts.eq
-input_decides a b = search rules
+pub input_decides : DecidesEq inputs.ghosts.eq
+input_decides (Literal l) (Literal m) = Decides-like _ (ap Literal) (λ e. cc) (literal_decides l m)
+input_decides (TokenTree t) (TokenTree u) = Decides-like _ (ap TokenTree) (λ e. cc) (bytes_decides t u)
+input_decides a b = (λ h. cc, λ e. cc)
 
 pub attr_decides : DecidesEq attrs.ghosts.eq
 attr_decides a b =

@@ -1,10 +1,12 @@
 -- `==` at conditions decides whether their plain data are one.
 use Rattle.std.proofs.Common.{◌≡◌, Bool, true, false, ◌||◌, List, [], ◌∷◌, map, refl, sym, ap, ◌∙◌, subst, rules}
 use Rattle.std.specs.Bool.{Decides}
-use Rattle.std.specs.List.{list_any}
+use Rattle.std.specs.List.{AllZip, list_any}
+use Rattle.std.specs.Cmp.Derive.Mapped.{pointwise-map}
 use Rattle.std.specs.Cmp.Lexicographic.{pointwise}
 pub use Rattle.std.proofs.lemmas.Bool.Decides.{Decides-like as same_fact}
-use Rattle.std.proofs.lemmas.Bool.Decides.{Decides-and, Decides-like}
+use Rattle.std.proofs.lemmas.Bool.Decides.{Decides-at, Decides-and, Decides-like}
+use lib.Pointwise.{bytes_decides}
 use Rattle.hir_input.specs.Equality.{DecidesEq, DecidesEqOf}
 use Rattle.hir_input.specs.declared.cfg.CfgAtom.{CfgAtom}
 use Rattle.hir_input.specs.declared.cfg.CfgAtom.TheVariants.{Flag, KeyValue}
@@ -13,21 +15,40 @@ use Rattle.hir_input.specs.declared.cfg.CfgExpr.TheOpen.{CfgExpr-F}
 use Rattle.hir_input.specs.contracts.cfg.CfgAtomPartialEq.TheImpl as atoms
 use Rattle.hir_input.specs.contracts.cfg.CfgExprPartialEq.TheImpl as cfgs
 use Rattle.hir_input.specs.contracts.cfg.CfgExprPartialEq.TheImpl.Laws as cfg_laws
-use Rattle.hir_input.specs.Cfg.{is_atom, is_set, CfgView, cfg_and, atom, all_of, any_of, not_of, cfgs_from, cfg_step, cfg_view}
+use Rattle.hir_input.proofs.AttrEq.{option_decides}
+use Rattle.hir_input.specs.Cfg.{atom_view, is_atom, is_set, CfgView, cfg_and, atom, all_of, any_of, not_of, cfgs_from, cfg_step, cfg_view}
 
-pub atom_decides : DecidesEq atoms.ghosts.eq
-atom_decides a b = search rules
+pub atom_view_decides : DecidesEq is_atom
+atom_view_decides a b =
+    Decides-like _
+    (λ e i. record { name = e.1 i; value = e.0 i })
+    (λ e. (ap (λ x. x.value) e, ap (λ x. x.name) e))
+    (Decides-and _ _ (option_decides _ bytes_decides a.value b.value) (bytes_decides a.name b.name))
 
 -- it is the test by which atoms are looked up
-eq_is : (a b : CfgAtom) → atoms.ghosts.eq a b ≡ is_atom a b
+eq_is : (a b : CfgAtom) → atoms.ghosts.eq a b ≡ is_atom (atom_view a) (atom_view b)
 eq_is (Flag m) (Flag n) = refl
-eq_is (KeyValue k v) (KeyValue l w) = refl
+eq_is (KeyValue k v) (KeyValue l w) = search rules
 eq_is (Flag m) (KeyValue l w) = refl
 eq_is (KeyValue k v) (Flag n) = refl
 
-pub set_is : (set : List CfgAtom) (a : CfgAtom) → list_any (λ x. atoms.ghosts.eq x a) set ≡ is_set set a
+pub atom_decides : DecidesEqOf atom_view atoms.ghosts.eq
+atom_decides a b = Decides-at (atoms.ghosts.eq a b) _ (eq_is a b) (atom_view_decides (atom_view a) (atom_view b))
+
+pub set_is : (set : List CfgAtom) (a : CfgAtom) → list_any (λ x. atoms.ghosts.eq x a) set ≡ is_set (map atom_view set) (atom_view a)
 set_is [] a = refl
-set_is (x ∷ xs) a = rw (eq_is x a) (ap (λ found. is_atom x a || found) (set_is xs a))
+set_is (x ∷ xs) a = rw (eq_is x a) (ap (λ found. is_atom (atom_view x) (atom_view a) || found) (set_is xs a))
+
+-- options compare as the atoms in them
+pub options_eq : (xs ys : List CfgAtom) → pointwise atoms.ghosts.eq xs ys ≡ pointwise is_atom (map atom_view xs) (map atom_view ys)
+options_eq xs ys = ap (λ E. pointwise E xs ys) (λ i a b. eq_is a b i) ∙ sym (pointwise-map atom_view is_atom xs ys)
+
+-- copies of atoms are seen as these are
+pub atoms_copied : (xs ys : List CfgAtom) → AllZip (λ x y. atom_view y ≡ atom_view x) xs ys → map atom_view ys ≡ map atom_view xs
+atoms_copied [] [] h = refl
+atoms_copied (x ∷ xs) (y ∷ ys) h = λ i. h.0 i ∷ atoms_copied xs ys h.1 i
+atoms_copied [] (y ∷ ys) h = absurd h
+atoms_copied (x ∷ xs) [] h = absurd h
 
 -- whether two conditions are one, from what their members' comparison says
 abbrev layer_eq : CfgExpr-F CfgExpr → CfgExpr-F CfgExpr → Bool

@@ -1,7 +1,7 @@
 -- The equations of a condition's plain data, of its text and of its truth.
 use Rattle.std.proofs.Common.{◌≡◌, ℕ, ◌<◌, List, [], ◌∷◌, ◌++◌, map, codes, not, Vec, Box, Global, None, Some, option_map, sym, ap, ◌∙◌, refl, length, arith}
 use Rattle.std.proofs.lemmas.Grind.{common_steps, flat_map-append}
-use Rattle.hir_input.specs.Cfg.{CfgView, invalid, atom, all_of, any_of, not_of, cfgs_from, cfg_step, cfg_view, by_commas, shown_atom, shown_cfg, shown_cfgs, holds, all_answer, any_answer, truth, truths}
+use Rattle.hir_input.specs.Cfg.{AtomView, CfgView, atom_view, invalid, atom, all_of, any_of, not_of, cfgs_from, cfg_step, cfg_view, by_commas, shown_atom, shown_cfg, shown_cfgs, holds, all_answer, any_answer, truth, truths}
 use Rattle.hir_input.specs.declared.cfg.CfgAtom.{CfgAtom}
 use Rattle.hir_input.specs.declared.cfg.CfgExpr.{CfgExpr, CfgExpr-F, fold-roll-CfgExpr}
 use Rattle.hir_input.specs.declared.cfg.CfgExpr.TheVariants.{Invalid, Atom, All, Any, Not, rolls-Invalid, rolls-Atom, rolls-All, rolls-Any, rolls-Not}
@@ -11,7 +11,7 @@ use Rattle.hir_input.specs.declared.cfg.CfgExpr.TheVariants.{Invalid, Atom, All,
 pub cfg_view-Invalid : cfg_view Invalid ≡ invalid
 cfg_view-Invalid = ap cfg_view (sym rolls-Invalid) ∙ fold-roll-CfgExpr CfgView cfg_step CfgExpr-F.Invalid
 
-pub cfg_view-Atom : (a : CfgAtom) → cfg_view (Atom a) ≡ atom a
+pub cfg_view-Atom : (a : CfgAtom) → cfg_view (Atom a) ≡ atom (atom_view a)
 cfg_view-Atom a = ap cfg_view (sym (rolls-Atom a)) ∙ fold-roll-CfgExpr CfgView cfg_step (CfgExpr-F.Atom a)
 
 pub cfg_view-All : (members : Vec CfgExpr Global) → cfg_view (All members) ≡ all_of (cfgs_from (map cfg_view members.items))
@@ -36,7 +36,7 @@ pub shown_cfg-Invalid : shown_cfg (cfg_view Invalid) ≡ codes "invalid"
 unfolding shown_cfg shown_cfgs
 shown_cfg-Invalid = ap shown_cfg cfg_view-Invalid
 
-pub shown_cfg-Atom : (a : CfgAtom) → shown_cfg (cfg_view (Atom a)) ≡ shown_atom a
+pub shown_cfg-Atom : (a : CfgAtom) → shown_cfg (cfg_view (Atom a)) ≡ shown_atom (atom_view a)
 unfolding shown_cfg shown_cfgs
 shown_cfg-Atom a = ap shown_cfg (cfg_view-Atom a)
 
@@ -61,28 +61,28 @@ pub ruleset cfg_texts = (shown_cfg-Invalid, shown_cfg-Atom, shown_cfg-All, shown
 
 -- ---- truth
 
-truths-from : (set : List CfgAtom) (cs : List CfgExpr) → truths set (cfgs_from (map cfg_view cs)) ≡ map (λ c. truth set (cfg_view c)) cs
+truths-from : (set : List AtomView) (cs : List CfgExpr) → truths set (cfgs_from (map cfg_view cs)) ≡ map (λ c. truth set (cfg_view c)) cs
 unfolding truth truths
 truths-from set [] = refl
 truths-from set (c ∷ cs) = ap (λ ts. truth set (cfg_view c) ∷ ts) (truths-from set cs)
 
-pub truth-Invalid : (set : List CfgAtom) → truth set (cfg_view Invalid) ≡ None
+pub truth-Invalid : (set : List AtomView) → truth set (cfg_view Invalid) ≡ None
 unfolding truth truths
 truth-Invalid set = ap (truth set) cfg_view-Invalid
 
-pub truth-Atom : (set : List CfgAtom) (a : CfgAtom) → truth set (cfg_view (Atom a)) ≡ Some (holds set a)
+pub truth-Atom : (set : List AtomView) (a : CfgAtom) → truth set (cfg_view (Atom a)) ≡ Some (holds set (atom_view a))
 unfolding truth truths
 truth-Atom set a = ap (truth set) (cfg_view-Atom a)
 
-pub truth-All : (set : List CfgAtom) (members : Vec CfgExpr Global) → truth set (cfg_view (All members)) ≡ all_answer (map (λ c. truth set (cfg_view c)) members.items)
+pub truth-All : (set : List AtomView) (members : Vec CfgExpr Global) → truth set (cfg_view (All members)) ≡ all_answer (map (λ c. truth set (cfg_view c)) members.items)
 unfolding truth truths
 truth-All set members = ap (truth set) (cfg_view-All members) ∙ ap all_answer (truths-from set members.items)
 
-pub truth-Any : (set : List CfgAtom) (members : Vec CfgExpr Global) → truth set (cfg_view (Any members)) ≡ any_answer (map (λ c. truth set (cfg_view c)) members.items)
+pub truth-Any : (set : List AtomView) (members : Vec CfgExpr Global) → truth set (cfg_view (Any members)) ≡ any_answer (map (λ c. truth set (cfg_view c)) members.items)
 unfolding truth truths
 truth-Any set members = ap (truth set) (cfg_view-Any members) ∙ ap any_answer (truths-from set members.items)
 
-pub truth-Not : (set : List CfgAtom) (inner : Box CfgExpr Global) → truth set (cfg_view (Not inner)) ≡ option_map not (truth set (cfg_view inner.value))
+pub truth-Not : (set : List AtomView) (inner : Box CfgExpr Global) → truth set (cfg_view (Not inner)) ≡ option_map not (truth set (cfg_view inner.value))
 unfolding truth truths
 truth-Not set inner = ap (truth set) (cfg_view-Not inner)
 

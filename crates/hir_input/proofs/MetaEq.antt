@@ -4,6 +4,7 @@ use Rattle.std.specs.Bool.{Decides}
 use Rattle.std.specs.Option.{option_eq}
 use Rattle.std.specs.Cmp.Lexicographic.{pointwise}
 use Rattle.std.proofs.lemmas.Bool.Decides.{Decides-and, Decides-like}
+use lib.Pointwise.{bytes_decides}
 use Rattle.hir_input.specs.declared.attr.Meta.{Meta, roll-Meta, out-Meta, out-roll-Meta, roll-out-Meta, ind-Meta, map-Meta, fold-roll-Meta}
 use Rattle.hir_input.specs.declared.attr.Meta.TheOpen.{Meta-F}
 use Rattle.hir_input.specs.contracts.ast.PathNodePartialEq.TheImpl as nodes
@@ -15,7 +16,7 @@ use Rattle.hir_input.specs.contracts.attr.MetaPartialEq.TheImpl as metas
 use Rattle.hir_input.specs.contracts.attr.MetaPartialEq.TheImpl.Laws as meta_laws
 use Rattle.hir_input.specs.Equality.{DecidesEqOf}
 use Rattle.hir_input.specs.Attr.{MetaView, path_meta, key_value_meta, token_tree_meta, cfg_meta, cfg_attr_meta, unsafe_meta, meta_and, metas_from, meta_step, meta_view}
-use Rattle.hir_input.proofs.AttrEq.{option_decides, context_decides, literal_decides, tokens_decide, path_node_decides}
+use Rattle.hir_input.proofs.AttrEq.{option_decides, context_decides, literal_decides, path_node_decides}
 use Rattle.hir_input.proofs.CfgEq.{cfg_decides}
 
 -- whether two metas are one, from what the comparison of the metas inside says
@@ -60,7 +61,7 @@ module _ {S : Type 0} (meta_of : S → Meta) (decided : (s : S) → IsDecided (m
       Decides-like _
       (λ e i. token_tree_meta (e.0 i) (e.1.0 i) (e.1.1 i))
       (λ e. (cc, (cc, cc)))
-      (Decides-and _ _ (option_decides _ path_node_decides p q) (Decides-and _ _ (tokens_decide t u) (context_decides x y)))
+      (Decides-and _ _ (option_decides _ path_node_decides p q) (Decides-and _ _ (bytes_decides t u) (context_decides x y)))
   layer_decides (Meta-F.Cfg c) (Meta-F.Cfg d) = Decides-like _ (ap cfg_meta) (λ e. cc) (cfg_decides c d)
   layer_decides (Meta-F.CfgAttr c ms) (Meta-F.CfgAttr d ns) =
       Decides-like _ (λ e i. cfg_attr_meta (e.0 i) (e.1 i)) (λ e. (cc, cc)) (Decides-and _ _ (cfg_decides c d) (inner_decide ms.items ns.items))

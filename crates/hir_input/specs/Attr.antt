@@ -3,22 +3,21 @@ use Rattle.std.specs.Prelude.{ℕ, List, [], ◌∷◌, Option, Some, None, opti
 use Rattle.hir_input.specs.declared.ast.PathNode.{PathNode}
 use Rattle.hir_input.specs.declared.ids.SyntaxContext.{SyntaxContext}
 use Rattle.hir_input.specs.declared.span.Span.{Span}
-use Rattle.hir_input.specs.declared.attr.Literal.{Literal}
-use Rattle.hir_input.specs.declared.attr.TokenTree.{TokenTree}
 use Rattle.hir_input.specs.declared.attr.AttrInput.{AttrInput}
 use Rattle.hir_input.specs.declared.attr.AttrInput.TheVariants as input
 use Rattle.hir_input.specs.declared.attr.Attr.{Attr}
 use Rattle.hir_input.specs.declared.attr.Meta.{Meta, fold-Meta}
 use Rattle.hir_input.specs.declared.attr.Meta.TheOpen.{Meta-F}
 use Rattle.hir_input.specs.Cfg.{CfgView, cfg_view}
+use Rattle.hir_input.specs.Literal.{LiteralView}
 
-abbrev pub token_tree_in : Option AttrInput → Option TokenTree
+abbrev pub token_tree_in : Option AttrInput → Option (List ℕ)
 token_tree_in None = None
 token_tree_in (Some (input.Literal l)) = None
 token_tree_in (Some (input.TokenTree t)) = Some t
 
--- the token tree of an attribute, if its input is one
-abbrev pub token_tree_of : Attr → Option TokenTree
+-- the token tree of an attribute, which is its text, if its input is one
+abbrev pub token_tree_of : Attr → Option (List ℕ)
 token_tree_of a = token_tree_in a.input
 
 abbrev pub string_with_span_in : Option AttrInput → Option (List ℕ × Span)
@@ -34,8 +33,8 @@ string_with_span_of a = string_with_span_in a.input
 mutual
   pub data MetaView : Type 0 where
     path_meta : Option PathNode → SyntaxContext → MetaView
-    key_value_meta : Option PathNode → Option Literal → SyntaxContext → MetaView
-    token_tree_meta : Option PathNode → TokenTree → SyntaxContext → MetaView
+    key_value_meta : Option PathNode → Option LiteralView → SyntaxContext → MetaView
+    token_tree_meta : Option PathNode → List ℕ → SyntaxContext → MetaView
     cfg_meta : CfgView → MetaView
     cfg_attr_meta : CfgView → MetaViews → MetaView
     unsafe_meta : MetaView → MetaView

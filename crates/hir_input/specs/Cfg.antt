@@ -1,17 +1,35 @@
 -- Conditions as plain data: how they are displayed, and whether they are true.
-use Rattle.std.specs.Prelude.{ℕ, List, [], ◌∷◌, ◌++◌, codes, Bool, true, false, not, ◌&&◌, Option, Some, None, option_map, unwrap_or, nat_eq, if◌then◌else◌}
+use Rattle.std.specs.Prelude.{ℕ, List, [], ◌∷◌, ◌++◌, codes, Bool, true, false, not, Option, Some, None, option_map, unwrap_or, nat_eq, if◌then◌else◌}
 use Rattle.std.specs.List.{join_by, find, list_any}
+use Rattle.std.specs.Option.{option_eq}
+use Rattle.std.specs.Ordering.{on, eq_of_both}
+use Rattle.std.specs.String.{string_bytes}
 use Rattle.std.specs.Cmp.Lexicographic.{pointwise}
 use Rattle.hir_input.specs.declared.cfg.CfgAtom.{CfgAtom}
 use Rattle.hir_input.specs.declared.cfg.CfgAtom.TheVariants.{Flag, KeyValue}
 use Rattle.hir_input.specs.declared.cfg.CfgExpr.{CfgExpr, fold-CfgExpr}
 use Rattle.hir_input.specs.declared.cfg.CfgExpr.TheOpen.{CfgExpr-F}
 
+-- an atom: the name of a flag, or of a key with its value
+pub record AtomView : Type 0 where
+  pub name : List ℕ
+  pub value : Option (List ℕ)
+
+abbrev pub flag : List ℕ → AtomView
+flag name = record { name = name; value = None }
+
+abbrev pub key_value : List ℕ → List ℕ → AtomView
+key_value key value = record { name = key; value = Some value }
+
+abbrev pub atom_view : CfgAtom → AtomView
+atom_view (Flag name) = flag name
+atom_view (KeyValue key value) = key_value key (string_bytes value)
+
 -- a condition
 mutual
   pub data CfgView : Type 0 where
     invalid : CfgView
-    atom : CfgAtom → CfgView
+    atom : AtomView → CfgView
     all_of : CfgViews → CfgView
     any_of : CfgViews → CfgView
     not_of : CfgView → CfgView
@@ -28,7 +46,7 @@ cfgs_from (c ∷ cs) = cfg_and c (cfgs_from cs)
 -- a condition's plain data, with each condition inside seen in its place
 abbrev pub cfg_step : CfgExpr-F CfgView → CfgView
 cfg_step CfgExpr-F.Invalid = invalid
-cfg_step (CfgExpr-F.Atom a) = atom a
+cfg_step (CfgExpr-F.Atom a) = atom (atom_view a)
 cfg_step (CfgExpr-F.All members) = all_of (cfgs_from members.items)
 cfg_step (CfgExpr-F.Any members) = any_of (cfgs_from members.items)
 cfg_step (CfgExpr-F.Not inner) = not_of inner.value
@@ -38,10 +56,14 @@ cfg_view = fold-CfgExpr CfgView cfg_step
 
 -- ---- how conditions are displayed
 
+-- the value of a key
+abbrev pub shown_value : Option (List ℕ) → List ℕ
+shown_value None = []
+shown_value (Some value) = codes " = \"" ++ value ++ codes "\""
+
 -- a flag's name, or the key and the value
-abbrev pub shown_atom : CfgAtom → List ℕ
-shown_atom (Flag name) = name
-shown_atom (KeyValue key value) = key ++ codes " = \"" ++ value ++ codes "\""
+abbrev pub shown_atom : AtomView → List ℕ
+shown_atom a = a.name ++ shown_value a.value
 
 -- texts with a comma and a space between them
 abbrev pub by_commas : List (List ℕ) → List ℕ
@@ -62,24 +84,17 @@ unfoldable mutual
 
 -- ---- whether conditions are true; `None` is unknown
 
-abbrev pub is_text : List ℕ → List ℕ → Bool
-is_text = pointwise nat_eq
-
 -- flags of one name, or keys of one name with one value
-abbrev pub is_atom : CfgAtom → CfgAtom → Bool
-is_atom (Flag name) (Flag other) = is_text name other
-is_atom (KeyValue key value) (KeyValue other_key other) = is_text key other_key && is_text value other
-is_atom _ _ = false
+abbrev pub is_atom : AtomView → AtomView → Bool
+is_atom = eq_of_both (on (λ a. a.value) (option_eq (pointwise nat_eq))) (on (λ a. a.name) (pointwise nat_eq))
 
 -- the atom stands among those that are set
-abbrev pub is_set : List CfgAtom → CfgAtom → Bool
+abbrev pub is_set : List AtomView → AtomView → Bool
 is_set set wanted = list_any (λ a. is_atom a wanted) set
 
 -- the flag `true` always holds and the flag `false` never; any other atom holds where it is set
-abbrev pub holds : List CfgAtom → CfgAtom → Bool
-holds set (Flag name) =
-    if is_text name (codes "true") then true else if is_text name (codes "false") then false else is_set set (Flag name)
-holds set (KeyValue key value) = is_set set (KeyValue key value)
+abbrev pub holds : List AtomView → AtomView → Bool
+holds set a = if is_atom a (flag (codes "true")) then true else if is_atom a (flag (codes "false")) then false else is_set set a
 
 abbrev pub is_answer : Bool → Option Bool → Bool
 is_answer true (Some b) = b
@@ -96,13 +111,13 @@ any_answer answers = unwrap_or (find (λ a. not (is_answer false a)) answers) (S
 
 -- whether a condition is true where these atoms are set
 unfoldable mutual
-  pub truth : List CfgAtom → CfgView → Option Bool
+  pub truth : List AtomView → CfgView → Option Bool
   truth set invalid = None
   truth set (atom a) = Some (holds set a)
   truth set (all_of cs) = all_answer (truths set cs)
   truth set (any_of cs) = any_answer (truths set cs)
   truth set (not_of c) = option_map not (truth set c)
 
-  pub truths : List CfgAtom → CfgViews → List (Option Bool)
+  pub truths : List AtomView → CfgViews → List (Option Bool)
   truths set no_cfgs = []
   truths set (cfg_and c cs) = truth set c ∷ truths set cs

@@ -7,22 +7,87 @@ use crate::cfg::CfgExpr;
 use crate::ids::SyntaxContext;
 use crate::mod_path::ModPath;
 use crate::span::Span;
-use crate::text::Text;
 use std::alloc::AllocError;
 use std::marker::Model;
 
 /// A literal: its text as it is written, and the string that it stands for if it is one of a string.
-#[derive(Debug, Drop, PartialEq, Eq)]
+///
+/// Two literals are equal where their texts, their strings and their spans are.
+#[derive(Debug, Drop)]
 pub struct Literal {
-    pub rendered: Text,
-    pub string: Option<Text>,
+    pub rendered: String,
+    pub string: Option<String>,
     pub span: Span,
 }
 
-/// A token tree, by its text.
-#[derive(Debug, Drop, PartialEq, Eq)]
+impl Model for Literal {
+    ghost use Rattle.std.specs.Prelude.{option_map};
+    ghost use Rattle.std.specs.String.{string_bytes};
+    ghost use Rattle.hir_input.specs.Literal.{LiteralView};
+
+    ghost Value = { LiteralView };
+
+    ghost view = { λ l. record { rendered = string_bytes l.rendered; string = option_map string_bytes l.string; span = l.span } };
+}
+
+impl PartialEq for Literal {
+    ghost use Rattle.std.specs.Prelude.{nat_eq};
+    ghost use Rattle.std.specs.Option.{option_eq};
+    ghost use Rattle.std.specs.Ordering.{on, eq_of_both};
+    ghost use Rattle.std.specs.Cmp.Lexicographic.{pointwise, nat_list_eq_equiv};
+    ghost use Rattle.std.specs.Cmp.Rules.{comparing};
+    ghost use Rattle.hir_input.specs.contracts.span.SpanEq.TheImpl.Laws.{laws-law};
+
+    ghost eq = { eq_of_both (on (λ l. l.rendered) (pointwise nat_eq)) (eq_of_both (on (λ l. l.string) (option_eq (pointwise nat_eq))) (on (λ l. l.span) ⟦<Span as PartialEq>⟧.eq)) };
+
+    ghost laws = { Prim.search (comparing, nat_list_eq_equiv, laws-law) depth 7 };
+
+    fn eq(&self, other: &Literal) -> bool {
+        self.rendered == other.rendered && self.string == other.string && self.span == other.span
+    }
+}
+
+impl Eq for Literal {
+    ghost use Rattle.std.specs.Cmp.Lexicographic.{nat_list_eq_equiv};
+    ghost use Rattle.std.specs.Cmp.Rules.{comparing};
+    ghost use Rattle.hir_input.specs.contracts.span.SpanEq.TheImpl.Laws.{laws-law};
+
+    ghost laws = { Prim.search (comparing, nat_list_eq_equiv, laws-law) depth 7 };
+}
+
+/// A token tree, by its text. Two token trees are equal where their texts are.
+#[derive(Debug, Drop)]
 pub struct TokenTree {
-    pub rendered: Text,
+    pub rendered: String,
+}
+
+impl Model for TokenTree {
+    ghost use Rattle.std.specs.Prelude.{ℕ, List};
+    ghost use Rattle.std.specs.String.{string_bytes};
+
+    ghost Value = { List ℕ };
+
+    ghost view = { λ t. string_bytes t.rendered };
+}
+
+impl PartialEq for TokenTree {
+    ghost use Rattle.std.specs.Prelude.{nat_eq};
+    ghost use Rattle.std.specs.Cmp.{partial_equiv_from_equiv};
+    ghost use Rattle.std.specs.Cmp.Lexicographic.{pointwise, nat_list_eq_equiv};
+
+    ghost eq = { pointwise nat_eq };
+
+    ghost laws = { partial_equiv_from_equiv nat_list_eq_equiv };
+
+    fn eq(&self, other: &TokenTree) -> bool {
+        self.rendered == other.rendered
+    }
+}
+
+impl Eq for TokenTree {
+    ghost use Rattle.std.specs.Cmp.Lexicographic.{nat_list_eq_equiv};
+
+    ghost laws = { nat_list_eq_equiv };
 }
 
 /// What stands behind the path of an attribute.

@@ -1,10 +1,9 @@
 //! Conditions on the options of a crate.
 ghost use Rattle.std.specs.Prelude.{◌≡◌, IfOk, Some, map};
 ghost use Rattle.std.specs.Fmt.{WritesOnOk};
-ghost use Rattle.hir_input.specs.Cfg.{by_commas, cfg_view, shown_cfg, truth, holds, all_answer, any_answer};
+ghost use Rattle.hir_input.specs.Cfg.{atom_view, by_commas, cfg_view, shown_cfg, truth, holds, is_set, all_answer, any_answer};
 
 use crate::name::Name;
-use crate::text::Text;
 use std::alloc::AllocError;
 use std::fmt;
 use std::fmt::Display;
@@ -16,7 +15,7 @@ use std::marker::Model;
 #[derive(Debug, Drop, PartialEq, Eq)]
 pub enum CfgAtom {
     Flag(Name),
-    KeyValue { key: Name, value: Text },
+    KeyValue { key: Name, value: String },
 }
 
 /// A condition on the options of a crate. `Invalid` is one that could not be read.
@@ -32,9 +31,9 @@ pub enum CfgExpr {
 }
 
 impl fmt::Display for CfgAtom {
-    ghost use Rattle.hir_input.specs.Cfg.{shown_atom};
+    ghost use Rattle.hir_input.specs.Cfg.{atom_view, shown_atom};
 
-    ghost output = { λ atom. Some (shown_atom atom) };
+    ghost output = { λ atom. Some (shown_atom (atom_view atom)) };
 
     fn fmt<W: fmt::Write>(&self, f: &mut fmt::Formatter<W>) -> fmt::Result {
         match self {
@@ -106,7 +105,10 @@ impl fmt::Display for CfgExpr {
 }
 
 impl Clone for CfgAtom {
-    ghost is_clone = { λ atom copy. copy ≡ atom };
+    ghost use Rattle.std.specs.Prelude.{◌≡◌};
+    ghost use Rattle.hir_input.specs.Cfg.{atom_view};
+
+    ghost is_clone = { λ atom copy. atom_view copy ≡ atom_view atom };
 
     fn clone(&self) -> Result<CfgAtom, AllocError> {
         match self {
@@ -172,18 +174,21 @@ pub struct CfgOptions {
 }
 
 impl Model for CfgOptions {
-    ghost use Rattle.std.specs.Prelude.{List};
-    ghost use Rattle.hir_input.specs.declared.cfg.CfgAtom.{CfgAtom};
+    ghost use Rattle.std.specs.Prelude.{List, map};
+    ghost use Rattle.hir_input.specs.Cfg.{AtomView, atom_view};
+    ghost use Rattle.hir_input.specs.Code.Attr.{options_code};
 
-    ghost Value = { List CfgAtom };
+    ghost Value = { List AtomView };
 
-    ghost view = { λ o. o.atoms.items };
+    ghost coded = { options_code };
+
+    ghost view = { λ o. map atom_view o.atoms.items };
 }
 
 impl CfgOptions {
     /// The options under which these atoms are set.
     pub fn new(atoms: Vec<CfgAtom>) -> CfgOptions
-        ensures { result ≡ atoms.items }
+        ensures { result ≡ map atom_view atoms.items }
     {
         CfgOptions { atoms }
     }
@@ -193,14 +198,20 @@ impl CfgOptions {
     pub fn check(&self, cfg: &CfgExpr) -> Option<bool>
         ensures { result ≡ truth self.now (cfg_view cfg.now) }
     {
-        check_cfg(self.atoms.as_slice(), cfg)
+        check_cfg(self, cfg)
+    }
+
+    // Whether an atom is one of those that are set.
+    fn contains(&self, atom: &CfgAtom) -> bool
+        ensures { result ≡ is_set self.now (atom_view atom.now) }
+    {
+        self.atoms.contains(atom)
     }
 }
 
 // Whether an atom is true.
-#[tactic(auto, using(crate::proofs::CfgEq::set_is))]
-fn check_atom(atoms: &[CfgAtom], atom: &CfgAtom) -> bool
-    ensures { result ≡ holds atoms.now atom.now }
+fn check_atom(options: &CfgOptions, atom: &CfgAtom) -> bool
+    ensures { result ≡ holds options.now (atom_view atom.now) }
 {
     if let CfgAtom::Flag(name) = atom {
         match name.text() {
@@ -209,31 +220,31 @@ fn check_atom(atoms: &[CfgAtom], atom: &CfgAtom) -> bool
             _ => {}
         }
     }
-    atoms.contains(atom)
+    options.contains(atom)
 }
 
 // Whether a condition is true.
 #[cycle(check_cfg)]
 #[tactic(auto, using(crate::proofs::CfgLemmas::cfg_truths, std::proofs::lemmas::Grind::common_steps))]
-fn check_cfg(atoms: &[CfgAtom], cfg: &CfgExpr) -> Option<bool>
-    ensures { result ≡ truth atoms.now (cfg_view cfg.now) }
+fn check_cfg(options: &CfgOptions, cfg: &CfgExpr) -> Option<bool>
+    ensures { result ≡ truth options.now (cfg_view cfg.now) }
 {
     match cfg {
         CfgExpr::Invalid => None,
-        CfgExpr::Atom(atom) => Some(check_atom(atoms, atom)),
-        CfgExpr::All(members) => check_all(atoms, members),
-        CfgExpr::Any(members) => check_any(atoms, members),
-        CfgExpr::Not(inner) => check_cfg(atoms, inner).map(|answer| !answer),
+        CfgExpr::Atom(atom) => Some(check_atom(options, atom)),
+        CfgExpr::All(members) => check_all(options, members),
+        CfgExpr::Any(members) => check_any(options, members),
+        CfgExpr::Not(inner) => check_cfg(options, inner).map(|answer| !answer),
     }
 }
 
 // Whether all members are true.
 #[cycle(check_cfg)]
-fn check_all(atoms: &[CfgAtom], members: &[CfgExpr]) -> Option<bool>
-    ensures { result ≡ all_answer (map (λ c. truth atoms.now (cfg_view c)) members.now) }
+fn check_all(options: &CfgOptions, members: &[CfgExpr]) -> Option<bool>
+    ensures { result ≡ all_answer (map (λ c. truth options.now (cfg_view c)) members.now) }
 {
     for member in members {
-        let answer = check_cfg(atoms, member);
+        let answer = check_cfg(options, member);
         if answer != Some(true) {
             return answer;
         }
@@ -243,11 +254,11 @@ fn check_all(atoms: &[CfgAtom], members: &[CfgExpr]) -> Option<bool>
 
 // Whether any member is true.
 #[cycle(check_cfg)]
-fn check_any(atoms: &[CfgAtom], members: &[CfgExpr]) -> Option<bool>
-    ensures { result ≡ any_answer (map (λ c. truth atoms.now (cfg_view c)) members.now) }
+fn check_any(options: &CfgOptions, members: &[CfgExpr]) -> Option<bool>
+    ensures { result ≡ any_answer (map (λ c. truth options.now (cfg_view c)) members.now) }
 {
     for member in members {
-        let answer = check_cfg(atoms, member);
+        let answer = check_cfg(options, member);
         if answer != Some(false) {
             return answer;
         }
@@ -255,6 +266,7 @@ fn check_any(atoms: &[CfgAtom], members: &[CfgExpr]) -> Option<bool>
     Some(false)
 }
 
+#[tactic(auto, using(crate::proofs::CfgEq::atoms_copied))]
 impl Clone for CfgOptions {
     ghost is_clone = { λ options copy. copy ≡ options };
 
@@ -264,14 +276,15 @@ impl Clone for CfgOptions {
     }
 }
 
+#[tactic(auto, using(crate::proofs::CfgEq::options_eq))]
 impl PartialEq for CfgOptions {
-    ghost use Rattle.std.specs.Cmp.{partial_equiv_from_equiv};
-    ghost use Rattle.std.specs.Cmp.Lexicographic.{pointwise, lists_equiv};
-    ghost use Rattle.hir_input.specs.contracts.cfg.CfgAtomEq.TheImpl.Laws.{laws-law};
+    ghost use Rattle.std.specs.Cmp.Lexicographic.{pointwise, nat_list_eq_equiv};
+    ghost use Rattle.std.specs.Cmp.Rules.{comparing};
+    ghost use Rattle.hir_input.specs.Cfg.{is_atom};
 
-    ghost eq = { pointwise ⟦<CfgAtom as PartialEq>⟧.eq };
+    ghost eq = { pointwise is_atom };
 
-    ghost laws = { partial_equiv_from_equiv (lists_equiv laws-law) };
+    ghost laws = { Prim.search (comparing, nat_list_eq_equiv) depth 7 };
 
     fn eq(&self, other: &CfgOptions) -> bool {
         self.atoms == other.atoms
@@ -279,8 +292,8 @@ impl PartialEq for CfgOptions {
 }
 
 impl Eq for CfgOptions {
-    ghost use Rattle.std.specs.Cmp.Lexicographic.{lists_equiv};
-    ghost use Rattle.hir_input.specs.contracts.cfg.CfgAtomEq.TheImpl.Laws.{laws-law};
+    ghost use Rattle.std.specs.Cmp.Lexicographic.{nat_list_eq_equiv};
+    ghost use Rattle.std.specs.Cmp.Rules.{comparing};
 
-    ghost laws = { lists_equiv laws-law };
+    ghost laws = { Prim.search (comparing, nat_list_eq_equiv) depth 7 };
 }

@@ -1,7 +1,7 @@
 //! What holds of every type here: `==` decides whether two values are one, values that are equal are hashed alike,
 //! and a copy is its source. Each derive is held to it by a clause; the functions do nothing.
 ghost use Rattle.hir_input.specs.Attr.{meta_view};
-ghost use Rattle.hir_input.specs.Cfg.{cfg_view};
+ghost use Rattle.hir_input.specs.Cfg.{atom_view, cfg_view};
 ghost use Rattle.hir_input.specs.Edition.{edition_view};
 ghost use Rattle.hir_input.specs.Equality.{DecidesEq, DecidesEqOf, HashesAlike, IsCopied, IsCopiedOf};
 
@@ -14,7 +14,6 @@ use crate::ids::{AstIdKind, BlockId, Crate, FileAstId, HirFileId, SyntaxContext}
 use crate::mod_path::{ModPath, PathKind};
 use crate::name::Name;
 use crate::span::Span;
-use crate::text::Text;
 use std::hash::Hash;
 
 // `==` of ids, contexts and spans is true exactly where the two are one.
@@ -35,11 +34,10 @@ fn equal_ids()
 // `==` of what owns memory is true exactly where the values behind it are one.
 fn equal_values()
     ensures names { DecidesEq ⟦<Name as PartialEq>⟧.eq }
-    ensures texts { DecidesEq ⟦<Text as PartialEq>⟧.eq }
     ensures editions { DecidesEqOf edition_view ⟦<Edition as PartialEq>⟧.eq }
     ensures paths { DecidesEq ⟦<ModPath as PartialEq>⟧.eq }
     ensures path_nodes { DecidesEq ⟦<PathNode as PartialEq>⟧.eq }
-    ensures atoms { DecidesEq ⟦<CfgAtom as PartialEq>⟧.eq }
+    ensures atoms { DecidesEqOf atom_view ⟦<CfgAtom as PartialEq>⟧.eq }
     ensures cfgs { DecidesEqOf cfg_view ⟦<CfgExpr as PartialEq>⟧.eq }
     ensures option_sets { DecidesEq ⟦<CfgOptions as PartialEq>⟧.eq }
     ensures literals { DecidesEq ⟦<Literal as PartialEq>⟧.eq }
@@ -73,10 +71,9 @@ fn copies()
     ensures expansions { IsCopied ⟦<ExpandTo as Clone>⟧.is_clone }
     ensures path_kinds { IsCopied ⟦<PathKind as Clone>⟧.is_clone }
     ensures names { IsCopied ⟦<Name as Clone>⟧.is_clone }
-    ensures texts { IsCopied ⟦<Text as Clone>⟧.is_clone }
     ensures editions { IsCopiedOf edition_view ⟦<Edition as Clone>⟧.is_clone }
     ensures paths { IsCopied ⟦<ModPath as Clone>⟧.is_clone }
-    ensures atoms { IsCopied ⟦<CfgAtom as Clone>⟧.is_clone }
+    ensures atoms { IsCopiedOf atom_view ⟦<CfgAtom as Clone>⟧.is_clone }
     ensures cfgs { IsCopiedOf cfg_view ⟦<CfgExpr as Clone>⟧.is_clone }
     ensures option_sets { IsCopied ⟦<CfgOptions as Clone>⟧.is_clone }
     ensures literals { IsCopied ⟦<Literal as Clone>⟧.is_clone }

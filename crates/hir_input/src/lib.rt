@@ -12,7 +12,6 @@ mod laws;
 pub mod mod_path;
 pub mod name;
 pub mod span;
-pub mod text;
 mod use_trees;
 
 pub use attr::{Attr, AttrId, AttrInput, Literal, Meta, TokenTree};
@@ -24,4 +23,3 @@ pub use ids::{AstIdKind, BlockId, Crate, FileAstId, HirFileId, SyntaxContext};
 pub use mod_path::{ModPath, PathKind};
 pub use name::Name;
 pub use span::Span;
-pub use text::Text;

@@ -1,16 +1,16 @@
 -- What is kept does not depend on body texts.
 use Rattle.std.proofs.Common.{◌≡◌, ℕ, Bool, List, [], ◌∷◌, map, refl, ap, ◌∙◌}
 use Rattle.std.specs.Prelude.{Some, option_map}
-use Rattle.hir_input.specs.declared.cfg.CfgAtom.{CfgAtom}
 use Rattle.hir_input.specs.Syntax.{ItemView, ItemViews, plain_item, const_item, struct_item, bare_module, listed_module, use_item, extern_crate, bare_extern_block, listed_extern_block, impl_item, macro_call, macro_rules, asm_item, no_items, item_and, StmtView, item_stmt, call_stmt, other_stmt, TailView, no_tail, call_tail, other_tail, stmt_items, SyntaxView, source_file, macro_items, macro_stmts, block_expr, error}
 use Rattle.hir_input.specs.Bodies.{item_without_bodies, items_without_bodies, call_without_body, stmt_without_bodies, tail_without_body, without_bodies}
 use Rattle.item_tree_attrs.specs.Collected.{nothing}
+use Rattle.hir_input.specs.Cfg.{AtomView}
 use Rattle.item_tree.specs.CrateView.{CrateView}
 use Rattle.item_tree.specs.Visibility.{read_visibility}
 use Rattle.item_tree.specs.Kept.{head_of, module_node, kept, kept_all, kept_top, kept_syntax}
 use Rattle.item_tree.specs.Node.{parent, extern_block, add}
 
-module _ (options : List CfgAtom) (skipped : List (List ℕ)) where
+module _ (options : List AtomView) (skipped : List (List ℕ)) where
   mutual
     kept-item_without_bodies : (i : ItemView) → kept options skipped (item_without_bodies i) ≡ kept options skipped i
     kept-item_without_bodies (plain_item k n) = refl

@@ -3,8 +3,8 @@ use Rattle.std.specs.Prelude.{ℕ, List, Bool, true, false, Option, Some, None, 
 use Rattle.std.specs.Option.{option_and_then}
 use Rattle.hir_input.specs.declared.ast.PathNode.{PathNode}
 use Rattle.hir_input.specs.declared.ast.PathNode.TheVariants.{Readable, Unreadable}
-use Rattle.hir_input.specs.declared.cfg.CfgAtom.{CfgAtom}
 use Rattle.hir_input.specs.Attr.{MetaView}
+use Rattle.hir_input.specs.Cfg.{AtomView}
 use Rattle.hir_input.specs.Path.{Path}
 use Rattle.hir_input.specs.Syntax.{NodeView, NamedView, FieldsView, record_fields, tuple_fields, no_fields, ItemView, ItemViews, plain_item, const_item, bare_module, listed_module, bare_extern_block, listed_extern_block, asm_item, no_items, item_and, SyntaxView, source_file, block_expr, items_of}
 use Rattle.hir_input.specs.Syntax as syntax
@@ -34,7 +34,7 @@ module_node true h name v items = leaf h (outline name v)
 module_node false h name v items = parent h (inline name v) items
 
 -- under these options and skipped names
-module _ (options : List CfgAtom) (skipped : List (List ℕ)) where
+module _ (options : List AtomView) (skipped : List (List ℕ)) where
   -- the attributes are those that the node's metas collect: a false cfg among them drops no item
   abbrev pub head_of : NodeView → Head
   head_of n = record { hash = n.hash; number = n.number; attrs = collected_from options skipped n.attrs }

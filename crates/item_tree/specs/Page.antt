@@ -54,7 +54,7 @@ top_opening = codes "#!["
 abbrev pub shown_input : Option AttrInput → List ℕ
 shown_input None = []
 shown_input (Some (Literal l)) = codes " = " ++ l.rendered
-shown_input (Some (TokenTree t)) = t.rendered
+shown_input (Some (TokenTree t)) = t
 
 -- the cfg that is false
 unfoldable pub false_cfg_text : List ℕ → CfgView → List ℕ

@@ -5,10 +5,9 @@ use Rattle.std.proofs.lemmas.List.{append-nil, map-append, take-append-drop, tak
 use Rattle.hir_input.specs.declared.attr.Attr.{Attr}
 use Rattle.hir_input.specs.declared.attr.Meta.{Meta}
 use Rattle.hir_input.specs.declared.attr.Meta.TheVariants.{CfgAttr}
-use Rattle.hir_input.specs.declared.cfg.CfgAtom.{CfgAtom}
 use Rattle.hir_input.specs.declared.cfg.CfgExpr.{CfgExpr}
 use Rattle.hir_input.specs.Attr.{MetaView, metas_from, meta_view}
-use Rattle.hir_input.specs.Cfg.{CfgView, cfg_view, truth}
+use Rattle.hir_input.specs.Cfg.{AtomView, CfgView, cfg_view, truth}
 use Rattle.hir_input.proofs.MetaLemmas.{meta_view-CfgAttr}
 use Rattle.item_tree_attrs.specs.Collected.{Collected, events, events_in, is_false, cut, collected_from, join}
 use Rattle.item_tree_attrs.specs.Inner.Collecting.{Adds}
@@ -16,7 +15,7 @@ use Rattle.item_tree_attrs.proofs.Cutting.{joins_lists}
 
 -- ---- a `cfg_attr` that is not false
 
-module _ (options : List CfgAtom) (skipped : List (List ℕ)) where
+module _ (options : List AtomView) (skipped : List (List ℕ)) where
   events_in-from : (ms : List MetaView) → events_in options skipped (metas_from ms) ≡ flat_map (events options skipped) ms
   events_in-from [] = refl
   events_in-from (m ∷ ms) = ap (λ es. events options skipped m ++ es) (events_in-from ms)

@@ -6,8 +6,7 @@ use Rattle.std.proofs.lemmas.List.Sums.{take_while-cons}
 use Rattle.either.specs.declared.Either.TheVariants.{Left, Right}
 use Rattle.either.specs.Either.{is_left, left, right}
 use Rattle.hir_input.specs.declared.attr.Attr.{Attr}
-use Rattle.hir_input.specs.declared.cfg.CfgAtom.{CfgAtom}
-use Rattle.hir_input.specs.Cfg.{CfgView}
+use Rattle.hir_input.specs.Cfg.{AtomView, CfgView}
 use Rattle.item_tree_attrs.specs.Collected.{Collected, Event, events, first, cut, collected_from, join, JoinsLists}
 
 abbrev made : List Attr → Option CfgView → Collected
@@ -32,5 +31,5 @@ cut-append (Left a ∷ xs) ys =
     cut-Left a (xs ++ ys) ∙ ap (add a) (cut-append xs ys) ∙ sym (join-add a (cut xs).attrs (cut xs).false_cfg (cut ys)) ∙ ap (λ c. join c (cut ys)) (sym (cut-Left a xs))
 cut-append (Right c ∷ xs) ys = cut-Right c (xs ++ ys) ∙ ap (λ d. join d (cut ys)) (sym (cut-Right c xs))
 
-pub joins_lists : (options : List CfgAtom) (skipped : List (List ℕ)) → JoinsLists (collected_from options skipped)
+pub joins_lists : (options : List AtomView) (skipped : List (List ℕ)) → JoinsLists (collected_from options skipped)
 joins_lists options skipped ms ns = ap cut (flat_map-append (events options skipped) ms ns) ∙ cut-append (flat_map (events options skipped) ms) (flat_map (events options skipped) ns)

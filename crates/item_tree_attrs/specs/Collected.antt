@@ -10,11 +10,10 @@ use Rattle.hir_input.specs.declared.ast.PathNode.TheVariants.{Readable, Unreadab
 use Rattle.hir_input.specs.declared.attr.Attr.{Attr}
 use Rattle.hir_input.specs.declared.attr.AttrInput.{AttrInput}
 use Rattle.hir_input.specs.declared.attr.AttrInput.TheVariants.{Literal, TokenTree}
-use Rattle.hir_input.specs.declared.cfg.CfgAtom.{CfgAtom}
 use Rattle.hir_input.specs.declared.ids.SyntaxContext.{SyntaxContext}
 use Rattle.hir_input.specs.declared.mod_path.PathKind.TheVariants.{Plain}
 use Rattle.hir_input.specs.Attr.{MetaView, MetaViews, path_meta, key_value_meta, token_tree_meta, cfg_meta, cfg_attr_meta, unsafe_meta, no_metas, meta_and}
-use Rattle.hir_input.specs.Cfg.{CfgView, cfg_view, truth}
+use Rattle.hir_input.specs.Cfg.{AtomView, CfgView, cfg_view, truth}
 use Rattle.hir_input.specs.Name.{is_among}
 use Rattle.hir_input.specs.Path.{Path, ident_of}
 use Rattle.item_tree_attrs.specs.declared.collect.AttrsOrCfg.{AttrsOrCfg}
@@ -69,12 +68,12 @@ abbrev pub attr_events : List (List ℕ) → Option PathNode → Option AttrInpu
 attr_events skipped path input ctxt = if is_skipped skipped path then [] else Left (record { path = path_of path; input = input; ctxt = ctxt }) ∷ []
 
 -- a cfg, if it is false
-abbrev pub cfg_events : List CfgAtom → CfgView → List Event
+abbrev pub cfg_events : List AtomView → CfgView → List Event
 cfg_events options cfg = if is_false (truth options cfg) then Right cfg ∷ [] else []
 
 -- the events of a meta under these options and skipped names, in order: a `cfg_attr` that is not false has those of its metas
 abbrev mutual
-  pub events : List CfgAtom → List (List ℕ) → MetaView → List Event
+  pub events : List AtomView → List (List ℕ) → MetaView → List Event
   events options skipped (path_meta path ctxt) = attr_events skipped path None ctxt
   events options skipped (key_value_meta path value ctxt) = attr_events skipped path (option_map Literal value) ctxt
   events options skipped (token_tree_meta path tokens ctxt) = attr_events skipped path (Some (TokenTree tokens)) ctxt
@@ -82,7 +81,7 @@ abbrev mutual
   events options skipped (cfg_attr_meta cfg metas) = if is_false (truth options cfg) then [] else events_in options skipped metas
   events options skipped (unsafe_meta inner) = events options skipped inner
 
-  pub events_in : List CfgAtom → List (List ℕ) → MetaViews → List Event
+  pub events_in : List AtomView → List (List ℕ) → MetaViews → List Event
   events_in options skipped no_metas = []
   events_in options skipped (meta_and m ms) = events options skipped m ++ events_in options skipped ms
 
@@ -97,7 +96,7 @@ abbrev pub cut : List Event → Collected
 cut es = record { attrs = filter_map left (take_while is_left es); false_cfg = first (filter_map right es) }
 
 -- what a list of metas collects
-abbrev pub collected_from : List CfgAtom → List (List ℕ) → List MetaView → Collected
+abbrev pub collected_from : List AtomView → List (List ℕ) → List MetaView → Collected
 collected_from options skipped metas = cut (flat_map (events options skipped) metas)
 
 -- ---- one owner's attributes behind another's

@@ -275,11 +275,10 @@ pub struct TtValues<'a> {
 }
 
 impl<'a> Model for TtValues<'a> {
-    ghost use Rattle.std.specs.Prelude.{List, filter_map};
-    ghost use Rattle.hir_input.specs.declared.attr.TokenTree.{TokenTree};
+    ghost use Rattle.std.specs.Prelude.{ℕ, List, filter_map};
     ghost use Rattle.hir_input.specs.Attr.{token_tree_of};
 
-    ghost Value = { List TokenTree };
+    ghost Value = { List (List ℕ) };
 
     ghost view = { λ s. filter_map token_tree_of s.attrs };
 }

@@ -1,29 +1,30 @@
 -- Codes of conditions and of metas.
-use Rattle.std.specs.Prelude.{◌≡◌, List, Option, refl}
-use Rattle.std.specs.Coded.{Coded, coded×, coded_list, coded_option}
+use Rattle.std.specs.Prelude.{◌≡◌, ℕ, List, Option, refl}
+use Rattle.std.specs.Coded.{Coded, code_by, coded×, coded_ℕ, coded_list, coded_option}
 use Rattle.std.proofs.Common.{ap}
 use base.Stored.{Gv, gnil, gnum, gcons}
-use Rattle.hir_input.specs.declared.cfg.CfgAtom.{CfgAtom}
 use Rattle.hir_input.specs.declared.ast.PathNode.{PathNode}
-use Rattle.hir_input.specs.declared.attr.Literal.{Literal}
 use Rattle.hir_input.specs.declared.ids.SyntaxContext.{SyntaxContext}
-use Rattle.hir_input.specs.declared.attr.TokenTree.{TokenTree}
-use Rattle.hir_input.specs.contracts.cfg.CfgAtom as cfg_atom
+use Rattle.hir_input.specs.declared.span.Span.{Span}
 use Rattle.hir_input.specs.contracts.ast.PathNode as path_node
-use Rattle.hir_input.specs.contracts.attr.Literal as literal
 use Rattle.hir_input.specs.contracts.ids.SyntaxContext as context
-use Rattle.hir_input.specs.contracts.attr.TokenTree as token_tree
-use Rattle.hir_input.specs.Cfg.{CfgView, CfgViews, invalid, atom, all_of, any_of, not_of, no_cfgs, cfg_and}
+use Rattle.hir_input.specs.contracts.span.Span as span
+use Rattle.hir_input.specs.Cfg.{AtomView, CfgView, CfgViews, invalid, atom, all_of, any_of, not_of, no_cfgs, cfg_and}
+use Rattle.hir_input.specs.Literal.{LiteralView}
 use Rattle.hir_input.specs.Code.Parts.{front, behind}
 use Rattle.hir_input.specs.Attr.{MetaView, MetaViews, path_meta, key_value_meta, token_tree_meta, cfg_meta, cfg_attr_meta, unsafe_meta, no_metas, meta_and}
 
 -- ---- conditions
 
-abbrev pub atom_code : Coded CfgAtom
-atom_code = cfg_atom.the_row.coded
+abbrev pub text_code : Coded (List ℕ)
+text_code = coded_list coded_ℕ
+
+abbrev pub atom_code : Coded AtomView
+atom_code =
+    code_by (List ℕ × Option (List ℕ)) (coded× text_code (coded_option text_code)) (λ a. (a.name, a.value)) (λ p. record { name = p.0; value = p.1 }) (λ _. refl)
 
 -- the options of a crate
-abbrev pub options_code : Coded (List CfgAtom)
+abbrev pub options_code : Coded (List AtomView)
 options_code = coded_list atom_code
 
 abbrev mutual
@@ -60,11 +61,19 @@ cfg_code = record { code = cfg_to; inj = cfg_inj }
 abbrev pub path_code : Coded (Option PathNode × SyntaxContext)
 path_code = coded× (coded_option path_node.the_row.coded) context.the_row.coded
 
-abbrev pub key_value_code : Coded ((Option PathNode × SyntaxContext) × Option Literal)
-key_value_code = coded× path_code (coded_option literal.the_row.coded)
+abbrev pub literal_code : Coded LiteralView
+literal_code =
+    code_by (List ℕ × (Option (List ℕ) × Span))
+    (coded× text_code (coded× (coded_option text_code) span.the_row.coded))
+    (λ l. (l.rendered, (l.string, l.span)))
+    (λ p. record { rendered = p.0; string = p.1.0; span = p.1.1 })
+    (λ _. refl)
 
-abbrev pub tokens_code : Coded ((Option PathNode × SyntaxContext) × TokenTree)
-tokens_code = coded× path_code token_tree.the_row.coded
+abbrev pub key_value_code : Coded ((Option PathNode × SyntaxContext) × Option LiteralView)
+key_value_code = coded× path_code (coded_option literal_code)
+
+abbrev pub tokens_code : Coded ((Option PathNode × SyntaxContext) × List ℕ)
+tokens_code = coded× path_code text_code
 
 abbrev mutual
   pub meta_to : MetaView → Gv
