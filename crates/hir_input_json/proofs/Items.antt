@@ -1,0 +1,12 @@
+-- An item's form reads itself.
+use Rattle.std.proofs.Common.{codes, refl}
+use Rattle.hir_input_json.specs.Forms.{field, list_of}
+use Rattle.hir_input_json.specs.Items.{item_with}
+use Rattle.hir_input_json.proofs.Laws.{LooksInside, ReadsItself}
+use Rattle.hir_input_json.proofs.Inside.{maybe_same, list_in, reads_itself}
+
+item_inside : LooksInside item_with
+item_inside f g d same = rw (maybe_same (list_of f) (list_of g) (field (codes "items") d) (list_in f g (codes "items") d same)) refl
+
+pub item_reads_itself : ReadsItself item_with
+item_reads_itself = reads_itself item_with item_inside

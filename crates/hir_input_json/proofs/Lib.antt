@@ -1,0 +1,9 @@
+pub mod Attrs
+pub mod Held
+pub mod Inside
+pub mod Items
+pub mod Laws
+pub mod Lists
+pub mod Names
+pub mod Spans
+pub mod UseTrees

@@ -1,0 +1,31 @@
+-- the reading is what was read, and then the reading of what is left
+use Rattle.std.proofs.Common.{◌≡◌, ◌≤◌, map, ◌+◌, ◌*◌, option_map}
+use Rattle.serde_json.specs.Data.{depth, items_depth}
+use Rattle.serde_json.specs.View.{view, items_view}
+use Rattle.hir_input.specs.Cfg.{cfg_view}
+use Rattle.hir_input_json.specs.Cfgs.{cfg}
+use Rattle.hir_input_json.specs.Forms.{each}
+use Rattle.hir_input_json.specs.Held.{held}
+use Rattle.hir_input_json.proofs.Inside.{depth_of}
+use Rattle.hir_input_json.proofs.Lists.{joined}
+use Rattle.hir_input_json.proofs.cfg.+cfgs.Given as goal
+
+abbrev pub decreases-cfg_of : goal.decreases-cfg_of
+decreases-cfg_of l = 3 * depth (view l.value) + 2
+
+abbrev pub decreases-cfg_in : goal.decreases-cfg_in
+decreases-cfg_in l = 3 * depth (view l.value) + 1
+
+abbrev pub decreases-cfg_by : goal.decreases-cfg_by
+decreases-cfg_by l = 3 * depth (held l.members.now)
+
+abbrev pub decreases-cfgs_in : goal.decreases-cfgs_in
+decreases-cfgs_in l = 3 * depth (view l.list) + 1
+
+abbrev pub decreases-cfgs_of : goal.decreases-cfgs_of
+decreases-cfgs_of l = 3 * items_depth (items_view l.items.items) + 3
+
+abbrev pub invariant-cfgs_of-loop-item : goal.invariant-cfgs_of-loop-item
+invariant-cfgs_of-loop-item l =
+    (each cfg (items_view l.fn.items.items) ≡ joined (map cfg_view l.members.items) (each cfg (items_view l.item-iterator.rest.items)))
+    × (items_depth (items_view l.item-iterator.rest.items) ≤ items_depth (items_view l.fn.items.items))

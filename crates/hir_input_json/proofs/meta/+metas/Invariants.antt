@@ -1,0 +1,31 @@
+-- the reading is what was read, and then the reading of what is left
+use Rattle.std.proofs.Common.{◌≡◌, ◌≤◌, map, ◌+◌, ◌*◌, option_map}
+use Rattle.serde_json.specs.Data.{depth, items_depth}
+use Rattle.serde_json.specs.View.{view, items_view}
+use Rattle.hir_input.specs.Attr.{meta_view}
+use Rattle.hir_input_json.specs.Metas.{meta}
+use Rattle.hir_input_json.specs.Forms.{each}
+use Rattle.hir_input_json.specs.Held.{held}
+use Rattle.hir_input_json.proofs.Inside.{depth_of}
+use Rattle.hir_input_json.proofs.Lists.{joined}
+use Rattle.hir_input_json.proofs.meta.+metas.Given as goal
+
+abbrev pub decreases-meta_of : goal.decreases-meta_of
+decreases-meta_of l = 4 * depth (view l.value) + 3
+
+abbrev pub decreases-meta_in : goal.decreases-meta_in
+decreases-meta_in l = 4 * depth (held l.members.now) + 2
+
+abbrev pub decreases-cfg_attr_of : goal.decreases-cfg_attr_of
+decreases-cfg_attr_of l = 4 * depth (held l.members.now) + 1
+
+abbrev pub decreases-unsafe_of : goal.decreases-unsafe_of
+decreases-unsafe_of l = 4 * depth (held l.members.now) + 1
+
+abbrev pub decreases-metas_of : goal.decreases-metas_of
+decreases-metas_of l = 4 * items_depth (items_view l.items.items) + 4
+
+abbrev pub invariant-metas_of-loop-item : goal.invariant-metas_of-loop-item
+invariant-metas_of-loop-item l =
+    (each meta (items_view l.fn.items.items) ≡ joined (map meta_view l.metas.items) (each meta (items_view l.item-iterator.rest.items)))
+    × (items_depth (items_view l.item-iterator.rest.items) ≤ items_depth (items_view l.fn.items.items))

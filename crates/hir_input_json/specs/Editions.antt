@@ -1,0 +1,45 @@
+-- The reading of an edition.
+use Rattle.std.specs.Prelude.{ℕ, ◌^◌, ◌==◌, List, [], codes, if◌then◌else◌, Option, Some, None, option_and_then}
+use Rattle.serde_json.specs.Data.{Data}
+use Rattle.serde_json.specs.Find.{as_object}
+use Rattle.hir_input.specs.declared.edition.Edition.{Edition}
+use Rattle.hir_input.specs.declared.edition.EditionYear.{EditionYear}
+use Rattle.hir_input.specs.declared.edition.EditionYear.TheVariants.{E2015, E2018, E2021, E2024}
+use Rattle.hir_input_json.specs.Forms.{field, optional, whole, name, list_at, ◌>>=◌}
+
+-- an edition, by its year and its reserved words
+pub record EditionView : Type 0 where
+  pub year : EditionYear
+  pub reserved : List (List ℕ)
+
+-- what an edition is seen as
+abbrev pub edition_view : Edition → EditionView
+edition_view e = record { year = e.year; reserved = e.reserved.items }
+
+-- the edition where none is named
+abbrev pub latest : EditionView
+latest = record { year = E2024; reserved = [] }
+
+-- the years that have an edition
+abbrev pub year_of : ℕ → Option EditionYear
+year_of n =
+    if n == 2015 then Some E2015
+    else (if n == 2018 then Some E2018
+    else (if n == 2021 then Some E2021
+    else (if n == 2024 then Some E2024 else None)))
+
+-- a year
+abbrev pub year : Data → Option EditionYear
+year d = option_and_then year_of (whole (2 ^ 64) d)
+
+-- an edition, whose year and reserved words may both be absent
+abbrev pub edition : Data → Option EditionView
+edition d = do
+  _ ← as_object d
+  y ← optional E2024 year (field (codes "year") d)
+  words ← list_at name (codes "reserved") d
+  Some (record { year = y; reserved = words })
+
+-- the edition of a request, the latest where it is absent
+abbrev pub edition_at : Data → Option EditionView
+edition_at d = optional latest edition (field (codes "edition") d)

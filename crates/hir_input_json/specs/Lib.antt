@@ -1,0 +1,12 @@
+pub mod Forms
+pub mod Held
+pub mod Nested
+pub mod Paths
+pub mod Cfgs
+pub mod Literals
+pub mod Metas
+pub mod UseTrees
+pub mod Items
+pub mod Editions
+pub mod Reads
+pub mod Seen

@@ -1,0 +1,62 @@
+//! Atoms of conditions, read from their forms.
+ghost use Rattle.std.specs.Prelude.{◌≡◌, OnOk};
+ghost use Rattle.serde_json.specs.View.{view, items_view};
+ghost use Rattle.hir_input_json.specs.Cfgs.{atom as atom_form, keyed_atom as keyed_form};
+ghost use Rattle.hir_input_json.specs.Forms.{each, list_at as each_at};
+ghost use Rattle.hir_input_json.specs.Held.{held, without};
+ghost use Rattle.hir_input_json.specs.Reads.{Reads};
+
+use crate::fault::Fault;
+use crate::literal::required_text_at;
+use crate::member::{list_at, members_of, taken};
+use crate::name::name_of;
+use hir_input::CfgAtom;
+use serde_json::{Map, Value};
+use std::alloc::Global;
+
+// A key and its value.
+#[tactic(auto, using(crate::proofs::Held::field_without))]
+pub(crate) fn keyed_atom_of(members: &mut Map<String, Value>) -> Result<CfgAtom, Fault>
+    ensures { Reads (λ atom. atom) result (keyed_form (held members.old)) }
+{
+    let key = taken(members, "key").ok_or(Fault::WrongForm)?;
+    let key = name_of(key)?;
+    let value = required_text_at(members, "value")?;
+    Ok(CfgAtom::KeyValue { key, value })
+}
+
+#[tactic(auto, using(crate::proofs::Held::no_field))]
+pub(crate) fn atom_of(value: Value) -> Result<CfgAtom, Fault>
+    ensures { Reads (λ atom. atom) result (atom_form (view value)) }
+{
+    if value.is_string() {
+        return Ok(CfgAtom::Flag(name_of(value)?));
+    }
+    let mut members = members_of(value)?;
+    keyed_atom_of(&mut members)
+}
+
+fn atoms_of(alloc: Global, items: Vec<Value>) -> Result<Vec<CfgAtom>, Fault>
+    ensures { Reads (λ v. v.items) result (each atom_form (items_view items.items)) }
+{
+    let mut atoms = Vec::new(alloc);
+    for item in items {
+        atoms.push(atom_of(item)?)?;
+    }
+    Ok(atoms)
+}
+
+/// Takes a list of atoms out, none where it is absent: the options that are set in a crate.
+///
+/// `WrongForm` comes only where the list has no reading (`Cfgs.atom`).
+pub fn atoms_at(
+    alloc: Global,
+    members: &mut Map<String, Value>,
+    key: &str,
+) -> Result<Vec<CfgAtom>, Fault>
+    ensures reads { Reads (λ v. v.items) result (each_at atom_form key.now (held members.old)) }
+    ensures left { OnOk result (held members.new ≡ without key.now (held members.old)) }
+{
+    let items = list_at(alloc, members, key)?;
+    atoms_of(alloc, items)
+}

@@ -1,0 +1,98 @@
+//! Conditions, read from their forms.
+ghost use Rattle.std.specs.Prelude.{◌≡◌, OnOk, codes, map};
+ghost use Rattle.serde_json.specs.View.{view, items_view};
+ghost use Rattle.hir_input.specs.Cfg.{cfg_view};
+ghost use Rattle.hir_input_json.specs.Cfgs.{cfg as cfg_form, cfg_with};
+ghost use Rattle.hir_input_json.specs.Forms.{each, list_of};
+ghost use Rattle.hir_input_json.specs.Held.{held, without};
+ghost use Rattle.hir_input_json.specs.Metas.{condition_at as condition_form};
+ghost use Rattle.hir_input_json.specs.Reads.{Reads};
+
+use crate::atom::{atom_of, keyed_atom_of};
+use crate::fault::Fault;
+use crate::member::{array_of, field, members_of, removed, taken};
+use hir_input::CfgExpr;
+use serde_json::{Map, Value};
+use std::alloc::Global;
+
+#[cycle(cfgs)]
+#[tactic(auto, using(crate::proofs::Attrs::cfg_reads_itself))]
+fn cfg_of(alloc: Global, value: Value) -> Result<CfgExpr, Fault>
+    ensures { Reads cfg_view result (cfg_form (view value)) }
+{
+    cfg_in(alloc, value)
+}
+
+#[cycle(cfgs)]
+#[tactic(auto, using(crate::proofs::Held::no_field, crate::proofs::Held::no_get, hir_input::proofs::CfgLemmas::cfg_views))]
+fn cfg_in(alloc: Global, value: Value) -> Result<CfgExpr, Fault>
+    ensures { Reads cfg_view result (cfg_with cfg_form (view value)) }
+{
+    if value.is_null() {
+        return Ok(CfgExpr::Invalid);
+    }
+    if value.is_string() {
+        return Ok(CfgExpr::Atom(atom_of(value)?));
+    }
+    let mut members = members_of(value)?;
+    cfg_by(alloc, &mut members)
+}
+
+// A condition by the first key that it holds.
+#[cycle(cfgs)]
+#[tactic(auto, using(crate::proofs::Held::field_without, crate::proofs::Inside::depth_found_in, crate::proofs::Inside::depth_found_get, hir_input::proofs::CfgLemmas::cfg_views))]
+fn cfg_by(alloc: Global, members: &mut Map<String, Value>) -> Result<CfgExpr, Fault>
+    ensures { Reads cfg_view result (cfg_with cfg_form (held members.old)) }
+{
+    let inner = removed(members, "not");
+    if field(members, "key").is_some() {
+        return Ok(CfgExpr::Atom(keyed_atom_of(members)?));
+    }
+    if let Some(list) = taken(members, "all") {
+        return Ok(CfgExpr::All(cfgs_in(alloc, list)?));
+    }
+    if let Some(list) = taken(members, "any") {
+        return Ok(CfgExpr::Any(cfgs_in(alloc, list)?));
+    }
+    match inner {
+        Some(inner) => {
+            let inner = cfg_of(alloc, inner)?;
+            Ok(CfgExpr::Not(Box::new(alloc, inner)?))
+        }
+        None => Err(Fault::WrongForm),
+    }
+}
+
+#[cycle(cfgs)]
+#[tactic(auto, using(crate::proofs::Inside::depth_array))]
+fn cfgs_in(alloc: Global, list: Value) -> Result<Vec<CfgExpr>, Fault>
+    ensures { Reads (λ v. map cfg_view v.items) result (list_of cfg_form (view list)) }
+{
+    let items = array_of(list)?;
+    cfgs_of(alloc, items)
+}
+
+#[cycle(cfgs)]
+fn cfgs_of(alloc: Global, items: Vec<Value>) -> Result<Vec<CfgExpr>, Fault>
+    ensures { Reads (λ v. map cfg_view v.items) result (each cfg_form (items_view items.items)) }
+{
+    let mut members = Vec::with_capacity(alloc, items.len())?;
+    for item in items {
+        members.push(cfg_of(alloc, item)?)?;
+    }
+    Ok(members)
+}
+
+// The condition of a meta, taken out, which cannot be read where it is absent.
+pub(crate) fn condition_at(
+    alloc: Global,
+    members: &mut Map<String, Value>,
+) -> Result<CfgExpr, Fault>
+    ensures reads { Reads cfg_view result (condition_form (held members.old)) }
+    ensures left { OnOk result (held members.new ≡ without (codes "cfg") (held members.old)) }
+{
+    match removed(members, "cfg") {
+        Some(found) => cfg_of(alloc, found),
+        None => Ok(CfgExpr::Invalid),
+    }
+}

@@ -1,0 +1,34 @@
+//! Syntax contexts, read from their forms.
+ghost use Rattle.std.specs.Prelude.{◌≡◌};
+ghost use Rattle.serde_json.specs.View.{view};
+ghost use Rattle.hir_input_json.specs.Held.{held};
+ghost use Rattle.hir_input_json.specs.Literals.{context as context_form, context_at as context_at_form};
+ghost use Rattle.hir_input_json.specs.Reads.{Reads};
+
+use crate::fault::Fault;
+use crate::member::{field, u32_of};
+use hir_input::{EditionYear, SyntaxContext};
+use serde_json::{Map, Value};
+
+fn context_of(value: &Value) -> Result<SyntaxContext, Fault>
+    ensures { Reads (λ ctxt. ctxt) result (context_form (view value.now)) }
+{
+    match value.as_str() {
+        Some("ROOT2015") => Ok(SyntaxContext::Root(EditionYear::E2015)),
+        Some("ROOT2018") => Ok(SyntaxContext::Root(EditionYear::E2018)),
+        Some("ROOT2021") => Ok(SyntaxContext::Root(EditionYear::E2021)),
+        Some("ROOT2024") => Ok(SyntaxContext::Root(EditionYear::E2024)),
+        Some(_) => Err(Fault::WrongForm),
+        None => Ok(SyntaxContext::Expanded(u32_of(value)?)),
+    }
+}
+
+// The latest root where it is absent.
+pub(crate) fn context_at(members: &Map<String, Value>) -> Result<SyntaxContext, Fault>
+    ensures { Reads (λ ctxt. ctxt) result (context_at_form (held members.now)) }
+{
+    match field(members, "ctxt") {
+        Some(found) => context_of(found),
+        None => Ok(SyntaxContext::Root(EditionYear::E2024)),
+    }
+}

@@ -1,0 +1,57 @@
+//! Editions, read from their forms.
+ghost use Rattle.std.specs.Prelude.{◌≡◌, OnOk, codes};
+ghost use Rattle.serde_json.specs.View.{view};
+ghost use Rattle.hir_input.specs.declared.edition.EditionYear.TheVariants.{E2024};
+ghost use Rattle.hir_input_json.specs.Editions.{edition as edition_form, edition_at as edition_at_form, edition_view, year as year_form};
+ghost use Rattle.hir_input_json.specs.Forms.{field as field_of, optional};
+ghost use Rattle.hir_input_json.specs.Held.{held, without};
+ghost use Rattle.hir_input_json.specs.Reads.{Reads};
+
+use crate::fault::Fault;
+use crate::member::{field, members_of, taken};
+use crate::name::names_at;
+use hir_input::{Edition, EditionYear};
+use serde_json::{Map, Value};
+use std::alloc::Global;
+
+// The latest year where it is absent.
+fn year_at(members: &Map<String, Value>) -> Result<EditionYear, Fault>
+    ensures { Reads (λ year. year) result (optional E2024 year_form (field_of (codes "year") (held members.now))) }
+{
+    let Some(year) = field(members, "year") else {
+        return Ok(EditionYear::E2024);
+    };
+    match year.as_u64() {
+        Some(2015) => Ok(EditionYear::E2015),
+        Some(2018) => Ok(EditionYear::E2018),
+        Some(2021) => Ok(EditionYear::E2021),
+        Some(2024) => Ok(EditionYear::E2024),
+        _ => Err(Fault::WrongForm),
+    }
+}
+
+#[tactic(auto, using(crate::proofs::Held::field_without))]
+fn edition_of(alloc: Global, value: Value) -> Result<Edition, Fault>
+    ensures { Reads edition_view result (edition_form (view value)) }
+{
+    let mut members = members_of(value)?;
+    let year = year_at(&members)?;
+    let reserved = names_at(alloc, &mut members, "reserved")?;
+    Ok(Edition { year, reserved })
+}
+
+/// Takes the edition out: the latest, without reserved words, where it is absent.
+///
+/// `WrongForm` comes only where it is there and has no reading (`Editions.edition`).
+pub fn edition_at(alloc: Global, members: &mut Map<String, Value>) -> Result<Edition, Fault>
+    ensures reads { Reads edition_view result (edition_at_form (held members.old)) }
+    ensures left { OnOk result (held members.new ≡ without (codes "edition") (held members.old)) }
+{
+    match taken(members, "edition") {
+        Some(edition) => edition_of(alloc, edition),
+        None => Ok(Edition {
+            year: EditionYear::E2024,
+            reserved: Vec::new(alloc),
+        }),
+    }
+}

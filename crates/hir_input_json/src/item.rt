@@ -1,0 +1,136 @@
+//! Items, read from their forms.
+ghost use Rattle.std.specs.Prelude.{◌≡◌, map, option_map};
+ghost use Rattle.serde_json.specs.View.{view, items_view};
+ghost use Rattle.hir_input.specs.Syntax.{item_view};
+ghost use Rattle.hir_input_json.specs.Forms.{each, maybe, list_of};
+ghost use Rattle.hir_input_json.specs.Held.{held};
+ghost use Rattle.hir_input_json.specs.Items.{struct_form, use_form, extern_crate_form, impl_form, module_form, item as item_form, item_with};
+ghost use Rattle.hir_input_json.specs.Reads.{Reads};
+
+mod extern_block;
+mod fields;
+mod macros;
+mod node;
+
+use crate::fault::Fault;
+use crate::item::extern_block::extern_block_of;
+use crate::item::fields::struct_kind_at;
+use crate::item::macros::{macro_call_of, macro_rules_of};
+use crate::item::node::{Named, Node, named_at, node_at, with_name, with_node};
+use crate::member::{array_of, flag_at, members_of, taken, word_at};
+use crate::use_tree::{rename_at, use_tree_at};
+use crate::visibility::visibility_at;
+use hir_input::ast::{
+    AsmExpr, Const, Enum, ExternCrate, Fn, Impl, Item, MacroDef, Module, Static, Struct, Trait,
+    TypeAlias, Union, Use,
+};
+use serde_json::{Map, Value};
+use std::alloc::Global;
+
+#[tactic(auto, using(crate::proofs::Held::field_without, hir_input::proofs::SyntaxViews::item_views))]
+fn struct_of(alloc: Global, members: &mut Map<String, Value>) -> Result<Item, Fault>
+    ensures { Reads item_view result (struct_form (held members.old)) }
+{
+    let named = named_at(alloc, members)?;
+    let kind = struct_kind_at(alloc, members)?;
+    Ok(Item::Struct(with_name!(Struct, named, kind)))
+}
+
+#[tactic(auto, using(crate::proofs::Held::field_without, hir_input::proofs::SyntaxViews::item_views))]
+fn use_of(alloc: Global, members: &mut Map<String, Value>) -> Result<Item, Fault>
+    ensures { Reads item_view result (use_form (held members.old)) }
+{
+    let node = node_at(alloc, members)?;
+    let visibility = visibility_at(alloc, members)?;
+    let use_tree = use_tree_at(alloc, members)?;
+    Ok(Item::Use(with_node!(Use, node, visibility, use_tree)))
+}
+
+#[tactic(auto, using(crate::proofs::Held::field_without, hir_input::proofs::SyntaxViews::item_views))]
+fn extern_crate_of(alloc: Global, members: &mut Map<String, Value>) -> Result<Item, Fault>
+    ensures { Reads item_view result (extern_crate_form (held members.old)) }
+{
+    let named = named_at(alloc, members)?;
+    let rename = rename_at(members)?;
+    Ok(Item::ExternCrate(with_name!(ExternCrate, named, rename)))
+}
+
+#[tactic(auto, using(crate::proofs::Held::field_without, hir_input::proofs::SyntaxViews::item_views))]
+fn impl_of(alloc: Global, members: &mut Map<String, Value>) -> Result<Item, Fault>
+    ensures { Reads item_view result (impl_form (held members.old)) }
+{
+    let node = node_at(alloc, members)?;
+    let is_trait_impl = flag_at(members, "trait")?;
+    Ok(Item::Impl(with_node!(Impl, node, is_trait_impl)))
+}
+
+#[cycle(items)]
+#[tactic(auto, using(crate::proofs::Items::item_reads_itself, crate::proofs::Held::no_field))]
+pub(crate) fn item_of(alloc: Global, value: Value) -> Result<Item, Fault>
+    ensures { Reads item_view result (item_form (view value)) }
+{
+    let mut members = members_of(value)?;
+    item_in(alloc, &mut members)
+}
+
+#[cycle(items)]
+#[tactic(auto, using(hir_input::proofs::SyntaxViews::item_views))]
+fn item_in(alloc: Global, members: &mut Map<String, Value>) -> Result<Item, Fault>
+    ensures { Reads item_view result (item_with item_form (held members.old)) }
+{
+    match word_at(members, "is")? {
+        "fn" => Ok(Item::Fn(with_name!(Fn, named_at(alloc, members)?))),
+        "union" => Ok(Item::Union(with_name!(Union, named_at(alloc, members)?))),
+        "enum" => Ok(Item::Enum(with_name!(Enum, named_at(alloc, members)?))),
+        "static" => Ok(Item::Static(with_name!(Static, named_at(alloc, members)?))),
+        "trait" => Ok(Item::Trait(with_name!(Trait, named_at(alloc, members)?))),
+        "type_alias" => Ok(Item::TypeAlias(with_name!(TypeAlias, named_at(alloc, members)?))),
+        "macro_def" => Ok(Item::MacroDef(with_name!(MacroDef, named_at(alloc, members)?))),
+        "const" => Ok(Item::Const(with_name!(Const, named_at(alloc, members)?))),
+        "struct" => struct_of(alloc, members),
+        "module" => module_of(alloc, members),
+        "use" => use_of(alloc, members),
+        "extern_crate" => extern_crate_of(alloc, members),
+        "extern_block" => extern_block_of(alloc, members),
+        "impl" => impl_of(alloc, members),
+        "macro_call" => Ok(Item::MacroCall(macro_call_of(alloc, members)?)),
+        "macro_rules" => macro_rules_of(alloc, members),
+        "asm" => Ok(Item::AsmExpr(with_node!(AsmExpr, node_at(alloc, members)?))),
+        _ => Err(Fault::WrongForm),
+    }
+}
+
+#[cycle(items)]
+#[tactic(auto, using(crate::proofs::Held::field_without, crate::proofs::Inside::depth_found_in, hir_input::proofs::SyntaxViews::item_views))]
+fn module_of(alloc: Global, members: &mut Map<String, Value>) -> Result<Item, Fault>
+    ensures { Reads item_view result (module_form item_form (held members.old)) }
+{
+    let named = named_at(alloc, members)?;
+    let semicolon = flag_at(members, "semicolon")?;
+    let list = taken(members, "items");
+    let items = items_in(alloc, list)?;
+    Ok(Item::Module(with_name!(Module, named, semicolon, items)))
+}
+
+#[cycle(items)]
+#[tactic(auto, using(crate::proofs::Inside::depth_array))]
+fn items_in(alloc: Global, list: Option<Value>) -> Result<Option<Vec<Item>>, Fault>
+    ensures { Reads (option_map (λ v. map item_view v.items)) result (maybe (list_of item_form) (option_map view list)) }
+{
+    let Some(list) = list else {
+        return Ok(None);
+    };
+    let items = array_of(list)?;
+    Ok(Some(items_of(alloc, items)?))
+}
+
+#[cycle(items)]
+pub(crate) fn items_of(alloc: Global, values: Vec<Value>) -> Result<Vec<Item>, Fault>
+    ensures { Reads (λ v. map item_view v.items) result (each item_form (items_view values.items)) }
+{
+    let mut items = Vec::with_capacity(alloc, values.len())?;
+    for item in values {
+        items.push(item_of(alloc, item)?)?;
+    }
+    Ok(items)
+}

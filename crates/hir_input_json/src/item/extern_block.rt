@@ -1,0 +1,68 @@
+//! Extern blocks, read from their forms.
+ghost use Rattle.std.specs.Prelude.{◌≡◌, codes, map, option_map};
+ghost use Rattle.serde_json.specs.View.{view, items_view};
+ghost use Rattle.hir_input.specs.Syntax.{extern_item_view, item_view};
+ghost use Rattle.hir_input_json.specs.Forms.{each, field as field_of, list_of, maybe};
+ghost use Rattle.hir_input_json.specs.Held.{held};
+ghost use Rattle.hir_input_json.specs.Items.{extern_block_form, extern_item as extern_item_form};
+ghost use Rattle.hir_input_json.specs.Reads.{Reads};
+
+use crate::fault::Fault;
+use crate::item::macros::macro_call_of;
+use crate::item::node::{Named, Node, named_at, node_at, with_name, with_node};
+use crate::member::{array_of, members_of, taken, word_at};
+use hir_input::ast::{ExternBlock, ExternItem, Fn, Item, Static, TypeAlias};
+use serde_json::{Map, Value};
+use std::alloc::Global;
+
+#[tactic(auto, unfolding(crate::specs::Items::extern_item), using(crate::proofs::Held::no_field))]
+fn extern_item_of(alloc: Global, value: Value) -> Result<ExternItem, Fault>
+    ensures { Reads extern_item_view result (extern_item_form (view value)) }
+{
+    let mut members = members_of(value)?;
+    match word_at(&members, "is")? {
+        "fn" => Ok(ExternItem::Fn(with_name!(Fn, named_at(alloc, &mut members)?))),
+        "static" => Ok(ExternItem::Static(with_name!(Static, named_at(alloc, &mut members)?))),
+        "type_alias" => Ok(ExternItem::TypeAlias(with_name!(
+            TypeAlias,
+            named_at(alloc, &mut members)?
+        ))),
+        "macro_call" => Ok(ExternItem::MacroCall(macro_call_of(alloc, &mut members)?)),
+        _ => Err(Fault::WrongForm),
+    }
+}
+
+fn extern_items_of(alloc: Global, values: Vec<Value>) -> Result<Vec<ExternItem>, Fault>
+    ensures { Reads (λ v. map extern_item_view v.items) result (each extern_item_form (items_view values.items)) }
+{
+    let mut items = Vec::with_capacity(alloc, values.len())?;
+    for item in values {
+        items.push(extern_item_of(alloc, item)?)?;
+    }
+    Ok(items)
+}
+
+fn extern_items_at(
+    alloc: Global,
+    members: &mut Map<String, Value>,
+) -> Result<Option<Vec<ExternItem>>, Fault>
+    ensures { Reads (option_map (λ v. map extern_item_view v.items)) result (maybe (list_of extern_item_form) (field_of (codes "items") (held members.old))) }
+{
+    let Some(list) = taken(members, "items") else {
+        return Ok(None);
+    };
+    let values = array_of(list)?;
+    Ok(Some(extern_items_of(alloc, values)?))
+}
+
+#[tactic(auto, using(crate::proofs::Held::field_without, hir_input::proofs::SyntaxViews::item_views))]
+pub(crate) fn extern_block_of(
+    alloc: Global,
+    members: &mut Map<String, Value>,
+) -> Result<Item, Fault>
+    ensures { Reads item_view result (extern_block_form (held members.old)) }
+{
+    let node = node_at(alloc, members)?;
+    let items = extern_items_at(alloc, members)?;
+    Ok(Item::ExternBlock(with_node!(ExternBlock, node, items)))
+}

@@ -1,0 +1,60 @@
+//! The fields of a struct, read from their forms.
+ghost use Rattle.std.specs.Prelude.{◌≡◌, codes, map};
+ghost use Rattle.serde_json.specs.View.{view, items_view};
+ghost use Rattle.hir_input.specs.Syntax.{fields_view};
+ghost use Rattle.hir_input_json.specs.Forms.{field as field_of, required, each};
+ghost use Rattle.hir_input_json.specs.Held.{held};
+ghost use Rattle.hir_input_json.specs.Items.{fields as fields_form, tuple_field};
+ghost use Rattle.hir_input_json.specs.Reads.{Reads};
+
+use crate::fault::Fault;
+use crate::member::{array_of, taken};
+use crate::visibility::visibility_of;
+use hir_input::ast::{StructKind, TupleField};
+use serde_json::{Map, Value};
+use std::alloc::Global;
+
+// A null is a field without visibility.
+fn tuple_field_of(alloc: Global, value: Value) -> Result<TupleField, Fault>
+    ensures { Reads (λ f. f.visibility) result (tuple_field (view value)) }
+{
+    if value.is_null() {
+        return Ok(TupleField { visibility: None });
+    }
+    let visibility = Some(visibility_of(alloc, value)?);
+    Ok(TupleField { visibility })
+}
+
+fn tuple_fields_of(alloc: Global, items: Vec<Value>) -> Result<Vec<TupleField>, Fault>
+    ensures { Reads (λ v. map (λ f. f.visibility) v.items) result (each tuple_field (items_view items.items)) }
+{
+    let mut fields = Vec::with_capacity(alloc, items.len())?;
+    for item in items {
+        fields.push(tuple_field_of(alloc, item)?)?;
+    }
+    Ok(fields)
+}
+
+fn struct_kind_of(alloc: Global, value: Value) -> Result<StructKind, Fault>
+    ensures { Reads fields_view result (fields_form (view value)) }
+{
+    match value.as_str() {
+        Some("record") => Ok(StructKind::Record),
+        Some("unit") => Ok(StructKind::Unit),
+        Some(_) => Err(Fault::WrongForm),
+        None => {
+            let items = array_of(value)?;
+            Ok(StructKind::Tuple(tuple_fields_of(alloc, items)?))
+        }
+    }
+}
+
+pub(crate) fn struct_kind_at(
+    alloc: Global,
+    members: &mut Map<String, Value>,
+) -> Result<StructKind, Fault>
+    ensures { Reads fields_view result (required fields_form (field_of (codes "fields") (held members.old))) }
+{
+    let found = taken(members, "fields").ok_or(Fault::WrongForm)?;
+    struct_kind_of(alloc, found)
+}

@@ -1,0 +1,57 @@
+//! Macro calls and macros by example, read from their forms.
+ghost use Rattle.std.specs.Prelude.{◌≡◌, option_map};
+ghost use Rattle.hir_input.specs.Syntax.{call_view, item_view, macro_call as call_item};
+ghost use Rattle.hir_input_json.specs.Held.{held};
+ghost use Rattle.hir_input_json.specs.Items.{expand_to_at as expand_to_form, macro_call_form, macro_rules_form};
+ghost use Rattle.hir_input_json.specs.Reads.{Reads};
+
+use crate::context::context_at;
+use crate::fault::Fault;
+use crate::item::node::{Node, node_at, with_node};
+use crate::member::field;
+use crate::name::name_at;
+use crate::path::path_at;
+use hir_input::ExpandTo;
+use hir_input::ast::{Item, MacroCall, MacroRules};
+use serde_json::{Map, Value};
+use std::alloc::Global;
+
+// Items where it is absent.
+fn expand_to_at(members: &Map<String, Value>) -> Result<ExpandTo, Fault>
+    ensures { Reads (λ expand_to. expand_to) result (expand_to_form (held members.now)) }
+{
+    let Some(found) = field(members, "expand_to") else {
+        return Ok(ExpandTo::Items);
+    };
+    match found.as_str().ok_or(Fault::WrongForm)? {
+        "Statements" => Ok(ExpandTo::Statements),
+        "Items" => Ok(ExpandTo::Items),
+        "Pattern" => Ok(ExpandTo::Pattern),
+        "Type" => Ok(ExpandTo::Ty),
+        "Expr" => Ok(ExpandTo::Expr),
+        _ => Err(Fault::WrongForm),
+    }
+}
+
+#[tactic(auto, using(crate::proofs::Held::field_without))]
+pub(crate) fn macro_call_of(
+    alloc: Global,
+    members: &mut Map<String, Value>,
+) -> Result<MacroCall, Fault>
+    ensures { Reads (λ call. call_item (call_view call)) result (macro_call_form (held members.old)) }
+{
+    let node = node_at(alloc, members)?;
+    let path = path_at(alloc, members)?;
+    let expand_to = expand_to_at(members)?;
+    let ctxt = context_at(members)?;
+    Ok(with_node!(MacroCall, node, path, expand_to, ctxt))
+}
+
+#[tactic(auto, using(crate::proofs::Held::field_without, hir_input::proofs::SyntaxViews::item_views))]
+pub(crate) fn macro_rules_of(alloc: Global, members: &mut Map<String, Value>) -> Result<Item, Fault>
+    ensures { Reads item_view result (macro_rules_form (held members.old)) }
+{
+    let node = node_at(alloc, members)?;
+    let name = name_at(members, "name")?;
+    Ok(Item::MacroRules(with_node!(MacroRules, node, name)))
+}

@@ -1,0 +1,84 @@
+//! What items have in common, read from its keys.
+ghost use Rattle.std.specs.Prelude.{◌≡◌, OnOk, codes};
+ghost use Rattle.hir_input_json.specs.Held.{held, without};
+ghost use Rattle.hir_input_json.specs.Items.{node as node_form, named as named_form};
+ghost use Rattle.hir_input_json.specs.Reads.{Reads};
+ghost use Rattle.hir_input_json.specs.Seen.{node_view, named_view};
+
+use crate::fault::Fault;
+use crate::member::{text_at, u16_at, u32_at};
+use crate::meta::attrs_at;
+use crate::name::name_at;
+use crate::visibility::visibility_at;
+use hir_input::ast::Visibility;
+use hir_input::{Meta, Name};
+use serde_json::{Map, Value};
+use std::alloc::Global;
+
+// What every item has.
+#[derive(Drop)]
+pub(crate) struct Node {
+    pub(crate) hash: u16,
+    pub(crate) number: u32,
+    pub(crate) attrs: Vec<Meta>,
+    pub(crate) body: String,
+}
+
+// What an item has that may have a name and a visibility.
+#[derive(Drop)]
+pub(crate) struct Named {
+    pub(crate) node: Node,
+    pub(crate) name: Option<Name>,
+    pub(crate) visibility: Option<Visibility>,
+}
+
+// The item of this type with what every item has, and with these fields. A caller imports `Node`, for `with_name` `Named` too.
+macro_rules! with_node {
+    ($kind:ident, $node:expr $(, $field:ident)*) => {{
+        let Node { hash, number, attrs, body } = $node;
+        $kind { hash, number, attrs, body $(, $field)* }
+    }};
+}
+
+// The same with a name and a visibility.
+macro_rules! with_name {
+    ($kind:ident, $named:expr $(, $field:ident)*) => {{
+        let Named { node, name, visibility } = $named;
+        with_node!($kind, node, name, visibility $(, $field)*)
+    }};
+}
+
+pub(crate) use with_name;
+pub(crate) use with_node;
+
+#[tactic(auto, using(crate::proofs::Held::field_without))]
+pub(crate) fn node_at(alloc: Global, members: &mut Map<String, Value>) -> Result<Node, Fault>
+    ensures reads { Reads node_view result (node_form (held members.old)) }
+    ensures left { OnOk result (held members.new ≡ without (codes "body") (without (codes "attrs") (held members.old))) }
+{
+    let hash = u16_at(members, "hash")?;
+    let number = u32_at(members, "number")?;
+    let attrs = attrs_at(alloc, members)?;
+    let body = text_at(alloc, members, "body")?;
+    Ok(Node {
+        hash,
+        number,
+        attrs,
+        body,
+    })
+}
+
+#[tactic(auto, using(crate::proofs::Held::field_without))]
+pub(crate) fn named_at(alloc: Global, members: &mut Map<String, Value>) -> Result<Named, Fault>
+    ensures reads { Reads named_view result (named_form (held members.old)) }
+    ensures left { OnOk result (held members.new ≡ without (codes "vis") (without (codes "name") (without (codes "body") (without (codes "attrs") (held members.old))))) }
+{
+    let node = node_at(alloc, members)?;
+    let name = name_at(members, "name")?;
+    let visibility = visibility_at(alloc, members)?;
+    Ok(Named {
+        node,
+        name,
+        visibility,
+    })
+}

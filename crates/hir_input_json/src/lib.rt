@@ -1,0 +1,24 @@
+//! Syntax, conditions, attributes and editions, read from their forms in JSON.
+//!
+//! A form is a definition in `specs/`: a partial function from a JSON value to plain data. Each function here that reads one answers
+//! exactly its reading (`Reads`), or says that there is none, or that memory was wanting. Texts are moved and not copied: what is
+//! read is taken out of its object, which leaves a null.
+#![tactic(auto)]
+
+pub mod atom;
+mod cfg;
+mod context;
+pub mod edition;
+pub mod fault;
+pub mod float;
+mod item;
+mod literal;
+pub mod member;
+pub mod meta;
+pub mod name;
+mod path;
+pub mod syntax;
+mod use_tree;
+mod visibility;
+
+pub use fault::Fault;

@@ -1,0 +1,191 @@
+//! Members of an object by their keys, and the plain values that they hold.
+ghost use Rattle.std.specs.Prelude.{◌≡◌, ◌^◌, [], None, false, MatchResult, OnOk, option_map, string_bytes};
+ghost use Rattle.serde_json.specs.Find.{as_array, as_bool, as_object, as_str, get as get_in};
+ghost use Rattle.serde_json.specs.View.{view, items_view};
+ghost use Rattle.hir_input_json.specs.Forms.{field as field_of, optional, required, whole, id_at as id_form, items_at as items_form};
+ghost use Rattle.hir_input_json.specs.Held.{held, without};
+ghost use Rattle.hir_input_json.specs.Reads.{Reads};
+
+use crate::fault::Fault;
+use serde_json::{Map, Value};
+use std::alloc::Global;
+
+/// The members of an object, by which its parts are read.
+///
+/// `WrongForm` comes exactly where the value is no object.
+pub fn members_of(value: Value) -> Result<Map<String, Value>, Fault>
+    ensures { MatchResult result (λ members. view value ≡ held members) (λ _. as_object (view value) ≡ None) }
+{
+    match value {
+        Value::Object(members) => Ok(members),
+        _ => Err(Fault::WrongForm),
+    }
+}
+
+// The items of an array.
+pub(crate) fn array_of(value: Value) -> Result<Vec<Value>, Fault>
+    ensures { Reads (λ v. items_view v.items) result (as_array (view value)) }
+{
+    match value {
+        Value::Array(items) => Ok(items),
+        _ => Err(Fault::WrongForm),
+    }
+}
+
+// The text of a string.
+pub(crate) fn text_of(value: Value) -> Result<String, Fault>
+    ensures { Reads string_bytes result (as_str (view value)) }
+{
+    match value {
+        Value::String(text) => Ok(text),
+        _ => Err(Fault::WrongForm),
+    }
+}
+
+fn found<'v>(members: &'v Map<String, Value>, key: &str) -> Option<&'v Value>
+    ensures { option_map (λ v. view v.now) result ≡ get_in key.now (held members.now) }
+{
+    members.get(key)
+}
+
+// Takes the member out, also if it is null, and leaves a null.
+pub(crate) fn removed(members: &mut Map<String, Value>, key: &str) -> Option<Value>
+    ensures taken { option_map view result ≡ get_in key.now (held members.old) }
+    ensures left { held members.new ≡ without key.now (held members.old) }
+{
+    match members.get_mut(key) {
+        Some(found) => Some(found.take()),
+        None => None,
+    }
+}
+
+// The member, unless it is null.
+#[tactic(auto, unfolding(crate::specs::Forms::field))]
+pub(crate) fn field<'v>(members: &'v Map<String, Value>, key: &str) -> Option<&'v Value>
+    ensures { option_map (λ v. view v.now) result ≡ field_of key.now (held members.now) }
+{
+    match found(members, key) {
+        Some(Value::Null) | None => None,
+        Some(found) => Some(found),
+    }
+}
+
+/// Takes the member out, unless it is null, and leaves a null.
+///
+/// A null counts as absent, as in every form but a condition's.
+#[tactic(auto, unfolding(crate::specs::Forms::field))]
+pub fn taken(members: &mut Map<String, Value>, key: &str) -> Option<Value>
+    ensures taken { option_map view result ≡ field_of key.now (held members.old) }
+    ensures left { held members.new ≡ without key.now (held members.old) }
+{
+    match removed(members, key) {
+        Some(Value::Null) | None => None,
+        Some(found) => Some(found),
+    }
+}
+
+/// The word that tells which case of a form this is.
+///
+/// `WrongForm` comes only where the member is absent or no text.
+pub fn word_at<'v>(members: &'v Map<String, Value>, key: &str) -> Result<&'v str, Fault>
+    ensures { Reads (λ word. word.now) result (required as_str (field_of key.now (held members.now))) }
+{
+    field(members, key)
+        .and_then(Value::as_str)
+        .ok_or(Fault::WrongForm)
+}
+
+// A truth value, false where it is absent.
+pub(crate) fn flag_at(members: &Map<String, Value>, key: &str) -> Result<bool, Fault>
+    ensures { Reads (λ flag. flag) result (optional false as_bool (field_of key.now (held members.now))) }
+{
+    match field(members, key) {
+        Some(found) => found.as_bool().ok_or(Fault::WrongForm),
+        None => Ok(false),
+    }
+}
+
+// Takes a text out, empty where it is absent.
+pub(crate) fn text_at(
+    alloc: Global,
+    members: &mut Map<String, Value>,
+    key: &str,
+) -> Result<String, Fault>
+    ensures reads { Reads string_bytes result (optional [] as_str (field_of key.now (held members.old))) }
+    ensures left { OnOk result (held members.new ≡ without key.now (held members.old)) }
+{
+    match taken(members, key) {
+        Some(found) => text_of(found),
+        None => Ok(String::new(alloc)),
+    }
+}
+
+/// Takes the items of a list out, none where it is absent.
+///
+/// `WrongForm` comes only where the member is there and is no array. The errors of an item are for whoever reads it.
+pub fn list_at(
+    alloc: Global,
+    members: &mut Map<String, Value>,
+    key: &str,
+) -> Result<Vec<Value>, Fault>
+    ensures reads { Reads (λ v. items_view v.items) result (items_form key.now (held members.old)) }
+    ensures left { OnOk result (held members.new ≡ without key.now (held members.old)) }
+{
+    match taken(members, key) {
+        Some(list) => array_of(list),
+        None => Ok(Vec::new(alloc)),
+    }
+}
+
+// A whole number of 32 bits.
+pub(crate) fn u32_of(value: &Value) -> Result<u32, Fault>
+    ensures { Reads (λ n. n) result (whole (2 ^ 32) (view value.now)) }
+{
+    let number = value.as_u64().ok_or(Fault::WrongForm)?;
+    u32::try_from(number).ok().ok_or(Fault::WrongForm)
+}
+
+// A whole number of 16 bits, 0 where it is absent.
+pub(crate) fn u16_at(members: &Map<String, Value>, key: &str) -> Result<u16, Fault>
+    ensures { Reads (λ n. n) result (optional 0 (whole (2 ^ 16)) (field_of key.now (held members.now))) }
+{
+    match field(members, key) {
+        Some(found) => {
+            let number = found.as_u64().ok_or(Fault::WrongForm)?;
+            u16::try_from(number).ok().ok_or(Fault::WrongForm)
+        }
+        None => Ok(0),
+    }
+}
+
+// A whole number of 32 bits, 0 where it is absent.
+pub(crate) fn u32_at(members: &Map<String, Value>, key: &str) -> Result<u32, Fault>
+    ensures { Reads (λ n. n) result (optional 0 (whole (2 ^ 32)) (field_of key.now (held members.now))) }
+{
+    match field(members, key) {
+        Some(found) => u32_of(found),
+        None => Ok(0),
+    }
+}
+
+/// A whole number of 64 bits, 0 where it is absent.
+///
+/// `WrongForm` comes only where the member is there and is no such number, as where it is below 0 or held as a float.
+pub fn u64_at(members: &Map<String, Value>, key: &str) -> Result<u64, Fault>
+    ensures { Reads (λ n. n) result (optional 0 (whole (2 ^ 64)) (field_of key.now (held members.now))) }
+{
+    match field(members, key) {
+        Some(found) => found.as_u64().ok_or(Fault::WrongForm),
+        None => Ok(0),
+    }
+}
+
+/// The number of a file, a block or a crate.
+///
+/// `WrongForm` comes only where the member is absent or no whole number of 32 bits.
+pub fn id_at(members: &Map<String, Value>, key: &str) -> Result<u32, Fault>
+    ensures { Reads (λ n. n) result (id_form key.now (held members.now)) }
+{
+    let found = field(members, key).ok_or(Fault::WrongForm)?;
+    u32_of(found)
+}

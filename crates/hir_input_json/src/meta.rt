@@ -1,0 +1,127 @@
+//! Metas, read from their forms.
+ghost use Rattle.std.specs.Prelude.{◌≡◌, OnOk, codes, map};
+ghost use Rattle.serde_json.specs.View.{view, items_view};
+ghost use Rattle.hir_input.specs.Attr.{meta_view};
+ghost use Rattle.hir_input_json.specs.Forms.{each};
+ghost use Rattle.hir_input_json.specs.Held.{held, without};
+ghost use Rattle.hir_input_json.specs.Metas.{meta as meta_form, meta_with, path_form, key_value_form, tokens_form, cfg_form, cfg_attr_form, unsafe_form, attrs_at as attrs_form};
+ghost use Rattle.hir_input_json.specs.Reads.{Reads};
+
+use crate::cfg::condition_at;
+use crate::context::context_at;
+use crate::fault::Fault;
+use crate::literal::{literal_at, required_text_at};
+use crate::member::{list_at, members_of, taken, word_at};
+use crate::path::path_at;
+use hir_input::{Meta, TokenTree};
+use serde_json::{Map, Value};
+use std::alloc::Global;
+
+#[tactic(auto, using(crate::proofs::Held::field_without, hir_input::proofs::MetaLemmas::meta_views))]
+fn path_meta_of(alloc: Global, members: &mut Map<String, Value>) -> Result<Meta, Fault>
+    ensures { Reads meta_view result (path_form (held members.old)) }
+{
+    let path = path_at(alloc, members)?;
+    let ctxt = context_at(members)?;
+    Ok(Meta::Path { path, ctxt })
+}
+
+#[tactic(auto, using(crate::proofs::Held::field_without, hir_input::proofs::MetaLemmas::meta_views))]
+fn key_value_of(alloc: Global, members: &mut Map<String, Value>) -> Result<Meta, Fault>
+    ensures { Reads meta_view result (key_value_form (held members.old)) }
+{
+    let path = path_at(alloc, members)?;
+    let ctxt = context_at(members)?;
+    let value = literal_at(members, ctxt)?;
+    Ok(Meta::KeyValue { path, value, ctxt })
+}
+
+#[tactic(auto, using(crate::proofs::Held::field_without, hir_input::proofs::MetaLemmas::meta_views))]
+fn tokens_of(alloc: Global, members: &mut Map<String, Value>) -> Result<Meta, Fault>
+    ensures { Reads meta_view result (tokens_form (held members.old)) }
+{
+    let path = path_at(alloc, members)?;
+    let ctxt = context_at(members)?;
+    let rendered = required_text_at(members, "tokens")?;
+    Ok(Meta::TokenTree {
+        path,
+        tokens: TokenTree { rendered },
+        ctxt,
+    })
+}
+
+#[tactic(auto, using(hir_input::proofs::MetaLemmas::meta_views))]
+fn cfg_meta_of(alloc: Global, members: &mut Map<String, Value>) -> Result<Meta, Fault>
+    ensures { Reads meta_view result (cfg_form (held members.old)) }
+{
+    Ok(Meta::Cfg(condition_at(alloc, members)?))
+}
+
+#[cycle(metas)]
+#[tactic(auto, using(crate::proofs::Attrs::meta_reads_itself, crate::proofs::Held::no_field))]
+fn meta_of(alloc: Global, value: Value) -> Result<Meta, Fault>
+    ensures { Reads meta_view result (meta_form (view value)) }
+{
+    let mut members = members_of(value)?;
+    meta_in(alloc, &mut members)
+}
+
+#[cycle(metas)]
+fn meta_in(alloc: Global, members: &mut Map<String, Value>) -> Result<Meta, Fault>
+    ensures { Reads meta_view result (meta_with meta_form (held members.old)) }
+{
+    match word_at(members, "meta")? {
+        "path" => path_meta_of(alloc, members),
+        "key_value" => key_value_of(alloc, members),
+        "tokens" => tokens_of(alloc, members),
+        "cfg" => cfg_meta_of(alloc, members),
+        "cfg_attr" => cfg_attr_of(alloc, members),
+        "unsafe" => unsafe_of(alloc, members),
+        _ => Err(Fault::WrongForm),
+    }
+}
+
+#[cycle(metas)]
+#[tactic(auto, using(crate::proofs::Held::field_without, crate::proofs::Inside::depth_listed_in, hir_input::proofs::MetaLemmas::meta_views))]
+fn cfg_attr_of(alloc: Global, members: &mut Map<String, Value>) -> Result<Meta, Fault>
+    ensures { Reads meta_view result (cfg_attr_form meta_form (held members.old)) }
+{
+    let condition = condition_at(alloc, members)?;
+    let items = list_at(alloc, members, "metas")?;
+    let metas = metas_of(alloc, items)?;
+    Ok(Meta::CfgAttr { condition, metas })
+}
+
+#[cycle(metas)]
+#[tactic(auto, using(hir_input::proofs::MetaLemmas::meta_views))]
+fn unsafe_of(alloc: Global, members: &mut Map<String, Value>) -> Result<Meta, Fault>
+    ensures { Reads meta_view result (unsafe_form meta_form (held members.old)) }
+{
+    let Some(inner) = taken(members, "inner") else {
+        return Err(Fault::WrongForm);
+    };
+    let inner = meta_of(alloc, inner)?;
+    Ok(Meta::Unsafe(Box::new(alloc, inner)?))
+}
+
+#[cycle(metas)]
+fn metas_of(alloc: Global, items: Vec<Value>) -> Result<Vec<Meta>, Fault>
+    ensures { Reads (λ v. map meta_view v.items) result (each meta_form (items_view items.items)) }
+{
+    let mut metas = Vec::with_capacity(alloc, items.len())?;
+    for item in items {
+        metas.push(meta_of(alloc, item)?)?;
+    }
+    Ok(metas)
+}
+
+/// Takes the metas of an owner out, none where they are absent.
+///
+/// `WrongForm` comes only where they have no reading (`Metas.attrs_at`).
+pub fn attrs_at(alloc: Global, members: &mut Map<String, Value>) -> Result<Vec<Meta>, Fault>
+    ensures reads { Reads (λ v. map meta_view v.items) result (attrs_form (held members.old)) }
+    ensures left { OnOk result (held members.new ≡ without (codes "attrs") (held members.old)) }
+{
+    let items = list_at(alloc, members, "attrs")?;
+    metas_of(alloc, items)
+}

@@ -1,0 +1,88 @@
+//! Paths, read from their forms.
+ghost use Rattle.std.specs.Prelude.{◌≡◌, OnOk, codes};
+ghost use Rattle.std.specs.Vec.Iter.{into_iter_items};
+ghost use Rattle.serde_json.specs.View.{view, items_view};
+ghost use Rattle.hir_input_json.specs.Held.{held, without};
+ghost use Rattle.hir_input_json.specs.Paths.{path as path_form, path_at as path_at_form, listed_path as listed_form, names_behind, super_path as super_form, dollar_path as dollar_form};
+ghost use Rattle.hir_input_json.specs.Reads.{Reads};
+
+use crate::fault::Fault;
+use crate::member::{array_of, taken, text_of, u32_of};
+use crate::name::names_of;
+use hir_input::ast::PathNode;
+use hir_input::{Crate, ModPath, PathKind};
+use serde_json::{Map, Value};
+use std::alloc::Global;
+use std::vec::IntoIter;
+
+// A path of a kind, with each of the items for a name.
+fn path_with(alloc: Global, kind: PathKind, items: IntoIter<Value>) -> Result<PathNode, Fault>
+    ensures { Reads (λ path. path) result (names_behind kind (items_view (into_iter_items items))) }
+{
+    let names = names_of(alloc, items)?;
+    match ModPath::from_segments(kind, names) {
+        Some(path) => Ok(PathNode::Readable(path)),
+        None => Err(Fault::WrongForm),
+    }
+}
+
+// How many times `super` stands there, and the names.
+fn super_path(alloc: Global, mut items: IntoIter<Value>) -> Result<PathNode, Fault>
+    ensures { Reads (λ path. path) result (super_form (items_view (into_iter_items items))) }
+{
+    let count = items.next().ok_or(Fault::WrongForm)?;
+    let count = u32_of(&count)?;
+    path_with(alloc, PathKind::Super(count), items)
+}
+
+// The crate that `$crate` stands for, and the names.
+fn dollar_path(alloc: Global, mut items: IntoIter<Value>) -> Result<PathNode, Fault>
+    ensures { Reads (λ path. path) result (dollar_form (items_view (into_iter_items items))) }
+{
+    let number = items.next().ok_or(Fault::WrongForm)?;
+    let number = u32_of(&number)?;
+    path_with(alloc, PathKind::DollarCrate(Crate(number)), items)
+}
+
+// A path by the word of its kind.
+fn listed_path(alloc: Global, mut items: IntoIter<Value>) -> Result<PathNode, Fault>
+    ensures { Reads (λ path. path) result (listed_form (items_view (into_iter_items items))) }
+{
+    let word = items.next().ok_or(Fault::WrongForm)?;
+    let word = text_of(word)?;
+    match word.as_str() {
+        "plain" => path_with(alloc, PathKind::Plain, items),
+        "super" => super_path(alloc, items),
+        "crate" => path_with(alloc, PathKind::Crate, items),
+        "abs" => path_with(alloc, PathKind::Abs, items),
+        "dollar" => dollar_path(alloc, items),
+        _ => Err(Fault::WrongForm),
+    }
+}
+
+pub(crate) fn path_of(alloc: Global, value: Value) -> Result<PathNode, Fault>
+    ensures { Reads (λ path. path) result (path_form (view value)) }
+{
+    match value.as_str() {
+        Some("unreadable") => Ok(PathNode::Unreadable),
+        Some(_) => Err(Fault::WrongForm),
+        None => {
+            let items = array_of(value)?;
+            listed_path(alloc, items.into_iter())
+        }
+    }
+}
+
+// Takes the path of a meta or of a use tree out.
+pub(crate) fn path_at(
+    alloc: Global,
+    members: &mut Map<String, Value>,
+) -> Result<Option<PathNode>, Fault>
+    ensures reads { Reads (λ path. path) result (path_at_form (held members.old)) }
+    ensures left { OnOk result (held members.new ≡ without (codes "path") (held members.old)) }
+{
+    match taken(members, "path") {
+        Some(found) => Ok(Some(path_of(alloc, found)?)),
+        None => Ok(None),
+    }
+}

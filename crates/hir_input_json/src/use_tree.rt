@@ -1,0 +1,103 @@
+//! Use trees, read from their forms.
+ghost use Rattle.std.specs.Prelude.{◌≡◌, OnOk, codes, map, option_map};
+ghost use Rattle.serde_json.specs.View.{view, items_view};
+ghost use Rattle.hir_input.specs.UseTreeView.{use_tree_view};
+ghost use Rattle.hir_input_json.specs.Forms.{each, field as field_of, list_of, maybe};
+ghost use Rattle.hir_input_json.specs.Held.{held, without};
+ghost use Rattle.hir_input_json.specs.Reads.{Reads};
+ghost use Rattle.hir_input_json.specs.UseTrees.{rename as rename_form, use_tree as use_tree_form, use_tree_with};
+
+use crate::fault::Fault;
+use crate::member::{array_of, flag_at, members_of, taken, text_of};
+use crate::name::name_from;
+use crate::path::path_at;
+use hir_input::ast::{Rename, UseTree};
+use serde_json::{Map, Value};
+use std::alloc::Global;
+
+fn rename_of(value: Value) -> Result<Rename, Fault>
+    ensures { Reads (λ rename. rename) result (rename_form (view value)) }
+{
+    let text = text_of(value)?;
+    match text.as_str() {
+        "_" => Ok(Rename { name: None }),
+        _ => {
+            let name = name_from(text)?;
+            Ok(Rename { name: Some(name) })
+        }
+    }
+}
+
+// Takes a rename out.
+pub(crate) fn rename_at(members: &mut Map<String, Value>) -> Result<Option<Rename>, Fault>
+    ensures reads { Reads (λ rename. rename) result (maybe rename_form (field_of (codes "rename") (held members.old))) }
+    ensures left { OnOk result (held members.new ≡ without (codes "rename") (held members.old)) }
+{
+    match taken(members, "rename") {
+        Some(found) => Ok(Some(rename_of(found)?)),
+        None => Ok(None),
+    }
+}
+
+#[cycle(trees)]
+#[tactic(auto, using(crate::proofs::UseTrees::use_tree_reads_itself))]
+fn use_tree_of(alloc: Global, value: Value) -> Result<UseTree, Fault>
+    ensures { Reads use_tree_view result (use_tree_form (view value)) }
+{
+    let mut members = members_of(value)?;
+    use_tree_in(alloc, &mut members)
+}
+
+#[cycle(trees)]
+#[tactic(auto, using(crate::proofs::Held::field_without, crate::proofs::Inside::depth_found_in, crate::proofs::UseTrees::use_tree_view_made))]
+fn use_tree_in(alloc: Global, members: &mut Map<String, Value>) -> Result<UseTree, Fault>
+    ensures { Reads use_tree_view result (use_tree_with use_tree_form (held members.old)) }
+{
+    let path = path_at(alloc, members)?;
+    let star = flag_at(members, "star")?;
+    let rename = rename_at(members)?;
+    let list = taken(members, "list");
+    let list = use_trees_in(alloc, list)?;
+    Ok(UseTree {
+        path,
+        star,
+        rename,
+        list,
+    })
+}
+
+#[cycle(trees)]
+#[tactic(auto, using(crate::proofs::Inside::depth_array))]
+fn use_trees_in(alloc: Global, list: Option<Value>) -> Result<Option<Vec<UseTree>>, Fault>
+    ensures { Reads (option_map (λ v. map use_tree_view v.items)) result (maybe (list_of use_tree_form) (option_map view list)) }
+{
+    let Some(list) = list else {
+        return Ok(None);
+    };
+    let items = array_of(list)?;
+    Ok(Some(use_trees_of(alloc, items)?))
+}
+
+#[cycle(trees)]
+fn use_trees_of(alloc: Global, items: Vec<Value>) -> Result<Vec<UseTree>, Fault>
+    ensures { Reads (λ v. map use_tree_view v.items) result (each use_tree_form (items_view items.items)) }
+{
+    let mut trees = Vec::with_capacity(alloc, items.len())?;
+    for item in items {
+        trees.push(use_tree_of(alloc, item)?)?;
+    }
+    Ok(trees)
+}
+
+// The use tree of a use, taken out.
+pub(crate) fn use_tree_at(
+    alloc: Global,
+    members: &mut Map<String, Value>,
+) -> Result<Option<UseTree>, Fault>
+    ensures { Reads (option_map use_tree_view) result (maybe use_tree_form (field_of (codes "tree") (held members.old))) }
+{
+    match taken(members, "tree") {
+        Some(found) => Ok(Some(use_tree_of(alloc, found)?)),
+        None => Ok(None),
+    }
+}

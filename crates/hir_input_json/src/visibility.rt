@@ -1,0 +1,46 @@
+//! Visibilities, read from their forms.
+ghost use Rattle.std.specs.Prelude.{◌≡◌, OnOk, codes};
+ghost use Rattle.serde_json.specs.View.{view};
+ghost use Rattle.hir_input_json.specs.Forms.{field as field_of, maybe};
+ghost use Rattle.hir_input_json.specs.Held.{held, without};
+ghost use Rattle.hir_input_json.specs.Paths.{visibility as visibility_form};
+ghost use Rattle.hir_input_json.specs.Reads.{Reads};
+
+use crate::fault::Fault;
+use crate::member::{members_of, taken};
+use crate::path::path_of;
+use hir_input::ast::Visibility;
+use serde_json::{Map, Value};
+use std::alloc::Global;
+
+#[tactic(auto, using(crate::proofs::Held::no_field))]
+pub(crate) fn visibility_of(alloc: Global, value: Value) -> Result<Visibility, Fault>
+    ensures { Reads (λ visibility. visibility) result (visibility_form (view value)) }
+{
+    match value.as_str() {
+        Some("pub") => Ok(Visibility::Pub),
+        Some("crate") => Ok(Visibility::PubCrate),
+        Some("super") => Ok(Visibility::PubSuper),
+        Some("self") => Ok(Visibility::PubSelf),
+        Some(_) => Err(Fault::WrongForm),
+        None => {
+            let mut members = members_of(value)?;
+            let path = taken(&mut members, "in").ok_or(Fault::WrongForm)?;
+            Ok(Visibility::InPath(path_of(alloc, path)?))
+        }
+    }
+}
+
+// Takes a visibility out.
+pub(crate) fn visibility_at(
+    alloc: Global,
+    members: &mut Map<String, Value>,
+) -> Result<Option<Visibility>, Fault>
+    ensures reads { Reads (λ visibility. visibility) result (maybe visibility_form (field_of (codes "vis") (held members.old))) }
+    ensures left { OnOk result (held members.new ≡ without (codes "vis") (held members.old)) }
+{
+    match taken(members, "vis") {
+        Some(found) => Ok(Some(visibility_of(alloc, found)?)),
+        None => Ok(None),
+    }
+}

@@ -1,0 +1,4 @@
+pub mod ImportLists
+pub mod Made
+pub mod Outputs
+pub mod Served

@@ -1,0 +1,22 @@
+-- What serving a request says of the bytes that it was read from.
+use Rattle.std.proofs.Common.{List, ℕ, Result, Ok, Err, MatchResult, String, Global, string_bytes}
+use Rattle.item_tree_request.specs.declared.error.RunError.{RunError}
+use Rattle.item_tree_request.specs.declared.error.RunError.TheVariants.{NotJson, NotRequest, Refused, OutOfMemory, Read, Write}
+use Rattle.item_tree_request.specs.Made.{IsServed, IsUnmade}
+use Rattle.item_tree_request.specs.Outputs.{table_of}
+use Rattle.item_tree_request.specs.Requests.{Request, IsRequest}
+use Rattle.item_tree_request.specs.Runs.{IsOutputOf, IsRefusedFor}
+
+refused_for : (bytes : List ℕ) (q : Request) (e : RunError) → IsRequest bytes q → IsUnmade (table_of q) q.edits e → IsRefusedFor bytes e
+refused_for bytes q (Refused place cause) request unmade = record { asked = q; is_request = request; none_before = unmade.0; passes = unmade.1 }
+refused_for bytes q OutOfMemory request unmade = tt
+refused_for bytes q NotJson request unmade = absurd unmade
+refused_for bytes q NotRequest request unmade = absurd unmade
+refused_for bytes q Read request unmade = absurd unmade
+refused_for bytes q Write request unmade = absurd unmade
+
+pub answered : (bytes : List ℕ) (q : Request) (r : Result (String Global) RunError) → IsRequest bytes q
+    → MatchResult r (λ text. IsServed q (string_bytes text)) (IsUnmade (table_of q) q.edits)
+    → MatchResult r (λ text. IsOutputOf bytes (string_bytes text)) (IsRefusedFor bytes)
+answered bytes q (Ok text) request served = record { asked = q; is_request = request; none_passes = served.none_passes; is_output = served.is_output }
+answered bytes q (Err e) request unmade = refused_for bytes q e request unmade

@@ -1,0 +1,26 @@
+use Rattle.std.proofs.Common.{◌≤◌, map, rules, arith, subst}
+use Rattle.item_tree_db.specs.Edits.{edit_view}
+use Rattle.item_tree_db.specs.Refusal.{last_number}
+use Rattle.item_tree_request.specs.Made.{IsMade, IsUnmade, refusal_of}
+use Rattle.item_tree_request.proofs.Made.{is_made, is_unmade, found_in_map}
+use Rattle.item_tree_request.proofs.answer.sources_of.Goals as goal
+
+pub returns-in-Ok : goal.returns-in-Ok
+returns-in-Ok c =
+    let edits = map edit_view c.args.edits.items in
+    let number = c.in-Ok.ensures.number in
+    let small : c.in-Ok.field-0 ≤ last_number = search rules in
+    let made = is_made c.new-sources.result c.edit_all.new.self edits c.in-Ok.ensures.ok (omega (arith, small, number)) c.in-Ok.ensures.fits in
+    subst (λ s. IsMade s edits c.edit_all.new.self) c.new-sources.ensures made
+
+pub returns-in-Err : goal.returns-in-Err
+returns-in-Err c =
+    let edits = map edit_view c.args.edits.items in
+    let number = c.number-number.ensures in
+    let small : c.number-number.result ≤ last_number = search rules in
+    let refused = c.in-Err.ensures in
+    let all = c.in-Err.field-0 in
+    let found = found_in_map edit_view c.args.edits.items all.place all.refused.edit refused.place in
+    let unmade = is_unmade c.new-sources.result c.edit_all.new.self edits all.place (edit_view all.refused.edit) all.refused.cause found refused.refused (omega (arith, small, number)) refused.fits_before refused.cause refused.full in
+    let told = subst (λ s. IsUnmade s edits (refusal_of all.place all.refused.cause)) c.new-sources.ensures unmade in
+    rw c.refusal.ensures told

@@ -1,0 +1,44 @@
+-- The reading of crates and of edits.
+use Rattle.std.specs.Prelude.{ℕ, List, codes, Option, Some, None}
+use Rattle.serde_json.specs.Data.{Data}
+use Rattle.serde_json.specs.Find.{as_str}
+use Rattle.item_tree.specs.CrateView.{CrateView}
+use Rattle.item_tree_db.specs.Edits.{EditView, set_file, remove_file}
+use Rattle.hir_input_json.specs.Cfgs.{atom}
+use Rattle.hir_input_json.specs.Forms.{field, required, on_word, id_at, list_at, ◌>>=◌}
+use Rattle.hir_input_json.specs.Items.{syntax}
+use Rattle.hir_input_json.specs.Metas.{attrs_at}
+
+-- a crate: the file of its root, the options that are set, and its attributes
+abbrev pub crate_data : Data → Option CrateView
+crate_data d = do
+  root ← id_at (codes "root") d
+  options ← list_at atom (codes "cfg") d
+  attrs ← attrs_at d
+  Some (record { root = record { 0 = root }; options = options; attrs = attrs })
+
+-- a file set to a syntax
+abbrev pub set_file_edit : Data → Option EditView
+set_file_edit d = do
+  file ← id_at (codes "file") d
+  s ← required syntax (field (codes "syntax") d)
+  Some (set_file file s)
+
+-- a file removed
+abbrev pub remove_file_edit : Data → Option EditView
+remove_file_edit d = do
+  file ← id_at (codes "file") d
+  Some (remove_file file)
+
+-- by the word for what an edit does
+abbrev pub edit_by : List ℕ → Data → Option EditView
+edit_by word d =
+    on_word word (codes "set_file") (set_file_edit d)
+    (on_word word (codes "remove_file") (remove_file_edit d)
+    None)
+
+-- an edit, by its word
+abbrev pub edit : Data → Option EditView
+edit d = do
+  word ← required as_str (field (codes "edit") d)
+  edit_by word d

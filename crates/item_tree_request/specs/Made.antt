@@ -1,0 +1,36 @@
+-- What making the edits of a request and serving it leads to, for the crate's own functions.
+use Rattle.std.specs.Prelude.{◌≡◌, ℕ, List, length}
+use Rattle.item_tree.specs.declared.fault.EditFault.{EditFault}
+use Rattle.item_tree.specs.declared.fault.EditFault.TheVariants.{Lower}
+use Rattle.item_tree.specs.declared.fault.LowerError.TheVariants as lowering
+use Rattle.item_tree_db.specs.State.{State}
+use Rattle.item_tree_db.specs.Edits.{EditView}
+use Rattle.item_tree_db.specs.History.{IsAfter}
+use Rattle.item_tree_request.specs.declared.error.RunError.{RunError}
+use Rattle.item_tree_request.specs.declared.error.RunError.TheVariants.{NotJson, NotRequest, Refused, OutOfMemory, Read, Write}
+use Rattle.item_tree_request.specs.Outputs.{table_of, output, NonePasses, PassesAt}
+use Rattle.item_tree_request.specs.Requests.{Request}
+
+-- the edits lead from s to u, and none passes a size
+pub record IsMade (s : State) (edits : List EditView) (u : State) : Type 0 where
+  pub after : IsAfter s edits u
+  pub none_passes : NonePasses s edits (length edits)
+
+-- no edit of the request passes a size, and the text is its output
+pub record IsServed (q : Request) (text : List ℕ) : Type 0 where
+  pub none_passes : NonePasses (table_of q) q.edits (length q.edits)
+  pub is_output : text ≡ output q
+
+-- the edit at the place is the first that passes a size, or memory is wanting
+abbrev pub IsUnmade : State → List EditView → RunError → Type 0
+IsUnmade s edits (Refused place cause) = NonePasses s edits place × PassesAt s edits place cause
+IsUnmade s edits OutOfMemory = Unit {0}
+IsUnmade s edits NotJson = ⊥
+IsUnmade s edits NotRequest = ⊥
+IsUnmade s edits Read = ⊥
+IsUnmade s edits Write = ⊥
+
+-- want of memory in an edit is want of memory; all else refuses the edit
+abbrev pub refusal_of : ℕ → EditFault → RunError
+refusal_of place (Lower lowering.OutOfMemory) = OutOfMemory
+refusal_of place cause = Refused place cause

@@ -1,0 +1,50 @@
+-- What a run has read and written when it answers.
+use Rattle.std.specs.Prelude.{◌≡◌, ℕ, List, length, None, Option}
+use Rattle.std.specs.Io.KnownBytes.{Keeps, Appends}
+use Rattle.serde_json.specs.Data.{Data}
+use Rattle.item_tree.specs.declared.fault.EditFault.{EditFault}
+use Rattle.item_tree_request.specs.declared.error.RunError.{RunError}
+use Rattle.item_tree_request.specs.declared.error.RunError.TheVariants.{NotJson, NotRequest, Refused, OutOfMemory, Read, Write}
+use Rattle.item_tree_request.specs.Outputs.{table_of, output, NonePasses, PassesAt}
+use Rattle.item_tree_request.specs.Requests.{Request, request, IsJsonText, IsRequest}
+use Rattle.item_tree_request.specs.Streams.{IsReadToEnd, TakesBeginning}
+
+-- the bytes are a request, no edit of it passes a size, and the text is its output
+pub record IsOutputOf (bytes text : List ℕ) : Type 0 where
+  pub asked : Request
+  pub is_request : IsRequest bytes asked
+  pub none_passes : NonePasses (table_of asked) asked.edits (length asked.edits)
+  pub is_output : text ≡ output asked
+
+-- the bytes are a request, whose edit at this place is the first that passes a size, and passes this one
+pub record IsRefusedAt (bytes : List ℕ) (place : ℕ) (cause : EditFault) : Type 0 where
+  pub asked : Request
+  pub is_request : IsRequest bytes asked
+  pub none_before : NonePasses (table_of asked) asked.edits place
+  pub passes : PassesAt (table_of asked) asked.edits place cause
+
+-- the bytes are refused for this cause
+abbrev pub IsRefusedFor : List ℕ → RunError → Type 0
+IsRefusedFor bytes NotJson = (d : Data) → ¬ IsJsonText bytes d
+IsRefusedFor bytes NotRequest = (d : Data) × IsJsonText bytes d × (request d ≡ None)
+IsRefusedFor bytes (Refused place cause) = IsRefusedAt bytes place cause
+IsRefusedFor bytes OutOfMemory = Unit {0}
+IsRefusedFor bytes Read = ⊥
+IsRefusedFor bytes Write = ⊥
+
+-- all that the reader gave is a request, and the writer took its output
+abbrev pub IsDone : (had left : Option (List ℕ)) (held holds : Option (List ℕ)) → Type 0
+IsDone had left held holds = (bytes : List ℕ) × (text : List ℕ) × IsReadToEnd had left bytes × IsOutputOf bytes text × Appends held holds text
+
+-- all that the reader gave is refused for this cause, and nothing was written
+abbrev pub IsRefused : (had left : Option (List ℕ)) (held holds : Option (List ℕ)) → RunError → Type 0
+IsRefused had left held holds e = ((bytes : List ℕ) × IsReadToEnd had left bytes × IsRefusedFor bytes e) × Keeps held holds
+
+-- what stands after an error: only where a write failed was anything written, and then a beginning of the output
+abbrev pub IsFailure : (had left : Option (List ℕ)) (held holds : Option (List ℕ)) → RunError → Type 0
+IsFailure had left held holds NotJson = IsRefused had left held holds NotJson
+IsFailure had left held holds NotRequest = IsRefused had left held holds NotRequest
+IsFailure had left held holds (Refused place cause) = IsRefused had left held holds (Refused place cause)
+IsFailure had left held holds OutOfMemory = Keeps held holds
+IsFailure had left held holds Read = Keeps held holds
+IsFailure had left held holds Write = (bytes : List ℕ) × (text : List ℕ) × IsReadToEnd had left bytes × IsOutputOf bytes text × TakesBeginning held holds text

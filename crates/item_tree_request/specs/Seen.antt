@@ -1,0 +1,19 @@
+-- What a read request is seen as, for the crate's own functions.
+use Rattle.std.specs.Prelude.{ℕ, ◌^◌, ◌<◌, length, map, All}
+use Rattle.hir_input_json.specs.Editions.{edition_view}
+use Rattle.item_tree.specs.CrateView.{crate_view}
+use Rattle.item_tree_db.specs.Edits.{edit_view}
+use Rattle.item_tree_request.specs.declared.request.Request as read
+use Rattle.item_tree_request.specs.declared.request.show.Show.{Show}
+use Rattle.item_tree_request.specs.Requests.{Request}
+
+abbrev pub request_view : read.Request → Request
+request_view r = record { start = r.start; edition = edition_view r.edition; skipped = r.skipped.items; crates = map crate_view r.crates.items; edits = map edit_view r.edits.items; shows = r.shows.items }
+
+-- the show names one of this many crates
+abbrev pub NamesCrate : ℕ → Show → Type 0
+NamesCrate count show = (show.krate.0 < count) × (show.krate.0 < 2 ^ 32)
+
+-- each show of the request names one of its crates
+abbrev pub KnowsShows : read.Request → Type 0
+KnowsShows r = All (NamesCrate (length r.crates.items)) r.shows.items

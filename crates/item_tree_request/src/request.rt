@@ -1,0 +1,103 @@
+//! The request that a run reads.
+ghost use Rattle.std.specs.Prelude.{◌≡◌, ◌^◌, None, Some, IfOk, OnOk, MatchResult, codes};
+ghost use Rattle.serde_json.specs.View.{view};
+ghost use Rattle.hir_input_json.specs.Editions.{edition_at as edition_at_form, edition_view};
+ghost use Rattle.hir_input_json.specs.Forms.{field as field_of, optional, whole, name as name_form, list_at as each_at};
+ghost use Rattle.hir_input_json.specs.Held.{held, without};
+ghost use Rattle.hir_input_json.specs.declared.fault.Fault.TheVariants.{WrongForm};
+ghost use Rattle.hir_input_json.specs.Reads.{Reads};
+ghost use Rattle.item_tree_request.specs.Seen.{request_view, KnowsShows};
+ghost use Rattle.item_tree_request.specs.Requests.{request as request_form, parts as parts_form};
+
+mod crates;
+mod edit;
+pub(crate) mod show;
+
+use crate::request::crates::crates_at;
+use crate::request::edit::edits_at;
+use crate::request::show::{Show, shows_at};
+use hir_input::{Edition, Name};
+use hir_input_json::Fault;
+use hir_input_json::edition::edition_at;
+use hir_input_json::float::has_float;
+use hir_input_json::member::{members_of, u64_at};
+use hir_input_json::name::names_at;
+use item_tree::CrateData;
+use item_tree_db::Edit;
+use serde_json::{Map, Value};
+use std::alloc::Global;
+
+// The edits of a new table, and what is to be shown after them.
+#[derive(Drop)]
+pub(crate) struct Request {
+    pub(crate) start: u64,
+    pub(crate) skipped: Vec<Name>,
+    pub(crate) edition: Edition,
+    pub(crate) crates: Vec<CrateData>,
+    pub(crate) edits: Vec<Edit>,
+    pub(crate) shows: Vec<Show>,
+}
+
+// What does not hold of one crate or file alone.
+#[derive(Drop)]
+struct Settings {
+    start: u64,
+    skipped: Vec<Name>,
+    edition: Edition,
+}
+
+// Takes the settings out.
+#[tactic(auto, using(hir_input_json::proofs::Held::field_without))]
+fn settings_at(alloc: Global, members: &mut Map<String, Value>) -> Result<Settings, Fault>
+    ensures reads { MatchResult result
+        (λ s. (optional 0 (whole (2 ^ 64)) (field_of (codes "start") (held members.old)) ≡ Some s.start)
+        × (each_at name_form (codes "skipped") (held members.old) ≡ Some s.skipped.items)
+        × (edition_at_form (held members.old) ≡ Some (edition_view s.edition)))
+        (λ e. e ≡ WrongForm → parts_form (held members.old) ≡ None) }
+    ensures left { OnOk result (held members.new ≡ without (codes "edition") (without (codes "skipped") (held members.old))) }
+{
+    let start = u64_at(members, "start")?;
+    let skipped = names_at(alloc, members, "skipped")?;
+    let edition = edition_at(alloc, members)?;
+    Ok(Settings {
+        start,
+        skipped,
+        edition,
+    })
+}
+
+#[tactic(auto, using(hir_input_json::proofs::Held::field_without))]
+fn parts_of(alloc: Global, members: &mut Map<String, Value>) -> Result<Request, Fault>
+    ensures reads { Reads request_view result (parts_form (held members.old)) }
+    ensures known { IfOk result KnowsShows }
+{
+    let settings = settings_at(alloc, members)?;
+    let crates = crates_at(alloc, members)?;
+    let edits = edits_at(alloc, members)?;
+    let shows = shows_at(alloc, members, &crates)?;
+    let Settings {
+        start,
+        skipped,
+        edition,
+    } = settings;
+    Ok(Request {
+        start,
+        skipped,
+        edition,
+        crates,
+        edits,
+        shows,
+    })
+}
+
+#[tactic(auto, unfolding(crate::specs::Requests::request))]
+pub(crate) fn request_of(alloc: Global, value: Value) -> Result<Request, Fault>
+    ensures reads { Reads request_view result (request_form (view value)) }
+    ensures known { IfOk result KnowsShows }
+{
+    if has_float(&value) {
+        return Err(Fault::WrongForm);
+    }
+    let mut members = members_of(value)?;
+    parts_of(alloc, &mut members)
+}

@@ -1,0 +1,25 @@
+//! A run over a reader and a writer.
+ghost use Rattle.std.specs.Prelude.{MatchResult};
+ghost use Rattle.item_tree_request.specs.Runs.{IsDone, IsFailure};
+
+use crate::answer::answer;
+use crate::error::RunError;
+use crate::stream::{read_to_end, write_whole};
+use std::alloc::Global;
+use std::io::{Read, Write};
+
+/// Reads a request in JSON up to the reader's end, makes its edits, and writes the texts of its shows.
+///
+/// After any error but `Write` nothing was written, and after `Write` a beginning of the output was, but not
+/// all of it. At most 16,777,216 reads are made, each with room for 4,096 bytes, and none after one that failed:
+/// a reader that is not at its end then has failed too.
+pub fn run<R: Read, W: Write>(alloc: Global, input: &mut R, output: &mut W) -> Result<(), RunError>
+    ensures { MatchResult result
+        (λ _. IsDone (R.remaining input.old) (R.remaining input.new) (W.contents output.old) (W.contents output.new))
+        (IsFailure (R.remaining input.old) (R.remaining input.new) (W.contents output.old) (W.contents output.new)) }
+{
+    let bytes = read_to_end(alloc, input)?;
+    let text = answer(alloc, &bytes)?;
+    write_whole(output, text.as_bytes())?;
+    Ok(())
+}
