@@ -110,19 +110,20 @@ syntax_found o = option_and_then (λ placed. placed.syntax) o
 set_syntax : (t : Table) (l : Places) (place : Place) (k : ℕ) (s : SyntaxView) (q : ℕ) → syntax_found (find (set_in t l place k s) q) ≡ unwrap_or (cond (nat_eq k q) (Some (Some s)) None) (syntax_found (find l q))
 set_syntax t l place k s q =
     ap syntax_found (found l k _ q)
-    ∙ elim (nat_eq k q) as (λ b. syntax_found (cond b (Some (set_to (t.number + 1) (Some s) (map (brought (t.number + 1) t.skipped place s) t.crates) (placed_or_nothing t.start (length t.crates) (find l k)))) (find l q)) ≡ unwrap_or (cond b (Some (Some s)) None) (syntax_found (find l q))) [ true ↦ refl | false ↦ refl ]
+    ∙ elim (nat_eq k q) as (λ b. syntax_found (cond b (Some (set_to (t.number + 1) s (map (brought (t.number + 1) t.skipped place s) t.crates) (placed_or_nothing t.start (length (map (brought (t.number + 1) t.skipped place s) t.crates)) (find l k)))) (find l q)) ≡ unwrap_or (cond b (Some (Some s)) None) (syntax_found (find l q))) [ true ↦ refl | false ↦ refl ]
 
 set_row : (t : Table) (l : Places) (at : ℕ → Place) (k : ℕ) (s : SyntaxView) (q i : ℕ) → i < length t.crates → HasRows (length t.crates) l → (row_found t.start i (find l q)).tree ≡ unfolding_of t.skipped (at q) (slice_get t.crates i) (syntax_found (find l q))
     → row_found t.start i (find (set_in t l (at k) k s) q) ≡ settled_row (t.number + 1) (row_found t.start i (find l q)) (next_row t (at q) i (unwrap_or (cond (nat_eq k q) (Some (Some s)) None) (syntax_found (find l q))))
 set_row t l at k s q i p h tree =
     let n = t.number + 1 in
-    let placed = placed_or_nothing t.start (length t.crates) (find l k) in
     let news = map (brought n t.skipped (at k) s) t.crates in
-    let v = set_to n (Some s) news placed in
-    let long : length placed.rows ≡ length t.crates = length-placed t.start (length t.crates) (find l k) (rows_of_found _ l k h) in
+    let many : length news ≡ length t.crates = length-map t.crates (brought n t.skipped (at k) s) in
+    let placed = placed_or_nothing t.start (length news) (find l k) in
+    let v = set_to n s news placed in
+    let long : length placed.rows ≡ length news = length-placed t.start (length news) (find l k) (rw many (rows_of_found _ l k h)) in
     let new : unwrap_or (slice_get v.rows i) (empty_row t.start) ≡ settled_row n (row_found t.start i (find l k)) (next_row t (at k) i (Some s)) =
-    get_settled n (empty_row t.start) placed.rows news i (rw long p) (rw (length-map t.crates (brought n t.skipped (at k) s)) p)
-    ∙ (λ j. settled_row n (placed_row t.start (length t.crates) i (find l k) j) (get_news n t.skipped (at k) s t.crates i (empty_row t.start) p j)) in
+    get_settled n (empty_row t.start) placed.rows news i (rw (long, many) p) (rw many p)
+    ∙ (λ j. settled_row n (placed_row t.start (length news) i (find l k) j) (get_news n t.skipped (at k) s t.crates i (empty_row t.start) p j)) in
     ap (row_found t.start i) (found l k v q)
     ∙ elim (nat_eq k q) as (λ b. nat_eq k q ≡ b → row_found t.start i (cond b (Some v) (find l q)) ≡ settled_row n (row_found t.start i (find l q)) (next_row t (at q) i (unwrap_or (cond b (Some (Some s)) None) (syntax_found (find l q))))) [
       | true ↦ λ e. new ∙ ap (λ (m : ℕ). settled_row n (row_found t.start i (find l m)) (next_row t (at m) i (Some s))) (sym (equal q k e))
@@ -201,8 +202,7 @@ change_step t e place i h p =
 has_after : (t : Table) (e : EditView) → IsSound t → HasRows (length t.crates) (after t e).files
 has_after t (set_file k s) h =
     let f = brought (t.number + 1) t.skipped (file_at k) s in
-    let news = map f t.crates in
-    subst (λ (m : ℕ). HasRows (length t.crates) (put t.files k (set_to (t.number + 1) (Some s) news (placed_or_nothing t.start m (find t.files k))))) (length-map t.crates f) (has_set (length t.crates) (t.number + 1) t.start t.files k (Some s) news h.files (length-map t.crates f))
+    has_set (length t.crates) (t.number + 1) t.start t.files k s (map f t.crates) h.files (length-map t.crates f)
 has_after t (remove_file k) h = has_removed (length t.crates) (t.number + 1) t.files k h.files
 
 pub start_step : (t : Table) (e : EditView) → (after t e).start ≡ t.start

@@ -2,7 +2,7 @@
 ghost use Rattle.std.specs.Prelude.{◌≡◌, [], length, Some, None, option_copied, IfOk, IfErr, IfSome, OnOk, OnErr};
 ghost use Rattle.item_tree_db.specs.State.{find};
 ghost use Rattle.item_tree_db.specs.Settled.{settled, cleared};
-ghost use Rattle.item_tree_db.specs.Slots.{put, set_to, removed, placed_or_nothing, row_in};
+ghost use Rattle.item_tree_db.specs.Slots.{set_at, removed, row_in};
 
 use crate::rows::{Row, clear, settle, settle_first};
 use std::alloc::Global;
@@ -131,7 +131,7 @@ impl<S: Drop> Shelf<S> {
         number: u64,
     ) -> Result<(), S>
         requires { IfSome (find self.old key) (λ entry. length fresh.items ≡ length entry.rows) }
-        ensures ok { OnOk result (self.new ≡ put self.old key (set_to number (Some syntax) fresh.items (placed_or_nothing start (length fresh.items) (find self.old key)))) }
+        ensures ok { OnOk result (self.new ≡ set_at start number self.old key syntax fresh.items) }
         ensures err { OnErr result (self.new ≡ self.old) }
         ensures returned { IfErr result (λ back. back ≡ syntax) }
     {
