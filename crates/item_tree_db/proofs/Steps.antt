@@ -1,5 +1,5 @@
 -- One edit, against the whole history.
-use Rattle.std.proofs.Common.{◌≡◌, ℕ, zero, suc, ◌+◌, ◌<◌, true, false, List, [], ◌∷◌, length, map, cond, Some, None, Option, IfSome, slice_get, refl, sym, ap, subst, ◌∙◌, arith, nat_eq, get_or}
+use Rattle.std.proofs.Common.{◌≡◌, ℕ, zero, suc, ◌+◌, ◌<◌, ◌≤◌, true, false, List, [], ◌∷◌, length, map, cond, Some, None, Option, IfSome, slice_get, refl, sym, ap, subst, ◌∙◌, arith, nat_eq, get_or}
 use Rattle.std.specs.Option.{option_and_then, option_map, unwrap_or}
 use Rattle.std.specs.Prelude.{replicate}
 use Rattle.std.specs.Ordering.{nat_cmp, eq_by_cmp}
@@ -190,6 +190,9 @@ settled_tree n r x = elim (same unfolding_code r.tree x) as (λ b. same unfoldin
 settled_changed : (n : ℕ) (r : Row) (x : Unfolding) → (settled_row n r (record { tree = x; changed = n })).changed ≡ cond (same unfolding_code r.tree x) r.changed n
 settled_changed n r x = elim (same unfolding_code r.tree x) as (λ b. (cond b r (record { tree = x; changed = n })).changed ≡ cond b r.changed n) [ true ↦ refl | false ↦ refl ]
 
+settled_bound : (m : ℕ) (r : Row) (x : Unfolding) → r.changed ≤ m → (settled_row (m + 1) r (record { tree = x; changed = m + 1 })).changed ≤ m + 1
+settled_bound m r x h = elim (same unfolding_code r.tree x) as (λ b. (cond b r (record { tree = x; changed = m + 1 })).changed ≤ m + 1) [ true ↦ omega arith | false ↦ omega arith ]
+
 pub change_step : (t : Table) (e : EditView) (place : Place) (i : ℕ) → IsSound t → i < length t.crates
     → change_number (state_of (after t e)) place i ≡ cond (same unfolding_code (unfolding_at (state_of t) place i) (unfolding_at (state_of (after t e)) place i)) (change_number (state_of t) place i) (t.number + 1)
 change_step t e place i h p =
@@ -218,5 +221,9 @@ sound_step t e h =
     let many = ap (λ (crates : List CrateView). length crates) (same_crates t e) in
     record {
       files = subst (λ (m : ℕ). HasRows m (after t e).files) (sym many) (has_after t e h);
+      started = let a = start_step t e in let b = number_step t e in let c = h.started in omega arith;
       trees = λ place i p. ap (λ (r : Row). r.tree) (row_step t e place i h (rw (← many) p)) ∙ settled_tree (t.number + 1) (row_at t place i) _;
+      bounded = λ place i p.
+          let q : i < length t.crates = rw (← many) p in
+          rw (row_step t e place i h q, number_step t e) (settled_bound t.number (row_at t place i) _ (h.bounded place i q));
     }

@@ -1,5 +1,5 @@
 -- Within the crate: the table with its trees, and what an edit makes of it.
-use Rattle.std.specs.Prelude.{◌≡◌, ℕ, ◌+◌, ◌<◌, List, [], ◌∷◌, length, map, take, Option, None, Some, option_map, slice_get}
+use Rattle.std.specs.Prelude.{◌≡◌, ℕ, ◌+◌, ◌<◌, ◌≤◌, List, [], ◌∷◌, length, map, take, Option, None, Some, option_map, slice_get}
 use Rattle.std.specs.Option.{option_and_then, unwrap_or}
 use Rattle.hir_input.specs.declared.ast.Syntax.{Syntax}
 use Rattle.hir_input.specs.Syntax.{SyntaxView, syntax_view}
@@ -91,7 +91,9 @@ bare = map (λ slot. (slot.0, held_of slot.1))
 abbrev pub state_of : Table → State
 state_of t = record { crates = t.crates; skipped = t.skipped; start = t.start; number = t.number; files = bare t.files }
 
--- each tree is what its syntax fixes
+-- each tree is what its syntax fixes, and no change number is above the number
 pub record IsSound (t : Table) : Type 0 where
   pub files : HasRows (length t.crates) t.files
+  pub started : t.start ≤ t.number
   pub trees : (place : Place) (i : ℕ) → i < length t.crates → (row_at t place i).tree ≡ unfolding_at (state_of t) place i
+  pub bounded : (place : Place) (i : ℕ) → i < length t.crates → (row_at t place i).changed ≤ t.number

@@ -2,9 +2,11 @@
 ghost use Rattle.std.specs.Prelude.{◌≡◌, [], length, Some, None, option_copied, IfOk, IfErr, IfSome, OnOk, OnErr};
 ghost use Rattle.item_tree_db.specs.State.{find};
 ghost use Rattle.item_tree_db.specs.Settled.{settled, cleared};
-ghost use Rattle.item_tree_db.specs.Slots.{set_at, removed, row_in};
+ghost use Rattle.item_tree_db.specs.Slots.{IsRising, set_at, removed, row_in};
+ghost use Rattle.item_tree_db.specs.Walk.{HasFew, all_entries, late};
 
 use crate::rows::{Row, clear, settle, settle_first};
+use crate::since::Walk;
 use std::alloc::Global;
 use std::collections::BTreeMap;
 use std::marker::Model;
@@ -43,7 +45,7 @@ impl<S> Entry<S> {
         self.syntax.as_ref()
     }
 
-    fn rows(&self) -> &[Row]
+    pub fn rows(&self) -> &[Row]
         ensures { result.now ≡ self.now.rows }
     {
         &self.rows
@@ -116,6 +118,17 @@ impl<S> Shelf<S> {
             Some(entry) => entry.rows().get(index),
             None => None,
         }
+    }
+}
+
+impl<S> Shelf<S> {
+    /// The change numbers above a bound.
+    pub fn late(&self, above: u64) -> Walk<'_, S>
+        requires { HasFew self.now }
+        ensures value { result ≡ late above (all_entries self.now) }
+        ensures rises { IsRising self.now }
+    {
+        Walk::new(self.slots.iter(), above)
     }
 }
 

@@ -6,12 +6,14 @@ ghost use Rattle.item_tree.specs.CrateView.{crate_view};
 ghost use Rattle.item_tree_db.specs.State.{file_at};
 ghost use Rattle.item_tree_db.specs.Edits.{edit_view, edits_before, set_file as sets, remove_file as removes};
 ghost use Rattle.item_tree_db.specs.Refusal.{last_number, SyntaxFits, EditFits, IsTooLargeIn, IsRefusal};
+ghost use Rattle.item_tree_db.specs.Since.{IsSince};
 ghost use Rattle.item_tree_db.specs.Table.{empty_table, after, after_all, state_of, syntax_at, row_found, row_at};
 
 use crate::edit::{AllRefused, Edit, EditRefused};
 use crate::place::Place;
 use crate::rows::{Row, lower_all};
 use crate::shelf::Shelf;
+use crate::since::ChangedSince;
 use hir_input::ast::Syntax;
 use hir_input::{Crate, HirFileId, Name};
 use item_tree::{CrateData, EditFault, ItemTree, LowerError};
@@ -31,8 +33,9 @@ pub struct Store {
 }
 
 impl Model for Store {
-    ghost use Rattle.std.specs.Prelude.{◌≡◌, length};
+    ghost use Rattle.std.specs.Prelude.{◌≡◌, ◌≤◌, length};
     ghost use Rattle.item_tree.specs.Node.{nothing};
+    ghost use Rattle.item_tree_db.specs.State.{crate_limit};
     ghost use Rattle.item_tree_db.specs.Slots.{HasRows};
     ghost use Rattle.item_tree_db.specs.Table.{Table, table_of};
     ghost use Rattle.item_tree_db.specs.Codes.{table_code};
@@ -43,7 +46,7 @@ impl Model for Store {
 
     ghost view = { λ a. table_of a.crates.items a.skipped.items a.start a.number a.files };
 
-    ghost invariant = { λ a. record { files : HasRows (length a.crates.items) a.files; empty : a.empty ≡ nothing } };
+    ghost invariant = { λ a. record { few : length a.crates.items ≤ crate_limit; files : HasRows (length a.crates.items) a.files; empty : a.empty ≡ nothing } };
 }
 
 // A refused syntax, handed back.
@@ -194,6 +197,12 @@ impl Store {
             Some(row) => row.changed,
             None => self.start,
         }
+    }
+
+    pub fn changed_since(&self, n: u64) -> ChangedSince<'_>
+        ensures { IsSince (state_of self.now) n result }
+    {
+        ChangedSince::new(self.files.late(n.max(self.start)))
     }
 
     pub fn tree(&self, place: Place, krate: Crate) -> &ItemTree
