@@ -10,7 +10,7 @@ use Rattle.std.specs.declared.cmp.Ordering.TheVariants.{Less, Equal, Greater}
 use Rattle.item_tree_db.specs.declared.rows.Row.{Row}
 use Rattle.item_tree_db.specs.State.{find}
 use Rattle.item_tree_db.specs.Settled.{settled, settled_row, empty_row}
-use Rattle.item_tree_db.specs.Slots.{Placed, HasRows, put, removed, set_to, placed_or_nothing}
+use Rattle.item_tree_db.specs.Slots.{Placed, HasRows, put, removed, set_at, placed_or_nothing}
 
 length-settled : (n : ℕ) (xs ys : List Row) → length (settled n xs ys) ≡ length xs
 length-settled n [] ys = refl
@@ -53,7 +53,7 @@ module _ {S : Type 0} where
   length-placed start count None h = length-replicate count _
   length-placed start count (Some e) h = h
 
-  pub has_set : (count n start : ℕ) (l : List (ℕ × Placed S)) (k : ℕ) (syntax : Option S) (fresh : List Row) → HasRows count l → length fresh ≡ count → HasRows count (put l k (set_to n syntax fresh (placed_or_nothing start (length fresh) (find l k))))
+  pub has_set : (count n start : ℕ) (l : List (ℕ × Placed S)) (k : ℕ) (syntax : S) (fresh : List Row) → HasRows count l → length fresh ≡ count → HasRows count (set_at start n l k syntax fresh)
   has_set count n start l k syntax fresh h q =
       has_put count l k _ h (length-settled n (placed_or_nothing start (length fresh) (find l k)).rows fresh ∙ length-placed start (length fresh) (find l k) (rw q (rows_of_found count l k h)) ∙ q)
 

@@ -1,7 +1,8 @@
 -- A list of edits, against the whole history.
-use Rattle.std.proofs.Common.{◌≡◌, ◌≢◌, ◌⊎◌, inl, inr, ℕ, zero, suc, ◌+◌, ◌<◌, Bool, true, false, not, List, [], ◌∷◌, length, take, cond, Some, None, Option, slice_get, refl, sym, ap, subst, ◌∙◌, arith, true≢false, eq-or-lt_of_le, le_of_suc-le-suc}
+use Rattle.std.proofs.Common.{◌≡◌, ◌≢◌, ◌⊎◌, inl, inr, ℕ, zero, suc, ◌+◌, ◌<◌, ◌≤◌, Bool, true, false, not, List, [], ◌∷◌, length, take, cond, Some, None, Option, slice_get, refl, sym, ap, subst, ◌∙◌, arith, true≢false, eq-or-lt_of_le, le_of_suc-le-suc}
 use Rattle.std.specs.Option.{option_or, option_map, unwrap_or}
 use Rattle.std.proofs.lemmas.Option.{same_Some, none-some}
+use Rattle.std.proofs.lemmas.List.{take_all}
 use Rattle.item_tree.specs.CrateView.{CrateView}
 use Rattle.item_tree.specs.Node.{Unfolding}
 use Rattle.item_tree.specs.NodeCode.{unfolding_code}
@@ -9,10 +10,10 @@ use Rattle.item_tree.specs.Same.{same, equal_of_same, same_of_equal}
 use Rattle.item_tree_db.specs.declared.place.Place.{Place}
 use Rattle.item_tree_db.specs.State.{State, present, unfolding_of, unfolding_at, change_number}
 use Rattle.item_tree_db.specs.Edits.{EditView}
-use Rattle.item_tree_db.specs.History.{sets, last_some, last_below, present_after, unfolding_after, moves, changed_after, IsChangeNumber, IsAfter}
+use Rattle.item_tree_db.specs.History.{sets, last_some, last_below, present_after, unfolding_after, moves, changed_after, IsChangeNumber, IsAfter, IsFooting}
 use Rattle.item_tree_db.specs.Table.{Table, after, after_all, state_of, IsSound}
 use Rattle.item_tree_db.proofs.Runs.{same_crates, same_skipped}
-use Rattle.item_tree_db.proofs.Steps.{present_step, change_step, sound_step, start_step, number_step}
+use Rattle.item_tree_db.proofs.Steps.{present_step, change_number_is, change_step, sound_step, start_step, number_step}
 
 or_else : {A : Type 0} (a b : Option A) (d : A) → unwrap_or a (unwrap_or b d) ≡ unwrap_or (option_or a b) d
 or_else None b d = refl
@@ -143,3 +144,36 @@ history t (e ∷ es) h =
         last_changes = λ place i p. subst (λ (c : ℕ). IsChangeNumber (state_of t) (e ∷ es) place i c) (sym (r.changes place i (rw many p) ∙ front_changed t e es place i h p)) (change_number_by (state_of t) (e ∷ es) place i);
       },
     )
+
+-- ---- what an index rests on
+
+still_all : (s : State) (es : List EditView) (place : Place) (i n : ℕ) → n ≤ length es → ((m : ℕ) → m < length es → unfolding_after s (take m es) place i ≡ unfolding_after s (take (suc m) es) place i) → unfolding_after s (take n es) place i ≡ unfolding_at s place i
+still_all s es place i zero p h = refl
+still_all s es place i (suc n) p h = sym (h n (omega arith)) ∙ still_all s es place i n (omega arith) h
+
+-- a number that is not above the one before
+record IsKept (s u : State) (place : Place) (i : ℕ) : Type 0 where
+  pub number : change_number u place i ≡ change_number s place i
+  pub tree : unfolding_at u place i ≡ unfolding_at s place i
+
+kept_low : (s u : State) (es : List EditView) (place : Place) (i : ℕ) → IsAfter s es u → i < length s.crates → change_number u place i ≤ s.number → IsKept s u place i
+kept_low s u es place i after p low = elim (after.last_changes place i p) as (λ _. IsKept s u place i) [
+  | inl same ↦ record {
+    number = same.number;
+    tree = after.unfoldings place i p ∙ ap (λ (xs : List EditView). unfolding_after s xs place i) (sym (take_all (length es) es (omega arith))) ∙ still_all s es place i (length es) (omega arith) same.still;
+  }
+  | inr last ↦ let e = last.1.number in absurd (omega arith)
+]
+
+bound_is : (t : Table) → IsSound t → (place : Place) (i : ℕ) → i < length t.crates → change_number (state_of t) place i ≤ t.number
+bound_is t h place i p = rw (change_number_is t place i) (h.bounded place i p)
+
+pub footing : (t u : Table) (es : List EditView) → IsSound u → IsAfter (state_of t) es (state_of u) → IsFooting (state_of t) (state_of u)
+footing t u es h after = record {
+  bounded = λ place i p. bound_is u h place i (rw after.crates p);
+  numbers = λ place i p low. (kept_low (state_of t) (state_of u) es place i after p low).number;
+  trees = λ place i p low. (kept_low (state_of t) (state_of u) es place i after p low).tree;
+}
+
+pub footing_itself : (t : Table) → IsSound t → IsFooting (state_of t) (state_of t)
+footing_itself t h = record { bounded = bound_is t h; numbers = λ place i p low. refl; trees = λ place i p low. refl }

@@ -2,8 +2,11 @@ pub mod Mapped
 pub mod Lowered
 pub mod Counts
 pub mod Views
+pub mod Walks
 pub mod Runs
 pub mod Steps
 pub mod Histories
+pub mod Listed
+pub mod Changes
 pub mod BodyTexts
 pub mod Outcomes

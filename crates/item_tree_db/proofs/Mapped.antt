@@ -14,11 +14,11 @@ use Rattle.std.proofs.lemmas.Bool.Decides.{nat_tests}
 use Rattle.item_tree_db.specs.State.{find}
 use Rattle.item_tree_db.specs.Slots.{IsRising, put}
 
-first : (a b : Bool) → (a && b) ≡ true → a ≡ true
+pub first : (a b : Bool) → (a && b) ≡ true → a ≡ true
 first true b p = refl
 first false b p = p
 
-second : (a b : Bool) → (a && b) ≡ true → b ≡ true
+pub second : (a b : Bool) → (a && b) ≡ true → b ≡ true
 second true b p = p
 second false b p = cc
 
@@ -29,7 +29,7 @@ true_of false h = absurd h
 less_is : (x y : ℕ) → x < y → nat_cmp x y ≡ Less
 less_is x y h = grind (arith, nat_tests)
 
-lt_of : (x y : ℕ) → is_lt (nat_cmp x y) ≡ true → x < y
+pub lt_of : (x y : ℕ) → is_lt (nat_cmp x y) ≡ true → x < y
 lt_of x y h = grind (arith, nat_tests)
 
 less_of : (x y : ℕ) → nat_cmp x y ≡ Less → x < y

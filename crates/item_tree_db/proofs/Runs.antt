@@ -3,16 +3,17 @@ use Rattle.std.proofs.Common.{◌≡◌, ℕ, zero, suc, ◌+◌, List, [], ◌�
 use Rattle.std.proofs.lemmas.List.Elements.{All-cons}
 use Rattle.item_tree.specs.CrateView.{CrateView}
 use Rattle.item_tree_db.specs.declared.edit.Edit.{Edit}
+use Rattle.item_tree_db.specs.State.{file_at}
 use Rattle.item_tree_db.specs.Edits.{EditView, edit_view, set_file, remove_file}
-use Rattle.item_tree_db.specs.Refusal.{EditFits}
-use Rattle.item_tree_db.specs.Table.{Table, after, after_all}
+use Rattle.item_tree_db.specs.Refusal.{SyntaxFits, EditFits}
+use Rattle.item_tree_db.specs.Table.{Table, after, after_all, state_of}
 
 abbrev pub views : List Edit → List EditView
 views = map edit_view
 
-pub record Popped (n : ℕ) (xs : List Edit) (x : Edit) (ys : List Edit) : Type 0 where
+pub record Popped (n : ℕ) (xs : List Edit) (x : Edit) (ys : List Edit) : Type 1 where
   pub done : (t : Table) → after_all t (take (n + 1) (views xs)) ≡ after (after_all t (take n (views xs))) (edit_view x)
-  pub each : (crates : List CrateView) (skipped : List (List ℕ)) → All (EditFits crates skipped) (take n (views xs)) → EditFits crates skipped (edit_view x) → All (EditFits crates skipped) (take (n + 1) (views xs))
+  pub each : (P : EditView → Type 0) → All P (take n (views xs)) → P (edit_view x) → All P (take (n + 1) (views xs))
   pub at : slice_get xs n ≡ Some x
   pub rest : drop (n + 1) xs ≡ ys
 
@@ -43,7 +44,7 @@ rest_suc (suc n) (z ∷ xs) x ys e = rest_suc n xs x ys e
 pub popped : (n : ℕ) (xs : List Edit) (x : Edit) (ys : List Edit) → drop n xs ≡ x ∷ ys → Popped n xs x ys
 popped n xs x ys e = record {
   done = λ t. rw add-one (done_suc n xs x ys e t);
-  each = λ crates skipped h p. rw add-one (each_suc (EditFits crates skipped) n xs x ys e h p);
+  each = λ P h p. rw add-one (each_suc P n xs x ys e h p);
   at = at_place n xs x ys e;
   rest = rw add-one (rest_suc n xs x ys e);
 }
@@ -57,5 +58,6 @@ pub same_skipped : (t : Table) (e : EditView) → (after t e).skipped ≡ t.skip
 same_skipped t (set_file k syntax) = refl
 same_skipped t (remove_file k) = refl
 
-pub same_fits : {crates others : List CrateView} {skipped names : List (List ℕ)} → crates ≡ others → skipped ≡ names → (e : EditView) → EditFits crates skipped e → EditFits others names e
-same_fits {crates} {others} {skipped} {names} p q e h = subst (λ (l : List CrateView). EditFits l names e) p (subst (λ (l : List (List ℕ)). EditFits crates l e) q h)
+pub same_fits : (t u : Table) → t.crates ≡ u.crates → t.skipped ≡ u.skipped → (e : EditView) → EditFits (state_of t) e → EditFits (state_of u) e
+same_fits t u p q (set_file k syntax) h = subst (λ (l : List CrateView). SyntaxFits l u.skipped (file_at k) syntax) p (subst (λ (l : List (List ℕ)). SyntaxFits t.crates l (file_at k) syntax) q h)
+same_fits t u p q (remove_file k) h = tt

@@ -1,5 +1,5 @@
 -- One edit, against the whole history.
-use Rattle.std.proofs.Common.{◌≡◌, ℕ, zero, suc, ◌+◌, ◌<◌, true, false, List, [], ◌∷◌, length, map, cond, Some, None, Option, IfSome, slice_get, refl, sym, ap, subst, ◌∙◌, arith, nat_eq, get_or}
+use Rattle.std.proofs.Common.{◌≡◌, ℕ, zero, suc, ◌+◌, ◌<◌, ◌≤◌, true, false, List, [], ◌∷◌, length, map, cond, Some, None, Option, IfSome, slice_get, refl, sym, ap, subst, ◌∙◌, arith, nat_eq, get_or}
 use Rattle.std.specs.Option.{option_and_then, option_map, unwrap_or}
 use Rattle.std.specs.Prelude.{replicate}
 use Rattle.std.specs.Ordering.{nat_cmp, eq_by_cmp}
@@ -110,19 +110,20 @@ syntax_found o = option_and_then (λ placed. placed.syntax) o
 set_syntax : (t : Table) (l : Places) (place : Place) (k : ℕ) (s : SyntaxView) (q : ℕ) → syntax_found (find (set_in t l place k s) q) ≡ unwrap_or (cond (nat_eq k q) (Some (Some s)) None) (syntax_found (find l q))
 set_syntax t l place k s q =
     ap syntax_found (found l k _ q)
-    ∙ elim (nat_eq k q) as (λ b. syntax_found (cond b (Some (set_to (t.number + 1) (Some s) (map (brought (t.number + 1) t.skipped place s) t.crates) (placed_or_nothing t.start (length t.crates) (find l k)))) (find l q)) ≡ unwrap_or (cond b (Some (Some s)) None) (syntax_found (find l q))) [ true ↦ refl | false ↦ refl ]
+    ∙ elim (nat_eq k q) as (λ b. syntax_found (cond b (Some (set_to (t.number + 1) s (map (brought (t.number + 1) t.skipped place s) t.crates) (placed_or_nothing t.start (length (map (brought (t.number + 1) t.skipped place s) t.crates)) (find l k)))) (find l q)) ≡ unwrap_or (cond b (Some (Some s)) None) (syntax_found (find l q))) [ true ↦ refl | false ↦ refl ]
 
 set_row : (t : Table) (l : Places) (at : ℕ → Place) (k : ℕ) (s : SyntaxView) (q i : ℕ) → i < length t.crates → HasRows (length t.crates) l → (row_found t.start i (find l q)).tree ≡ unfolding_of t.skipped (at q) (slice_get t.crates i) (syntax_found (find l q))
     → row_found t.start i (find (set_in t l (at k) k s) q) ≡ settled_row (t.number + 1) (row_found t.start i (find l q)) (next_row t (at q) i (unwrap_or (cond (nat_eq k q) (Some (Some s)) None) (syntax_found (find l q))))
 set_row t l at k s q i p h tree =
     let n = t.number + 1 in
-    let placed = placed_or_nothing t.start (length t.crates) (find l k) in
     let news = map (brought n t.skipped (at k) s) t.crates in
-    let v = set_to n (Some s) news placed in
-    let long : length placed.rows ≡ length t.crates = length-placed t.start (length t.crates) (find l k) (rows_of_found _ l k h) in
+    let many : length news ≡ length t.crates = length-map t.crates (brought n t.skipped (at k) s) in
+    let placed = placed_or_nothing t.start (length news) (find l k) in
+    let v = set_to n s news placed in
+    let long : length placed.rows ≡ length news = length-placed t.start (length news) (find l k) (rw many (rows_of_found _ l k h)) in
     let new : unwrap_or (slice_get v.rows i) (empty_row t.start) ≡ settled_row n (row_found t.start i (find l k)) (next_row t (at k) i (Some s)) =
-    get_settled n (empty_row t.start) placed.rows news i (rw long p) (rw (length-map t.crates (brought n t.skipped (at k) s)) p)
-    ∙ (λ j. settled_row n (placed_row t.start (length t.crates) i (find l k) j) (get_news n t.skipped (at k) s t.crates i (empty_row t.start) p j)) in
+    get_settled n (empty_row t.start) placed.rows news i (rw (long, many) p) (rw many p)
+    ∙ (λ j. settled_row n (placed_row t.start (length news) i (find l k) j) (get_news n t.skipped (at k) s t.crates i (empty_row t.start) p j)) in
     ap (row_found t.start i) (found l k v q)
     ∙ elim (nat_eq k q) as (λ b. nat_eq k q ≡ b → row_found t.start i (cond b (Some v) (find l q)) ≡ settled_row n (row_found t.start i (find l q)) (next_row t (at q) i (unwrap_or (cond b (Some (Some s)) None) (syntax_found (find l q))))) [
       | true ↦ λ e. new ∙ ap (λ (m : ℕ). settled_row n (row_found t.start i (find l m)) (next_row t (at m) i (Some s))) (sym (equal q k e))
@@ -189,6 +190,9 @@ settled_tree n r x = elim (same unfolding_code r.tree x) as (λ b. same unfoldin
 settled_changed : (n : ℕ) (r : Row) (x : Unfolding) → (settled_row n r (record { tree = x; changed = n })).changed ≡ cond (same unfolding_code r.tree x) r.changed n
 settled_changed n r x = elim (same unfolding_code r.tree x) as (λ b. (cond b r (record { tree = x; changed = n })).changed ≡ cond b r.changed n) [ true ↦ refl | false ↦ refl ]
 
+settled_bound : (m : ℕ) (r : Row) (x : Unfolding) → r.changed ≤ m → (settled_row (m + 1) r (record { tree = x; changed = m + 1 })).changed ≤ m + 1
+settled_bound m r x h = elim (same unfolding_code r.tree x) as (λ b. (cond b r (record { tree = x; changed = m + 1 })).changed ≤ m + 1) [ true ↦ omega arith | false ↦ omega arith ]
+
 pub change_step : (t : Table) (e : EditView) (place : Place) (i : ℕ) → IsSound t → i < length t.crates
     → change_number (state_of (after t e)) place i ≡ cond (same unfolding_code (unfolding_at (state_of t) place i) (unfolding_at (state_of (after t e)) place i)) (change_number (state_of t) place i) (t.number + 1)
 change_step t e place i h p =
@@ -201,8 +205,7 @@ change_step t e place i h p =
 has_after : (t : Table) (e : EditView) → IsSound t → HasRows (length t.crates) (after t e).files
 has_after t (set_file k s) h =
     let f = brought (t.number + 1) t.skipped (file_at k) s in
-    let news = map f t.crates in
-    subst (λ (m : ℕ). HasRows (length t.crates) (put t.files k (set_to (t.number + 1) (Some s) news (placed_or_nothing t.start m (find t.files k))))) (length-map t.crates f) (has_set (length t.crates) (t.number + 1) t.start t.files k (Some s) news h.files (length-map t.crates f))
+    has_set (length t.crates) (t.number + 1) t.start t.files k s (map f t.crates) h.files (length-map t.crates f)
 has_after t (remove_file k) h = has_removed (length t.crates) (t.number + 1) t.files k h.files
 
 pub start_step : (t : Table) (e : EditView) → (after t e).start ≡ t.start
@@ -218,5 +221,9 @@ sound_step t e h =
     let many = ap (λ (crates : List CrateView). length crates) (same_crates t e) in
     record {
       files = subst (λ (m : ℕ). HasRows m (after t e).files) (sym many) (has_after t e h);
+      started = let a = start_step t e in let b = number_step t e in let c = h.started in omega arith;
       trees = λ place i p. ap (λ (r : Row). r.tree) (row_step t e place i h (rw (← many) p)) ∙ settled_tree (t.number + 1) (row_at t place i) _;
+      bounded = λ place i p.
+          let q : i < length t.crates = rw (← many) p in
+          rw (row_step t e place i h q, number_step t e) (settled_bound t.number (row_at t place i) _ (h.bounded place i q));
     }

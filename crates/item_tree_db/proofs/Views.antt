@@ -17,9 +17,9 @@ use Rattle.item_tree_db.specs.declared.place.Place.TheVariants.{File}
 use Rattle.item_tree_db.specs.declared.rows.Row.{Row}
 use Rattle.item_tree_db.specs.State.{find}
 use Rattle.item_tree_db.specs.Settled.{brought}
-use Rattle.item_tree_db.specs.Slots.{Placed, put, removed, set_to, placed_or_nothing, row_in}
+use Rattle.item_tree_db.specs.Slots.{Placed, put, removed, set_to, set_at, placed_or_nothing, row_in}
 use Rattle.item_tree_db.specs.Refusal.{SyntaxFits}
-use Rattle.item_tree_db.specs.Table.{placed_view, places_view, set_in, syntax_at, row_found}
+use Rattle.item_tree_db.specs.Table.{placed_view, places_view, syntax_at, row_found}
 
 -- a map with each of its values mapped
 module _ {X Y : Type 0} (f : X → Y) where
@@ -51,14 +51,13 @@ removed_view n l k = removed_by n l k (find l k) ∙ ap (removed n (places_view 
 
 -- what the shelf holds after a set syntax, that brings each crate its tree
 pub set_view : (crates : List CrateView) (skipped : List (List ℕ)) (start number : ℕ) (l new : List (ℕ × Placed Syntax)) (place : Place) (k : ℕ) (s : Syntax) (fresh : List Row)
-    → new ≡ put l k (set_to (number + 1) (Some s) fresh (placed_or_nothing start (length fresh) (find l k))) → fresh ≡ map (brought (number + 1) skipped place (syntax_view s)) crates
-    → places_view new ≡ set_in (record { crates = crates; skipped = skipped; start = start; number = number; files = places_view l }) (places_view l) place k (syntax_view s)
+    → new ≡ set_at start (number + 1) l k s fresh → fresh ≡ map (brought (number + 1) skipped place (syntax_view s)) crates
+    → places_view new ≡ set_at start (number + 1) (places_view l) k (syntax_view s) (map (brought (number + 1) skipped place (syntax_view s)) crates)
 set_view crates skipped start number l new place k s fresh e q =
     ap places_view e
     ∙ put_over placed_view l k _
-    ∙ ap (λ (p : Placed SyntaxView). put (places_view l) k (set_to (number + 1) (Some (syntax_view s)) fresh p)) (placed_of start (length fresh) (find l k) ∙ ap (placed_or_nothing start (length fresh)) (sym (find_over placed_view l k)))
-    ∙ ap (λ (rows : List Row). put (places_view l) k (set_to (number + 1) (Some (syntax_view s)) rows (placed_or_nothing start (length rows) (find (places_view l) k)))) q
-    ∙ ap (λ (count : ℕ). put (places_view l) k (set_to (number + 1) (Some (syntax_view s)) (map (brought (number + 1) skipped place (syntax_view s)) crates) (placed_or_nothing start count (find (places_view l) k)))) (length-map crates (brought (number + 1) skipped place (syntax_view s)))
+    ∙ ap (λ (p : Placed SyntaxView). put (places_view l) k (set_to (number + 1) (syntax_view s) fresh p)) (placed_of start (length fresh) (find l k) ∙ ap (placed_or_nothing start (length fresh)) (sym (find_over placed_view l k)))
+    ∙ ap (set_at start (number + 1) (places_view l) k (syntax_view s)) q
 
 -- each crate's tree
 pub map_views : (f : CrateView → Row) (crates : List CrateData) → map (λ krate. f (crate_view krate)) crates ≡ map f (map crate_view crates)

@@ -1,5 +1,5 @@
 -- Whole histories: what stands after a list of edits.
-use Rattle.std.specs.Prelude.{◌≡◌, ◌≢◌, ◌⊎◌, ℕ, zero, suc, ◌+◌, ◌<◌, ◌==◌, List, [], ◌∷◌, length, take, Option, None, Some, Bool, not, if◌then◌else◌, option_map, slice_get, All, IfSome}
+use Rattle.std.specs.Prelude.{◌≡◌, ◌≢◌, ◌⊎◌, ℕ, zero, suc, ◌+◌, ◌<◌, ◌≤◌, ◌==◌, List, [], ◌∷◌, length, take, Option, None, Some, Bool, not, if◌then◌else◌, option_map, slice_get, All, IfSome}
 use Rattle.std.specs.Option.{option_or, unwrap_or}
 use Rattle.hir_input.specs.Syntax.{SyntaxView}
 use Rattle.hir_input.specs.Bodies.{without_bodies}
@@ -74,6 +74,12 @@ pub record IsAfter (s : State) (edits : List EditView) (u : State) : Type 0 wher
   pub unfoldings : (place : Place) (i : ℕ) → i < length s.crates → unfolding_at u place i ≡ unfolding_after s edits place i
   pub changes : (place : Place) (i : ℕ) → i < length s.crates → change_number u place i ≡ changed_after s edits place i
   pub last_changes : (place : Place) (i : ℕ) → i < length s.crates → IsChangeNumber s edits place i (change_number u place i)
+
+-- what an index of the trees rests on: no change number is above the number, and a tree whose number is not above the one before has it from there, and is the same
+pub record IsFooting (s u : State) : Type 0 where
+  pub bounded : (place : Place) (i : ℕ) → i < length s.crates → change_number u place i ≤ u.number
+  pub numbers : (place : Place) (i : ℕ) → i < length s.crates → change_number u place i ≤ s.number → change_number u place i ≡ change_number s place i
+  pub trees : (place : Place) (i : ℕ) → i < length s.crates → change_number u place i ≤ s.number → unfolding_at u place i ≡ unfolding_at s place i
 
 -- the edit changes no more of the place than body texts: it leaves what is there but for them, or is one of another place
 abbrev pub ChangesBodiesOnly : State → Place → EditView → Type 0

@@ -1,8 +1,11 @@
+pub mod PlaceOrder
 pub mod State
 pub mod Edits
 pub mod History
 pub mod Refusal
+pub mod Since
 pub mod Settled
 pub mod Slots
+pub mod Walk
 pub mod Table
 pub mod Codes

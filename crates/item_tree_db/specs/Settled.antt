@@ -1,13 +1,17 @@
 -- Within the crate: the trees of a place under edits.
-use Rattle.std.specs.Prelude.{ℕ, List, [], ◌∷◌, if◌then◌else◌, map, Some}
-use Rattle.hir_input.specs.Syntax.{SyntaxView}
-use Rattle.item_tree.specs.CrateView.{CrateView}
+use Rattle.std.specs.Prelude.{ℕ, List, [], ◌∷◌, if◌then◌else◌, map}
+use Rattle.hir_input.specs.declared.ast.Syntax.{Syntax}
+use Rattle.hir_input.specs.declared.ids.HirFileId.{HirFileId}
+use Rattle.hir_input.specs.Syntax.{SyntaxView, syntax_view}
+use Rattle.item_tree.specs.declared.crate_data.CrateData.{CrateData}
+use Rattle.item_tree.specs.CrateView.{CrateView, crate_view}
 use Rattle.item_tree.specs.Node.{nothing}
 use Rattle.item_tree.specs.NodeCode.{unfolding_code}
 use Rattle.item_tree.specs.Same.{same}
 use Rattle.item_tree_db.specs.declared.rows.Row.{Row}
 use Rattle.item_tree_db.specs.declared.place.Place.{Place}
-use Rattle.item_tree_db.specs.State.{unfolding_of}
+use Rattle.item_tree_db.specs.declared.place.Place.TheVariants.{File}
+use Rattle.item_tree_db.specs.State.{kept_at}
 
 -- the empty tree
 abbrev pub empty_row : ℕ → Row
@@ -28,4 +32,8 @@ cleared n = map (λ row. settled_row n row (empty_row n))
 
 -- what edit n brings to a crate when it sets this syntax of a place
 abbrev pub brought : ℕ → List (List ℕ) → Place → SyntaxView → CrateView → Row
-brought n skipped place syntax krate = record { tree = unfolding_of skipped place (Some krate) (Some syntax); changed = n }
+brought n skipped place syntax krate = record { tree = kept_at skipped place syntax krate; changed = n }
+
+-- the same of a file, before its syntax and the crate are plain data
+abbrev pub brought_to : ℕ → List (List ℕ) → HirFileId → Syntax → CrateData → Row
+brought_to n skipped file syntax krate = brought n skipped (File file) (syntax_view syntax) (crate_view krate)

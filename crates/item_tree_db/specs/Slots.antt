@@ -33,8 +33,12 @@ placed_or_nothing start count None = record { syntax = None; rows = replicate co
 placed_or_nothing start count (Some place) = place
 
 -- edit n sets the syntax, which brings these trees
-abbrev pub set_to : {S : Type 0} → ℕ → Option S → List Row → Placed S → Placed S
-set_to n syntax fresh place = record { syntax = syntax; rows = settled n place.rows fresh }
+abbrev pub set_to : {S : Type 0} → ℕ → S → List Row → Placed S → Placed S
+set_to n syntax fresh place = record { syntax = Some syntax; rows = settled n place.rows fresh }
+
+-- the same in a list, at the number k
+abbrev pub set_at : {S : Type 0} → ℕ → ℕ → List (ℕ × Placed S) → ℕ → S → List Row → List (ℕ × Placed S)
+set_at start n l k syntax fresh = put l k (set_to n syntax fresh (placed_or_nothing start (length fresh) (find l k)))
 
 -- edit n removes the syntax
 abbrev pub removed : {S : Type 0} → ℕ → List (ℕ × Placed S) → ℕ → Option (Placed S) → List (ℕ × Placed S)

@@ -64,11 +64,15 @@ abbrev pub is_root_of : CrateView → Place → Bool
 is_root_of krate (File file) = file.0 == krate.root.0
 is_root_of krate (Block block) = false
 
--- what a crate keeps of a place's present syntax, under its own options: nothing where there is none
+-- what a crate keeps of a syntax of a place, under its own options
+abbrev pub kept_at : List (List ℕ) → Place → SyntaxView → CrateView → Unfolding
+kept_at skipped place syntax krate = kept_syntax (is_root_of krate place) krate skipped syntax
+
+-- the same of a place's present syntax: nothing where there is none
 abbrev pub unfolding_of : List (List ℕ) → Place → Option CrateView → Option SyntaxView → Unfolding
 unfolding_of skipped place krate None = nothing
 unfolding_of skipped place None (Some syntax) = nothing
-unfolding_of skipped place (Some krate) (Some syntax) = kept_syntax (is_root_of krate place) krate skipped syntax
+unfolding_of skipped place (Some krate) (Some syntax) = kept_at skipped place syntax krate
 
 -- what the tree of a place unfolds to in crate i
 abbrev pub unfolding_at : State → Place → ℕ → Unfolding

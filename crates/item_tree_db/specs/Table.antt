@@ -1,16 +1,17 @@
 -- Within the crate: the table with its trees, and what an edit makes of it.
-use Rattle.std.specs.Prelude.{◌≡◌, ℕ, ◌+◌, ◌<◌, List, [], ◌∷◌, length, map, Option, None, Some, option_map, slice_get}
+use Rattle.std.specs.Prelude.{◌≡◌, ℕ, ◌+◌, ◌<◌, ◌≤◌, List, [], ◌∷◌, length, map, take, Option, None, Some, option_map, slice_get}
 use Rattle.std.specs.Option.{option_and_then, unwrap_or}
 use Rattle.hir_input.specs.declared.ast.Syntax.{Syntax}
 use Rattle.hir_input.specs.Syntax.{SyntaxView, syntax_view}
-use Rattle.item_tree.specs.CrateView.{CrateView}
+use Rattle.item_tree.specs.declared.crate_data.CrateData.{CrateData}
+use Rattle.item_tree.specs.CrateView.{CrateView, crate_view}
 use Rattle.item_tree_db.specs.declared.place.Place.{Place}
 use Rattle.item_tree_db.specs.declared.place.Place.TheVariants.{File, Block}
 use Rattle.item_tree_db.specs.declared.rows.Row.{Row}
-use Rattle.item_tree_db.specs.State.{Held, State, file_at, find, unfolding_at}
+use Rattle.item_tree_db.specs.State.{Held, State, crate_limit, file_at, find, unfolding_at}
 use Rattle.item_tree_db.specs.Edits.{EditView, set_file, remove_file}
 use Rattle.item_tree_db.specs.Settled.{brought, empty_row}
-use Rattle.item_tree_db.specs.Slots.{Placed, HasRows, put, set_to, removed, placed_or_nothing}
+use Rattle.item_tree_db.specs.Slots.{Placed, HasRows, set_at, removed}
 
 -- what places of one kind have, in the order of their numbers
 abbrev pub Places : Type 0
@@ -23,7 +24,7 @@ pub record Table : Type 0 where
   pub number : ℕ
   pub files : Places
 
--- ---- edits, one at a time
+-- ---- from what the code has
 
 -- the entries with their syntaxes as plain data
 abbrev pub placed_view : Placed Syntax → Placed SyntaxView
@@ -32,10 +33,19 @@ placed_view place = record { syntax = option_map syntax_view place.syntax; rows 
 abbrev pub places_view : List (ℕ × Placed Syntax) → Places
 places_view = map (λ slot. (slot.0, placed_view slot.1))
 
+abbrev pub table_of : List CrateData → List (List ℕ) → ℕ → ℕ → List (ℕ × Placed Syntax) → Table
+table_of crates skipped start number files = record { crates = map crate_view crates; skipped = skipped; start = start; number = number; files = places_view files }
+
+-- nothing set
+abbrev pub empty_table : List CrateView → List (List ℕ) → ℕ → Table
+empty_table crates skipped start = record { crates = take crate_limit crates; skipped = skipped; start = start; number = start; files = [] }
+
+-- ---- edits, one at a time
+
 -- the next edit sets the syntax of this place, which has the number k among them
 abbrev pub set_in : Table → Places → Place → ℕ → SyntaxView → Places
 set_in t places place k syntax =
-    put places k (set_to (t.number + 1) (Some syntax) (map (brought (t.number + 1) t.skipped place syntax) t.crates) (placed_or_nothing t.start (length t.crates) (find places k)))
+    set_at t.start (t.number + 1) places k syntax (map (brought (t.number + 1) t.skipped place syntax) t.crates)
 
 -- the next edit removes one
 abbrev pub removed_in : Table → Places → ℕ → Places
@@ -81,7 +91,9 @@ bare = map (λ slot. (slot.0, held_of slot.1))
 abbrev pub state_of : Table → State
 state_of t = record { crates = t.crates; skipped = t.skipped; start = t.start; number = t.number; files = bare t.files }
 
--- each tree is what its syntax fixes
+-- each tree is what its syntax fixes, and no change number is above the number
 pub record IsSound (t : Table) : Type 0 where
   pub files : HasRows (length t.crates) t.files
+  pub started : t.start ≤ t.number
   pub trees : (place : Place) (i : ℕ) → i < length t.crates → (row_at t place i).tree ≡ unfolding_at (state_of t) place i
+  pub bounded : (place : Place) (i : ℕ) → i < length t.crates → (row_at t place i).changed ≤ t.number

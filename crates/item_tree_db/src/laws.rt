@@ -1,10 +1,13 @@
 //! What holds of the types here: `==` decides whether two values are one, and a copy is its source. Each derive is
 //! held to it by a clause; the functions do nothing.
+ghost use Rattle.std.specs.Prelude.{◌≡◌};
 ghost use Rattle.hir_input.specs.Equality.{DecidesEq, IsCopied};
+ghost use Rattle.item_tree_db.specs.PlaceOrder.{place_cmp};
 
 use crate::place::Place;
 
 fn places()
     ensures equal { DecidesEq ⟦<Place as PartialEq>⟧.eq }
+    ensures ordered { (a b : Place) → ⟦<Place as Ord>⟧.cmp a b ≡ place_cmp a b }
     ensures copied { IsCopied ⟦<Place as Clone>⟧.is_clone }
 {}

@@ -6,9 +6,11 @@ mod laws;
 pub mod place;
 mod rows;
 mod shelf;
+pub mod since;
 pub mod sources;
 mod store;
 
 pub use edit::{AllRefused, Edit, EditRefused};
 pub use place::Place;
+pub use since::ChangedSince;
 pub use sources::{Sources, file_item_tree};

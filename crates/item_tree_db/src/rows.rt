@@ -3,9 +3,9 @@ ghost use Rattle.std.specs.Prelude.{◌≡◌, All, IfErr, IfOk, length, map};
 ghost use Rattle.hir_input.specs.Syntax.{syntax_view};
 ghost use Rattle.item_tree.specs.CrateView.{crate_view};
 ghost use Rattle.item_tree.specs.Size.{FitsWith, IsTooLarge};
-ghost use Rattle.item_tree_db.specs.State.{file_at};
-ghost use Rattle.item_tree_db.specs.Refusal.{IsPassed};
-ghost use Rattle.item_tree_db.specs.Settled.{settled, settled_row, empty_row, cleared, brought};
+ghost use Rattle.item_tree_db.specs.declared.place.Place.TheVariants.{File};
+ghost use Rattle.item_tree_db.specs.Refusal.{IsTooLargeIn};
+ghost use Rattle.item_tree_db.specs.Settled.{settled, settled_row, empty_row, cleared, brought_to};
 
 use hir_input::ast::Syntax;
 use hir_input::{HirFileId, Name};
@@ -76,9 +76,10 @@ fn lower_row(
     syntax: &Syntax,
     number: u64,
 ) -> Result<Row, LowerError>
-    ensures row { IfOk result (λ row. row ≡ brought number skipped.now (file_at file.0) (syntax_view syntax.now) (crate_view krate.now)) }
+    ensures row { IfOk result (λ row. row ≡ brought_to number skipped.now file syntax.now krate.now) }
     ensures fits { IfOk result (λ row. FitsWith (syntax_view syntax.now) row.tree) }
-    ensures refused { IfErr result (IsTooLarge (syntax_view syntax.now) (brought number skipped.now (file_at file.0) (syntax_view syntax.now) (crate_view krate.now)).tree) }
+    ensures refused { let fresh = brought_to number skipped.now file syntax.now krate.now in
+        IfErr result (IsTooLarge (syntax_view syntax.now) fresh.tree) }
 {
     let tree = lower_syntax(alloc, syntax, file == krate.root, krate, skipped)?;
     Ok(Row {
@@ -96,9 +97,10 @@ pub fn lower_all(
     syntax: &Syntax,
     number: u64,
 ) -> Result<Vec<Row>, LowerError>
-    ensures rows { IfOk result (λ rows. rows.items ≡ map (λ krate. brought number skipped.now (file_at file.0) (syntax_view syntax.now) (crate_view krate)) crates.now) }
+    ensures rows { IfOk result (λ rows. rows.items ≡ map (brought_to number skipped.now file syntax.now) crates.now) }
     ensures fits { IfOk result (λ rows. All (λ row. FitsWith (syntax_view syntax.now) row.tree) rows.items) }
-    ensures refused { IfErr result (IsPassed (map crate_view crates.now) skipped.now (file_at file.0) (syntax_view syntax.now)) }
+    ensures refused { let place = File file in
+        IfErr result (IsTooLargeIn (map crate_view crates.now) skipped.now place (syntax_view syntax.now)) }
 {
     let mut rows = Vec::with_capacity(alloc, crates.len())?;
     for krate in crates {

@@ -2,9 +2,11 @@
 ghost use Rattle.std.specs.Prelude.{◌≡◌, [], length, Some, None, option_copied, IfOk, IfErr, IfSome, OnOk, OnErr};
 ghost use Rattle.item_tree_db.specs.State.{find};
 ghost use Rattle.item_tree_db.specs.Settled.{settled, cleared};
-ghost use Rattle.item_tree_db.specs.Slots.{put, set_to, removed, placed_or_nothing, row_in};
+ghost use Rattle.item_tree_db.specs.Slots.{IsRising, set_at, removed, row_in};
+ghost use Rattle.item_tree_db.specs.Walk.{HasFew, all_entries, late};
 
 use crate::rows::{Row, clear, settle, settle_first};
+use crate::since::Walk;
 use std::alloc::Global;
 use std::collections::BTreeMap;
 use std::marker::Model;
@@ -43,7 +45,7 @@ impl<S> Entry<S> {
         self.syntax.as_ref()
     }
 
-    fn rows(&self) -> &[Row]
+    pub fn rows(&self) -> &[Row]
         ensures { result.now ≡ self.now.rows }
     {
         &self.rows
@@ -119,6 +121,17 @@ impl<S> Shelf<S> {
     }
 }
 
+impl<S> Shelf<S> {
+    /// The change numbers above a bound.
+    pub fn late(&self, above: u64) -> Walk<'_, S>
+        requires { HasFew self.now }
+        ensures value { result ≡ late above (all_entries self.now) }
+        ensures rises { IsRising self.now }
+    {
+        Walk::new(self.slots.iter(), above)
+    }
+}
+
 impl<S: Drop> Shelf<S> {
     /// Sets the syntax of a number, with what it brings to each crate. All growth comes before the first change.
     pub fn set(
@@ -131,7 +144,7 @@ impl<S: Drop> Shelf<S> {
         number: u64,
     ) -> Result<(), S>
         requires { IfSome (find self.old key) (λ entry. length fresh.items ≡ length entry.rows) }
-        ensures ok { OnOk result (self.new ≡ put self.old key (set_to number (Some syntax) fresh.items (placed_or_nothing start (length fresh.items) (find self.old key)))) }
+        ensures ok { OnOk result (self.new ≡ set_at start number self.old key syntax fresh.items) }
         ensures err { OnErr result (self.new ≡ self.old) }
         ensures returned { IfErr result (λ back. back ≡ syntax) }
     {

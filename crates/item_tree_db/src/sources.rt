@@ -1,15 +1,17 @@
 //! The table of trees.
-ghost use Rattle.std.specs.Prelude.{◌≡◌, ◌<◌, ◌↔◌, ◌∷◌, [], All, map, take, slice_get, option_map, option_copied, Some, IsTrue, IfOk, IfErr, OnOk, OnErr, IsErrAnd};
+ghost use Rattle.std.specs.Prelude.{◌≡◌, ◌<◌, ◌↔◌, ◌∷◌, [], All, map, slice_get, option_map, option_copied, Some, IsTrue, IfOk, IfErr, OnOk, OnErr, IsErrAnd};
 ghost use Rattle.hir_input.specs.Syntax.{syntax_view};
 ghost use Rattle.item_tree.specs.declared.fault.EditFault.TheVariants.{TooManyEdits};
 ghost use Rattle.item_tree.specs.CrateView.{crate_view};
 ghost use Rattle.item_tree_db.specs.State.{new_table, IsKnown, present, unfolding_at, change_number};
-ghost use Rattle.item_tree_db.specs.Edits.{edit_view};
-ghost use Rattle.item_tree_db.specs.History.{IsAfter, IgnoresBodies};
-ghost use Rattle.item_tree_db.specs.Refusal.{last_number, EditFits, IsCause};
+ghost use Rattle.item_tree_db.specs.Edits.{edit_view, edits_before};
+ghost use Rattle.item_tree_db.specs.History.{IsAfter, IsFooting, IgnoresBodies};
+ghost use Rattle.item_tree_db.specs.Since.{IsSince};
+ghost use Rattle.item_tree_db.specs.Refusal.{last_number, EditFits, IsRefusal};
 
 use crate::edit::{AllRefused, Edit, EditRefused};
 use crate::place::Place;
+use crate::since::ChangedSince;
 use crate::store::Store;
 use hir_input::ast::Syntax;
 use hir_input::{Crate, HirFileId, Name};
@@ -59,12 +61,13 @@ impl Sources {
     pub fn edit(&mut self, edit: Edit) -> Result<u64, EditRefused>
         ensures ok { OnOk result (IsAfter self.old (edit_view edit ∷ []) self.new) }
         ensures number { IfOk result (λ number. number ≡ self.new.number) }
+        ensures footing { IsFooting self.old self.new }
         ensures bodies { OnOk result (IgnoresBodies self.old (edit_view edit ∷ []) self.new) }
-        ensures fits { OnOk result (EditFits self.old.crates self.old.skipped (edit_view edit)) }
+        ensures fits { OnOk result (EditFits self.old (edit_view edit)) }
 
         ensures err { OnErr result (self.new ≡ self.old) }
         ensures returned { IfErr result (λ refused. refused.edit ≡ edit) }
-        ensures cause { IfErr result (λ refused. IsCause self.old (edit_view edit) refused.cause) }
+        ensures cause { IfErr result (IsRefusal self.old) }
         ensures full { (self.old.number ≡ last_number) ↔ IsErrAnd result (λ refused. refused.cause ≡ TooManyEdits) }
     {
         self.store.edit(edit)
@@ -77,13 +80,14 @@ impl Sources {
     pub fn edit_all(&mut self, edits: Vec<Edit>) -> Result<u64, AllRefused>
         ensures ok { OnOk result (IsAfter self.old (map edit_view edits.items) self.new) }
         ensures number { IfOk result (λ number. number ≡ self.new.number) }
+        ensures footing { IsFooting self.old self.new }
         ensures bodies { OnOk result (IgnoresBodies self.old (map edit_view edits.items) self.new) }
-        ensures fits { OnOk result (All (EditFits self.old.crates self.old.skipped) (map edit_view edits.items)) }
+        ensures fits { OnOk result (All (EditFits self.old) (map edit_view edits.items)) }
 
         ensures place { IfErr result (λ all. slice_get edits.items all.place ≡ Some all.refused.edit) }
-        ensures refused { IfErr result (λ all. IsAfter self.old (take all.place (map edit_view edits.items)) self.new) }
-        ensures fits_before { IfErr result (λ all. All (EditFits self.old.crates self.old.skipped) (take all.place (map edit_view edits.items))) }
-        ensures cause { IfErr result (λ all. IsCause self.new (edit_view all.refused.edit) all.refused.cause) }
+        ensures refused { IfErr result (λ all. IsAfter self.old (edits_before all edits.items) self.new) }
+        ensures fits_before { IfErr result (λ all. All (EditFits self.old) (edits_before all edits.items)) }
+        ensures cause { IfErr result (λ all. IsRefusal self.new all.refused) }
         ensures full { IfErr result (λ all. self.new.number ≡ last_number → all.refused.cause ≡ TooManyEdits) }
     {
         self.store.edit_all(edits)
@@ -109,6 +113,15 @@ impl Sources {
         ensures { result ≡ change_number self.now place krate.0 }
     {
         self.store.changed(place, krate)
+    }
+
+    /// The change numbers above `n` and above `start`, of known crates at all places, in the order of places and
+    /// then of crates: what an index that was made at number `n` has to read again. A tree that became another and
+    /// then what it was is given too. Takes no memory, and passes over the table once.
+    pub fn changed_since(&self, n: u64) -> ChangedSince<'_>
+        ensures { IsSince self.now n result }
+    {
+        self.store.changed_since(n)
     }
 
     /// The present syntax of a file.

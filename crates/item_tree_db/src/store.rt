@@ -1,17 +1,19 @@
 //! The table with its trees as its value.
-ghost use Rattle.std.specs.Prelude.{◌≡◌, ◌+◌, ◌<◌, ◌↔◌, ◌^◌, [], All, length, map, take, slice_get, option_map, option_copied, Some, IsTrue, IfOk, IfErr, OnOk, OnErr, IsErrAnd};
+ghost use Rattle.std.specs.Prelude.{◌≡◌, ◌+◌, ◌<◌, ◌↔◌, ◌^◌, All, length, map, slice_get, option_map, option_copied, Some, IsTrue, IfOk, IfErr, OnOk, OnErr, IsErrAnd};
 ghost use Rattle.hir_input.specs.Syntax.{syntax_view};
 ghost use Rattle.item_tree.specs.declared.fault.EditFault.TheVariants.{TooManyEdits};
 ghost use Rattle.item_tree.specs.CrateView.{crate_view};
-ghost use Rattle.item_tree_db.specs.State.{crate_limit, file_at};
-ghost use Rattle.item_tree_db.specs.Edits.{edit_view, set_file as sets, remove_file as removes};
-ghost use Rattle.item_tree_db.specs.Refusal.{last_number, SyntaxFits, EditFits, IsPassed, IsCause};
-ghost use Rattle.item_tree_db.specs.Table.{after, after_all, state_of, syntax_at, row_found, row_at};
+ghost use Rattle.item_tree_db.specs.State.{file_at};
+ghost use Rattle.item_tree_db.specs.Edits.{edit_view, edits_before, set_file as sets, remove_file as removes};
+ghost use Rattle.item_tree_db.specs.Refusal.{last_number, SyntaxFits, EditFits, IsTooLargeIn, IsRefusal};
+ghost use Rattle.item_tree_db.specs.Since.{IsSince};
+ghost use Rattle.item_tree_db.specs.Table.{empty_table, after, after_all, state_of, syntax_at, row_found, row_at};
 
 use crate::edit::{AllRefused, Edit, EditRefused};
 use crate::place::Place;
 use crate::rows::{Row, lower_all};
 use crate::shelf::Shelf;
+use crate::since::ChangedSince;
 use hir_input::ast::Syntax;
 use hir_input::{Crate, HirFileId, Name};
 use item_tree::{CrateData, EditFault, ItemTree, LowerError};
@@ -31,20 +33,20 @@ pub struct Store {
 }
 
 impl Model for Store {
-    ghost use Rattle.std.specs.Prelude.{◌≡◌, length, map};
+    ghost use Rattle.std.specs.Prelude.{◌≡◌, ◌≤◌, length};
     ghost use Rattle.item_tree.specs.Node.{nothing};
-    ghost use Rattle.item_tree.specs.CrateView.{crate_view};
+    ghost use Rattle.item_tree_db.specs.State.{crate_limit};
     ghost use Rattle.item_tree_db.specs.Slots.{HasRows};
-    ghost use Rattle.item_tree_db.specs.Table.{Table, places_view};
+    ghost use Rattle.item_tree_db.specs.Table.{Table, table_of};
     ghost use Rattle.item_tree_db.specs.Codes.{table_code};
 
     ghost Value = { Table };
 
     ghost coded = { table_code };
 
-    ghost view = { λ a. record { crates = map crate_view a.crates.items; skipped = a.skipped.items; start = a.start; number = a.number; files = places_view a.files } };
+    ghost view = { λ a. table_of a.crates.items a.skipped.items a.start a.number a.files };
 
-    ghost invariant = { λ a. record { files : HasRows (length a.crates.items) a.files; empty : a.empty ≡ nothing } };
+    ghost invariant = { λ a. record { few : length a.crates.items ≤ crate_limit; files : HasRows (length a.crates.items) a.files; empty : a.empty ≡ nothing } };
 }
 
 // A refused syntax, handed back.
@@ -57,7 +59,7 @@ struct SyntaxRefused {
 impl Store {
     /// Nothing set, and the crates that have a number.
     pub fn new(alloc: Global, mut crates: Vec<CrateData>, skipped: Vec<Name>, start: u64) -> Store
-        ensures { result ≡ record { crates = take crate_limit (map crate_view crates.items); skipped = skipped.items; start = start; number = start; files = [] } }
+        ensures { result ≡ empty_table (map crate_view crates.items) skipped.items start }
     {
         crates.truncate(u32::MAX as usize + 1);
         Store {
@@ -77,7 +79,7 @@ impl Store {
         ensures err { OnErr result (self.new ≡ self.old) }
         ensures returned { IfErr result (λ refused. refused.syntax ≡ syntax) }
         ensures fits { OnOk result (SyntaxFits self.old.crates self.old.skipped (file_at file.0) (syntax_view syntax)) }
-        ensures refused { IfErr result (λ refused. IsPassed self.old.crates self.old.skipped (file_at file.0) (syntax_view syntax) refused.cause) }
+        ensures refused { IfErr result (λ refused. IsTooLargeIn self.old.crates self.old.skipped (file_at file.0) (syntax_view syntax) refused.cause) }
     {
         let number = self.number + 1;
         let fresh = match lower_all(
@@ -115,10 +117,10 @@ impl Store {
     pub fn edit(&mut self, edit: Edit) -> Result<u64, EditRefused>
         ensures ok { OnOk result (self.new ≡ after self.old (edit_view edit)) }
         ensures number { IfOk result (λ number. number ≡ self.new.number) }
-        ensures fits { OnOk result (EditFits self.old.crates self.old.skipped (edit_view edit)) }
+        ensures fits { OnOk result (EditFits (state_of self.old) (edit_view edit)) }
         ensures err { OnErr result (self.new ≡ self.old) }
         ensures returned { IfErr result (λ refused. refused.edit ≡ edit) }
-        ensures cause { IfErr result (λ refused. IsCause (state_of self.old) (edit_view edit) refused.cause) }
+        ensures cause { IfErr result (IsRefusal (state_of self.old)) }
         ensures full { (self.old.number ≡ last_number) ↔ IsErrAnd result (λ refused. refused.cause ≡ TooManyEdits) }
     {
         if self.number == u64::MAX {
@@ -142,11 +144,11 @@ impl Store {
     pub fn edit_all(&mut self, edits: Vec<Edit>) -> Result<u64, AllRefused>
         ensures ok { OnOk result (self.new ≡ after_all self.old (map edit_view edits.items)) }
         ensures number { IfOk result (λ number. number ≡ self.new.number) }
-        ensures fits { OnOk result (All (EditFits self.old.crates self.old.skipped) (map edit_view edits.items)) }
-        ensures refused { IfErr result (λ all. self.new ≡ after_all self.old (take all.place (map edit_view edits.items))) }
-        ensures fits_before { IfErr result (λ all. All (EditFits self.old.crates self.old.skipped) (take all.place (map edit_view edits.items))) }
+        ensures fits { OnOk result (All (EditFits (state_of self.old)) (map edit_view edits.items)) }
+        ensures refused { IfErr result (λ all. self.new ≡ after_all self.old (edits_before all edits.items)) }
+        ensures fits_before { IfErr result (λ all. All (EditFits (state_of self.old)) (edits_before all edits.items)) }
         ensures place { IfErr result (λ all. slice_get edits.items all.place ≡ Some all.refused.edit) }
-        ensures cause { IfErr result (λ all. IsCause (state_of self.new) (edit_view all.refused.edit) all.refused.cause) }
+        ensures cause { IfErr result (λ all. IsRefusal (state_of self.new) all.refused) }
         ensures full { IfErr result (λ all. self.new.number ≡ last_number → all.refused.cause ≡ TooManyEdits) }
     {
         for (place, edit) in edits.into_iter().enumerate() {
@@ -195,6 +197,12 @@ impl Store {
             Some(row) => row.changed,
             None => self.start,
         }
+    }
+
+    pub fn changed_since(&self, n: u64) -> ChangedSince<'_>
+        ensures { IsSince (state_of self.now) n result }
+    {
+        ChangedSince::new(self.files.late(n.max(self.start)))
     }
 
     pub fn tree(&self, place: Place, krate: Crate) -> &ItemTree

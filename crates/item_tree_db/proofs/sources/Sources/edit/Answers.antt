@@ -15,4 +15,7 @@ pub returns-clause-bodies : goal.returns-clause-bodies
 returns-clause-bodies c = (settled_one c.self.inside.store c.edit.new.self c.args.self.now (edit_view c.args.edit) c.edit.result c.self.view_is c.self.invariant c.edit.ensures.ok c.edit.ensures.err).bodies
 
 pub returns-clause-fits : goal.returns-clause-fits
-returns-clause-fits c = subst (λ (s : State). OnOk c.edit.result (EditFits s.crates s.skipped (edit_view c.args.edit))) c.self.view_is c.edit.ensures.fits
+returns-clause-fits c = subst (λ (s : State). OnOk c.edit.result (EditFits s (edit_view c.args.edit))) c.self.view_is c.edit.ensures.fits
+
+pub returns-clause-footing : goal.returns-clause-footing
+returns-clause-footing c = (settled_one c.self.inside.store c.edit.new.self c.args.self.now (edit_view c.args.edit) c.edit.result c.self.view_is c.self.invariant c.edit.ensures.ok c.edit.ensures.err).footing

@@ -2,7 +2,7 @@ use Rattle.std.proofs.Common.{◌≡◌, ◌∷◌, ℕ, drop, take, map, sym, �
 use Rattle.item_tree_db.specs.declared.edit.Edit.{Edit}
 use Rattle.item_tree_db.specs.Edits.{edit_view}
 use Rattle.item_tree_db.specs.Refusal.{EditFits}
-use Rattle.item_tree_db.specs.Table.{Table, after, after_all}
+use Rattle.item_tree_db.specs.Table.{Table, after, after_all, state_of}
 use Rattle.item_tree_db.proofs.Runs.{popped, same_crates, same_skipped, same_fits}
 use Rattle.item_tree_db.proofs.store.Store.edit_all.Goals as goal
 
@@ -17,7 +17,7 @@ loop-place-preserved c =
     record {
       rest = ap (λ (k : ℕ). drop k c.args.edits.items) n ∙ p.rest;
       done = c.in_default.ensures.ok ∙ ap (λ (t : Table). after t (edit_view c.in-Some.edit)) c.loop-place.invariant.done ∙ sym (ap (λ (k : ℕ). after_all c.args.self.now (take k (map edit_view c.args.edits.items))) n ∙ p.done c.args.self.now);
-      fits = subst (λ (k : ℕ). All (EditFits c.args.self.now.crates c.args.self.now.skipped) (take k (map edit_view c.args.edits.items))) (sym n) (p.each c.args.self.now.crates c.args.self.now.skipped c.loop-place.invariant.fits (same_fits c.loop-place.invariant.crates c.loop-place.invariant.skipped (edit_view c.in-Some.edit) c.in_default.ensures.fits));
+      fits = subst (λ (k : ℕ). All (EditFits (state_of c.args.self.now)) (take k (map edit_view c.args.edits.items))) (sym n) (p.each (EditFits (state_of c.args.self.now)) c.loop-place.invariant.fits (same_fits c.loop-place.self c.args.self.now c.loop-place.invariant.crates c.loop-place.invariant.skipped (edit_view c.in-Some.edit) c.in_default.ensures.fits));
       crates = ap (λ (t : Table). t.crates) c.in_default.ensures.ok ∙ same_crates c.loop-place.self (edit_view c.in-Some.edit) ∙ c.loop-place.invariant.crates;
       skipped = ap (λ (t : Table). t.skipped) c.in_default.ensures.ok ∙ same_skipped c.loop-place.self (edit_view c.in-Some.edit) ∙ c.loop-place.invariant.skipped;
     }

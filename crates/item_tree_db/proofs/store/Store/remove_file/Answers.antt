@@ -7,6 +7,7 @@ use Rattle.item_tree_db.proofs.store.Store.remove_file.Goals as goal
 
 pub invariant_of-self : goal.invariant_of-self
 invariant_of-self c = record {
+  few = c.self.invariant.few;
   files = rw c.remove.ensures (has_removed _ _ _ _ c.self.invariant.files);
   empty = c.self.invariant.empty;
 }

@@ -15,6 +15,7 @@ set-requires c = long_enough _ _ _ _ c.self.invariant.files (ap length c.in-Ok.e
 
 pub invariant_of-self-2 : goal.invariant_of-self-2
 invariant_of-self-2 c = record {
+  few = c.self.invariant.few;
   files = rw c.in_default.ensures.ok (has_set _ _ _ _ _ _ _ c.self.invariant.files (ap length c.in-Ok.ensures.rows ∙ length-map _ _ ∙ ap length c.deref.ensures.value));
   empty = c.self.invariant.empty;
 }

@@ -1,0 +1,31 @@
+-- What changed since a number.
+use Rattle.std.specs.Prelude.{◌≡◌, ℕ, ◌<◌, List, All}
+use Rattle.std.specs.List.{AllPairs, Contains}
+use Rattle.std.specs.declared.cmp.Ordering.{Ordering}
+use Rattle.std.specs.declared.cmp.Ordering.TheVariants.{Less}
+use Rattle.std.specs.Ordering.{nat_cmp, on, then_cmp}
+use Rattle.hir_input.specs.declared.ids.Crate.{Crate}
+use Rattle.item_tree_db.specs.declared.place.Place.{Place}
+use Rattle.item_tree_db.specs.PlaceOrder.{place_cmp}
+use Rattle.item_tree_db.specs.State.{State, IsKnown, change_number}
+
+-- a place and a crate, with a change number
+abbrev pub Change : Type 0
+Change = Place × Crate × ℕ
+
+-- in the order of places, and then of crates
+abbrev pub change_cmp : Change → Change → Ordering
+change_cmp = then_cmp (on (λ c. c.0) place_cmp) (on (λ c. c.1.0) nat_cmp)
+
+-- the change number of a place in a known crate, above n and above the start
+pub record IsLate (s : State) (n : ℕ) (c : Change) : Type 0 where
+  pub known : IsKnown s c.1
+  pub number : c.2 ≡ change_number s c.0 c.1.0
+  pub above : n < c.2
+  pub above_start : s.start < c.2
+
+-- exactly those, each once and in order
+pub record IsSince (s : State) (n : ℕ) (changes : List Change) : Type 0 where
+  pub late : All (IsLate s n) changes
+  pub whole : (c : Change) → IsLate s n c → Contains changes c
+  pub in_order : AllPairs (λ c d. change_cmp c d ≡ Less) changes
