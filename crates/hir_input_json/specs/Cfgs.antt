@@ -2,23 +2,21 @@
 use Rattle.std.specs.Prelude.{codes, Option, Some, None, option_map}
 use Rattle.serde_json.specs.Data.{Data}
 use Rattle.serde_json.specs.Find.{get, as_null, as_str}
-use Rattle.hir_input.specs.declared.cfg.CfgAtom.{CfgAtom}
-use Rattle.hir_input.specs.declared.cfg.CfgAtom.TheVariants.{Flag, KeyValue}
-use Rattle.hir_input.specs.Cfg.{CfgView, invalid, all_of, any_of, not_of, cfgs_from}
+use Rattle.hir_input.specs.Cfg.{AtomView, flag, key_value, CfgView, invalid, all_of, any_of, not_of, cfgs_from}
 use Rattle.hir_input.specs.Cfg as condition
 use Rattle.hir_input_json.specs.Forms.{field, required, by_first, name, name_in, list_of, ◌>>=◌}
 use Rattle.hir_input_json.specs.Nested.{nested}
 
 -- a key, and its value, which is required
-abbrev pub keyed_atom : Data → Option CfgAtom
+abbrev pub keyed_atom : Data → Option AtomView
 keyed_atom d = do
   key ← required name (field (codes "key") d)
   value ← required as_str (field (codes "value") d)
-  Some (KeyValue key value)
+  Some (key_value key value)
 
 -- an atom: a name for a flag, or an object with a key
-abbrev pub atom : Data → Option CfgAtom
-atom d = by_first (as_str d) (λ s. option_map Flag (name_in s)) (keyed_atom d)
+abbrev pub atom : Data → Option AtomView
+atom d = by_first (as_str d) (λ s. option_map flag (name_in s)) (keyed_atom d)
 
 -- a condition, over the reading of those inside: a null for what could not be read, a text, or an object by the first key that it holds; under `not` a null is held too
 abbrev pub cfg_with : (Data → Option CfgView) → Data → Option CfgView

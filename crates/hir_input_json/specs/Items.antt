@@ -1,11 +1,11 @@
--- The reading of an item and of a syntax.
+-- The reading of an item.
 use Rattle.std.specs.Prelude.{ℕ, ◌^◌, List, [], codes, false, Option, Some, None, option_map, option_and_then}
 use Rattle.serde_json.specs.Data.{Data}
 use Rattle.serde_json.specs.Find.{as_str, as_bool}
 use Rattle.hir_input.specs.declared.ast.Visibility.{Visibility}
 use Rattle.hir_input.specs.declared.expand_to.ExpandTo.{ExpandTo}
 use Rattle.hir_input.specs.declared.expand_to.ExpandTo.TheVariants.{Statements, Items, Pattern, Ty, Expr}
-use Rattle.hir_input.specs.Syntax.{NodeView, NamedView, PlainKind, fn_kind, union_kind, enum_kind, static_kind, trait_kind, type_alias_kind, macro_def_kind, FieldsView, record_fields, tuple_fields, no_fields, ItemView, plain_item, const_item, struct_item, module_from, use_item, extern_crate, extern_block_from, impl_item, macro_call, macro_rules, asm_item, items_from, SyntaxView, source_file, error}
+use Rattle.hir_input.specs.Syntax.{NodeView, NamedView, PlainKind, fn_kind, union_kind, enum_kind, static_kind, trait_kind, type_alias_kind, macro_def_kind, FieldsView, record_fields, tuple_fields, no_fields, CallView, ItemView, plain_item, const_item, struct_item, module_from, use_item, extern_crate, extern_block_from, impl_item, macro_call, macro_rules, asm_item}
 use Rattle.hir_input_json.specs.Forms.{field, required, optional, maybe, by_first, on_word, unless_null, whole, name, list_of, list_at, ◌>>=◌}
 use Rattle.hir_input_json.specs.Literals.{context_at}
 use Rattle.hir_input_json.specs.Metas.{attrs_at}
@@ -98,13 +98,16 @@ abbrev pub expand_to_at : Data → Option ExpandTo
 expand_to_at d = optional Items (λ e. option_and_then expand_word (as_str e)) (field (codes "expand_to") d)
 
 -- a macro call, with its path, what it expands to and its context
-abbrev pub macro_call_form : Data → Option ItemView
-macro_call_form d = do
+abbrev pub call_form : Data → Option CallView
+call_form d = do
   n ← node d
   p ← path_at d
   expands ← expand_to_at d
   ctxt ← context_at d
-  Some (macro_call (record { node = n; path = p; expand_to = expands; ctxt = ctxt }))
+  Some (record { node = n; path = p; expand_to = expands; ctxt = ctxt })
+
+abbrev pub macro_call_form : Data → Option ItemView
+macro_call_form d = option_map macro_call (call_form d)
 
 -- a macro by example, with its name
 abbrev pub macro_rules_form : Data → Option ItemView
@@ -166,23 +169,3 @@ item_with item d = do
 -- an item, with those inside it
 abbrev pub item : Data → Option ItemView
 item = nested item_with
-
--- a source file, with its attributes and its items
-abbrev pub source_form : Data → Option SyntaxView
-source_form d = do
-  attrs ← attrs_at d
-  items ← list_at item (codes "items") d
-  Some (source_file attrs (items_from items))
-
--- by the word of a root
-abbrev pub syntax_by : List ℕ → Data → Option SyntaxView
-syntax_by word d =
-    on_word word (codes "source_file") (source_form d)
-    (on_word word (codes "error") (Some error)
-    None)
-
--- a syntax, by its root
-abbrev pub syntax : Data → Option SyntaxView
-syntax d = do
-  word ← required as_str (field (codes "root") d)
-  syntax_by word d

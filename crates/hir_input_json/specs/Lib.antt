@@ -7,6 +7,7 @@ pub mod Literals
 pub mod Metas
 pub mod UseTrees
 pub mod Items
+pub mod Syntaxes
 pub mod Editions
 pub mod Reads
 pub mod Seen

@@ -6,7 +6,7 @@ use Rattle.hir_input.specs.declared.edition.EditionYear.TheVariants.{E2015, E201
 use Rattle.hir_input.specs.declared.ids.SyntaxContext.{SyntaxContext}
 use Rattle.hir_input.specs.declared.ids.SyntaxContext.TheVariants.{Root, Expanded}
 use Rattle.hir_input.specs.declared.span.Span.{Span}
-use Rattle.hir_input.specs.declared.attr.Literal.{Literal}
+use Rattle.hir_input.specs.Literal.{LiteralView}
 use Rattle.hir_input_json.specs.Forms.{field, required, optional, maybe, by_first, on_word, whole, ◌>>=◌}
 
 -- the words for the roots of the editions
@@ -45,7 +45,7 @@ abbrev pub span : SyntaxContext → Data → Option Span
 span ctxt d = option_and_then (span_in ctxt) (as_array d)
 
 -- a literal, whose span is in this context: empty at 0 where it is absent
-abbrev pub literal : SyntaxContext → Data → Option Literal
+abbrev pub literal : SyntaxContext → Data → Option LiteralView
 literal ctxt d = do
   rendered ← required as_str (field (codes "rendered") d)
   string ← maybe as_str (field (codes "string") d)

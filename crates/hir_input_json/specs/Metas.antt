@@ -35,7 +35,7 @@ tokens_form d = do
   p ← path_at d
   ctxt ← context_at d
   rendered ← required as_str (field (codes "tokens") d)
-  Some (token_tree_meta p (record { rendered = rendered }) ctxt)
+  Some (token_tree_meta p rendered ctxt)
 
 -- a condition
 abbrev pub cfg_form : Data → Option MetaView

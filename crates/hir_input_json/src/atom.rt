@@ -1,6 +1,7 @@
 //! Atoms of conditions, read from their forms.
-ghost use Rattle.std.specs.Prelude.{◌≡◌, OnOk};
+ghost use Rattle.std.specs.Prelude.{◌≡◌, OnOk, map};
 ghost use Rattle.serde_json.specs.View.{view, items_view};
+ghost use Rattle.hir_input.specs.Cfg.{atom_view};
 ghost use Rattle.hir_input_json.specs.Cfgs.{atom as atom_form, keyed_atom as keyed_form};
 ghost use Rattle.hir_input_json.specs.Forms.{each, list_at as each_at};
 ghost use Rattle.hir_input_json.specs.Held.{held, without};
@@ -17,7 +18,7 @@ use std::alloc::Global;
 // A key and its value.
 #[tactic(auto, using(crate::proofs::Held::field_without))]
 pub(crate) fn keyed_atom_of(members: &mut Map<String, Value>) -> Result<CfgAtom, Fault>
-    ensures { Reads (λ atom. atom) result (keyed_form (held members.old)) }
+    ensures { Reads atom_view result (keyed_form (held members.old)) }
 {
     let key = taken(members, "key").ok_or(Fault::WrongForm)?;
     let key = name_of(key)?;
@@ -27,7 +28,7 @@ pub(crate) fn keyed_atom_of(members: &mut Map<String, Value>) -> Result<CfgAtom,
 
 #[tactic(auto, using(crate::proofs::Held::no_field))]
 pub(crate) fn atom_of(value: Value) -> Result<CfgAtom, Fault>
-    ensures { Reads (λ atom. atom) result (atom_form (view value)) }
+    ensures { Reads atom_view result (atom_form (view value)) }
 {
     if value.is_string() {
         return Ok(CfgAtom::Flag(name_of(value)?));
@@ -37,7 +38,7 @@ pub(crate) fn atom_of(value: Value) -> Result<CfgAtom, Fault>
 }
 
 fn atoms_of(alloc: Global, items: Vec<Value>) -> Result<Vec<CfgAtom>, Fault>
-    ensures { Reads (λ v. v.items) result (each atom_form (items_view items.items)) }
+    ensures { Reads (λ v. map atom_view v.items) result (each atom_form (items_view items.items)) }
 {
     let mut atoms = Vec::new(alloc);
     for item in items {
@@ -54,7 +55,7 @@ pub fn atoms_at(
     members: &mut Map<String, Value>,
     key: &str,
 ) -> Result<Vec<CfgAtom>, Fault>
-    ensures reads { Reads (λ v. v.items) result (each_at atom_form key.now (held members.old)) }
+    ensures reads { Reads (λ v. map atom_view v.items) result (each_at atom_form key.now (held members.old)) }
     ensures left { OnOk result (held members.new ≡ without key.now (held members.old)) }
 {
     let items = list_at(alloc, members, key)?;

@@ -9,7 +9,7 @@ ghost use Rattle.hir_input_json.specs.Reads.{Reads};
 
 mod extern_block;
 mod fields;
-mod macros;
+pub(crate) mod macros;
 mod node;
 
 use crate::fault::Fault;

@@ -17,6 +17,7 @@ pub mod member;
 pub mod meta;
 pub mod name;
 mod path;
+mod stmt;
 pub mod syntax;
 mod use_tree;
 mod visibility;

@@ -1,5 +1,5 @@
 //! Literals, read from their forms.
-ghost use Rattle.std.specs.Prelude.{◌≡◌, OnOk, codes};
+ghost use Rattle.std.specs.Prelude.{◌≡◌, OnOk, codes, option_map, string_bytes};
 ghost use Rattle.serde_json.specs.Find.{as_str};
 ghost use Rattle.serde_json.specs.View.{view};
 ghost use Rattle.hir_input_json.specs.Forms.{field as field_of, maybe, optional, required};
@@ -9,24 +9,24 @@ ghost use Rattle.hir_input_json.specs.Reads.{Reads};
 
 use crate::fault::Fault;
 use crate::member::{field, members_of, taken, text_of, u32_of};
-use hir_input::{Literal, Span, SyntaxContext, Text};
+use hir_input::{Literal, Span, SyntaxContext};
 use serde_json::{Map, Value};
 
 // A text that has to be there, taken out.
-pub(crate) fn required_text_at(members: &mut Map<String, Value>, key: &str) -> Result<Text, Fault>
-    ensures reads { Reads (λ text. text) result (required as_str (field_of key.now (held members.old))) }
+pub(crate) fn required_text_at(members: &mut Map<String, Value>, key: &str) -> Result<String, Fault>
+    ensures reads { Reads string_bytes result (required as_str (field_of key.now (held members.old))) }
     ensures left { OnOk result (held members.new ≡ without key.now (held members.old)) }
 {
     let found = taken(members, key).ok_or(Fault::WrongForm)?;
-    Ok(Text::from(text_of(found)?))
+    text_of(found)
 }
 
-fn string_at(members: &mut Map<String, Value>) -> Result<Option<Text>, Fault>
-    ensures reads { Reads (λ text. text) result (maybe as_str (field_of (codes "string") (held members.old))) }
+fn string_at(members: &mut Map<String, Value>) -> Result<Option<String>, Fault>
+    ensures reads { Reads (option_map string_bytes) result (maybe as_str (field_of (codes "string") (held members.old))) }
     ensures left { OnOk result (held members.new ≡ without (codes "string") (held members.old)) }
 {
     match taken(members, "string") {
-        Some(found) => Ok(Some(Text::from(text_of(found)?))),
+        Some(found) => Ok(Some(text_of(found)?)),
         None => Ok(None),
     }
 }

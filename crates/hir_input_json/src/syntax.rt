@@ -1,16 +1,17 @@
-//! Syntaxes, read from their forms.
+//! Syntaxes and blocks, read from their forms.
 ghost use Rattle.std.specs.Prelude.{◌≡◌};
 ghost use Rattle.serde_json.specs.View.{view};
-ghost use Rattle.hir_input.specs.Syntax.{syntax_view};
+ghost use Rattle.hir_input.specs.Syntax.{syntax_view, block_view};
 ghost use Rattle.hir_input_json.specs.Held.{held};
-ghost use Rattle.hir_input_json.specs.Items.{source_form, syntax as syntax_form};
+ghost use Rattle.hir_input_json.specs.Syntaxes.{source_form, macro_items_form, macro_stmts_form, syntax as syntax_form, block as block_form};
 ghost use Rattle.hir_input_json.specs.Reads.{Reads};
 
 use crate::fault::Fault;
 use crate::item::items_of;
 use crate::member::{list_at, members_of, word_at};
 use crate::meta::attrs_at;
-use hir_input::ast::Syntax;
+use crate::stmt::{stmts_at, tail_at};
+use hir_input::ast::{BlockExpr, Syntax};
 use serde_json::{Map, Value};
 use std::alloc::Global;
 
@@ -24,9 +25,26 @@ fn source_file_of(alloc: Global, members: &mut Map<String, Value>) -> Result<Syn
     Ok(Syntax::SourceFile { attrs, items })
 }
 
-/// The syntax of a file, by its root.
+fn macro_items_of(alloc: Global, members: &mut Map<String, Value>) -> Result<Syntax, Fault>
+    ensures { Reads syntax_view result (macro_items_form (held members.old)) }
+{
+    let items = list_at(alloc, members, "items")?;
+    let items = items_of(alloc, items)?;
+    Ok(Syntax::MacroItems { items })
+}
+
+#[tactic(auto, using(crate::proofs::Held::field_without))]
+fn macro_stmts_of(alloc: Global, members: &mut Map<String, Value>) -> Result<Syntax, Fault>
+    ensures { Reads syntax_view result (macro_stmts_form (held members.old)) }
+{
+    let stmts = stmts_at(alloc, members)?;
+    let tail = tail_at(alloc, members)?;
+    Ok(Syntax::MacroStmts { stmts, tail })
+}
+
+/// The syntax of a file or of a macro's result, by its root.
 ///
-/// `WrongForm` comes only where the value has no reading (`Items.syntax`).
+/// `WrongForm` comes only where the value has no reading (`Syntaxes.syntax`).
 #[tactic(auto, using(crate::proofs::Held::no_field))]
 pub fn syntax_of(alloc: Global, value: Value) -> Result<Syntax, Fault>
     ensures { Reads syntax_view result (syntax_form (view value)) }
@@ -34,7 +52,22 @@ pub fn syntax_of(alloc: Global, value: Value) -> Result<Syntax, Fault>
     let mut members = members_of(value)?;
     match word_at(&members, "root")? {
         "source_file" => source_file_of(alloc, &mut members),
+        "macro_items" => macro_items_of(alloc, &mut members),
+        "macro_stmts" => macro_stmts_of(alloc, &mut members),
         "error" => Ok(Syntax::Error),
         _ => Err(Fault::WrongForm),
     }
+}
+
+/// A block, whose members are those of an object that may hold others too.
+///
+/// `WrongForm` comes only where the object has no reading (`Syntaxes.block`).
+#[tactic(auto, using(crate::proofs::Held::field_without))]
+pub fn block_in(alloc: Global, members: &mut Map<String, Value>) -> Result<BlockExpr, Fault>
+    ensures { Reads block_view result (block_form (held members.old)) }
+{
+    let attrs = attrs_at(alloc, members)?;
+    let stmts = stmts_at(alloc, members)?;
+    let tail = tail_at(alloc, members)?;
+    Ok(BlockExpr { attrs, stmts, tail })
 }

@@ -1,7 +1,7 @@
 use hir_input::ast::PathNode;
 use hir_input::{
     Attr, AttrInput, CfgAtom, CfgExpr, CfgOptions, EditionYear, Literal, Meta, ModPath, Name,
-    PathKind, Span, SyntaxContext, Text, TokenTree,
+    PathKind, Span, SyntaxContext, TokenTree,
 };
 use std::alloc::Global;
 use std::test::Fail;

@@ -10,28 +10,28 @@ use Rattle.item_tree.specs.declared.fault.LowerError.TheVariants.{TooManyItems, 
 use Rattle.item_tree_db.specs.State.{State, file_at}
 use Rattle.item_tree_db.specs.Edits.{EditView, set_file, remove_file}
 use Rattle.item_tree_db.specs.History.{IsAfter}
-use Rattle.item_tree_db.specs.Refusal.{last_number, EditFits, IsPassed, IsCause}
+use Rattle.item_tree_db.specs.Refusal.{last_number, EditFits, IsTooLargeIn, IsCause}
 use Rattle.item_tree_request.specs.Made.{IsMade, IsUnmade, refusal_of}
 use Rattle.item_tree_request.specs.Outputs.{NonePasses, PassesAt}
 
-pub is_made : (s u : State) (edits : List EditView) → IsAfter s edits u → u.number ≤ last_number → All (EditFits s.crates s.skipped) edits → IsMade s edits u
+pub is_made : (s u : State) (edits : List EditView) → IsAfter s edits u → u.number ≤ last_number → All (EditFits s) edits → IsMade s edits u
 is_made s u edits after small fit = record {
   after = after;
   none_passes = record {
     numbers = omega (arith, small, after.number);
-    trees = subst (All (EditFits s.crates s.skipped)) (sym (take_all (length edits) edits (omega arith))) fit;
+    trees = subst (All (EditFits s)) (sym (take_all (length edits) edits (omega arith))) fit;
   };
 }
 
-none_before : (s u : State) (edits : List EditView) (place : ℕ) → place ≤ length edits → IsAfter s (take place edits) u → u.number ≤ last_number → All (EditFits s.crates s.skipped) (take place edits) → NonePasses s edits place
+none_before : (s u : State) (edits : List EditView) (place : ℕ) → place ≤ length edits → IsAfter s (take place edits) u → u.number ≤ last_number → All (EditFits s) (take place edits) → NonePasses s edits place
 none_before s u edits place within after small fit = record { numbers = omega (arith, small, after.number, length-take-le place edits within); trees = fit }
 
 full_at : (s u : State) (edits : List EditView) (place : ℕ) → place < length edits → IsAfter s (take place edits) u → u.number ≡ last_number → PassesAt s edits place TooManyEdits
 full_at s u edits place within after full = (within, omega (arith, full, after.number, length-take-le place edits (omega (arith, within))))
 
 -- the same crates and skipped names
-passed_in : (u s : State) (k : ℕ) (syntax : SyntaxView) (error : LowerError) → u.crates ≡ s.crates → u.skipped ≡ s.skipped → IsPassed u.crates u.skipped (file_at k) syntax error → IsPassed s.crates s.skipped (file_at k) syntax error
-passed_in u s k syntax error same names passed = subst (λ ns. IsPassed s.crates ns (file_at k) syntax error) names (subst (λ cs. IsPassed cs u.skipped (file_at k) syntax error) same passed)
+passed_in : (u s : State) (k : ℕ) (syntax : SyntaxView) (error : LowerError) → u.crates ≡ s.crates → u.skipped ≡ s.skipped → IsTooLargeIn u.crates u.skipped (file_at k) syntax error → IsTooLargeIn s.crates s.skipped (file_at k) syntax error
+passed_in u s k syntax error same names passed = subst (λ ns. IsTooLargeIn s.crates ns (file_at k) syntax error) names (subst (λ cs. IsTooLargeIn cs u.skipped (file_at k) syntax error) same passed)
 
 -- an edit refused in a table of the same
 tree_passes : (u : State) (edit : EditView) (error : LowerError) (place : ℕ) (s : State) (edits : List EditView)
@@ -49,7 +49,7 @@ below_last : (n : ℕ) (error : LowerError) → n ≤ last_number → (n ≡ las
 below_last n error small full = elim (eq-or-lt_of_le small) as (λ _. n < last_number) [ inl e ↦ let h = full e in absurd cc | inr l ↦ l ]
 
 pub is_unmade : (s u : State) (edits : List EditView) (place : ℕ) (edit : EditView) (cause : EditFault)
-    → slice_get edits place ≡ Some edit → IsAfter s (take place edits) u → u.number ≤ last_number → All (EditFits s.crates s.skipped) (take place edits) → IsCause u edit cause → (u.number ≡ last_number → cause ≡ TooManyEdits)
+    → slice_get edits place ≡ Some edit → IsAfter s (take place edits) u → u.number ≤ last_number → All (EditFits s) (take place edits) → IsCause u edit cause → (u.number ≡ last_number → cause ≡ TooManyEdits)
     → IsUnmade s edits (refusal_of place cause)
 is_unmade s u edits place edit TooManyEdits found after small fit cause full =
     let within = slice_get_within edits place edit found in

@@ -6,7 +6,7 @@ use Rattle.item_tree.specs.CrateView.{CrateView}
 use Rattle.item_tree_db.specs.Edits.{EditView, set_file, remove_file}
 use Rattle.hir_input_json.specs.Cfgs.{atom}
 use Rattle.hir_input_json.specs.Forms.{field, required, on_word, id_at, list_at, ◌>>=◌}
-use Rattle.hir_input_json.specs.Items.{syntax}
+use Rattle.hir_input_json.specs.Syntaxes.{syntax}
 use Rattle.hir_input_json.specs.Metas.{attrs_at}
 
 -- a crate: the file of its root, the options that are set, and its attributes

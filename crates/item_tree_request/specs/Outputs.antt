@@ -10,7 +10,7 @@ use Rattle.item_tree_db.specs.declared.place.Place.TheVariants.{File}
 use Rattle.item_tree_db.specs.State.{State, file_at, new_table}
 use Rattle.item_tree_db.specs.Edits.{EditView, set_file, remove_file}
 use Rattle.item_tree_db.specs.History.{unfolding_after, changed_after}
-use Rattle.item_tree_db.specs.Refusal.{last_number, EditFits, IsPassed}
+use Rattle.item_tree_db.specs.Refusal.{last_number, EditFits, IsTooLargeIn}
 use Rattle.item_tree_request.specs.declared.request.show.Show.{Show}
 use Rattle.item_tree_request.specs.declared.request.show.ShowKind.{ShowKind}
 use Rattle.item_tree_request.specs.declared.request.show.ShowKind.TheVariants.{Page, Tree, Imports}
@@ -53,12 +53,12 @@ output q = flat_map (shown q.edition.reserved (table_of q) q.edits) q.shows
 -- none of the first n edits passes a size: their numbers are no higher than the last, and their trees fit
 pub record NonePasses (s : State) (edits : List EditView) (n : ℕ) : Type 0 where
   pub numbers : s.number + n ≤ last_number
-  pub trees : All (EditFits s.crates s.skipped) (take n edits)
+  pub trees : All (EditFits s) (take n edits)
 
 -- the tree of an edit passes this size in some crate
 abbrev pub TreePasses : State → EditView → LowerError → Type 0
 TreePasses s (set_file k syntax) OutOfMemory = ⊥
-TreePasses s (set_file k syntax) error = IsPassed s.crates s.skipped (file_at k) syntax error
+TreePasses s (set_file k syntax) error = IsTooLargeIn s.crates s.skipped (file_at k) syntax error
 TreePasses s (remove_file k) error = ⊥
 
 -- the edit at this place, counted from 0, passes this size: its number is past the last, or it has a number and its tree is too large

@@ -1,8 +1,8 @@
 //! Macro calls and macros by example, read from their forms.
 ghost use Rattle.std.specs.Prelude.{◌≡◌, option_map};
-ghost use Rattle.hir_input.specs.Syntax.{call_view, item_view, macro_call as call_item};
+ghost use Rattle.hir_input.specs.Syntax.{call_view, item_view};
 ghost use Rattle.hir_input_json.specs.Held.{held};
-ghost use Rattle.hir_input_json.specs.Items.{expand_to_at as expand_to_form, macro_call_form, macro_rules_form};
+ghost use Rattle.hir_input_json.specs.Items.{expand_to_at as expand_to_form, call_form, macro_rules_form};
 ghost use Rattle.hir_input_json.specs.Reads.{Reads};
 
 use crate::context::context_at;
@@ -38,7 +38,7 @@ pub(crate) fn macro_call_of(
     alloc: Global,
     members: &mut Map<String, Value>,
 ) -> Result<MacroCall, Fault>
-    ensures { Reads (λ call. call_item (call_view call)) result (macro_call_form (held members.old)) }
+    ensures { Reads call_view result (call_form (held members.old)) }
 {
     let node = node_at(alloc, members)?;
     let path = path_at(alloc, members)?;

@@ -1,0 +1,100 @@
+//! Statements and tails, read from their forms.
+ghost use Rattle.std.specs.Prelude.{◌≡◌, OnOk, codes, map};
+ghost use Rattle.serde_json.specs.Find.{as_str};
+ghost use Rattle.serde_json.specs.View.{view, items_view};
+ghost use Rattle.hir_input.specs.Syntax.{call_view, stmt_view, stmts_view, tail_view};
+ghost use Rattle.hir_input_json.specs.Forms.{each, field as field_of, list_at as each_at, optional};
+ghost use Rattle.hir_input_json.specs.Held.{held, without};
+ghost use Rattle.hir_input_json.specs.Syntaxes.{call as call_form, stmt as stmt_form, tail as tail_form, tail_at as tail_at_form};
+ghost use Rattle.hir_input_json.specs.Reads.{Reads};
+
+use crate::fault::Fault;
+use crate::item::item_of;
+use crate::item::macros::macro_call_of;
+use crate::member::{field, list_at, members_of, taken};
+use hir_input::ast::{MacroCall, Stmt, Tail};
+use serde_json::{Map, Value};
+use std::alloc::Global;
+
+// The word of a call's kind, which may be absent.
+fn kind_at<'v>(members: &'v Map<String, Value>) -> Result<&'v str, Fault>
+    ensures { Reads (λ word. word.now) result (optional (codes "macro_call") as_str (field_of (codes "is") (held members.now))) }
+{
+    match field(members, "is") {
+        Some(found) => found.as_str().ok_or(Fault::WrongForm),
+        None => Ok("macro_call"),
+    }
+}
+
+#[tactic(auto, using(crate::proofs::Held::no_field))]
+fn call_of(alloc: Global, value: Value) -> Result<MacroCall, Fault>
+    ensures { Reads call_view result (call_form (view value)) }
+{
+    let mut members = members_of(value)?;
+    match kind_at(&members)? {
+        "macro_call" => macro_call_of(alloc, &mut members),
+        _ => Err(Fault::WrongForm),
+    }
+}
+
+#[tactic(auto, using(crate::proofs::Held::field_without, crate::proofs::Held::no_field))]
+fn stmt_of(alloc: Global, value: Value) -> Result<Stmt, Fault>
+    ensures { Reads stmt_view result (stmt_form (view value)) }
+{
+    if let Some(word) = value.as_str() {
+        return match word {
+            "other" => Ok(Stmt::Other),
+            _ => Err(Fault::WrongForm),
+        };
+    }
+    let mut members = members_of(value)?;
+    if let Some(item) = taken(&mut members, "item") {
+        return Ok(Stmt::Item(item_of(alloc, item)?));
+    }
+    let call = taken(&mut members, "call").ok_or(Fault::WrongForm)?;
+    Ok(Stmt::MacroCall(call_of(alloc, call)?))
+}
+
+fn stmts_of(alloc: Global, values: Vec<Value>) -> Result<Vec<Stmt>, Fault>
+    ensures { Reads (λ v. stmts_view v.items) result (each stmt_form (items_view values.items)) }
+{
+    let mut stmts = Vec::with_capacity(alloc, values.len())?;
+    for stmt in values {
+        stmts.push(stmt_of(alloc, stmt)?)?;
+    }
+    Ok(stmts)
+}
+
+// Takes the statements out, none where they are absent.
+pub(crate) fn stmts_at(alloc: Global, members: &mut Map<String, Value>) -> Result<Vec<Stmt>, Fault>
+    ensures reads { Reads (λ v. stmts_view v.items) result (each_at stmt_form (codes "stmts") (held members.old)) }
+    ensures left { OnOk result (held members.new ≡ without (codes "stmts") (held members.old)) }
+{
+    let stmts = list_at(alloc, members, "stmts")?;
+    stmts_of(alloc, stmts)
+}
+
+#[tactic(auto, using(crate::proofs::Held::no_field))]
+fn tail_of(alloc: Global, value: Value) -> Result<Tail, Fault>
+    ensures { Reads tail_view result (tail_form (view value)) }
+{
+    if let Some(word) = value.as_str() {
+        return match word {
+            "other" => Ok(Tail::Other),
+            _ => Err(Fault::WrongForm),
+        };
+    }
+    let mut members = members_of(value)?;
+    let call = taken(&mut members, "call").ok_or(Fault::WrongForm)?;
+    Ok(Tail::MacroCall(call_of(alloc, call)?))
+}
+
+// Takes the tail out, nothing where it is absent.
+pub(crate) fn tail_at(alloc: Global, members: &mut Map<String, Value>) -> Result<Tail, Fault>
+    ensures { Reads tail_view result (tail_at_form (held members.old)) }
+{
+    match taken(members, "tail") {
+        Some(tail) => tail_of(alloc, tail),
+        None => Ok(Tail::Nothing),
+    }
+}
