@@ -1,6 +1,7 @@
 -- Positions in the rest of a list, and lengths of selections.
-use Rattle.std.proofs.Common.{◌≡◌, ℕ, zero, suc, ◌+◌, ◌≤◌, Bool, not, Option, List, [], ◌∷◌, drop, length, refl, ap, ◌∙◌, arith}
+use Rattle.std.proofs.Common.{◌≡◌, ℕ, zero, suc, ◌+◌, ◌≤◌, Bool, not, Option, List, [], ◌∷◌, drop, length, length-drop, refl, ap, ◌∙◌, arith}
 use Rattle.std.specs.List.{enumerate_from, filter, filter_map}
+use Rattle.std.proofs.lemmas.List.FromFn.{length-enumerate_from}
 use Rattle.std.proofs.lemmas.List.Filters.{length-filter_both}
 
 enumerate_from-behind : {A : Type 0} (n k : ℕ) (xs : List A) → enumerate_from (n + k) (drop k xs) ≡ drop k (enumerate_from n xs)
@@ -21,3 +22,7 @@ length-filter-le p xs = omega (arith, length-filter_both p (λ x. not (p x)) (λ
 pub length-filter_map-le : {A B : Type 0} (h : A → Option B) (xs : List A) → length (filter_map h xs) ≤ length xs
 length-filter_map-le h [] = omega arith
 length-filter_map-le h (x ∷ xs) = grind (arith, length-filter_map-le h xs)
+
+pub ruleset selections = (length-filter-le, length-filter_map-le)
+
+pub ruleset positions = (enumerate_from-drop, length-enumerate_from, length-drop)
