@@ -11,12 +11,8 @@ read_supers-all k [] = refl
 read_supers-all k (n ∷ ns) = ap (path_of (Super k)) (read_names-all (n ∷ ns))
 
 behind-names : (k : PathKind) (ns ms : List (List ℕ)) → behind k ns (map name_word ms) ≡ Some (record { kind = k; names = ns ++ ms })
-behind-names Plain ns ms = ap (λ o. path_of Plain (before_names ns o)) (read_names-all ms)
-behind-names Crate ns ms = ap (λ o. path_of Crate (before_names ns o)) (read_names-all ms)
-behind-names Abs ns ms = ap (λ o. path_of Abs (before_names ns o)) (read_names-all ms)
-behind-names (DollarCrate c) ns ms = ap (λ o. path_of (DollarCrate c) (before_names ns o)) (read_names-all ms)
 behind-names (Super k) [] ms = read_supers-all k ms
-behind-names (Super k) (n ∷ ns) ms = ap (λ o. path_of (Super k) (before_names (n ∷ ns) o)) (read_names-all ms)
+behind-names k ns ms = ap (λ o. path_of k (before_names ns o)) (read_names-all ms)
 
 -- a plain path adds its names
 pub read-join_plain : (k : PathKind) (ns ms : List (List ℕ)) → HasWords k ns → read_words (words (record { kind = k; names = ns }) ++ words (record { kind = Plain; names = ms })) ≡ Some (record { kind = k; names = ns ++ ms })
@@ -33,24 +29,13 @@ read-join_super a (suc b) ms h =
 -- where the second path may not stand behind the first
 abbrev pub MayNotFollow : PathKind → List (List ℕ) → PathKind → Type 0
 MayNotFollow k ns Plain = ⊥
-MayNotFollow k ns Crate = Unit {0}
-MayNotFollow k ns Abs = Unit {0}
-MayNotFollow k ns (DollarCrate c) = Unit {0}
-MayNotFollow k ns (Super zero) = Unit {0}
-MayNotFollow Plain ns (Super (suc m)) = Unit {0}
-MayNotFollow Crate ns (Super (suc m)) = Unit {0}
-MayNotFollow Abs ns (Super (suc m)) = Unit {0}
-MayNotFollow (DollarCrate c) ns (Super (suc m)) = Unit {0}
 MayNotFollow (Super k) ns (Super (suc m)) = 0 < length ns
+MayNotFollow k ns l = Unit {0}
 
 -- a word that is no name and no `super`
 behind-none : (k : PathKind) (ns : List (List ℕ)) (w : Word) (ws : List Word) → ((n : ℕ) → read_supers n (w ∷ ws) ≡ None) → read_names (w ∷ ws) ≡ None → behind k ns (w ∷ ws) ≡ None
-behind-none Plain ns w ws h e = ap (λ o. path_of Plain (before_names ns o)) e
-behind-none Crate ns w ws h e = ap (λ o. path_of Crate (before_names ns o)) e
-behind-none Abs ns w ws h e = ap (λ o. path_of Abs (before_names ns o)) e
-behind-none (DollarCrate c) ns w ws h e = ap (λ o. path_of (DollarCrate c) (before_names ns o)) e
 behind-none (Super k) [] w ws h e = h k
-behind-none (Super k) (n ∷ ns) w ws h e = ap (λ o. path_of (Super k) (before_names (n ∷ ns) o)) e
+behind-none k ns w ws h e = ap (λ o. path_of k (before_names ns o)) e
 
 -- anything else behind a path means nothing
 pub read-join_none : (k : PathKind) (ns : List (List ℕ)) (l : PathKind) (ms : List (List ℕ)) → HasWords k ns → MayNotFollow k ns l → read_words (words (record { kind = k; names = ns }) ++ words (record { kind = l; names = ms })) ≡ None
@@ -59,14 +44,8 @@ read-join_none k ns Crate ms h w = read-behind k ns _ h ∙ behind-none k ns cra
 read-join_none k ns Abs ms h w = read-behind k ns _ h ∙ behind-none k ns absolute_word _ (λ _. refl) refl
 read-join_none k ns (DollarCrate c) ms h w = read-behind k ns _ h ∙ behind-none k ns (dollar_crate_word c) _ (λ _. refl) refl
 read-join_none k ns (Super zero) ms h w = read-behind k ns _ h ∙ behind-none k ns self_word _ (λ _. refl) refl
-read-join_none Plain ns (Super (suc m)) ms h w = read-behind Plain ns (replicate (suc m) super_word ++ map name_word ms) h
-read-join_none Crate ns (Super (suc m)) ms h w = read-behind Crate ns (replicate (suc m) super_word ++ map name_word ms) h
-read-join_none Abs ns (Super (suc m)) ms h w = read-behind Abs ns (replicate (suc m) super_word ++ map name_word ms) h
-read-join_none (DollarCrate c) ns (Super (suc m)) ms h w =
-    read-behind (DollarCrate c) ns (replicate (suc m) super_word ++ map name_word ms) h
 read-join_none (Super k) [] (Super (suc m)) ms h w = absurd (omega arith)
-read-join_none (Super k) (n ∷ ns) (Super (suc m)) ms h w =
-    read-behind (Super k) (n ∷ ns) (replicate (suc m) super_word ++ map name_word ms) h
+read-join_none k ns (Super (suc m)) ms h w = read-behind k ns (replicate (suc m) super_word ++ map name_word ms) h
 
 -- what words mean is a path
 path_of-any : (k : PathKind) (o : Option (List (List ℕ))) → ((ns : List (List ℕ)) → HasWords k ns) → IfSome (path_of k o) (λ p. HasWords p.kind p.names)
@@ -80,17 +59,12 @@ path_of-plain n (Some ns) = omega arith
 read_supers-path : (k : ℕ) (ws : List Word) → IfSome (read_supers k ws) (λ p. HasWords p.kind p.names)
 read_supers-path k [] = tt
 read_supers-path k (super_word ∷ ws) = read_supers-path (suc k) ws
-read_supers-path k (self_word ∷ ws) = tt
-read_supers-path k (crate_word ∷ ws) = tt
-read_supers-path k (absolute_word ∷ ws) = tt
-read_supers-path k (dollar_crate_word c ∷ ws) = tt
 read_supers-path k (name_word n ∷ ws) = path_of-any (Super k) (read_names (name_word n ∷ ws)) (λ _. tt)
+read_supers-path k (w ∷ ws) = tt
 
 pub read-path : (ws : List Word) → IfSome (read_words ws) (λ p. HasWords p.kind p.names)
 read-path [] = tt
 read-path (self_word ∷ ws) = read_supers-path 0 ws
 read-path (super_word ∷ ws) = read_supers-path 1 ws
-read-path (crate_word ∷ ws) = path_of-any Crate (read_names ws) (λ _. tt)
-read-path (absolute_word ∷ ws) = path_of-any Abs (read_names ws) (λ _. tt)
-read-path (dollar_crate_word c ∷ ws) = path_of-any (DollarCrate c) (read_names ws) (λ _. tt)
 read-path (name_word n ∷ ws) = path_of-plain n (read_names ws)
+read-path (w ∷ ws) = path_of-any _ (read_names ws) (λ _. tt)

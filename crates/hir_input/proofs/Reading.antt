@@ -1,5 +1,6 @@
 -- What words mean: those of a path mean it, and words behind others mean what they mean behind the path of those.
 use Rattle.std.proofs.Common.{◌≡◌, ℕ, zero, suc, ◌+◌, List, [], ◌∷◌, ◌++◌, map, replicate, Option, Some, None, option_map, refl, sym, ap, ◌∙◌, append_assoc, append-nil, arith}
+use Rattle.std.proofs.lemmas.Iterator.Adapters.{option_map_id}
 use Rattle.hir_input.specs.declared.mod_path.PathKind.{PathKind}
 use Rattle.hir_input.specs.declared.mod_path.PathKind.TheVariants.{Plain, Super, Crate, Abs, DollarCrate}
 use Rattle.hir_input.specs.Path.{Path, HasWords}
@@ -9,17 +10,13 @@ use Rattle.hir_input.specs.Words.{Word, self_word, super_word, crate_word, absol
 abbrev pub before_names : List (List ℕ) → Option (List (List ℕ)) → Option (List (List ℕ))
 before_names ns o = option_map (λ ms. ns ++ ms) o
 
-before_names-nil : (o : Option (List (List ℕ))) → before_names [] o ≡ o
-before_names-nil None = refl
-before_names-nil (Some ms) = refl
-
 before_names-cons : (n : List ℕ) (ns : List (List ℕ)) (o : Option (List (List ℕ))) → before_names (n ∷ ns) o ≡ option_map (λ ms. n ∷ ms) (before_names ns o)
 before_names-cons n ns None = refl
 before_names-cons n ns (Some ms) = refl
 
 -- names, and then any words
 pub read_names-front : (ns : List (List ℕ)) (ws : List Word) → read_names (map name_word ns ++ ws) ≡ before_names ns (read_names ws)
-read_names-front [] ws = sym (before_names-nil (read_names ws))
+read_names-front [] ws = sym (option_map_id (read_names ws))
 read_names-front (n ∷ ns) ws =
     ap (option_map (λ ms. n ∷ ms)) (read_names-front ns ws) ∙ sym (before_names-cons n ns (read_names ws))
 
@@ -35,12 +32,8 @@ read_supers-supers k (suc n) ws =
 
 -- what words mean behind a path
 abbrev pub behind : PathKind → List (List ℕ) → List Word → Option Path
-behind Plain ns ws = path_of Plain (before_names ns (read_names ws))
-behind Crate ns ws = path_of Crate (before_names ns (read_names ws))
-behind Abs ns ws = path_of Abs (before_names ns (read_names ws))
-behind (DollarCrate c) ns ws = path_of (DollarCrate c) (before_names ns (read_names ws))
 behind (Super k) [] ws = read_supers k ws
-behind (Super k) (n ∷ ns) ws = path_of (Super k) (before_names (n ∷ ns) (read_names ws))
+behind k ns ws = path_of k (before_names ns (read_names ws))
 
 read_supers-names : (k : ℕ) (ns : List (List ℕ)) (ws : List Word) → read_supers k (map name_word ns ++ ws) ≡ behind (Super k) ns ws
 read_supers-names k [] ws = refl
@@ -49,22 +42,16 @@ read_supers-names k (n ∷ ns) ws = ap (path_of (Super k)) (read_names-front (n 
 pub read-behind : (k : PathKind) (ns : List (List ℕ)) (ws : List Word) → HasWords k ns → read_words ((kind_words k ++ map name_word ns) ++ ws) ≡ behind k ns ws
 read-behind Plain [] ws h = absurd (omega arith)
 read-behind Plain (n ∷ ns) ws h = ap (path_of Plain) (read_names-front (n ∷ ns) ws)
-read-behind Crate ns ws h = ap (path_of Crate) (read_names-front ns ws)
-read-behind Abs ns ws h = ap (path_of Abs) (read_names-front ns ws)
-read-behind (DollarCrate c) ns ws h = ap (path_of (DollarCrate c)) (read_names-front ns ws)
 read-behind (Super zero) ns ws h = read_supers-names 0 ns ws
 read-behind (Super (suc k)) ns ws h =
     ap (read_supers 1) (append_assoc (replicate k super_word) (map name_word ns) ws)
     ∙ read_supers-supers 1 k (map name_word ns ++ ws)
     ∙ (let e : 1 + k ≡ suc k = omega arith in rw e (read_supers-names (suc k) ns ws))
+read-behind k ns ws h = ap (path_of k) (read_names-front ns ws)
 
 behind-nothing : (k : PathKind) (ns : List (List ℕ)) → behind k ns [] ≡ Some (record { kind = k; names = ns ++ [] })
-behind-nothing Plain ns = refl
-behind-nothing Crate ns = refl
-behind-nothing Abs ns = refl
-behind-nothing (DollarCrate c) ns = refl
 behind-nothing (Super k) [] = refl
-behind-nothing (Super k) (n ∷ ns) = refl
+behind-nothing k ns = refl
 
 -- the words of a path mean it
 pub read-words : (p : Path) → HasWords p.kind p.names → read_words (words p) ≡ Some p
@@ -89,14 +76,10 @@ then_names-cons n None more = refl
 then_names-cons n (Some ns) more = sym (before_names-cons n ns more)
 
 read_names-append : (ws vs : List Word) → read_names (ws ++ vs) ≡ then_names (read_names ws) (read_names vs)
-read_names-append [] vs = sym (before_names-nil (read_names vs))
-read_names-append (self_word ∷ ws) vs = refl
-read_names-append (super_word ∷ ws) vs = refl
-read_names-append (crate_word ∷ ws) vs = refl
-read_names-append (absolute_word ∷ ws) vs = refl
-read_names-append (dollar_crate_word c ∷ ws) vs = refl
+read_names-append [] vs = sym (option_map_id (read_names vs))
 read_names-append (name_word n ∷ ws) vs =
     ap (option_map (λ ms. n ∷ ms)) (read_names-append ws vs) ∙ then_names-cons n (read_names ws) (read_names vs)
+read_names-append (w ∷ ws) vs = refl
 
 -- behind a kind that names alone may follow
 then_words-names : (k : PathKind) (o : Option (List (List ℕ))) (vs : List Word) → ((ns : List (List ℕ)) → HasWords k ns × (behind k ns vs ≡ path_of k (before_names ns (read_names vs)))) → path_of k (then_names o (read_names vs)) ≡ then_words (path_of k o) vs
@@ -113,13 +96,10 @@ then_words-name k n (Some ns) vs h =
 read_supers-append : (k : ℕ) (ws vs : List Word) → read_supers k (ws ++ vs) ≡ then_words (read_supers k ws) vs
 read_supers-append k [] vs = sym (read-behind (Super k) [] vs tt)
 read_supers-append k (super_word ∷ ws) vs = read_supers-append (suc k) ws vs
-read_supers-append k (self_word ∷ ws) vs = refl
-read_supers-append k (crate_word ∷ ws) vs = refl
-read_supers-append k (absolute_word ∷ ws) vs = refl
-read_supers-append k (dollar_crate_word c ∷ ws) vs = refl
 read_supers-append k (name_word n ∷ ws) vs =
     ap (λ o. path_of (Super k) (option_map (λ ms. n ∷ ms) o)) (read_names-append ws vs)
     ∙ then_words-name (Super k) n (read_names ws) vs (λ ns. (tt, refl))
+read_supers-append k (w ∷ ws) vs = refl
 
 -- words behind others mean what they mean behind the path of those
 pub read-append : (w : Word) (ws vs : List Word) → read_words ((w ∷ ws) ++ vs) ≡ then_words (read_words (w ∷ ws)) vs

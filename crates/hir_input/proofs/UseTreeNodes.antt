@@ -29,10 +29,7 @@ slice_get_piece f xs i k left x y h e count found =
 -- how long the pieces are, with one more
 pub length_pieces_more : {X A : Type 0} (f : X → List A) (xs : List X) (i : ℕ) (x : X) → i < length xs → x ≡ get_or xs i x → length (flat_map f (take (i + 1) xs)) ≡ length (flat_map f (take i xs)) + length (f x)
 length_pieces_more f xs i x h e =
-    ap (λ ys. length (flat_map f ys)) (take_more xs i x h)
-    ∙ ap length (flat_map-append f (take i xs) (get_or xs i x ∷ []))
-    ∙ length-append (flat_map f (take i xs)) (f (get_or xs i x) ++ [])
-    ∙ ap (λ ys. length (flat_map f (take i xs)) + length ys) (append-nil (f (get_or xs i x)) ∙ ap f (sym e))
+    simp (take_more xs i x h, sym e, flat_map-append, length-append, append-nil)
 
 -- ---- the nodes of a use tree
 

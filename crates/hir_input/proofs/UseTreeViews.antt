@@ -1,22 +1,14 @@
 -- What a use tree is seen as.
-use Rattle.std.proofs.Common.{◌≡◌, Option, Some, None, option_map, map, Vec, Global, refl, ap, ◌∙◌}
-use Rattle.hir_input.specs.declared.ast.UseTree.{UseTree}
+use Rattle.std.proofs.Common.{◌≡◌, Some, None, option_map, map, Vec, Global, refl, ◌∙◌, rules}
+use Rattle.hir_input.specs.declared.ast.UseTree.{UseTree, the_lemmas}
 use Rattle.hir_input.specs.declared.ast.UseTree.TheViews.{out-UseTree}
-use Rattle.hir_input.specs.declared.ast.UseTree.TheFolds.{fold_out-UseTree}
-use Rattle.hir_input.specs.declared.ast.UseTree.TheShapes.{former-UseTree-list}
-use Rattle.hir_input.specs.UseTreeView.{UseTreeView, bare_tree, listed_tree, tree_from, use_tree_step, use_tree_view, use_trees_view}
-
-items_of-former : (o : Option (Vec UseTree Global)) → option_map (λ v. v.items) ((former-UseTree-list).map UseTree UseTreeView use_tree_view o) ≡ option_map (λ v. map use_tree_view v.items) o
-items_of-former None = refl
-items_of-former (Some v) = refl
+use Rattle.hir_input.specs.UseTreeView.{bare_tree, listed_tree, tree_from, use_tree_view, use_trees_view}
 
 -- a use tree by its own fields
 pub use_tree_view-fields : (t : UseTree)
     → use_tree_view t
     ≡ tree_from (record { path = (out-UseTree t).path; star = (out-UseTree t).star; rename = (out-UseTree t).rename }) (option_map (λ v. map use_tree_view v.items) (out-UseTree t).list)
-use_tree_view-fields t =
-    fold_out-UseTree UseTreeView use_tree_step t
-    ∙ ap (tree_from (record { path = (out-UseTree t).path; star = (out-UseTree t).star; rename = (out-UseTree t).rename })) (items_of-former (out-UseTree t).list)
+use_tree_view-fields t = search (rules, the_lemmas)
 
 pub use_tree_view-bare : (t : UseTree) → (out-UseTree t).list ≡ None → use_tree_view t ≡ bare_tree (record { path = (out-UseTree t).path; star = (out-UseTree t).star; rename = (out-UseTree t).rename })
 use_tree_view-bare t e = use_tree_view-fields t ∙ rw e refl

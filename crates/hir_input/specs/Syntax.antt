@@ -6,22 +6,14 @@ use Rattle.hir_input.specs.declared.ids.AstIdKind.TheVariants as kind
 use Rattle.hir_input.specs.declared.ids.SyntaxContext.{SyntaxContext}
 use Rattle.hir_input.specs.declared.expand_to.ExpandTo.{ExpandTo}
 use Rattle.hir_input.specs.declared.attr.Meta.{Meta}
-use Rattle.hir_input.specs.declared.ast.AsmExpr as ast_asm
 use Rattle.hir_input.specs.declared.ast.Const as ast_const
-use Rattle.hir_input.specs.declared.ast.Enum as ast_enum
 use Rattle.hir_input.specs.declared.ast.ExternBlock as ast_extern_block
 use Rattle.hir_input.specs.declared.ast.ExternCrate as ast_extern_crate
-use Rattle.hir_input.specs.declared.ast.Fn as ast_fn
 use Rattle.hir_input.specs.declared.ast.Impl as ast_impl
 use Rattle.hir_input.specs.declared.ast.MacroCall as ast_macro_call
-use Rattle.hir_input.specs.declared.ast.MacroDef as ast_macro_def
 use Rattle.hir_input.specs.declared.ast.MacroRules as ast_macro_rules
 use Rattle.hir_input.specs.declared.ast.Module as ast_module
-use Rattle.hir_input.specs.declared.ast.Static as ast_static
 use Rattle.hir_input.specs.declared.ast.Struct as ast_struct
-use Rattle.hir_input.specs.declared.ast.Trait as ast_trait
-use Rattle.hir_input.specs.declared.ast.TypeAlias as ast_type_alias
-use Rattle.hir_input.specs.declared.ast.Union as ast_union
 use Rattle.hir_input.specs.declared.ast.Use as ast_use
 use Rattle.hir_input.specs.declared.ast.StructKind.{StructKind}
 use Rattle.hir_input.specs.declared.ast.StructKind.TheVariants as written
@@ -175,27 +167,6 @@ node_from hash number attrs body = record { hash = hash; number = number; attrs 
 abbrev pub named_from : ℕ → ℕ → List Meta → Option (List ℕ) → Option Visibility → String Global → NamedView
 named_from hash number attrs name visibility body = record { node = node_from hash number attrs body; name = name; visibility = visibility }
 
-abbrev pub fn_view : ast_fn.Fn → NamedView
-fn_view n = named_from n.hash n.number n.attrs.items n.name n.visibility n.body
-
-abbrev pub union_view : ast_union.Union → NamedView
-union_view n = named_from n.hash n.number n.attrs.items n.name n.visibility n.body
-
-abbrev pub enum_view : ast_enum.Enum → NamedView
-enum_view n = named_from n.hash n.number n.attrs.items n.name n.visibility n.body
-
-abbrev pub static_view : ast_static.Static → NamedView
-static_view n = named_from n.hash n.number n.attrs.items n.name n.visibility n.body
-
-abbrev pub trait_view : ast_trait.Trait → NamedView
-trait_view n = named_from n.hash n.number n.attrs.items n.name n.visibility n.body
-
-abbrev pub type_alias_view : ast_type_alias.TypeAlias → NamedView
-type_alias_view n = named_from n.hash n.number n.attrs.items n.name n.visibility n.body
-
-abbrev pub macro_def_view : ast_macro_def.MacroDef → NamedView
-macro_def_view n = named_from n.hash n.number n.attrs.items n.name n.visibility n.body
-
 abbrev pub const_view : ast_const.Const → NamedView
 const_view n = named_from n.hash n.number n.attrs.items n.name n.visibility n.body
 
@@ -211,9 +182,6 @@ impl_view n = node_from n.hash n.number n.attrs.items n.body
 abbrev pub macro_rules_view : ast_macro_rules.MacroRules → NodeView
 macro_rules_view n = node_from n.hash n.number n.attrs.items n.body
 
-abbrev pub asm_view : ast_asm.AsmExpr → NodeView
-asm_view n = node_from n.hash n.number n.attrs.items n.body
-
 abbrev pub use_view : ast_use.Use → UseView
 use_view n = record { node = node_from n.hash n.number n.attrs.items n.body; visibility = n.visibility; use_tree = option_map use_tree_view n.use_tree }
 
@@ -227,10 +195,10 @@ fields_view written.Unit = no_fields
 
 -- an item of an extern block
 abbrev pub extern_item_view : ExternItem → ItemView
-extern_item_view (external.Fn n) = plain_item fn_kind (fn_view n)
+extern_item_view (external.Fn n) = plain_item fn_kind (named_from n.hash n.number n.attrs.items n.name n.visibility n.body)
 extern_item_view (external.MacroCall n) = macro_call (call_view n)
-extern_item_view (external.Static n) = plain_item static_kind (static_view n)
-extern_item_view (external.TypeAlias n) = plain_item type_alias_kind (type_alias_view n)
+extern_item_view (external.Static n) = plain_item static_kind (named_from n.hash n.number n.attrs.items n.name n.visibility n.body)
+extern_item_view (external.TypeAlias n) = plain_item type_alias_kind (named_from n.hash n.number n.attrs.items n.name n.visibility n.body)
 
 abbrev pub extern_block_view : ast_extern_block.ExternBlock → ItemView
 extern_block_view n = extern_block_from (node_from n.hash n.number n.attrs.items n.body) (option_map (λ v. map extern_item_view v.items) n.items)
@@ -240,22 +208,22 @@ abbrev pub module_step : Module-F ItemView ItemView → ItemView
 module_step m = module_from (named_from m.hash m.number m.attrs.items m.name m.visibility m.body) m.semicolon (option_map (λ v. v.items) m.items)
 
 abbrev pub item_step : Item-F ItemView ItemView → ItemView
-item_step (Item-F.AsmExpr n) = asm_item (asm_view n)
+item_step (Item-F.AsmExpr n) = asm_item (node_from n.hash n.number n.attrs.items n.body)
 item_step (Item-F.Const n) = const_item (const_view n)
-item_step (Item-F.Enum n) = plain_item enum_kind (enum_view n)
+item_step (Item-F.Enum n) = plain_item enum_kind (named_from n.hash n.number n.attrs.items n.name n.visibility n.body)
 item_step (Item-F.ExternBlock n) = extern_block_view n
 item_step (Item-F.ExternCrate n) = extern_crate (extern_crate_view n) n.rename
-item_step (Item-F.Fn n) = plain_item fn_kind (fn_view n)
+item_step (Item-F.Fn n) = plain_item fn_kind (named_from n.hash n.number n.attrs.items n.name n.visibility n.body)
 item_step (Item-F.Impl n) = impl_item (impl_view n) n.is_trait_impl
 item_step (Item-F.MacroCall n) = macro_call (call_view n)
-item_step (Item-F.MacroDef n) = plain_item macro_def_kind (macro_def_view n)
+item_step (Item-F.MacroDef n) = plain_item macro_def_kind (named_from n.hash n.number n.attrs.items n.name n.visibility n.body)
 item_step (Item-F.MacroRules n) = macro_rules (macro_rules_view n) n.name
 item_step (Item-F.Module m) = m
-item_step (Item-F.Static n) = plain_item static_kind (static_view n)
+item_step (Item-F.Static n) = plain_item static_kind (named_from n.hash n.number n.attrs.items n.name n.visibility n.body)
 item_step (Item-F.Struct n) = struct_item (struct_view n) (fields_view n.kind)
-item_step (Item-F.Trait n) = plain_item trait_kind (trait_view n)
-item_step (Item-F.TypeAlias n) = plain_item type_alias_kind (type_alias_view n)
-item_step (Item-F.Union n) = plain_item union_kind (union_view n)
+item_step (Item-F.Trait n) = plain_item trait_kind (named_from n.hash n.number n.attrs.items n.name n.visibility n.body)
+item_step (Item-F.TypeAlias n) = plain_item type_alias_kind (named_from n.hash n.number n.attrs.items n.name n.visibility n.body)
+item_step (Item-F.Union n) = plain_item union_kind (named_from n.hash n.number n.attrs.items n.name n.visibility n.body)
 item_step (Item-F.Use n) = use_item (use_view n)
 
 abbrev pub item_view : Item → ItemView

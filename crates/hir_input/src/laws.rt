@@ -32,6 +32,7 @@ fn equal_ids()
 {}
 
 // `==` of what owns memory is true exactly where the values behind it are one.
+#[tactic(auto, using(crate::proofs::MetaEq::equalities))]
 fn equal_values()
     ensures names { DecidesEq ⟦<Name as PartialEq>⟧.eq }
     ensures editions { DecidesEqOf edition_view ⟦<Edition as PartialEq>⟧.eq }

@@ -90,16 +90,17 @@ impl Clone for ModPath {
     }
 }
 
+#[tactic(auto, using(crate::proofs::PathEq::names_decide))]
 impl PartialEq for ModPath {
     ghost use Rattle.std.specs.Prelude.{nat_eq};
     ghost use Rattle.std.specs.Ordering.{on, eq_of_both};
-    ghost use Rattle.std.specs.Cmp.{and_per, on_per, partial_equiv_from_equiv};
-    ghost use Rattle.std.specs.Cmp.Lexicographic.{pointwise, lists_equiv, nat_list_eq_equiv};
-    ghost use Rattle.hir_input.specs.contracts.mod_path.PathKindPartialEq.TheImpl.Laws.{laws-law};
+    ghost use Rattle.std.specs.Cmp.Lexicographic.{pointwise, nat_list_eq_equiv};
+    ghost use Rattle.std.specs.Cmp.Rules.{comparing};
+    ghost use Rattle.hir_input.specs.contracts.mod_path.PathKindEq.TheImpl.Laws.{laws-law};
 
     ghost eq = { eq_of_both (on (λ p. p.kind) ⟦<PathKind as PartialEq>⟧.eq) (on (λ p. p.names) (pointwise (pointwise nat_eq))) };
 
-    ghost laws = { and_per (on_per (λ p. p.kind) laws-law) (on_per (λ p. p.names) (partial_equiv_from_equiv (lists_equiv nat_list_eq_equiv))) };
+    ghost laws = { Prim.search (comparing, nat_list_eq_equiv, laws-law) depth 7 };
 
     fn eq(&self, other: &ModPath) -> bool
         ensures decides { IsTrue result ↔ (self.now ≡ other.now) }
@@ -111,11 +112,11 @@ impl PartialEq for ModPath {
 }
 
 impl Eq for ModPath {
-    ghost use Rattle.std.specs.Cmp.{and_equiv, on_equiv};
-    ghost use Rattle.std.specs.Cmp.Lexicographic.{lists_equiv, nat_list_eq_equiv};
+    ghost use Rattle.std.specs.Cmp.Lexicographic.{nat_list_eq_equiv};
+    ghost use Rattle.std.specs.Cmp.Rules.{comparing};
     ghost use Rattle.hir_input.specs.contracts.mod_path.PathKindEq.TheImpl.Laws.{laws-law};
 
-    ghost laws = { and_equiv (on_equiv (λ p. p.kind) laws-law) (on_equiv (λ p. p.names) (lists_equiv nat_list_eq_equiv)) };
+    ghost laws = { Prim.search (comparing, nat_list_eq_equiv, laws-law) depth 7 };
 }
 
 impl Hash for ModPath {

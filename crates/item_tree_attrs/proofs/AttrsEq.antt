@@ -20,5 +20,4 @@ attrs_decide (CfgDisabled a) (CfgDisabled b) =
     (λ e i. record { attrs = e.1 i; false_cfg = Some (e.0 i) })
     (λ e. let cfg = ap (λ c. c.false_cfg) e in (cc, ap (λ c. c.attrs) e))
     (Decides-and _ _ (cfg_decides a.value.0 b.value.0) (lists_decide a.value.1 b.value.1))
-attrs_decide (Enabled xs) (CfgDisabled b) = (λ h. cc, λ e. let cfg = ap (λ c. c.false_cfg) e in cc)
-attrs_decide (CfgDisabled a) (Enabled ys) = (λ h. cc, λ e. let cfg = ap (λ c. c.false_cfg) e in cc)
+attrs_decide _ _ = (λ h. cc, λ e. let cfg = ap (λ c. c.false_cfg) e in cc)

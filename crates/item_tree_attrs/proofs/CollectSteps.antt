@@ -1,7 +1,7 @@
 -- The steps of collecting.
-use Rattle.std.proofs.Common.{◌≡◌, ℕ, ◌+◌, ◌<◌, false, List, [], ◌∷◌, ◌++◌, length, get_or, take, drop, map, Option, None, Some, Vec, Global, Bor, refl, sym, ap, ◌∙◌, subst, append_assoc}
+use Rattle.std.proofs.Common.{◌≡◌, ℕ, ◌+◌, ◌<◌, false, List, [], ◌∷◌, ◌++◌, length, get_or, drop, map, Option, None, Some, option_map, Vec, Global, Bor, refl, sym, ap, ◌∙◌, append_assoc}
 use Rattle.std.specs.List.{flat_map}
-use Rattle.std.proofs.lemmas.List.{append-nil, map-append, take-append-drop, take_more}
+use Rattle.std.proofs.lemmas.List.{drop_more}
 use Rattle.hir_input.specs.declared.attr.Attr.{Attr}
 use Rattle.hir_input.specs.declared.attr.Meta.{Meta}
 use Rattle.hir_input.specs.declared.attr.Meta.TheVariants.{CfgAttr}
@@ -11,7 +11,15 @@ use Rattle.hir_input.specs.Cfg.{AtomView, CfgView, cfg_view, truth}
 use Rattle.hir_input.proofs.MetaLemmas.{meta_view-CfgAttr}
 use Rattle.item_tree_attrs.specs.Collected.{Collected, events, events_in, is_false, cut, collected_from, join}
 use Rattle.item_tree_attrs.specs.Inner.Collecting.{Adds}
-use Rattle.item_tree_attrs.proofs.Cutting.{joins_lists}
+use Rattle.item_tree_attrs.proofs.Cutting.{made, cut-append}
+
+-- the attributes that are there, and the cfg that was met
+abbrev pub found_so_far : List Attr → Option (Bor CfgExpr) → Collected
+found_so_far attrs met = made attrs (option_map (λ cfg. cfg_view cfg.now) met)
+
+join-behind : (mid xs : List Attr) (o : Option CfgView) (d : Collected) → join (join (made mid None) (made xs o)) d ≡ join (made mid None) (join (made xs o) d)
+join-behind mid xs None d = ap (λ attrs. made attrs d.false_cfg) (append_assoc mid xs d.attrs)
+join-behind mid xs (Some c) d = refl
 
 -- ---- a `cfg_attr` that is not false
 
@@ -30,39 +38,21 @@ module _ (options : List AtomView) (skipped : List (List ℕ)) where
   abbrev pub collected_by : Meta → Collected
   collected_by m = cut (events options skipped (meta_view m))
 
-  abbrev pub collected_of : List Meta → Collected
-  collected_of ms = collected_from options skipped (map meta_view ms)
+  -- what is collected from a position on
+  abbrev pub collected_at : List Meta → ℕ → Collected
+  collected_at ms i = collected_from options skipped (map meta_view (drop i ms))
 
-  collected_of-append : (ms ns : List Meta) → collected_of (ms ++ ns) ≡ join (collected_of ms) (collected_of ns)
-  collected_of-append ms ns = ap (collected_from options skipped) (map-append meta_view ms ns) ∙ joins_lists options skipped (map meta_view ms) (map meta_view ns)
+  collected_at-more : (ms : List Meta) (i : ℕ) (m : Meta) → i < length ms → m ≡ get_or ms i m → collected_at ms i ≡ join (collected_by m) (collected_at ms (i + 1))
+  collected_at-more ms i m h e =
+      ap (λ xs. collected_from options skipped (map meta_view xs)) (drop_more ms i m h ∙ ap (λ x. x ∷ drop (i + 1) ms) (sym e))
+      ∙ cut-append (events options skipped (meta_view m)) (flat_map (events options skipped) (map meta_view (drop (i + 1) ms)))
 
-  collected_of-one : (m : Meta) → collected_of (m ∷ []) ≡ collected_by m
-  collected_of-one m = ap cut (append-nil (events options skipped (meta_view m)))
-
-  pub collected_of-take : (ms : List Meta) (i : ℕ) (m : Meta) → i < length ms → m ≡ get_or ms i m → collected_of (take (i + 1) ms) ≡ join (collected_of (take i ms)) (collected_by m)
-  collected_of-take ms i m h e =
-      ap collected_of (take_more ms i m h ∙ ap (λ x. take i ms ++ x ∷ []) (sym e)) ∙ collected_of-append (take i ms) (m ∷ []) ∙ ap (join (collected_of (take i ms))) (collected_of-one m)
-
-  -- the whole, from a front
-  pub collected_of-split : (ms : List Meta) (i : ℕ) → collected_of ms ≡ join (collected_of (take i ms)) (collected_of (drop i ms))
-  collected_of-split ms i = ap collected_of (sym (take-append-drop i ms)) ∙ collected_of-append (take i ms) (drop i ms)
-
--- ---- what was added
-
-next_at : (old mid new xs : List Attr) (o : Option CfgView) (met : Option (Bor CfgExpr)) (d : Collected) → mid ≡ old ++ xs → None ≡ o → Adds mid new met d → Adds old new met (join (record { attrs = xs; false_cfg = o }) d)
-next_at old mid new xs o met d e none added =
-    subst (λ p. Adds old new met (join (record { attrs = xs; false_cfg = p }) d)) none
-    (record { attrs = added.attrs ∙ ap (λ attrs. attrs ++ d.attrs) e ∙ append_assoc old xs d.attrs; false_cfg = added.false_cfg })
-
--- more behind what was added without meeting a cfg
-pub Adds-next : (old mid new : List Attr) (met : Option (Bor CfgExpr)) (c d : Collected) → Adds old mid None c → Adds mid new met d → Adds old new met (join c d)
-Adds-next old mid new met c d before added = next_at old mid new c.attrs c.false_cfg met d before.attrs before.false_cfg added
-
-stop_at : (old new xs : List Attr) (o : Option CfgView) (cfg : Bor CfgExpr) (d : Collected) → Adds old new (Some cfg) (record { attrs = xs; false_cfg = o }) → Some (cfg_view cfg.now) ≡ o → Adds old new (Some cfg) (join (record { attrs = xs; false_cfg = o }) d)
-stop_at old new xs o cfg d added some =
-    subst (λ p. Adds old new (Some cfg) (join (record { attrs = xs; false_cfg = p }) d)) some
-    (record { attrs = added.attrs; false_cfg = refl })
-
--- nothing behind a cfg that was met
-pub Adds-stop : (old new : List Attr) (cfg : Bor CfgExpr) (c d : Collected) → Adds old new (Some cfg) c → Adds old new (Some cfg) (join c d)
-Adds-stop old new cfg c d added = stop_at old new c.attrs c.false_cfg cfg d added added.false_cfg
+  -- what one more meta added stands behind what was there, and what the rest collects behind it
+  pub Adds-more : (ms : List Meta) (i : ℕ) (m : Meta) (mid new : List Attr) (met : Option (Bor CfgExpr)) → i < length ms → m ≡ get_or ms i m → Adds mid new met (collected_by m)
+      → join (found_so_far new met) (collected_at ms (i + 1)) ≡ join (found_so_far mid None) (collected_at ms i)
+  Adds-more ms i m mid new met h e added =
+      let one = collected_by m in
+      let rest = collected_at ms (i + 1) in
+      ap (λ c. join c rest) (λ k. made (added.attrs k) (added.false_cfg k))
+      ∙ join-behind mid one.attrs one.false_cfg rest
+      ∙ ap (join (found_so_far mid None)) (sym (collected_at-more ms i m h e))

@@ -9,7 +9,7 @@ use Rattle.hir_input.specs.declared.attr.Attr.{Attr}
 use Rattle.hir_input.specs.Cfg.{AtomView, CfgView}
 use Rattle.item_tree_attrs.specs.Collected.{Collected, Event, events, first, cut, collected_from, join, JoinsLists}
 
-abbrev made : List Attr → Option CfgView → Collected
+abbrev pub made : List Attr → Option CfgView → Collected
 made attrs cfg = record { attrs = attrs; false_cfg = cfg }
 
 abbrev add : Attr → Collected → Collected

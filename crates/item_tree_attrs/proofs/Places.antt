@@ -1,6 +1,8 @@
 -- Positions in the rest of a list, and lengths of selections.
-use Rattle.std.proofs.Common.{◌≡◌, ℕ, zero, suc, ◌+◌, ◌≤◌, Bool, true, false, cond, Option, None, Some, List, [], ◌∷◌, drop, length, refl, ap, ◌∙◌, arith}
-use Rattle.std.specs.List.{cons_option, enumerate_from, filter, filter_map}
+use Rattle.std.proofs.Common.{◌≡◌, ℕ, zero, suc, ◌+◌, ◌≤◌, Bool, not, Option, List, [], ◌∷◌, drop, length, length-drop, refl, ap, ◌∙◌, arith}
+use Rattle.std.specs.List.{enumerate_from, filter, filter_map}
+use Rattle.std.proofs.lemmas.List.FromFn.{length-enumerate_from}
+use Rattle.std.proofs.lemmas.List.Filters.{length-filter_both}
 
 enumerate_from-behind : {A : Type 0} (n k : ℕ) (xs : List A) → enumerate_from (n + k) (drop k xs) ≡ drop k (enumerate_from n xs)
 enumerate_from-behind n zero xs = ap (λ m. enumerate_from m xs) (omega arith)
@@ -14,18 +16,13 @@ pub enumerate_from-drop : {A : Type 0} (k : ℕ) (xs : List A) → enumerate_fro
 enumerate_from-drop k xs = ap (λ m. enumerate_from m (drop k xs)) (omega arith) ∙ enumerate_from-behind 0 k xs
 
 -- what is selected from a list is no longer than it
-kept_or_not : {A : Type 0} (b : Bool) (x : A) (xs : List A) (n : ℕ) → length xs ≤ n → length (cond b (x ∷ xs) xs) ≤ suc n
-kept_or_not true x xs n h = omega arith
-kept_or_not false x xs n h = omega arith
-
 pub length-filter-le : {A : Type 0} (p : A → Bool) (xs : List A) → length (filter p xs) ≤ length xs
-length-filter-le p [] = omega arith
-length-filter-le p (x ∷ xs) = kept_or_not (p x) x (filter p xs) (length xs) (length-filter-le p xs)
-
-made_or_not : {A : Type 0} (o : Option A) (xs : List A) (n : ℕ) → length xs ≤ n → length (cons_option o xs) ≤ suc n
-made_or_not None xs n h = omega arith
-made_or_not (Some x) xs n h = omega arith
+length-filter-le p xs = omega (arith, length-filter_both p (λ x. not (p x)) (λ _. refl) xs)
 
 pub length-filter_map-le : {A B : Type 0} (h : A → Option B) (xs : List A) → length (filter_map h xs) ≤ length xs
 length-filter_map-le h [] = omega arith
-length-filter_map-le h (x ∷ xs) = made_or_not (h x) (filter_map h xs) (length xs) (length-filter_map-le h xs)
+length-filter_map-le h (x ∷ xs) = grind (arith, length-filter_map-le h xs)
+
+pub ruleset selections = (length-filter-le, length-filter_map-le)
+
+pub ruleset positions = (enumerate_from-drop, length-enumerate_from, length-drop)

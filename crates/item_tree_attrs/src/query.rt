@@ -81,6 +81,7 @@ impl<'a> Attrs<'a> {
     }
 
     // The attributes from a position on, with their ids.
+    #[tactic(auto, using(crate::proofs::Places::positions, std::proofs::lemmas::Grind::common_steps))]
     fn iter_from(self, position: u32) -> AttrIter<'a>
         requires { position ≤ length (listed self) }
         ensures value { result ≡ drop position (enumerate_from 0 (listed self.entry)) }
@@ -163,6 +164,7 @@ impl<'a> AttrQuery<'a> {
     ghost use Rattle.item_tree_attrs.specs.Query.{asked};
 
     /// The attributes, in order. rust-analyzer's `AttrQuery::attrs`.
+    #[tactic(auto, using(crate::proofs::Places::selections))]
     pub fn attrs(self) -> KeyedAttrs<'a>
         ensures value { result ≡ asked self.entry }
         ensures few { length result < 2 ^ 32 }
@@ -174,6 +176,7 @@ impl<'a> AttrQuery<'a> {
     }
 
     /// The token trees of the attributes whose input is one, in order. rust-analyzer's `AttrQuery::tt_values`.
+    #[tactic(auto, using(crate::proofs::Places::selections))]
     pub fn tt_values(self) -> TtValues<'a>
         ensures value { result ≡ filter_map token_tree_of (asked self.entry) }
         ensures few { length result < 2 ^ 32 }

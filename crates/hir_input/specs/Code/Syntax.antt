@@ -74,12 +74,7 @@ plain_kind _ = fn_kind
 
 pub plain_kind-ast_kind : (k : PlainKind) → plain_kind (ast_kind k) ≡ k
 plain_kind-ast_kind fn_kind = refl
-plain_kind-ast_kind union_kind = refl
-plain_kind-ast_kind enum_kind = refl
-plain_kind-ast_kind static_kind = refl
-plain_kind-ast_kind trait_kind = refl
-plain_kind-ast_kind type_alias_kind = refl
-plain_kind-ast_kind macro_def_kind = refl
+plain_kind-ast_kind _ = refl
 
 abbrev pub plain_kind_code : Coded PlainKind
 plain_kind_code = code_by AstIdKind ast_id_kind.the_row.coded ast_kind plain_kind plain_kind-ast_kind

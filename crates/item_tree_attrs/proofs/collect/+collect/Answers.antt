@@ -1,8 +1,8 @@
-use Rattle.std.proofs.Common.{◌+◌, map, None, Some, sym, ap, ◌∙◌, subst}
+use Rattle.std.proofs.Common.{map, None, Some, sym, ap, ◌∙◌, subst}
 use Rattle.hir_input.specs.Attr.{meta_view}
 use Rattle.item_tree_attrs.specs.Collected.{cut, events, collected_from}
 use Rattle.item_tree_attrs.specs.Inner.Collecting.{Adds}
-use Rattle.item_tree_attrs.proofs.CollectSteps.{cut-CfgAttr, collected_of-take, collected_of-split, Adds-next, Adds-stop}
+use Rattle.item_tree_attrs.proofs.CollectSteps.{cut-CfgAttr, collected_by, Adds-more}
 use Rattle.item_tree_attrs.proofs.collect.+collect.Goals as goal
 
 pub collect-returns-else-is_disabled : goal.collect-returns-else-is_disabled
@@ -15,21 +15,13 @@ collect-returns-else-is_disabled t c =
 
 pub collect_all-loop-meta-preserved : goal.collect_all-loop-meta-preserved
 collect_all-loop-meta-preserved t c =
-    let options = c.args.cfg_options.now in
-    let skipped = c.args.skipped.now in
-    let added = subst (λ met. Adds c.loop-meta.attrs.items c.collect.new.attrs.items met (cut (events options skipped (meta_view c.meta-item.result)))) c.in_default.is c.in_ok-cfg.ensures in
-    subst (λ x. Adds c.args.attrs.now.items c.collect.new.attrs.items None x)
-    (sym (collected_of-take options skipped c.args.metas.now c.loop-meta.meta-index c.meta-item.result c.loop-meta-test.true c.meta-item.is))
-    (Adds-next _ _ _ None _ _ c.loop-meta.invariant added)
+    let found = collected_by c.args.cfg_options.now c.args.skipped.now c.meta-item.result in
+    let added = subst (λ met. Adds c.loop-meta.attrs.items c.collect.new.attrs.items met found) c.in_default.is c.in_ok-cfg.ensures in
+    Adds-more c.args.cfg_options.now c.args.skipped.now c.args.metas.now c.loop-meta.meta-index c.meta-item.result _ _ None c.loop-meta-test.true c.meta-item.is added ∙ c.loop-meta.invariant
 
 pub collect_all-returns-in-Some : goal.collect_all-returns-in-Some
 collect_all-returns-in-Some t c =
-    let options = c.args.cfg_options.now in
-    let skipped = c.args.skipped.now in
-    let metas = c.args.metas.now in
-    let i = c.loop-meta.meta-index in
-    let added = subst (λ met. Adds c.loop-meta.attrs.items c.collect.new.attrs.items met (cut (events options skipped (meta_view c.meta-item.result)))) c.in-Some.is c.in_ok-cfg.ensures in
-    let front = subst (λ x. Adds c.args.attrs.now.items c.collect.new.attrs.items (Some c.in-Some.cfg) x)
-    (sym (collected_of-take options skipped metas i c.meta-item.result c.loop-meta-test.true c.meta-item.is))
-    (Adds-next _ _ _ (Some c.in-Some.cfg) _ _ c.loop-meta.invariant added) in
-    subst (λ x. Adds c.args.attrs.now.items c.collect.new.attrs.items (Some c.in-Some.cfg) x) (sym (collected_of-split options skipped metas (i + 1))) (Adds-stop _ _ c.in-Some.cfg _ _ front)
+    let found = collected_by c.args.cfg_options.now c.args.skipped.now c.meta-item.result in
+    let added = subst (λ met. Adds c.loop-meta.attrs.items c.collect.new.attrs.items met found) c.in-Some.is c.in_ok-cfg.ensures in
+    let whole = Adds-more c.args.cfg_options.now c.args.skipped.now c.args.metas.now c.loop-meta.meta-index c.meta-item.result _ _ (Some c.in-Some.cfg) c.loop-meta-test.true c.meta-item.is added ∙ c.loop-meta.invariant in
+    record { attrs = ap (λ x. x.attrs) whole; false_cfg = ap (λ x. x.false_cfg) whole }
