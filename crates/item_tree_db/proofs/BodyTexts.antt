@@ -1,17 +1,18 @@
 -- Body texts move nothing.
-use Rattle.std.proofs.Common.{◌≡◌, ℕ, suc, ◌<◌, Bool, List, [], ◌∷◌, length, take, Some, None, Option, slice_get, IfSome, All, refl, sym, ap, ◌∙◌, arith, inl, inr}
+use Rattle.std.proofs.Common.{◌≡◌, ℕ, suc, Bool, List, [], ◌∷◌, take, Some, None, Option, slice_get, IfSome, All, refl, sym, ap, ◌∙◌, arith, inl, inr}
 use Rattle.std.specs.Option.{option_or, option_map, unwrap_or}
 use Rattle.std.proofs.lemmas.List.Elements.{All-take}
 use Rattle.std.proofs.lemmas.Option.{same_Some, none-some}
+use Rattle.hir_input.specs.declared.cfg.CfgAtom.{CfgAtom}
 use Rattle.hir_input.specs.Syntax.{SyntaxView}
 use Rattle.hir_input.specs.Bodies.{without_bodies}
 use Rattle.item_tree.specs.CrateView.{CrateView}
 use Rattle.item_tree.specs.Kept.{kept_syntax}
 use Rattle.item_tree.proofs.BodyTexts.{kept_without_bodies}
 use Rattle.item_tree_db.specs.declared.place.Place.{Place}
-use Rattle.item_tree_db.specs.State.{State, is_root_of, present, unfolding_of, change_number}
+use Rattle.item_tree_db.specs.State.{State, is_root_of, present, unfolding_of, unfolding_at, change_number}
 use Rattle.item_tree_db.specs.Edits.{EditView}
-use Rattle.item_tree_db.specs.History.{last_some, sets, present_after, unfolding_after, IsAfter, ChangesBodiesOnly, IgnoresBodies}
+use Rattle.item_tree_db.specs.History.{last_some, sets, gives, under, crate_after, present_after, unfolding_after, IsAfter, ChangesBodiesOnly, IgnoresBodies}
 
 kept_alike : (is_root : Bool) (krate : CrateView) (skipped : List (List ℕ)) (a b : SyntaxView) → without_bodies a ≡ without_bodies b → kept_syntax is_root krate skipped a ≡ kept_syntax is_root krate skipped b
 kept_alike is_root krate skipped a b e = sym (kept_without_bodies is_root krate skipped a) ∙ ap (kept_syntax is_root krate skipped) e ∙ kept_without_bodies is_root krate skipped b
@@ -30,18 +31,29 @@ or_kept f None None base last first = last
 or_kept f None (Some y) base last first = first
 or_kept f (Some x) b base last first = last
 
-present_kept : (s : State) (edits : List EditView) (place : Place) → All (ChangesBodiesOnly s place) edits → option_map without_bodies (present_after s edits place) ≡ option_map without_bodies (present s place)
-present_kept s [] place h = refl
-present_kept s (e ∷ es) place h =
-    or_kept (option_map without_bodies) (last_some (sets place) es) (sets place e) (present s place) (present_kept s es place (λ k d within. h (suc k) d (omega (arith, within)))) (h 0 e (omega arith))
+present_kept : (s : State) (edits : List EditView) (place : Place) (i : ℕ) → All (ChangesBodiesOnly s place i) edits → option_map without_bodies (present_after s edits place) ≡ option_map without_bodies (present s place)
+present_kept s [] place i h = refl
+present_kept s (e ∷ es) place i h =
+    or_kept (option_map without_bodies) (last_some (sets place) es) (sets place e) (present s place) (present_kept s es place i (λ k d within. h (suc k) d (omega (arith, within)))) (h 0 e (omega arith)).syntax
+
+-- and the crate stays what it is
+under_kept : (a b : Option (List CfgAtom)) (krate : Option CrateView) → under a krate ≡ krate → IfSome b (λ options. under (Some options) krate ≡ krate) → under (option_or a b) krate ≡ krate
+under_kept None None krate last first = refl
+under_kept None (Some o) krate last first = first
+under_kept (Some o) b krate last first = last
+
+crate_kept : (s : State) (edits : List EditView) (place : Place) (i : ℕ) → All (ChangesBodiesOnly s place i) edits → crate_after s edits i ≡ slice_get s.crates i
+crate_kept s [] place i h = refl
+crate_kept s (e ∷ es) place i h =
+    under_kept (last_some (gives i) es) (gives i e) (slice_get s.crates i) (crate_kept s es place i (λ k d within. h (suc k) d (omega (arith, within)))) (h 0 e (omega arith)).krate
 
 -- so do the edits of any front
-front_kept : (s : State) (edits : List EditView) (place : Place) (n : ℕ) → All (ChangesBodiesOnly s place) edits → option_map without_bodies (present_after s (take n edits) place) ≡ option_map without_bodies (present s place)
-front_kept s edits place n h = present_kept s (take n edits) place (All-take (ChangesBodiesOnly s place) n edits h)
-
-still : (s : State) (edits : List EditView) (place : Place) (i n : ℕ) → All (ChangesBodiesOnly s place) edits → unfolding_after s (take n edits) place i ≡ unfolding_after s (take (suc n) edits) place i
-still s edits place i n h = unfolding_alike s.skipped place (slice_get s.crates i) _ _ (front_kept s edits place n h ∙ sym (front_kept s edits place (suc n) h))
+still : (s : State) (edits : List EditView) (place : Place) (i n : ℕ) → All (ChangesBodiesOnly s place i) edits → unfolding_after s (take n edits) place i ≡ unfolding_at s place i
+still s edits place i n h =
+    let front = All-take (ChangesBodiesOnly s place i) n edits h in
+    ap (λ (krate : Option CrateView). unfolding_of s.skipped place krate (present_after s (take n edits) place)) (crate_kept s (take n edits) place i front)
+    ∙ unfolding_alike s.skipped place (slice_get s.crates i) _ _ (present_kept s (take n edits) place i front)
 
 pub ignores_bodies : (s u : State) (edits : List EditView) → IsAfter s edits u → IgnoresBodies s edits u
-ignores_bodies s u edits after place h i p =
-    elim (after.last_changes place i p) as (λ _. change_number u place i ≡ change_number s place i) [ inl unmoved ↦ unmoved.number | inr last ↦ absurd (last.1.moved (still s edits place i last.0 h)) ]
+ignores_bodies s u edits after place i p h =
+    elim (after.last_changes place i p) as (λ _. change_number u place i ≡ change_number s place i) [ inl unmoved ↦ unmoved.number | inr last ↦ absurd (last.1.moved (still s edits place i last.0 h ∙ sym (still s edits place i (suc last.0) h))) ]

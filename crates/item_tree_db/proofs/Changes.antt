@@ -1,36 +1,27 @@
 -- What a walk over a shelf gives is what changed.
-use Rattle.std.proofs.Common.{◌≡◌, ◌⊎◌, inl, inr, ℕ, zero, suc, ◌+◌, ◌<◌, max, Bool, true, false, ◌&&◌, cond, nat_lt, List, [], ◌∷◌, ◌++◌, length, map, Some, None, Option, IfSome, slice_get, refl, sym, ap, subst, ◌∙◌, arith}
+use Rattle.std.proofs.Common.{◌≡◌, inl, inr, ℕ, zero, suc, ◌+◌, ◌<◌, max, Bool, true, false, cond, nat_lt, List, [], ◌∷◌, length, map, Some, None, Option, IfSome, slice_get, refl, sym, ap, subst, ◌∙◌, arith}
 use Rattle.std.specs.Option.{option_and_then, unwrap_or}
-use Rattle.std.specs.Ordering.{nat_cmp, eq_by_cmp, is_lt}
+use Rattle.std.specs.Ordering.{nat_cmp, eq_by_cmp}
 use Rattle.std.specs.declared.cmp.Ordering.TheVariants.{Less}
 use Rattle.std.specs.FinMap.Entries.{below_all}
 use Rattle.std.proofs.lemmas.Bool.Decides.{nat_tests}
 use Rattle.std.proofs.lemmas.Option.{same_Some, none-some, slice_get_within}
 use Rattle.hir_input.specs.declared.ast.Syntax.{Syntax}
-use Rattle.hir_input.specs.declared.ids.Crate.{Crate}
 use Rattle.item_tree.specs.CrateView.{CrateView}
 use Rattle.item_tree_db.specs.declared.rows.Row.{Row}
 use Rattle.item_tree_db.specs.declared.place.Place.TheVariants.{File, Block}
 use Rattle.item_tree_db.specs.Settled.{empty_row}
 use Rattle.item_tree_db.specs.Since.{Change, change_cmp, IsLate, IsSince}
-use Rattle.item_tree_db.specs.Slots.{Placed, HasRows, IsRising, row_in}
+use Rattle.item_tree_db.specs.Slots.{Placed, HasRows, IsRising}
 use Rattle.item_tree_db.specs.State.{find}
 use Rattle.item_tree_db.specs.Table.{Table, places_view, state_of, row_found}
 use Rattle.item_tree_db.specs.Walk.{Entry, entries_from, all_entries, late, of_file}
 use Rattle.item_tree_db.proofs.Counts.{rows_of_found}
 use Rattle.item_tree_db.proofs.Listed.{In, InOrder, in_left, in_right, in_either, in_filter, filter_in, contained, all_in, order_append, order_filter, all_pairs, in_map, map_in, order_map}
 use Rattle.item_tree_db.proofs.Mapped.{first, second, lt_of}
+use Rattle.item_tree_db.proofs.Recasts.{equal_of, itself, unequal}
 use Rattle.item_tree_db.proofs.Steps.{change_number_is}
 use Rattle.item_tree_db.proofs.Views.{row_view}
-
-equal_of : (q k : ℕ) → eq_by_cmp nat_cmp q k ≡ true → q ≡ k
-equal_of q k h = grind (arith, nat_tests)
-
-itself : (k : ℕ) → eq_by_cmp nat_cmp k k ≡ true
-itself k = grind (arith, nat_tests)
-
-unequal : (q k : ℕ) → k < q → eq_by_cmp nat_cmp q k ≡ false
-unequal q k h = grind (arith, nat_tests)
 
 -- what an entry tells of the rows of its place
 record IsOf (k i : ℕ) (rows : List Row) (e : Entry) : Type 0 where

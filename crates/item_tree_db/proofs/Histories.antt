@@ -1,19 +1,22 @@
 -- A list of edits, against the whole history.
-use Rattle.std.proofs.Common.{◌≡◌, ◌≢◌, ◌⊎◌, inl, inr, ℕ, zero, suc, ◌+◌, ◌<◌, ◌≤◌, Bool, true, false, not, List, [], ◌∷◌, length, take, cond, Some, None, Option, slice_get, refl, sym, ap, subst, ◌∙◌, arith, true≢false, eq-or-lt_of_le, le_of_suc-le-suc}
+use Rattle.std.proofs.Common.{◌≡◌, ◌≢◌, ◌⊎◌, inl, inr, ℕ, zero, suc, ◌+◌, ◌<◌, ◌≤◌, Bool, true, false, not, List, [], ◌∷◌, length, take, cond, Some, None, Option, IfSome, slice_get, refl, sym, ap, subst, ◌∙◌, arith, true≢false, eq-or-lt_of_le, le_of_suc-le-suc}
 use Rattle.std.specs.Option.{option_or, option_map, unwrap_or}
 use Rattle.std.proofs.lemmas.Option.{same_Some, none-some}
 use Rattle.std.proofs.lemmas.List.{take_all}
+use Rattle.hir_input.specs.declared.cfg.CfgAtom.{CfgAtom}
+use Rattle.hir_input.specs.Syntax.{SyntaxView}
 use Rattle.item_tree.specs.CrateView.{CrateView}
 use Rattle.item_tree.specs.Node.{Unfolding}
 use Rattle.item_tree.specs.NodeCode.{unfolding_code}
 use Rattle.item_tree.specs.Same.{same, equal_of_same, same_of_equal}
 use Rattle.item_tree_db.specs.declared.place.Place.{Place}
-use Rattle.item_tree_db.specs.State.{State, present, unfolding_of, unfolding_at, change_number}
-use Rattle.item_tree_db.specs.Edits.{EditView}
-use Rattle.item_tree_db.specs.History.{sets, last_some, last_below, present_after, unfolding_after, moves, changed_after, IsChangeNumber, IsAfter, IsFooting}
+use Rattle.item_tree_db.specs.State.{State, file_at, present, unfolding_of, unfolding_at, change_number}
+use Rattle.item_tree_db.specs.Edits.{EditView, set_file, remove_file, set_cfg}
+use Rattle.item_tree_db.specs.Refusal.{TreeFits, FitsAfter, FirstFit}
+use Rattle.item_tree_db.specs.History.{sets, gives, under, crate_after, last_some, last_below, present_after, unfolding_after, moves, changed_after, IsChangeNumber, IsAfter, IsFooting}
 use Rattle.item_tree_db.specs.Table.{Table, after, after_all, state_of, IsSound}
-use Rattle.item_tree_db.proofs.Runs.{same_crates, same_skipped}
-use Rattle.item_tree_db.proofs.Steps.{present_step, change_number_is, change_step, sound_step, start_step, number_step}
+use Rattle.item_tree_db.proofs.Runs.{same_count, same_skipped, same_skipped_all}
+use Rattle.item_tree_db.proofs.Steps.{present_step, crate_step, change_number_is, change_step, sound_step, start_step, number_step}
 
 or_else : {A : Type 0} (a b : Option A) (d : A) → unwrap_or a (unwrap_or b d) ≡ unwrap_or (option_or a b) d
 or_else None b d = refl
@@ -29,8 +32,18 @@ last_front p (suc n) = elim (p (suc n)) as (λ b. cond b (Some (suc n)) (last_be
 front_present : (t : Table) (e : EditView) (es : List EditView) (place : Place) → present_after (state_of (after t e)) es place ≡ present_after (state_of t) (e ∷ es) place
 front_present t e es place = ap (unwrap_or (last_some (sets place) es)) (present_step t e place) ∙ or_else (last_some (sets place) es) (sets place e) (present (state_of t) place)
 
+-- options given, and given again
+under_both : (a b : Option (List CfgAtom)) (krate : Option CrateView) → under a (under b krate) ≡ under (option_or a b) krate
+under_both None b krate = refl
+under_both (Some o) None krate = refl
+under_both (Some o) (Some p) None = refl
+under_both (Some o) (Some p) (Some krate) = refl
+
+front_crate : (t : Table) (e : EditView) (es : List EditView) (i : ℕ) → crate_after (state_of (after t e)) es i ≡ crate_after (state_of t) (e ∷ es) i
+front_crate t e es i = ap (under (last_some (gives i) es)) (crate_step t e i) ∙ under_both (last_some (gives i) es) (gives i e) (slice_get t.crates i)
+
 front_unfolding : (t : Table) (e : EditView) (es : List EditView) (place : Place) (i : ℕ) → unfolding_after (state_of (after t e)) es place i ≡ unfolding_after (state_of t) (e ∷ es) place i
-front_unfolding t e es place i j = unfolding_of (same_skipped t e j) place (slice_get (same_crates t e j) i) (front_present t e es place j)
+front_unfolding t e es place i j = unfolding_of (same_skipped t e j) place (front_crate t e es i j) (front_present t e es place j)
 
 front_moves : (t : Table) (e : EditView) (es : List EditView) (place : Place) (i : ℕ) → moves (state_of (after t e)) es place i ≡ (λ k. moves (state_of t) (e ∷ es) place i (suc k))
 front_moves t e es place i j k = not (same unfolding_code (front_unfolding t e (take k es) place i j) (front_unfolding t e (take (suc k) es) place i j))
@@ -120,7 +133,8 @@ history t [] h = (
   record {
     number = omega arith;
     start = refl;
-    crates = refl;
+    count = refl;
+    crates = λ i. refl;
     skipped = refl;
     syntaxes = λ place. refl;
     unfoldings = λ place i p. refl;
@@ -129,14 +143,15 @@ history t [] h = (
   },
 )
 history t (e ∷ es) h =
-    let many = ap (λ (crates : List CrateView). length crates) (same_crates t e) in
+    let many = same_count t e in
     let rest = history (after t e) es (sound_step t e h) in
     let r = rest.1 in (
       rest.0,
       record {
         number = let a = r.number in let b = number_step t e in omega arith;
         start = r.start ∙ start_step t e;
-        crates = r.crates ∙ same_crates t e;
+        count = r.count ∙ many;
+        crates = λ i. r.crates i ∙ front_crate t e es i;
         skipped = r.skipped ∙ same_skipped t e;
         syntaxes = λ place. r.syntaxes place ∙ front_present t e es place;
         unfoldings = λ place i p. r.unfoldings place i (rw many p) ∙ front_unfolding t e es place i;
@@ -144,6 +159,34 @@ history t (e ∷ es) h =
         last_changes = λ place i p. subst (λ (c : ℕ). IsChangeNumber (state_of t) (e ∷ es) place i c) (sym (r.changes place i (rw many p) ∙ front_changed t e es place i h p)) (change_number_by (state_of t) (e ∷ es) place i);
       },
     )
+
+-- ---- what each edit of a list fits
+
+run_present : (t : Table) (es : List EditView) (place : Place) → present (state_of (after_all t es)) place ≡ present_after (state_of t) es place
+run_present t [] place = refl
+run_present t (e ∷ es) place = run_present (after t e) es place ∙ front_present t e es place
+
+run_crate : (t : Table) (es : List EditView) (i : ℕ) → slice_get (after_all t es).crates i ≡ crate_after (state_of t) es i
+run_crate t [] i = refl
+run_crate t (e ∷ es) i = run_crate (after t e) es i ∙ front_crate t e es i
+
+fits_front : (t : Table) (es : List EditView) (e : EditView) → FitsAfter (state_of (after_all t es)) [] e → FitsAfter (state_of t) es e
+fits_front t es (set_file k syntax) h = λ i. subst (λ (names : List (List ℕ)). TreeFits names (file_at k) (crate_after (state_of t) es i) (Some syntax)) (same_skipped_all t es) (subst (λ (krate : Option CrateView). TreeFits (after_all t es).skipped (file_at k) krate (Some syntax)) (run_crate t es i) (h i))
+fits_front t es (remove_file k) h = tt
+fits_front t es (set_cfg i o) h = λ place.
+    let krate = under (Some o) (crate_after (state_of t) es i) in
+    subst (λ (names : List (List ℕ)). TreeFits names place krate (present_after (state_of t) es place)) (same_skipped_all t es)
+    (subst (λ (syntax : Option SyntaxView). TreeFits (after_all t es).skipped place krate syntax) (run_present t es place)
+    (subst (λ (k : Option CrateView). TreeFits (after_all t es).skipped place (under (Some o) k) (present (state_of (after_all t es)) place)) (run_crate t es i) (h place)))
+
+-- one more edit
+pub fits_more : (t u : Table) (es : List EditView) (n : ℕ) (e : EditView) → FirstFit (state_of t) es n → u ≡ after_all t (take n es) → slice_get es n ≡ Some e → FitsAfter (state_of u) [] e → FirstFit (state_of t) es (n + 1)
+fits_more t u es n e fit is at fits m p = elim (eq_or_below m n (omega (arith, p))) as (λ _. IfSome (slice_get es m) (FitsAfter (state_of t) (take m es))) [
+  | inl q ↦
+      let now = fits_front t (take n es) e (subst (λ (v : Table). FitsAfter (state_of v) [] e) is fits) in
+      subst (λ (k : ℕ). IfSome (slice_get es k) (FitsAfter (state_of t) (take k es))) (sym q) (subst (λ (o : Option EditView). IfSome o (FitsAfter (state_of t) (take n es))) (sym at) now)
+  | inr q ↦ fit m q
+]
 
 -- ---- what an index rests on
 
@@ -170,7 +213,7 @@ bound_is t h place i p = rw (change_number_is t place i) (h.bounded place i p)
 
 pub footing : (t u : Table) (es : List EditView) → IsSound u → IsAfter (state_of t) es (state_of u) → IsFooting (state_of t) (state_of u)
 footing t u es h after = record {
-  bounded = λ place i p. bound_is u h place i (rw after.crates p);
+  bounded = λ place i p. bound_is u h place i (rw after.count p);
   numbers = λ place i p low. (kept_low (state_of t) (state_of u) es place i after p low).number;
   trees = λ place i p low. (kept_low (state_of t) (state_of u) es place i after p low).tree;
 }

@@ -1,10 +1,12 @@
 pub mod Mapped
+pub mod Recasts
 pub mod Lowered
 pub mod Counts
 pub mod Views
 pub mod Walks
 pub mod Runs
 pub mod Steps
+pub mod Causes
 pub mod Histories
 pub mod Listed
 pub mod Changes

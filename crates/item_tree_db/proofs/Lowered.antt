@@ -11,7 +11,7 @@ use Rattle.item_tree.specs.CrateView.{crate_view}
 use Rattle.item_tree.specs.Size.{IsTooLarge}
 use Rattle.item_tree_db.specs.declared.place.Place.{Place}
 use Rattle.item_tree_db.specs.State.{kept_at}
-use Rattle.item_tree_db.specs.Refusal.{IsTooLargeIn}
+use Rattle.item_tree_db.specs.Lowering.{SyntaxPasses}
 
 next_of : {A B : Type 0} (f : A → B) (xs : List A) (i : ℕ) (x : A) (y : B) → x ≡ get_or xs i x → y ≡ f x → i < length xs → y ∷ map f (drop (suc i) xs) ≡ map f (drop i xs)
 next_of f [] i x y e h p = absurd (omega arith)
@@ -27,7 +27,7 @@ any_at f P xs i x e p h = (i, f x, rw (length-map xs f) p, get_or-map f xs i x �
 
 -- the crate at a place does not take the syntax
 pub passed_at : (crates : List CrateData) (skipped : List (List ℕ)) (place : Place) (syntax : SyntaxView) (i : ℕ) (krate : CrateData) (error : LowerError) → krate ≡ get_or crates i krate → i < length crates
-    → IsTooLarge syntax (kept_at skipped place syntax (crate_view krate)) error → IsTooLargeIn (map crate_view crates) skipped place syntax error
+    → IsTooLarge syntax (kept_at skipped place syntax (crate_view krate)) error → SyntaxPasses (map crate_view crates) skipped place syntax error
 passed_at crates skipped place syntax i krate TooManyItems e p h = any_at crate_view _ crates i krate e p h
 passed_at crates skipped place syntax i krate TooManyVisibilities e p h = any_at crate_view _ crates i krate e p h
 passed_at crates skipped place syntax i krate TooManyUseTrees e p h = any_at crate_view _ crates i krate e p h

@@ -18,7 +18,8 @@ use Rattle.item_tree_db.specs.declared.rows.Row.{Row}
 use Rattle.item_tree_db.specs.State.{find}
 use Rattle.item_tree_db.specs.Settled.{brought}
 use Rattle.item_tree_db.specs.Slots.{Placed, put, removed, set_to, set_at, placed_or_nothing, row_in}
-use Rattle.item_tree_db.specs.Refusal.{SyntaxFits}
+use Rattle.item_tree_db.specs.Lowering.{SyntaxFits}
+use Rattle.item_tree_db.proofs.Recasts.{equal_of}
 use Rattle.item_tree_db.specs.Table.{placed_view, places_view, syntax_at, row_found}
 
 -- a map with each of its values mapped
@@ -37,6 +38,14 @@ module _ {X Y : Type 0} (f : X → Y) where
     | Equal ↦ refl
     | Greater ↦ ap (λ (m : List (ℕ × Y)). (e.0, f e.1) ∷ m) (put_over l k v)
   ]
+
+-- the same where the numbers count too
+pub find_keyed : {X Y : Type 0} (g : ℕ → X → Y) (l : List (ℕ × X)) (k : ℕ) → find (map (λ slot. (slot.0, g slot.0 slot.1)) l) k ≡ option_map (g k) (find l k)
+find_keyed g [] k = refl
+find_keyed {X} {Y} g (e ∷ l) k = elim (eq_by_cmp nat_cmp k e.0) as (λ b. eq_by_cmp nat_cmp k e.0 ≡ b → cond b (Some (g e.0 e.1)) (find (map (λ slot. (slot.0, g slot.0 slot.1)) l) k) ≡ option_map (g k) (cond b (Some e.1) (find l k))) [
+  | true ↦ λ t. ap (λ (m : ℕ). Some (g m e.1)) (sym (equal_of k e.0 t))
+  | false ↦ λ t. find_keyed g l k
+] refl
 
 placed_of : (start count : ℕ) (o : Option (Placed Syntax)) → placed_view (placed_or_nothing start count o) ≡ placed_or_nothing start count (option_map placed_view o)
 placed_of start count None = refl

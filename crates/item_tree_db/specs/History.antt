@@ -1,15 +1,17 @@
 -- Whole histories: what stands after a list of edits.
 use Rattle.std.specs.Prelude.{◌≡◌, ◌≢◌, ◌⊎◌, ℕ, zero, suc, ◌+◌, ◌<◌, ◌≤◌, ◌==◌, List, [], ◌∷◌, length, take, Option, None, Some, Bool, not, if◌then◌else◌, option_map, slice_get, All, IfSome}
 use Rattle.std.specs.Option.{option_or, unwrap_or}
+use Rattle.hir_input.specs.declared.cfg.CfgAtom.{CfgAtom}
 use Rattle.hir_input.specs.Syntax.{SyntaxView}
 use Rattle.hir_input.specs.Bodies.{without_bodies}
+use Rattle.item_tree.specs.CrateView.{CrateView}
 use Rattle.item_tree.specs.Node.{Unfolding}
 use Rattle.item_tree.specs.NodeCode.{unfolding_code}
 use Rattle.item_tree.specs.Same.{same}
 use Rattle.item_tree_db.specs.declared.place.Place.{Place}
 use Rattle.item_tree_db.specs.declared.place.Place.TheVariants.{File, Block}
-use Rattle.item_tree_db.specs.State.{State, present, unfolding_of, unfolding_at, change_number}
-use Rattle.item_tree_db.specs.Edits.{EditView, set_file, remove_file}
+use Rattle.item_tree_db.specs.State.{State, given, present, unfolding_of, unfolding_at, change_number}
+use Rattle.item_tree_db.specs.Edits.{EditView, set_file, remove_file, set_cfg}
 
 -- what the last element has that has any
 abbrev pub last_some : {A B : Type 0} → (A → Option B) → List A → Option B
@@ -25,7 +27,19 @@ last_below p (suc n) = if p n then Some n else last_below p n
 abbrev pub sets : Place → EditView → Option (Option SyntaxView)
 sets (File file) (set_file k syntax) = if k == file.0 then Some (Some syntax) else None
 sets (File file) (remove_file k) = if k == file.0 then Some None else None
+sets (File file) (set_cfg k options) = None
 sets (Block block) edit = None
+
+-- the options that an edit gives crate i, if it gives it any
+abbrev pub gives : ℕ → EditView → Option (List CfgAtom)
+gives i (set_file k syntax) = None
+gives i (remove_file k) = None
+gives i (set_cfg k options) = if k == i then Some options else None
+
+-- a crate of the list under the options that it is given, if it is given any
+abbrev pub under : Option (List CfgAtom) → Option CrateView → Option CrateView
+under None krate = krate
+under (Some options) krate = option_map (given options) krate
 
 -- ---- after the edits
 
@@ -33,9 +47,13 @@ sets (Block block) edit = None
 abbrev pub present_after : State → List EditView → Place → Option SyntaxView
 present_after s edits place = unwrap_or (last_some (sets place) edits) (present s place)
 
--- what its tree in crate i unfolds to
+-- crate i under its present options: those that the last edit gives it that gives it any
+abbrev pub crate_after : State → List EditView → ℕ → Option CrateView
+crate_after s edits i = under (last_some (gives i) edits) (slice_get s.crates i)
+
+-- what the place's tree in crate i unfolds to
 abbrev pub unfolding_after : State → List EditView → Place → ℕ → Unfolding
-unfolding_after s edits place i = unfolding_of s.skipped place (slice_get s.crates i) (present_after s edits place)
+unfolding_after s edits place i = unfolding_of s.skipped place (crate_after s edits i) (present_after s edits place)
 
 -- whether the edit at position n, counted from 0, made the unfolding another
 abbrev pub moves : State → List EditView → Place → ℕ → ℕ → Bool
@@ -68,7 +86,8 @@ IsChangeNumber s edits place i c = IsUnmoved s edits place i c ⊎ ((n : ℕ) ×
 pub record IsAfter (s : State) (edits : List EditView) (u : State) : Type 0 where
   pub number : u.number ≡ s.number + length edits
   pub start : u.start ≡ s.start
-  pub crates : u.crates ≡ s.crates
+  pub count : length u.crates ≡ length s.crates
+  pub crates : (i : ℕ) → slice_get u.crates i ≡ crate_after s edits i
   pub skipped : u.skipped ≡ s.skipped
   pub syntaxes : (place : Place) → present u place ≡ present_after s edits place
   pub unfoldings : (place : Place) (i : ℕ) → i < length s.crates → unfolding_at u place i ≡ unfolding_after s edits place i
@@ -81,10 +100,11 @@ pub record IsFooting (s u : State) : Type 0 where
   pub numbers : (place : Place) (i : ℕ) → i < length s.crates → change_number u place i ≤ s.number → change_number u place i ≡ change_number s place i
   pub trees : (place : Place) (i : ℕ) → i < length s.crates → change_number u place i ≤ s.number → unfolding_at u place i ≡ unfolding_at s place i
 
--- the edit changes no more of the place than body texts: it leaves what is there but for them, or is one of another place
-abbrev pub ChangesBodiesOnly : State → Place → EditView → Type 0
-ChangesBodiesOnly s place edit = IfSome (sets place edit) (λ left. option_map without_bodies left ≡ option_map without_bodies (present s place))
+-- the edit changes no more of the place in crate i than body texts: it leaves the syntax but for them and the crate as it is, or is one of another place or crate
+pub record ChangesBodiesOnly (s : State) (place : Place) (i : ℕ) (edit : EditView) : Type 0 where
+  pub syntax : IfSome (sets place edit) (λ left. option_map without_bodies left ≡ option_map without_bodies (present s place))
+  pub krate : IfSome (gives i edit) (λ options. under (Some options) (slice_get s.crates i) ≡ slice_get s.crates i)
 
--- edits that lead from s to u, and change no more of a place than body texts, move no change number of it
+-- edits that lead from s to u, and change no more of a place in a crate than body texts, do not move its change number
 abbrev pub IgnoresBodies : State → List EditView → State → Type 0
-IgnoresBodies s edits u = (place : Place) → All (ChangesBodiesOnly s place) edits → (i : ℕ) → i < length s.crates → change_number u place i ≡ change_number s place i
+IgnoresBodies s edits u = (place : Place) (i : ℕ) → i < length s.crates → All (ChangesBodiesOnly s place i) edits → change_number u place i ≡ change_number s place i

@@ -8,4 +8,5 @@ pub mod Settled
 pub mod Slots
 pub mod Walk
 pub mod Table
+pub mod Lowering
 pub mod Codes

@@ -1,5 +1,5 @@
 -- The order of places.
-use Rattle.std.specs.Prelude.{◌≡◌, ℕ, Bool, refl}
+use Rattle.std.specs.Prelude.{◌≡◌, ℕ, refl}
 use Rattle.std.specs.declared.cmp.Ordering.{Ordering}
 use Rattle.std.specs.Cmp.{IsTotalOrder, IsPartialOrder, partial_order_from_own_ties, partial_order_from_total, nat_cmp_total, on_total, then_total}
 use Rattle.std.specs.Ordering.{as_partial_cmp, eq_by_cmp, nat_cmp, on, then_cmp}

@@ -1,6 +1,5 @@
 -- Why an edit is refused.
-use Rattle.std.specs.Prelude.{◌≡◌, ℕ, ◌-◌, ◌^◌, List, All}
-use Rattle.std.specs.List.{Any}
+use Rattle.std.specs.Prelude.{◌≡◌, ℕ, ◌<◌, ◌-◌, ◌^◌, List, [], length, take, Option, None, Some, IfSome, slice_get}
 use Rattle.hir_input.specs.Syntax.{SyntaxView}
 use Rattle.item_tree.specs.declared.fault.LowerError.{LowerError}
 use Rattle.item_tree.specs.declared.fault.LowerError.TheVariants.{OutOfMemory}
@@ -11,31 +10,53 @@ use Rattle.item_tree.specs.Size.{FitsWith, IsTooLarge}
 use Rattle.item_tree_db.specs.declared.place.Place.{Place}
 use Rattle.item_tree_db.specs.declared.edit.EditRefused.{EditRefused}
 use Rattle.item_tree_db.specs.State.{State, file_at, kept_at}
-use Rattle.item_tree_db.specs.Edits.{EditView, set_file, remove_file, edit_view}
+use Rattle.item_tree_db.specs.Edits.{EditView, set_file, remove_file, set_cfg, edit_view}
+use Rattle.item_tree_db.specs.History.{under, crate_after, present_after}
 
 -- no edit has a number above this one
 abbrev pub last_number : ℕ
 last_number = 2 ^ 64 - 1
 
--- the syntax of a place passes no size in any crate
-abbrev pub SyntaxFits : List CrateView → List (List ℕ) → Place → SyntaxView → Type 0
-SyntaxFits crates skipped place syntax = All (λ krate. FitsWith syntax (kept_at skipped place syntax krate)) crates
+-- the crate that an edit names, if it names one, is of the list
+abbrev pub NamesKnown : State → EditView → Type 0
+NamesKnown s (set_file k syntax) = Unit {0}
+NamesKnown s (remove_file k) = Unit {0}
+NamesKnown s (set_cfg i options) = i < length s.crates
 
--- a removal lowers nothing
-abbrev pub EditFits : State → EditView → Type 0
-EditFits s (set_file k syntax) = SyntaxFits s.crates s.skipped (file_at k) syntax
-EditFits s (remove_file k) = Unit {0}
+-- a crate's tree of a syntax passes no size; where there is no crate or no syntax, nothing is lowered
+abbrev pub TreeFits : List (List ℕ) → Place → Option CrateView → Option SyntaxView → Type 0
+TreeFits skipped place krate None = Unit {0}
+TreeFits skipped place None (Some syntax) = Unit {0}
+TreeFits skipped place (Some krate) (Some syntax) = FitsWith syntax (kept_at skipped place syntax krate)
 
--- the syntax of a place passes this size in some crate, or memory is wanting
-abbrev pub IsTooLargeIn : List CrateView → List (List ℕ) → Place → SyntaxView → LowerError → Type 0
-IsTooLargeIn crates skipped place syntax OutOfMemory = Unit {0}
-IsTooLargeIn crates skipped place syntax error = Any (λ krate. IsTooLarge syntax (kept_at skipped place syntax krate) error) crates
+-- it is lowered, and passes this size
+abbrev pub TreePasses : List (List ℕ) → Place → Option CrateView → Option SyntaxView → LowerError → Type 0
+TreePasses skipped place krate None error = ⊥
+TreePasses skipped place None (Some syntax) error = ⊥
+TreePasses skipped place (Some krate) (Some syntax) error = IsTooLarge syntax (kept_at skipped place syntax krate) error
 
--- the table s may refuse the edit for this cause; a removal for no other than its number
+-- no tree that the edit, made after those, lowers passes a size: of its file in each crate, or of each place in its crate under its options; a removal lowers nothing
+abbrev pub FitsAfter : State → List EditView → EditView → Type 0
+FitsAfter s before (set_file k syntax) = (i : ℕ) → TreeFits s.skipped (file_at k) (crate_after s before i) (Some syntax)
+FitsAfter s before (remove_file k) = Unit {0}
+FitsAfter s before (set_cfg i options) = (place : Place) → TreeFits s.skipped place (under (Some options) (crate_after s before i)) (present_after s before place)
+
+-- some tree that it lowers passes this size
+abbrev pub PassesAfter : State → List EditView → EditView → LowerError → Type 0
+PassesAfter s before (set_file k syntax) error = (i : ℕ) × TreePasses s.skipped (file_at k) (crate_after s before i) (Some syntax) error
+PassesAfter s before (remove_file k) error = ⊥
+PassesAfter s before (set_cfg i options) error = (place : Place) × TreePasses s.skipped place (under (Some options) (crate_after s before i)) (present_after s before place) error
+
+-- each of the first n edits fits, made after those before it
+abbrev pub FirstFit : State → List EditView → ℕ → Type 0
+FirstFit s edits n = (m : ℕ) → m < n → IfSome (slice_get edits m) (FitsAfter s (take m edits))
+
+-- the table s may refuse the edit for this cause: a size that it passes, or want of memory; a removal for no other than its number
 abbrev pub IsCause : State → EditView → EditFault → Type 0
 IsCause s edit TooManyEdits = s.number ≡ last_number
-IsCause s (set_file k syntax) (Lower error) = IsTooLargeIn s.crates s.skipped (file_at k) syntax error
 IsCause s (remove_file k) (Lower error) = ⊥
+IsCause s edit (Lower OutOfMemory) = Unit {0}
+IsCause s edit (Lower error) = PassesAfter s [] edit error
 
 abbrev pub IsRefusal : State → EditRefused → Type 0
 IsRefusal s refused = IsCause s (edit_view refused.edit) refused.cause

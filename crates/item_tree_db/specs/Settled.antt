@@ -1,5 +1,5 @@
 -- Within the crate: the trees of a place under edits.
-use Rattle.std.specs.Prelude.{ℕ, List, [], ◌∷◌, if◌then◌else◌, map}
+use Rattle.std.specs.Prelude.{ℕ, List, [], ◌∷◌, if◌then◌else◌, map, Option}
 use Rattle.hir_input.specs.declared.ast.Syntax.{Syntax}
 use Rattle.hir_input.specs.declared.ids.HirFileId.{HirFileId}
 use Rattle.hir_input.specs.Syntax.{SyntaxView, syntax_view}
@@ -11,7 +11,7 @@ use Rattle.item_tree.specs.Same.{same}
 use Rattle.item_tree_db.specs.declared.rows.Row.{Row}
 use Rattle.item_tree_db.specs.declared.place.Place.{Place}
 use Rattle.item_tree_db.specs.declared.place.Place.TheVariants.{File}
-use Rattle.item_tree_db.specs.State.{kept_at}
+use Rattle.item_tree_db.specs.State.{kept_at, unfolding_of}
 
 -- the empty tree
 abbrev pub empty_row : ℕ → Row
@@ -29,6 +29,10 @@ settled n (old ∷ olds) (new ∷ news) = settled_row n old new ∷ settled n ol
 -- all trees become empty with edit n
 abbrev pub cleared : ℕ → List Row → List Row
 cleared n = map (λ row. settled_row n row (empty_row n))
+
+-- what edit n brings to a crate of a place with this present syntax
+abbrev pub fresh_row : ℕ → List (List ℕ) → Place → Option CrateView → Option SyntaxView → Row
+fresh_row n skipped place krate syntax = record { tree = unfolding_of skipped place krate syntax; changed = n }
 
 -- what edit n brings to a crate when it sets this syntax of a place
 abbrev pub brought : ℕ → List (List ℕ) → Place → SyntaxView → CrateView → Row

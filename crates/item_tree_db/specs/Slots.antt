@@ -1,12 +1,12 @@
 -- Within the crate: a map as the list of its entries, in the order of their numbers.
-use Rattle.std.specs.Prelude.{◌≡◌, ℕ, ◌<◌, ◌≤◌, List, length, replicate, slice_get, slice_set, slice_index_or, Option, Some, None, IsTrue}
-use Rattle.std.specs.List.{insert, AllByRecursion}
+use Rattle.std.specs.Prelude.{◌≡◌, ℕ, zero, suc, List, [], ◌∷◌, length, replicate, slice_get, Option, Some, None, IsTrue}
+use Rattle.std.specs.List.{AllByRecursion}
 use Rattle.std.specs.Option.{option_and_then}
 use Rattle.std.specs.Ordering.{nat_cmp}
 use Rattle.std.specs.FinMap as map
 use Rattle.item_tree_db.specs.declared.rows.Row.{Row}
 use Rattle.item_tree_db.specs.State.{find}
-use Rattle.item_tree_db.specs.Settled.{settled, cleared, empty_row}
+use Rattle.item_tree_db.specs.Settled.{settled, settled_row, cleared, empty_row}
 
 -- what a place has whose syntax is an S
 pub record Placed (S : Type 0) : Type 0 where
@@ -48,3 +48,25 @@ removed n l k (Some place) = put l k (record { syntax = None; rows = cleared n p
 -- the row of a crate, if the number has an entry
 abbrev pub row_in : {S : Type 0} → List (ℕ × Placed S) → ℕ → ℕ → Option Row
 row_in l k i = option_and_then (λ place. slice_get place.rows i) (find l k)
+
+-- ---- another tree for one crate
+
+-- a list with its element at place i changed
+abbrev pub change_at : {A : Type 0} → ℕ → (A → A) → List A → List A
+change_at i f [] = []
+change_at zero f (x ∷ xs) = f x ∷ xs
+change_at (suc i) f (x ∷ xs) = x ∷ change_at i f xs
+
+-- edit n brings crate i this tree of a place
+abbrev pub recast : {S : Type 0} → ℕ → ℕ → Row → Placed S → Placed S
+recast n i fresh place = record { syntax = place.syntax; rows = change_at i (λ row. settled_row n row fresh) place.rows }
+
+-- of the place with a number, if it is there
+abbrev pub recast_found : {S : Type 0} → ℕ → ℕ → List (ℕ × Placed S) → ℕ × Row → Option (Placed S) → List (ℕ × Placed S)
+recast_found n i l fresh None = l
+recast_found n i l fresh (Some place) = put l fresh.0 (recast n i fresh.1 place)
+
+-- of one place after another
+abbrev pub recast_all : {S : Type 0} → ℕ → ℕ → List (ℕ × Placed S) → List (ℕ × Row) → List (ℕ × Placed S)
+recast_all n i l [] = l
+recast_all n i l (fresh ∷ more) = recast_all n i (recast_found n i l fresh (find l fresh.0)) more

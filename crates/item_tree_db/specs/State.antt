@@ -1,8 +1,9 @@
 -- What callers see of a table: no trees, since the present syntaxes fix them.
 use Rattle.std.specs.Prelude.{ℕ, ◌^◌, ◌<◌, ◌==◌, Bool, false, List, [], length, take, Option, None, Some, slice_get}
-use Rattle.std.specs.Option.{option_and_then, unwrap_or}
+use Rattle.std.specs.Option.{option_and_then, option_map, unwrap_or}
 use Rattle.std.specs.Ordering.{nat_cmp}
 use Rattle.std.specs.FinMap as map
+use Rattle.hir_input.specs.declared.cfg.CfgAtom.{CfgAtom}
 use Rattle.hir_input.specs.declared.ids.Crate.{Crate}
 use Rattle.hir_input.specs.Syntax.{SyntaxView}
 use Rattle.item_tree.specs.CrateView.{CrateView}
@@ -19,7 +20,7 @@ pub record Held : Type 0 where
   pub changed : List ℕ
 
 pub record State : Type 0 where
-  -- in the order of their numbers, from 0
+  -- in the order of their numbers, from 0, each with its present options
   pub crates : List CrateView
   -- the names of attributes that no tree has
   pub skipped : List (List ℕ)
@@ -41,6 +42,14 @@ new_table crates skipped start = record { crates = take crate_limit crates; skip
 -- the crate is of the list
 abbrev pub IsKnown : State → Crate → Type 0
 IsKnown s krate = krate.0 < length s.crates
+
+-- the present options of a crate
+abbrev pub options : State → Crate → Option (List CfgAtom)
+options s krate = option_map (λ k. k.options) (slice_get s.crates krate.0)
+
+-- the crate under other options
+abbrev pub given : List CfgAtom → CrateView → CrateView
+given options krate = record { root = krate.root; options = options; attrs = krate.attrs }
 
 -- what a list of entries has at a number
 abbrev pub find : {X : Type 0} → List (ℕ × X) → ℕ → Option X

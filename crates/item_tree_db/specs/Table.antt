@@ -1,5 +1,5 @@
 -- Within the crate: the table with its trees, and what an edit makes of it.
-use Rattle.std.specs.Prelude.{◌≡◌, ℕ, ◌+◌, ◌<◌, ◌≤◌, List, [], ◌∷◌, length, map, take, Option, None, Some, option_map, slice_get}
+use Rattle.std.specs.Prelude.{◌≡◌, ℕ, ◌+◌, ◌<◌, ◌≤◌, List, [], ◌∷◌, length, map, take, Option, None, option_map, slice_get}
 use Rattle.std.specs.Option.{option_and_then, unwrap_or}
 use Rattle.hir_input.specs.declared.ast.Syntax.{Syntax}
 use Rattle.hir_input.specs.Syntax.{SyntaxView, syntax_view}
@@ -8,10 +8,10 @@ use Rattle.item_tree.specs.CrateView.{CrateView, crate_view}
 use Rattle.item_tree_db.specs.declared.place.Place.{Place}
 use Rattle.item_tree_db.specs.declared.place.Place.TheVariants.{File, Block}
 use Rattle.item_tree_db.specs.declared.rows.Row.{Row}
-use Rattle.item_tree_db.specs.State.{Held, State, crate_limit, file_at, find, unfolding_at}
-use Rattle.item_tree_db.specs.Edits.{EditView, set_file, remove_file}
-use Rattle.item_tree_db.specs.Settled.{brought, empty_row}
-use Rattle.item_tree_db.specs.Slots.{Placed, HasRows, set_at, removed}
+use Rattle.item_tree_db.specs.State.{Held, State, crate_limit, file_at, find, given, unfolding_at}
+use Rattle.item_tree_db.specs.Edits.{EditView, set_file, remove_file, set_cfg}
+use Rattle.item_tree_db.specs.Settled.{brought, empty_row, fresh_row}
+use Rattle.item_tree_db.specs.Slots.{Placed, HasRows, set_at, removed, change_at, recast}
 
 -- what places of one kind have, in the order of their numbers
 abbrev pub Places : Type 0
@@ -55,10 +55,23 @@ removed_in t places k = removed (t.number + 1) places k (find places k)
 abbrev pub with_files : Table → Places → Table
 with_files t files = record { crates = t.crates; skipped = t.skipped; start = t.start; number = t.number + 1; files = files }
 
+-- the table with these crates
+abbrev pub with_crates : Table → List CrateView → Table
+with_crates t crates = record { crates = crates; skipped = t.skipped; start = t.start; number = t.number; files = t.files }
+
+-- edit n brings crate i, which is this, a tree of each of these places
+abbrev pub recast_in : ℕ → List (List ℕ) → (ℕ → Place) → ℕ → Option CrateView → Places → Places
+recast_in n skipped at i krate = map (λ slot. (slot.0, recast n i (fresh_row n skipped (at slot.0) krate slot.1.syntax) slot.1))
+
+-- the next edit lowers each place anew for crate i
+abbrev pub recast_table : Table → ℕ → Table
+recast_table t i = with_files t (recast_in (t.number + 1) t.skipped file_at i (slice_get t.crates i) t.files)
+
 -- the table after an edit
 abbrev pub after : Table → EditView → Table
 after t (set_file k syntax) = with_files t (set_in t t.files (file_at k) k syntax)
 after t (remove_file k) = with_files t (removed_in t t.files k)
+after t (set_cfg i options) = recast_table (with_crates t (change_at i (given options) t.crates)) i
 
 -- the table after a list of edits
 abbrev pub after_all : Table → List EditView → Table

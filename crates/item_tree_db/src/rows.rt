@@ -1,11 +1,12 @@
 //! The trees of one place, one for each crate, with their change numbers.
-ghost use Rattle.std.specs.Prelude.{◌≡◌, All, IfErr, IfOk, length, map};
+ghost use Rattle.std.specs.Prelude.{◌≡◌, All, IfErr, IfOk, OnOk, Some, length, map, option_copied, option_map};
 ghost use Rattle.hir_input.specs.Syntax.{syntax_view};
 ghost use Rattle.item_tree.specs.CrateView.{crate_view};
 ghost use Rattle.item_tree.specs.Size.{FitsWith, IsTooLarge};
 ghost use Rattle.item_tree_db.specs.declared.place.Place.TheVariants.{File};
-ghost use Rattle.item_tree_db.specs.Refusal.{IsTooLargeIn};
-ghost use Rattle.item_tree_db.specs.Settled.{settled, settled_row, empty_row, cleared, brought_to};
+ghost use Rattle.item_tree_db.specs.Lowering.{SyntaxPasses};
+ghost use Rattle.item_tree_db.specs.Refusal.{TreeFits, TreePasses};
+ghost use Rattle.item_tree_db.specs.Settled.{settled, settled_row, empty_row, cleared, fresh_row, brought_to};
 
 use hir_input::ast::Syntax;
 use hir_input::{HirFileId, Name};
@@ -20,8 +21,8 @@ pub struct Row {
     pub changed: u64,
 }
 
-// Takes the new tree, with the number, unless it is equal to the old one.
-fn settle_row(row: &mut Row, fresh: &mut Row, number: u64)
+/// Takes the new tree, with the number, unless it is equal to the old one.
+pub fn settle_row(row: &mut Row, fresh: &mut Row, number: u64)
     ensures { row.new ≡ settled_row number row.old fresh.old }
 {
     if row.tree != fresh.tree {
@@ -88,6 +89,31 @@ fn lower_row(
     })
 }
 
+/// The present syntax of a file lowered for one crate, under its own options: the empty tree where there is none.
+pub fn lower_present(
+    alloc: Global,
+    krate: &CrateData,
+    skipped: &[Name],
+    file: HirFileId,
+    syntax: Option<&Syntax>,
+    number: u64,
+) -> Result<Row, LowerError>
+    ensures row { let present = option_map syntax_view (option_copied syntax.entry) in
+        IfOk result (λ row. row ≡ fresh_row number skipped.now (File file) (Some (crate_view krate.now)) present) }
+    ensures fits { let present = option_map syntax_view (option_copied syntax.entry) in
+        OnOk result (TreeFits skipped.now (File file) (Some (crate_view krate.now)) present) }
+    ensures refused { let present = option_map syntax_view (option_copied syntax.entry) in
+        IfErr result (TreePasses skipped.now (File file) (Some (crate_view krate.now)) present) }
+{
+    match syntax {
+        Some(syntax) => lower_row(alloc, krate, skipped, file, syntax, number),
+        None => Ok(Row {
+            tree: ItemTree::empty(alloc),
+            changed: number,
+        }),
+    }
+}
+
 /// The syntax of a file lowered for every crate, under its own options.
 pub fn lower_all(
     alloc: Global,
@@ -100,7 +126,7 @@ pub fn lower_all(
     ensures rows { IfOk result (λ rows. rows.items ≡ map (brought_to number skipped.now file syntax.now) crates.now) }
     ensures fits { IfOk result (λ rows. All (λ row. FitsWith (syntax_view syntax.now) row.tree) rows.items) }
     ensures refused { let place = File file in
-        IfErr result (IsTooLargeIn (map crate_view crates.now) skipped.now place (syntax_view syntax.now)) }
+        IfErr result (SyntaxPasses (map crate_view crates.now) skipped.now place (syntax_view syntax.now)) }
 {
     let mut rows = Vec::with_capacity(alloc, crates.len())?;
     for krate in crates {

@@ -1,12 +1,18 @@
 //! The entries of places of one kind, in the order of their numbers.
-ghost use Rattle.std.specs.Prelude.{◌≡◌, [], length, Some, None, option_copied, IfOk, IfErr, IfSome, OnOk, OnErr};
+ghost use Rattle.std.specs.Prelude.{◌≡◌, [], length, map, Some, None, option_copied, IfOk, IfErr, IfSome, OnOk, OnErr};
+ghost use Rattle.std.specs.List.{AllByRecursion};
+ghost use Rattle.item_tree.specs.CrateView.{crate_view};
 ghost use Rattle.item_tree_db.specs.State.{find};
 ghost use Rattle.item_tree_db.specs.Settled.{settled, cleared};
-ghost use Rattle.item_tree_db.specs.Slots.{IsRising, set_at, removed, row_in};
+ghost use Rattle.item_tree_db.specs.Slots.{IsRising, set_at, removed, row_in, recast, recast_found, recast_all};
+ghost use Rattle.item_tree_db.specs.Lowering.{fresh_of, SlotFits, SlotsPass};
 ghost use Rattle.item_tree_db.specs.Walk.{HasFew, all_entries, late};
 
-use crate::rows::{Row, clear, settle, settle_first};
+use crate::rows::{Row, clear, lower_present, settle, settle_first, settle_row};
 use crate::since::Walk;
+use hir_input::ast::Syntax;
+use hir_input::{HirFileId, Name};
+use item_tree::{CrateData, LowerError};
 use std::alloc::Global;
 use std::collections::BTreeMap;
 use std::marker::Model;
@@ -59,6 +65,14 @@ impl<S: Drop> Entry<S> {
     {
         self.syntax = Some(syntax);
         settle(&mut self.rows, fresh, number);
+    }
+
+    fn recast(&mut self, index: usize, fresh: &mut Row, number: u64)
+        ensures { self.new ≡ recast number index fresh.old self.old }
+    {
+        if index < self.rows.len() {
+            settle_row(&mut self.rows[index], fresh, number);
+        }
     }
 
     fn into_syntax(self) -> Option<S>
@@ -174,5 +188,55 @@ impl<S: Drop> Shelf<S> {
             return;
         };
         entry.remove(alloc, number);
+    }
+
+    // Brings one crate another tree of a number, if it is there.
+    fn recast_at(&mut self, key: u32, index: usize, fresh: &mut Row, number: u64)
+        ensures { self.new ≡ recast_found number index self.old (key, fresh.old) (find self.old key) }
+    {
+        let Some(entry) = self.slots.get_mut(&key) else {
+            return;
+        };
+        entry.recast(index, fresh, number);
+    }
+
+    /// Brings one crate other trees. An equal tree stays, with its number. Takes no memory.
+    pub fn recast(&mut self, index: usize, fresh: Vec<(u32, Row)>, number: u64)
+        ensures { self.new ≡ recast_all number index self.old fresh.items }
+    {
+        for (key, mut row) in fresh {
+            self.recast_at(key, index, &mut row, number);
+        }
+    }
+}
+
+impl Shelf<Syntax> {
+    /// The present syntax of each file lowered for one crate, under its own options.
+    pub fn lower_for(
+        &self,
+        alloc: Global,
+        krate: &CrateData,
+        skipped: &[Name],
+        number: u64,
+    ) -> Result<Vec<(u32, Row)>, LowerError>
+        ensures fresh { let rows = map (fresh_of number skipped.now (crate_view krate.now)) self.now in
+            IfOk result (λ fresh. fresh.items ≡ rows) }
+        ensures fits { OnOk result (AllByRecursion (SlotFits skipped.now (crate_view krate.now)) self.now) }
+        ensures refused { IfErr result (SlotsPass skipped.now (crate_view krate.now) self.now) }
+        ensures rises { IsRising self.now }
+    {
+        let mut fresh = Vec::with_capacity(alloc, self.slots.len())?;
+        for (key, entry) in &self.slots {
+            let row = lower_present(
+                alloc,
+                krate,
+                skipped,
+                HirFileId(*key),
+                entry.syntax(),
+                number,
+            )?;
+            fresh.push((*key, row))?;
+        }
+        Ok(fresh)
     }
 }

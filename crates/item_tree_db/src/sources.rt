@@ -1,20 +1,21 @@
 //! The table of trees.
-ghost use Rattle.std.specs.Prelude.{◌≡◌, ◌<◌, ◌↔◌, ◌∷◌, [], All, map, slice_get, option_map, option_copied, Some, IsTrue, IfOk, IfErr, OnOk, OnErr, IsErrAnd};
+ghost use Rattle.std.specs.Prelude.{◌≡◌, ◌<◌, ◌↔◌, ◌∷◌, [], length, map, slice_get, option_map, option_copied, Some, IsTrue, IfOk, IfErr, OnOk, OnErr, IsErrAnd};
+ghost use Rattle.std.specs.List.{AllByRecursion};
 ghost use Rattle.hir_input.specs.Syntax.{syntax_view};
 ghost use Rattle.item_tree.specs.declared.fault.EditFault.TheVariants.{TooManyEdits};
 ghost use Rattle.item_tree.specs.CrateView.{crate_view};
-ghost use Rattle.item_tree_db.specs.State.{new_table, IsKnown, present, unfolding_at, change_number};
+ghost use Rattle.item_tree_db.specs.State.{new_table, IsKnown, options, present, unfolding_at, change_number};
 ghost use Rattle.item_tree_db.specs.Edits.{edit_view, edits_before};
 ghost use Rattle.item_tree_db.specs.History.{IsAfter, IsFooting, IgnoresBodies};
 ghost use Rattle.item_tree_db.specs.Since.{IsSince};
-ghost use Rattle.item_tree_db.specs.Refusal.{last_number, EditFits, IsRefusal};
+ghost use Rattle.item_tree_db.specs.Refusal.{last_number, NamesKnown, FitsAfter, FirstFit, IsRefusal};
 
 use crate::edit::{AllRefused, Edit, EditRefused};
 use crate::place::Place;
 use crate::since::ChangedSince;
 use crate::store::Store;
 use hir_input::ast::Syntax;
-use hir_input::{Crate, HirFileId, Name};
+use hir_input::{CfgOptions, Crate, HirFileId, Name};
 use item_tree::{CrateData, ItemTree};
 use std::alloc::Global;
 use std::marker::Model;
@@ -57,13 +58,15 @@ impl Sources {
     /// Makes an edit, and gives its number.
     ///
     /// A refusal changes nothing and hands the edit back. Errors: `TooManyEdits` where the table has the last
-    /// number, before all else; a `LowerError` of the syntax in some crate. A removal takes no memory.
+    /// number, before all else; a `LowerError` of the syntax in some crate, or for options that are set of some
+    /// present syntax in their crate. A removal takes no memory.
     pub fn edit(&mut self, edit: Edit) -> Result<u64, EditRefused>
+        requires { NamesKnown self.old (edit_view edit) }
         ensures ok { OnOk result (IsAfter self.old (edit_view edit ∷ []) self.new) }
         ensures number { IfOk result (λ number. number ≡ self.new.number) }
         ensures footing { IsFooting self.old self.new }
         ensures bodies { OnOk result (IgnoresBodies self.old (edit_view edit ∷ []) self.new) }
-        ensures fits { OnOk result (EditFits self.old (edit_view edit)) }
+        ensures fits { OnOk result (FitsAfter self.old [] (edit_view edit)) }
 
         ensures err { OnErr result (self.new ≡ self.old) }
         ensures returned { IfErr result (λ refused. refused.edit ≡ edit) }
@@ -78,15 +81,16 @@ impl Sources {
     /// A refusal names the refused edit's place and hands it back; the edits before it stay made, and those
     /// after it are dropped.
     pub fn edit_all(&mut self, edits: Vec<Edit>) -> Result<u64, AllRefused>
+        requires { AllByRecursion (NamesKnown self.old) (map edit_view edits.items) }
         ensures ok { OnOk result (IsAfter self.old (map edit_view edits.items) self.new) }
         ensures number { IfOk result (λ number. number ≡ self.new.number) }
         ensures footing { IsFooting self.old self.new }
         ensures bodies { OnOk result (IgnoresBodies self.old (map edit_view edits.items) self.new) }
-        ensures fits { OnOk result (All (EditFits self.old) (map edit_view edits.items)) }
+        ensures fits { OnOk result (FirstFit self.old (map edit_view edits.items) (length edits.items)) }
 
         ensures place { IfErr result (λ all. slice_get edits.items all.place ≡ Some all.refused.edit) }
         ensures refused { IfErr result (λ all. IsAfter self.old (edits_before all edits.items) self.new) }
-        ensures fits_before { IfErr result (λ all. All (EditFits self.old) (edits_before all edits.items)) }
+        ensures fits_before { IfErr result (λ all. FirstFit self.old (map edit_view edits.items) all.place) }
         ensures cause { IfErr result (λ all. IsRefusal self.new all.refused) }
         ensures full { IfErr result (λ all. self.new.number ≡ last_number → all.refused.cause ≡ TooManyEdits) }
     {
@@ -98,6 +102,14 @@ impl Sources {
         ensures { IsTrue result ↔ IsKnown self.now krate }
     {
         self.store.knows(krate)
+    }
+
+    /// The present options of a crate: those of its last `SetCfg`, or those given to `new`.
+    pub fn cfg_options(&self, krate: Crate) -> &CfgOptions
+        requires { IsKnown self.now krate }
+        ensures { options self.now krate ≡ Some result.now }
+    {
+        self.store.cfg_options(krate)
     }
 
     /// The number of the last edit, or `start`.

@@ -1,13 +1,16 @@
 //! The table with its trees as its value.
-ghost use Rattle.std.specs.Prelude.{◌≡◌, ◌+◌, ◌<◌, ◌↔◌, ◌^◌, All, length, map, slice_get, option_map, option_copied, Some, IsTrue, IfOk, IfErr, OnOk, OnErr, IsErrAnd};
+ghost use Rattle.std.specs.Prelude.{◌≡◌, ◌+◌, ◌<◌, ◌↔◌, ◌^◌, [], length, map, slice_get, option_map, option_copied, Some, IsTrue, IfOk, IfErr, OnOk, OnErr, IsErrAnd};
+ghost use Rattle.std.specs.List.{AllByRecursion};
 ghost use Rattle.hir_input.specs.Syntax.{syntax_view};
-ghost use Rattle.item_tree.specs.declared.fault.EditFault.TheVariants.{TooManyEdits};
+ghost use Rattle.item_tree.specs.declared.fault.EditFault.TheVariants.{TooManyEdits, Lower};
 ghost use Rattle.item_tree.specs.CrateView.{crate_view};
-ghost use Rattle.item_tree_db.specs.State.{file_at};
-ghost use Rattle.item_tree_db.specs.Edits.{edit_view, edits_before, set_file as sets, remove_file as removes};
-ghost use Rattle.item_tree_db.specs.Refusal.{last_number, SyntaxFits, EditFits, IsTooLargeIn, IsRefusal};
+ghost use Rattle.item_tree_db.specs.State.{given, options};
+ghost use Rattle.item_tree_db.specs.Edits.{edit_view, edits_before, set_file as sets, remove_file as removes, set_cfg as gives};
+ghost use Rattle.item_tree_db.specs.Refusal.{last_number, NamesKnown, FitsAfter, FirstFit, IsCause, IsRefusal};
+ghost use Rattle.item_tree_db.specs.Lowering.{PlacesFit, PlacesPass};
+ghost use Rattle.item_tree_db.specs.Slots.{change_at};
 ghost use Rattle.item_tree_db.specs.Since.{IsSince};
-ghost use Rattle.item_tree_db.specs.Table.{empty_table, after, after_all, state_of, syntax_at, row_found, row_at};
+ghost use Rattle.item_tree_db.specs.Table.{with_crates, recast_table, empty_table, after, after_all, state_of, syntax_at, row_found, row_at};
 
 use crate::edit::{AllRefused, Edit, EditRefused};
 use crate::place::Place;
@@ -15,10 +18,11 @@ use crate::rows::{Row, lower_all};
 use crate::shelf::Shelf;
 use crate::since::ChangedSince;
 use hir_input::ast::Syntax;
-use hir_input::{Crate, HirFileId, Name};
+use hir_input::{CfgOptions, Crate, HirFileId, Name};
 use item_tree::{CrateData, EditFault, ItemTree, LowerError};
 use std::alloc::Global;
 use std::marker::Model;
+use std::mem;
 
 /// The trees of every place and crate.
 #[derive(Drop)]
@@ -56,6 +60,13 @@ struct SyntaxRefused {
     cause: LowerError,
 }
 
+// Refused options, handed back.
+#[derive(Drop)]
+struct OptionsRefused {
+    options: CfgOptions,
+    cause: LowerError,
+}
+
 impl Store {
     /// Nothing set, and the crates that have a number.
     pub fn new(alloc: Global, mut crates: Vec<CrateData>, skipped: Vec<Name>, start: u64) -> Store
@@ -78,8 +89,9 @@ impl Store {
         ensures ok { OnOk result (self.new ≡ after self.old (sets file.0 (syntax_view syntax))) }
         ensures err { OnErr result (self.new ≡ self.old) }
         ensures returned { IfErr result (λ refused. refused.syntax ≡ syntax) }
-        ensures fits { OnOk result (SyntaxFits self.old.crates self.old.skipped (file_at file.0) (syntax_view syntax)) }
-        ensures refused { IfErr result (λ refused. IsTooLargeIn self.old.crates self.old.skipped (file_at file.0) (syntax_view syntax) refused.cause) }
+        ensures fits { OnOk result (FitsAfter (state_of self.old) [] (sets file.0 (syntax_view syntax))) }
+        ensures refused { let edit = sets file.0 (syntax_view syntax) in
+            IfErr result (λ refused. IsCause (state_of self.old) edit (Lower refused.cause)) }
     {
         let number = self.number + 1;
         let fresh = match lower_all(
@@ -113,11 +125,59 @@ impl Store {
         self.number = number;
     }
 
+    // Exchanges the options of a crate and these.
+    fn swap_options(&mut self, index: usize, options: &mut CfgOptions)
+        requires { index < length self.old.crates }
+        ensures swapped { self.new ≡ with_crates self.old (change_at index (given options.old) self.old.crates) }
+        ensures old { option_map (λ k. k.options) (slice_get self.old.crates index) ≡ Some options.new }
+    {
+        mem::swap(&mut self.crates[index].cfg, options);
+    }
+
+    // Lowers each set place anew for a crate: all of them before any tree is replaced.
+    fn recast(&mut self, index: usize) -> Result<(), LowerError>
+        requires room { self.old.number + 1 < 2 ^ 64 }
+        requires known { index < length self.old.crates }
+        ensures ok { OnOk result (self.new ≡ recast_table self.old index) }
+        ensures err { OnErr result (self.new ≡ self.old) }
+        ensures fits { OnOk result (PlacesFit self.old index) }
+        ensures refused { IfErr result (PlacesPass self.old index) }
+    {
+        let number = self.number + 1;
+        let krate = &self.crates[index];
+        let files = self
+            .files
+            .lower_for(self.alloc, krate, &self.skipped, number)?;
+        self.files.recast(index, files, number);
+        self.number = number;
+        Ok(())
+    }
+
+    fn set_cfg(&mut self, krate: Crate, mut options: CfgOptions) -> Result<(), OptionsRefused>
+        requires room { self.old.number + 1 < 2 ^ 64 }
+        requires known { krate.0 < length self.old.crates }
+        ensures ok { OnOk result (self.new ≡ after self.old (gives krate.0 options)) }
+        ensures err { OnErr result (self.new ≡ self.old) }
+        ensures returned { IfErr result (λ refused. refused.options ≡ options) }
+        ensures fits { OnOk result (FitsAfter (state_of self.old) [] (gives krate.0 options)) }
+        ensures refused { let edit = gives krate.0 options in
+            IfErr result (λ refused. IsCause (state_of self.old) edit (Lower refused.cause)) }
+    {
+        let index = krate.0 as usize;
+        self.swap_options(index, &mut options);
+        if let Err(cause) = self.recast(index) {
+            self.swap_options(index, &mut options);
+            return Err(OptionsRefused { options, cause });
+        }
+        Ok(())
+    }
+
     /// Makes an edit, and gives its number. A refusal changes nothing, and hands the edit back.
     pub fn edit(&mut self, edit: Edit) -> Result<u64, EditRefused>
+        requires { NamesKnown (state_of self.old) (edit_view edit) }
         ensures ok { OnOk result (self.new ≡ after self.old (edit_view edit)) }
         ensures number { IfOk result (λ number. number ≡ self.new.number) }
-        ensures fits { OnOk result (EditFits (state_of self.old) (edit_view edit)) }
+        ensures fits { OnOk result (FitsAfter (state_of self.old) [] (edit_view edit)) }
         ensures err { OnErr result (self.new ≡ self.old) }
         ensures returned { IfErr result (λ refused. refused.edit ≡ edit) }
         ensures cause { IfErr result (IsRefusal (state_of self.old)) }
@@ -136,17 +196,25 @@ impl Store {
                 }
             }
             Edit::RemoveFile { file } => self.remove_file(file),
+            Edit::SetCfg { krate, options } => {
+                if let Err(OptionsRefused { options, cause }) = self.set_cfg(krate, options) {
+                    let edit = Edit::SetCfg { krate, options };
+                    let cause = EditFault::Lower(cause);
+                    return Err(EditRefused { edit, cause });
+                }
+            }
         }
         Ok(self.number)
     }
 
     /// Makes edits up to the first refused one, and gives the number after the last.
     pub fn edit_all(&mut self, edits: Vec<Edit>) -> Result<u64, AllRefused>
+        requires { AllByRecursion (NamesKnown (state_of self.old)) (map edit_view edits.items) }
         ensures ok { OnOk result (self.new ≡ after_all self.old (map edit_view edits.items)) }
         ensures number { IfOk result (λ number. number ≡ self.new.number) }
-        ensures fits { OnOk result (All (EditFits (state_of self.old)) (map edit_view edits.items)) }
+        ensures fits { OnOk result (FirstFit (state_of self.old) (map edit_view edits.items) (length edits.items)) }
         ensures refused { IfErr result (λ all. self.new ≡ after_all self.old (edits_before all edits.items)) }
-        ensures fits_before { IfErr result (λ all. All (EditFits (state_of self.old)) (edits_before all edits.items)) }
+        ensures fits_before { IfErr result (λ all. FirstFit (state_of self.old) (map edit_view edits.items) all.place) }
         ensures place { IfErr result (λ all. slice_get edits.items all.place ≡ Some all.refused.edit) }
         ensures cause { IfErr result (λ all. IsRefusal (state_of self.new) all.refused) }
         ensures full { IfErr result (λ all. self.new.number ≡ last_number → all.refused.cause ≡ TooManyEdits) }
@@ -169,6 +237,13 @@ impl Store {
         ensures { IsTrue result ↔ (krate.0 < length self.now.crates) }
     {
         (krate.0 as usize) < self.crates.len()
+    }
+
+    pub fn cfg_options(&self, krate: Crate) -> &CfgOptions
+        requires { krate.0 < length self.now.crates }
+        ensures { options (state_of self.now) krate ≡ Some result.now }
+    {
+        &self.crates[krate.0 as usize].cfg
     }
 
     pub fn file_syntax(&self, file: HirFileId) -> Option<&Syntax>

@@ -1,4 +1,4 @@
-use Rattle.std.proofs.Common.{ℕ, List, map, length, max, subst, ap, sym, ◌∙◌}
+use Rattle.std.proofs.Common.{ℕ, List, map, max, subst, ap, sym, ◌∙◌}
 use Rattle.std.proofs.lemmas.List.{length-map}
 use Rattle.item_tree.specs.CrateView.{crate_view}
 use Rattle.item_tree_db.specs.Since.{Change, IsSince}

@@ -1,11 +1,13 @@
-use Rattle.std.proofs.Common.{◌+◌, length, map, ap, ◌∙◌, subst}
+use Rattle.std.proofs.Common.{ℕ, ◌+◌, List, length, map, ap, ◌∙◌, subst}
 use Rattle.std.proofs.lemmas.List.{length-map}
 use Rattle.hir_input.specs.Syntax.{syntax_view}
+use Rattle.item_tree.specs.declared.crate_data.CrateData.{CrateData}
 use Rattle.item_tree.specs.CrateView.{crate_view}
 use Rattle.item_tree_db.specs.State.{file_at}
 use Rattle.item_tree_db.specs.Settled.{brought}
-use Rattle.item_tree_db.specs.Refusal.{SyntaxFits}
-use Rattle.item_tree_db.specs.Table.{Table, with_files, set_in}
+use Rattle.item_tree_db.specs.Lowering.{SyntaxFits, SyntaxPasses}
+use Rattle.item_tree_db.specs.Table.{Table, with_files, set_in, state_of}
+use Rattle.item_tree_db.proofs.Causes.{set_fits, set_cause}
 use Rattle.item_tree_db.proofs.Counts.{has_set, long_enough}
 use Rattle.item_tree_db.proofs.Views.{set_view, map_views, fits_all}
 use Rattle.item_tree_db.proofs.store.Store.set_file.Goals as goal
@@ -40,4 +42,15 @@ returns-clause-fits c =
     let place = file_at c.args.file.0 in
     let fresh = c.in-Ok.ensures.rows ∙ map_views (brought (inside.number + 1) c.deref-2.result.now place s) c.deref.result.now
     ∙ (λ j. map (brought (inside.number + 1) (c.deref-2.ensures.value j) place s) (map crate_view (c.deref.ensures.value j))) in
-    subst (λ (t : Table). SyntaxFits t.crates t.skipped place s) c.self.view_is (fits_all (inside.number + 1) inside.skipped.items place s (map crate_view inside.crates.items) c.in-Ok.fresh.items fresh c.in-Ok.ensures.fits)
+    let fits = fits_all (inside.number + 1) inside.skipped.items place s (map crate_view inside.crates.items) c.in-Ok.fresh.items fresh c.in-Ok.ensures.fits in
+    set_fits (state_of c.args.self.now) c.args.file.0 s (subst (λ (t : Table). SyntaxFits t.crates t.skipped place s) c.self.view_is fits)
+
+pub returns-in-Err-clause-refused : goal.returns-in-Err-clause-refused
+returns-in-Err-clause-refused c =
+    let inside = c.self.inside in
+    let s = syntax_view c.args.syntax in
+    let place = file_at c.args.file.0 in
+    let cause = c.in-Err.cause in
+    let crates = subst (λ (l : List CrateData). SyntaxPasses (map crate_view l) c.deref-2.result.now place s cause) c.deref.ensures.value c.in-Err.ensures.refused in
+    let passes = subst (λ (names : List (List ℕ)). SyntaxPasses (map crate_view inside.crates.items) names place s cause) c.deref-2.ensures.value crates in
+    set_cause (state_of c.args.self.now) c.args.file.0 s cause (subst (λ (t : Table). SyntaxPasses t.crates t.skipped place s cause) c.self.view_is passes)

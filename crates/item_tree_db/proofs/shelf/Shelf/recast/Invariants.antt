@@ -1,0 +1,6 @@
+use Rattle.std.proofs.Common.{◌≡◌}
+use Rattle.item_tree_db.specs.Slots.{recast_all}
+use Rattle.item_tree_db.proofs.shelf.Shelf.recast.Given as goal
+
+abbrev pub invariant-loop-key : goal.invariant-loop-key
+invariant-loop-key g l = recast_all l.number l.index l.self l.key-iterator.rest.items ≡ recast_all l.number l.index l.fn.self l.fn.fresh.items
