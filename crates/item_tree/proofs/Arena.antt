@@ -1,367 +1,303 @@
--- The arena of visibilities.
-use Rattle.std.proofs.Common.{◌≡◌, ◌⊎◌, ℕ, zero, suc, Bool, true, false, cond, List, [], ◌∷◌, ◌++◌, length, map, Option, Some, refl, ap, sym, ◌∙◌, subst, arith, append_assoc, append-nil, inl, inr}
-use Rattle.std.proofs.Common.{◌<◌, ◌≤◌, eqb, length-append}
-use Rattle.std.proofs.lemmas.Bool.{eqb-true}
+-- The arena of visibilities: what stands in it has one id, which stays as more is met.
+use Rattle.std.proofs.Common.{◌≡◌, ◌<◌, ◌≤◌, ◌+◌, ◌-◌, ℕ, zero, suc, true, false, cond, eqb, List, [], ◌∷◌, ◌++◌, length, map, get_or, Option, None, Some, refl, ap, sym, ◌∙◌, arith, append_assoc, append-nil, length-append, inl, inr}
+use Rattle.std.proofs.lemmas.Bool.{cases_Bool, cases_lt, cond_both, eqb-true, ne_eqb, lt-ltb, le-ltb, false≢true}
 use Rattle.std.proofs.lemmas.List.{map-id}
-use Rattle.std.specs.Prelude.{slice_get, ◌||◌}
+use Rattle.std.proofs.lemmas.List.Folds.{prefix_len-append, position_or_len_push, list_any_at}
+use Rattle.std.proofs.lemmas.List.Sums.{prefix_len-le-length, passes_at_first}
+use Rattle.std.proofs.lemmas.Option.{slice_get-get_or, slice_get_within, same_Some}
+use Rattle.std.specs.Prelude.{slice_get, not}
 use Rattle.std.specs.List.{list_any}
 use Rattle.hir_input.specs.Path.{Path}
 use Rattle.item_tree.specs.declared.visibility.VisibilityExplicitness.{VisibilityExplicitness}
+use Rattle.item_tree.specs.declared.visibility.VisibilityExplicitness.TheVariants.{Explicit}
 use Rattle.item_tree.specs.declared.visibility.RawVisibility.{RawVisibility}
-use Rattle.item_tree.specs.declared.visibility.RawVisibility.TheVariants.{Module, PubSelf, PubCrate, Public}
-use Rattle.item_tree.specs.Node.{Ctor, no_ctor, ctor_with, ctor_with_min, Leaf, plain, constant, struct_item, outline, use_item, extern_crate, impl_item, macro_call, macro_rules, Trunk, inline, extern_block, Node, Forest, leaf, parent, empty, more}
-use Rattle.item_tree.specs.Layout.{place, place_of, vis_id, or_public, vis_value, value_at, plain_vis, ctor_map, leaf_map, trunk_map, ctor_vis, leaf_vis, trunk_vis}
-use Rattle.item_tree.specs.Meeting.{meet, meet_all, node_met, met}
-use Rattle.item_tree.specs.Visibility.{same}
+use Rattle.item_tree.specs.declared.visibility.RawVisibility.TheVariants.{Module, PubSelf}
+use Rattle.item_tree.specs.Node.{ctor_with_min, Leaf, struct_item, Trunk, inline, Forest}
+use Rattle.item_tree.specs.Layout.{fixed, first_fixed, place_of, vis_id, or_public, vis_value, value_at, leaf_map, trunk_map, leaf_vis, trunk_vis, forest_vis, arena_of}
+use Rattle.item_tree.specs.Meeting.{meet, meet_all}
+use Rattle.item_tree.specs.Visibility.{same, firsts_behind, distinct}
+use Rattle.item_tree.proofs.Pieces.{get-left, get-at-seam}
 use Rattle.item_tree.proofs.VisibilityEq.{same-sound, same-itself}
-
-pub bool_cases : (b : Bool) → (b ≡ true) ⊎ (b ≡ false)
-bool_cases true = inl refl
-bool_cases false = inr refl
-
-pub eqb-other : (a b : ℕ) → (a ≡ b → ⊥) → eqb a b ≡ false
-eqb-other a b h =
-    elim (bool_cases (eqb a b)) [ inl e ↦ absurd (h (eqb-true a b e)) | inr e ↦ e ]
 
 abbrev pub V : Type 0
 V = RawVisibility
 
-pub or_parts : (a b : Bool) → (a || b) ≡ false → (a ≡ false) × (b ≡ false)
-or_parts true b h = cc
-or_parts false b h = (refl, h)
+-- ---- places
 
-pub place-here : (x : V) (xs : List V) (v : V) → same v x ≡ true → place_of (x ∷ xs) v ≡ 0
-place-here x xs v e = rw e refl
+-- the visibility stands in the arena
+abbrev pub Has : List V → V → Type 0
+Has xs v = place_of xs v < length xs
 
-pub place-later : (x : V) (xs : List V) (v : V) → same v x ≡ false → place_of (x ∷ xs) v ≡ suc (place_of xs v)
-place-later x xs v e = rw e (omega arith)
+Has-any : (xs : List V) (v : V) → list_any (same v) xs ≡ true → Has xs v
+Has-any [] v h = cc
+Has-any (x ∷ xs) v h = elim (cases_Bool (same v x)) [ inl e ↦ rw e (omega arith) | inr e ↦ rw e (omega (arith, Has-any xs v (rw e at h))) ]
 
-abbrev pub HasPlace : List V → V → Type 0
-HasPlace xs v = slice_get xs (place_of xs v) ≡ Some v
+Has-at : (xs : List V) (v : V) → Has xs v → slice_get xs (place_of xs v) ≡ Some v
+Has-at xs v h = slice_get-get_or xs (place_of xs v) v h ∙ ap Some (sym (same-sound v _ (passes_at_first (same v) xs v h)))
 
-HasPlace-tail : (x : V) (xs : List V) (v : V) → same v x ≡ false → HasPlace (x ∷ xs) v → HasPlace xs v
-HasPlace-tail x xs v e h = subst (λ k. slice_get (x ∷ xs) k ≡ Some v) (place-later x xs v e) h
-
-HasPlace-cons : (x : V) (xs : List V) (v : V) → same v x ≡ false → HasPlace xs v → HasPlace (x ∷ xs) v
-HasPlace-cons x xs v e h = subst (λ k. slice_get (x ∷ xs) k ≡ Some v) (sym (place-later x xs v e)) h
-
-pub place-right : (xs ys : List V) (v : V) → HasPlace xs v → place_of (xs ++ ys) v ≡ place_of xs v
-place-right [] ys v h = cc
-place-right (x ∷ xs) ys v h =
-    elim (bool_cases (same v x)) [
-      | inl e ↦ place-here x (xs ++ ys) v e ∙ sym (place-here x xs v e)
-      | inr e ↦ place-later x (xs ++ ys) v e ∙ ap suc (place-right xs ys v (HasPlace-tail x xs v e h)) ∙ sym (place-later x xs v e)
+place-absent : (xs : List V) (v : V) → list_any (same v) xs ≡ false → place_of xs v ≡ length xs
+place-absent xs v e =
+    elim (cases_lt (place_of xs v) (length xs)) [
+      | inl h ↦ absurd (false≢true (sym e ∙ list_any_at (same v) xs (place_of xs v) v h (passes_at_first (same v) xs v h)))
+      | inr h ↦ omega (arith, prefix_len-le-length (λ w. not (same v w)) xs)
     ]
 
-pub get-left : (xs ys : List V) (k : ℕ) (v : V) → slice_get xs k ≡ Some v → slice_get (xs ++ ys) k ≡ Some v
-get-left [] ys k v h = cc
-get-left (x ∷ xs) ys zero v h = h
-get-left (x ∷ xs) ys (suc k) v h = get-left xs ys k v h
+place-right : (xs ys : List V) (v : V) → Has xs v → place_of (xs ++ ys) v ≡ place_of xs v
+place-right xs ys v h = prefix_len-append (λ w. not (same v w)) xs ys ∙ rw (ne_eqb (place_of xs v) (length xs) (λ e. omega arith)) refl
 
-pub HasPlace-right : (xs ys : List V) (v : V) → HasPlace xs v → HasPlace (xs ++ ys) v
-HasPlace-right xs ys v h = rw (place-right xs ys v h) (get-left xs ys (place_of xs v) v h)
-
-HasPlace-any : (xs : List V) (v : V) → list_any (same v) xs ≡ true → HasPlace xs v
-HasPlace-any [] v h = cc
-HasPlace-any (x ∷ xs) v h =
-    elim (bool_cases (same v x)) [
-      | inl e ↦ rw (place-here x xs v e) (ap Some (sym (same-sound v x e)))
-      | inr e ↦ HasPlace-cons x xs v e (HasPlace-any xs v (subst (λ b. (b || list_any (same v) xs) ≡ true) e h))
-    ]
-
-HasPlace-push : (xs : List V) (v : V) → list_any (same v) xs ≡ false → HasPlace (xs ++ v ∷ []) v
-HasPlace-push [] v h = rw (place-here v [] v (same-itself v)) refl
-HasPlace-push (x ∷ xs) v h =
-    let p = or_parts (same v x) (list_any (same v) xs) h in
-    HasPlace-cons x (xs ++ v ∷ []) v p.0 (HasPlace-push xs v p.1)
-
-place-push : (xs : List V) (v : V) → list_any (same v) xs ≡ false → place_of (xs ++ v ∷ []) v ≡ place_of xs v
-place-push [] v h = place-here v [] v (same-itself v)
-place-push (x ∷ xs) v h =
-    let p = or_parts (same v x) (list_any (same v) xs) h in
-    place-later x (xs ++ v ∷ []) v p.0 ∙ ap suc (place-push xs v p.1) ∙ sym (place-later x xs v p.0)
+place-push : (xs : List V) (v : V) → place_of (xs ++ v ∷ []) v ≡ place_of xs v
+place-push xs v =
+    position_or_len_push (same v) xs v
+    ∙ rw (same-itself v) (cond_both (eqb (place_of xs v) (length xs)) (length xs + 0) (place_of xs v) (λ k. k ≡ place_of xs v) (λ e. omega (arith, eqb-true (place_of xs v) (length xs) e)) (λ e. refl))
 
 abbrev pub insert : List V → V → List V
 insert xs v = cond (list_any (same v) xs) xs (xs ++ v ∷ [])
 
-pub HasPlace-insert : (xs : List V) (v : V) → HasPlace (insert xs v) v
-HasPlace-insert xs v =
-    elim (bool_cases (list_any (same v) xs)) [
-      | inl e ↦ rw e (HasPlace-any xs v e)
-      | inr e ↦ rw e (HasPlace-push xs v e)
-    ]
+Has-insert : (xs : List V) (v : V) → Has (insert xs v) v
+Has-insert xs v =
+    cond_both (list_any (same v) xs) xs (xs ++ v ∷ []) (λ ys. Has ys v) (Has-any xs v)
+    (λ e. omega (arith, place-push xs v, prefix_len-le-length (λ w. not (same v w)) xs, length-append xs (v ∷ [])))
 
-pub place-insert : (xs : List V) (v : V) → place_of (insert xs v) v ≡ place_of xs v
-place-insert xs v =
-    elim (bool_cases (list_any (same v) xs)) [
-      | inl e ↦ rw e refl
-      | inr e ↦ rw e (place-push xs v e)
-    ]
+place-insert : (xs : List V) (v : V) → place_of (insert xs v) v ≡ place_of xs v
+place-insert xs v = cond_both (list_any (same v) xs) xs (xs ++ v ∷ []) (λ ys. place_of ys v ≡ place_of xs v) (λ e. refl) (λ e. place-push xs v)
+
+-- ---- what stands in an arena stays in it
 
 -- ys begins with xs
 abbrev pub Extends : List V → List V → Type 0
 Extends xs ys = (zs : List V) × (ys ≡ xs ++ zs)
 
-pub Extends-itself : (xs : List V) → Extends xs xs
-Extends-itself xs = ([], sym (append-nil xs))
+pub length-Extends : (xs ys : List V) → Extends xs ys → length xs ≤ length ys
+length-Extends xs ys h = omega (arith, ap length h.1, length-append xs h.0)
 
-pub Extends-trans : (xs ys zs : List V) → Extends xs ys → Extends ys zs → Extends xs zs
-Extends-trans xs ys zs h k = (h.0 ++ k.0, k.1 ∙ ap (λ t. t ++ k.0) h.1 ∙ append_assoc xs h.0 k.0)
-
-Extends-insert : (xs : List V) (v : V) → Extends xs (insert xs v)
-Extends-insert xs v =
-    elim (bool_cases (list_any (same v) xs)) [
-      | inl e ↦ rw e (Extends-itself xs)
-      | inr e ↦ rw e (v ∷ [], refl)
+meet_all-firsts : (ms vs : List V) → meet_all ms vs ≡ ms ++ firsts_behind ms vs
+meet_all-firsts ms [] = sym (append-nil ms)
+meet_all-firsts ms (Module p e ∷ vs) =
+    elim (cases_Bool (list_any (same (Module p e)) ms)) [
+      | inl t ↦ rw t (meet_all-firsts ms vs)
+      | inr t ↦ rw t (meet_all-firsts (ms ++ Module p e ∷ []) vs ∙ append_assoc ms (Module p e ∷ []) (firsts_behind (ms ++ Module p e ∷ []) vs))
     ]
+meet_all-firsts ms (_ ∷ vs) = meet_all-firsts ms vs
 
-pub Extends-meet : (xs : List V) (v : V) → Extends xs (meet xs v)
-Extends-meet xs (Module p e) = Extends-insert xs (Module p e)
-Extends-meet xs (PubSelf e) = Extends-itself xs
-Extends-meet xs PubCrate = Extends-itself xs
-Extends-meet xs Public = Extends-itself xs
+pub Extends-meet_all : (xs vs : List V) → Extends xs (meet_all xs vs)
+Extends-meet_all xs vs = (firsts_behind xs vs, meet_all-firsts xs vs)
 
--- the arena has the value, or needs not
+pub meet_distinct : (vs : List V) → meet_all [] vs ≡ distinct vs
+meet_distinct vs = meet_all-firsts [] vs
+
+-- the arena of a forest is what is met in it
+pub arena_met : (f : Forest) → arena_of f ≡ meet_all [] (forest_vis f)
+unfolding arena_of
+arena_met f = sym (meet_distinct (forest_vis f))
+
+pub meet_all-append : (ms vs ws : List V) → meet_all ms (vs ++ ws) ≡ meet_all (meet_all ms vs) ws
+meet_all-append ms [] ws = refl
+meet_all-append ms (v ∷ vs) ws = meet_all-append (meet ms v) vs ws
+
+-- the arena has the visibilities, or needs not
 abbrev pub Knows : List V → V → Type 0
-Knows xs (Module p e) = HasPlace xs (Module p e)
+Knows xs (Module p e) = Has xs (Module p e)
 Knows xs v = Unit {0}
-
-pub Knows-meet : (xs : List V) (v : V) → Knows (meet xs v) v
-Knows-meet xs (Module p e) = HasPlace-insert xs (Module p e)
-Knows-meet xs (PubSelf e) = tt
-Knows-meet xs PubCrate = tt
-Knows-meet xs Public = tt
-
-pub Knows-extend : (xs ys : List V) (v : V) → Extends xs ys → Knows xs v → Knows ys v
-Knows-extend xs ys (Module p e) h k = subst (λ t. HasPlace t (Module p e)) (sym h.1) (HasPlace-right xs h.0 (Module p e) k)
-Knows-extend xs ys (PubSelf e) h k = tt
-Knows-extend xs ys PubCrate h k = tt
-Knows-extend xs ys Public h k = tt
-
-pub Knows-id : (xs ys : List V) (v : V) → Extends xs ys → Knows xs v → vis_id ys v ≡ vis_id xs v
-Knows-id xs ys (Module p e) h k = ap place (ap (λ t. place_of t (Module p e)) h.1 ∙ place-right xs h.0 (Module p e) k)
-Knows-id xs ys (PubSelf e) h k = refl
-Knows-id xs ys PubCrate h k = refl
-Knows-id xs ys Public h k = refl
-
-pub Knows-at : (xs : List V) (v : V) → Knows xs v → value_at xs (vis_id xs v) ≡ Some v
-Knows-at xs (Module p e) k = k
-Knows-at xs (PubSelf e) k = refl
-Knows-at xs PubCrate k = refl
-Knows-at xs Public k = refl
-
-pub Knows-value : (xs : List V) (v : V) → Knows xs v → vis_value xs (vis_id xs v) ≡ v
-Knows-value xs v k = ap or_public (Knows-at xs v k)
 
 abbrev pub KnowsAll : List V → List V → Type 0
 KnowsAll xs [] = Unit {0}
 KnowsAll xs (v ∷ vs) = Knows xs v × KnowsAll xs vs
 
-pub KnowsAll-extend : (xs ys : List V) (vs : List V) → Extends xs ys → KnowsAll xs vs → KnowsAll ys vs
+pub Knows-meet : (xs : List V) (v : V) → Knows (meet xs v) v
+Knows-meet xs (Module p e) = Has-insert xs (Module p e)
+Knows-meet xs _ = tt
+
+Knows-extend : (xs ys : List V) (v : V) → Extends xs ys → Knows xs v → Knows ys v
+Knows-extend xs ys (Module p e) h k = rw h.1 (omega (arith, place-right xs h.0 (Module p e) k, length-append xs h.0))
+Knows-extend xs ys _ h k = tt
+
+pub Knows-id : (xs ys : List V) (v : V) → Extends xs ys → Knows xs v → vis_id ys v ≡ vis_id xs v
+Knows-id xs ys (Module p e) h k = ap (λ t. place_of t (Module p e)) h.1 ∙ place-right xs h.0 (Module p e) k
+Knows-id xs ys (PubSelf Explicit) h k = refl
+Knows-id xs ys _ h k = refl
+
+pub KnowsAll-extend : (xs ys vs : List V) → Extends xs ys → KnowsAll xs vs → KnowsAll ys vs
 KnowsAll-extend xs ys [] h k = tt
 KnowsAll-extend xs ys (v ∷ vs) h k = (Knows-extend xs ys v h k.0, KnowsAll-extend xs ys vs h k.1)
 
-pub Extends-meet_all : (xs vs : List V) → Extends xs (meet_all xs vs)
-Extends-meet_all xs [] = Extends-itself xs
-Extends-meet_all xs (v ∷ vs) = Extends-trans xs (meet xs v) (meet_all (meet xs v) vs) (Extends-meet xs v) (Extends-meet_all (meet xs v) vs)
+pub KnowsAll-parts : (xs us vs : List V) → KnowsAll xs (us ++ vs) → KnowsAll xs us × KnowsAll xs vs
+KnowsAll-parts xs [] vs k = (tt, k)
+KnowsAll-parts xs (u ∷ us) vs k = let p = KnowsAll-parts xs us vs k.1 in ((k.0, p.0), p.1)
 
 pub KnowsAll-meet_all : (xs vs : List V) → KnowsAll (meet_all xs vs) vs
 KnowsAll-meet_all xs [] = tt
-KnowsAll-meet_all xs (v ∷ vs) =
-    (Knows-extend (meet xs v) (meet_all (meet xs v) vs) v (Extends-meet_all (meet xs v) vs) (Knows-meet xs v), KnowsAll-meet_all (meet xs v) vs)
+KnowsAll-meet_all xs (v ∷ vs) = (Knows-extend (meet xs v) (meet_all (meet xs v) vs) v (Extends-meet_all (meet xs v) vs) (Knows-meet xs v), KnowsAll-meet_all (meet xs v) vs)
 
-abbrev mutual
-  pub KnowsNode : Node → List V → Type 0
-  KnowsNode (leaf h l) xs = KnowsAll xs (leaf_vis l)
-  KnowsNode (parent h t f) xs = KnowsAll xs (trunk_vis t) × KnowsForest f xs
+pub Knows-arena : (f : Forest) → KnowsAll (arena_of f) (forest_vis f)
+Knows-arena f = rw (arena_met f) (KnowsAll-meet_all [] (forest_vis f))
 
-  pub KnowsForest : Forest → List V → Type 0
-  KnowsForest empty xs = Unit {0}
-  KnowsForest (more n f) xs = KnowsNode n xs × KnowsForest f xs
+-- ---- ids and their visibilities
 
-mutual
-  pub KnowsNode-extend : (n : Node) (xs ys : List V) → Extends xs ys → KnowsNode n xs → KnowsNode n ys
-  KnowsNode-extend (leaf a l) xs ys h k = KnowsAll-extend xs ys (leaf_vis l) h k
-  KnowsNode-extend (parent a t f) xs ys h k = (KnowsAll-extend xs ys (trunk_vis t) h k.0, KnowsForest-extend f xs ys h k.1)
+Knows-at : (xs : List V) (v : V) → length xs ≤ first_fixed → Knows xs v → value_at xs (vis_id xs v) ≡ Some v
+Knows-at xs (Module p e) few k = rw (lt-ltb (place_of xs (Module p e)) first_fixed (omega arith)) (Has-at xs (Module p e) k)
+Knows-at xs (PubSelf Explicit) few k = refl
+Knows-at xs _ few k = refl
 
-  pub KnowsForest-extend : (f : Forest) (xs ys : List V) → Extends xs ys → KnowsForest f xs → KnowsForest f ys
-  KnowsForest-extend empty xs ys h k = tt
-  KnowsForest-extend (more n f) xs ys h k = (KnowsNode-extend n xs ys h k.0, KnowsForest-extend f xs ys h k.1)
+-- each visibility of the arena has its place as its id
+abbrev IsSettled : List V → Type 0
+IsSettled xs = (k : ℕ) (v : V) → slice_get xs k ≡ Some v → vis_id xs v ≡ k
 
-mutual
-  pub Extends-node_met : (n : Node) (xs : List V) → Extends xs (node_met n xs)
-  Extends-node_met (leaf a l) xs = Extends-meet_all xs (leaf_vis l)
-  Extends-node_met (parent a t f) xs = Extends-trans xs (meet_all xs (trunk_vis t)) (met f (meet_all xs (trunk_vis t))) (Extends-meet_all xs (trunk_vis t)) (Extends-met f (meet_all xs (trunk_vis t)))
+settled-right : (xs ys : List V) (k : ℕ) (v : V) → k < length xs → vis_id xs v ≡ k → vis_id (xs ++ ys) v ≡ k
+settled-right xs ys k (Module p e) l h = place-right xs ys (Module p e) (omega arith) ∙ h
+settled-right xs ys k (PubSelf Explicit) l h = h
+settled-right xs ys k _ l h = h
 
-  pub Extends-met : (f : Forest) (xs : List V) → Extends xs (met f xs)
-  Extends-met empty xs = Extends-itself xs
-  Extends-met (more n f) xs = Extends-trans xs (node_met n xs) (met f (node_met n xs)) (Extends-node_met n xs) (Extends-met f (node_met n xs))
+settled-push : (xs : List V) (p : Path) (e : VisibilityExplicitness) → list_any (same (Module p e)) xs ≡ false → IsSettled xs → IsSettled (xs ++ Module p e ∷ [])
+settled-push xs p e absent h = λ k v g.
+    elim (cases_lt k (length xs)) [
+      | inl l ↦ let there = slice_get-get_or xs k v l in
+          let same : get_or xs k v ≡ v = same_Some _ _ (sym (get-left xs (Module p e ∷ []) k _ there) ∙ g) in
+          settled-right xs (Module p e ∷ []) k v l (h k v (there ∙ ap Some same))
+      | inr l ↦ let end : k ≡ length xs = omega (arith, slice_get_within (xs ++ Module p e ∷ []) k v g, length-append xs (Module p e ∷ [])) in
+          let same : Module p e ≡ v = same_Some _ _ (sym (get-at-seam xs (Module p e) []) ∙ ap (slice_get (xs ++ Module p e ∷ [])) (sym end) ∙ g) in
+          ap (vis_id (xs ++ Module p e ∷ [])) (sym same) ∙ place-push xs (Module p e) ∙ place-absent xs (Module p e) absent ∙ sym end
+    ]
 
-mutual
-  pub Knows-node_met : (n : Node) (xs : List V) → KnowsNode n (node_met n xs)
-  Knows-node_met (leaf a l) xs = KnowsAll-meet_all xs (leaf_vis l)
-  Knows-node_met (parent a t f) xs =
-      (KnowsAll-extend (meet_all xs (trunk_vis t)) (met f (meet_all xs (trunk_vis t))) (trunk_vis t) (Extends-met f (meet_all xs (trunk_vis t))) (KnowsAll-meet_all xs (trunk_vis t)), Knows-met f (meet_all xs (trunk_vis t)))
+settled-meet : (xs : List V) (v : V) → IsSettled xs → IsSettled (meet xs v)
+settled-meet xs (Module p e) h = cond_both (list_any (same (Module p e)) xs) xs (xs ++ Module p e ∷ []) IsSettled (λ t. h) (λ t. settled-push xs p e t h)
+settled-meet xs _ h = h
 
-  pub Knows-met : (f : Forest) (xs : List V) → KnowsForest f (met f xs)
-  Knows-met empty xs = tt
-  Knows-met (more n f) xs = (KnowsNode-extend n (node_met n xs) (met f (node_met n xs)) (Extends-met f (node_met n xs)) (Knows-node_met n xs), Knows-met f (node_met n xs))
+settled-meet_all : (xs vs : List V) → IsSettled xs → IsSettled (meet_all xs vs)
+settled-meet_all xs [] h = h
+settled-meet_all xs (v ∷ vs) h = settled-meet_all (meet xs v) vs (settled-meet xs v h)
 
--- maps of items by functions that agree at each visibility
-abbrev pub Agree : {A B : Type 0} → (A → B) → (A → B) → List A → Type 0
-Agree f g [] = Unit {0}
-Agree f g (v ∷ vs) = (f v ≡ g v) × Agree f g vs
+settled-arena : (f : Forest) → IsSettled (arena_of f)
+settled-arena f = rw (arena_met f) (settled-meet_all [] (forest_vis f) (λ k v g. cc))
 
-map-agree : {A B : Type 0} (f g : A → B) (vs : List A) → Agree f g vs → map f vs ≡ map g vs
-map-agree f g [] h = refl
-map-agree f g (v ∷ vs) h = λ i. h.0 i ∷ map-agree f g vs h.1 i
+-- no visibility stands in it twice
+pub arena_once : (f : Forest) (j k : ℕ) (v : V) → slice_get (arena_of f) j ≡ Some v → slice_get (arena_of f) k ≡ Some v → j ≡ k
+arena_once f j k v g h = sym (settled-arena f j v g) ∙ settled-arena f k v h
+
+fixed-id : (xs : List V) (j : ℕ) (v : V) → slice_get fixed j ≡ Some v → vis_id xs v ≡ first_fixed + j
+fixed-id xs zero v h = ap (vis_id xs) (same_Some _ _ (sym h))
+fixed-id xs (suc zero) v h = ap (vis_id xs) (same_Some _ _ (sym h))
+fixed-id xs (suc (suc zero)) v h = ap (vis_id xs) (same_Some _ _ (sym h))
+fixed-id xs (suc (suc (suc zero))) v h = ap (vis_id xs) (same_Some _ _ (sym h))
+fixed-id xs (suc (suc (suc (suc j)))) v h = cc
+
+-- so an id is that of its visibility
+pub vis_id-at : (f : Forest) (i : ℕ) (v : V) → value_at (arena_of f) i ≡ Some v → vis_id (arena_of f) v ≡ i
+vis_id-at f i v h =
+    elim (cases_lt i first_fixed) [
+      | inl l ↦ settled-arena f i v (rw (lt-ltb i first_fixed l) at h)
+      | inr l ↦ omega (arith, fixed-id (arena_of f) (i - first_fixed) v (rw (le-ltb i first_fixed l) at h))
+    ]
+
+-- ---- items over ids and over visibilities
+
+-- functions that agree at the visibilities of an item make one item of it
+leaf-agree : {A B : Type 0} (f g : A → B) (l : Leaf A) → map f (leaf_vis l) ≡ map g (leaf_vis l) → leaf_map f l ≡ leaf_map g l
+leaf-agree f g (struct_item n v s (ctor_with_min vs)) h = cc
+leaf-agree f g _ h = cc
+
+trunk-agree : {A B : Type 0} (f g : A → B) (t : Trunk A) → map f (trunk_vis t) ≡ map g (trunk_vis t) → trunk_map f t ≡ trunk_map g t
+trunk-agree f g (inline n v) h = cc
+trunk-agree f g _ h = cc
 
 map-map : {A B C : Type 0} (f : B → C) (g : A → B) (vs : List A) → map f (map g vs) ≡ map (λ v. f (g v)) vs
 map-map f g [] = refl
 map-map f g (v ∷ vs) = ap (λ z. f (g v) ∷ z) (map-map f g vs)
 
-pub ctor_map-agree : {A B : Type 0} (f g : A → B) (c : Ctor A) → Agree f g (ctor_vis c) → ctor_map f c ≡ ctor_map g c
-ctor_map-agree f g no_ctor h = refl
-ctor_map-agree f g (ctor_with v) h = ap ctor_with h.0
-ctor_map-agree f g (ctor_with_min vs) h = ap ctor_with_min (map-agree f g vs h)
+leaf_map-map : {A B C : Type 0} (f : B → C) (g : A → B) (l : Leaf A) → leaf_map f (leaf_map g l) ≡ leaf_map (λ v. f (g v)) l
+leaf_map-map f g (struct_item n v s (ctor_with_min vs)) = ap (λ ws. struct_item n (f (g v)) s (ctor_with_min ws)) (map-map f g vs)
+leaf_map-map f g _ = refl
 
-pub leaf_map-agree : {A B : Type 0} (f g : A → B) (l : Leaf A) → Agree f g (leaf_vis l) → leaf_map f l ≡ leaf_map g l
-leaf_map-agree f g (plain k n v) h = ap (plain k n) h.0
-leaf_map-agree f g (constant n v) h = ap (constant n) h.0
-leaf_map-agree f g (extern_crate n v a) h = ap (λ u. extern_crate n u a) h.0
-leaf_map-agree f g (impl_item of_trait) h = refl
-leaf_map-agree f g (macro_call p e x) h = refl
-leaf_map-agree f g (macro_rules n) h = refl
-leaf_map-agree f g (outline n v) h = ap (outline n) h.0
-leaf_map-agree f g (use_item v t) h = ap (λ u. use_item u t) h.0
-leaf_map-agree f g (struct_item n v s c) h = λ i. struct_item n (h.0 i) s (ctor_map-agree f g c h.1 i)
-
-pub trunk_map-agree : {A B : Type 0} (f g : A → B) (t : Trunk A) → Agree f g (trunk_vis t) → trunk_map f t ≡ trunk_map g t
-trunk_map-agree f g (inline n v) h = ap (inline n) h.0
-trunk_map-agree f g extern_block h = refl
-
-pub ctor_map-map : {A B C : Type 0} (f : B → C) (g : A → B) (c : Ctor A) → ctor_map f (ctor_map g c) ≡ ctor_map (λ v. f (g v)) c
-ctor_map-map f g no_ctor = refl
-ctor_map-map f g (ctor_with v) = refl
-ctor_map-map f g (ctor_with_min vs) = ap ctor_with_min (map-map f g vs)
-
-pub leaf_map-map : {A B C : Type 0} (f : B → C) (g : A → B) (l : Leaf A) → leaf_map f (leaf_map g l) ≡ leaf_map (λ v. f (g v)) l
-leaf_map-map f g (plain k n v) = refl
-leaf_map-map f g (constant n v) = refl
-leaf_map-map f g (extern_crate n v a) = refl
-leaf_map-map f g (impl_item of_trait) = refl
-leaf_map-map f g (macro_call p e x) = refl
-leaf_map-map f g (macro_rules n) = refl
-leaf_map-map f g (outline n v) = refl
-leaf_map-map f g (use_item v t) = refl
-leaf_map-map f g (struct_item n v s c) = ap (struct_item n (f (g v)) s) (ctor_map-map f g c)
-
-pub trunk_map-map : {A B C : Type 0} (f : B → C) (g : A → B) (t : Trunk A) → trunk_map f (trunk_map g t) ≡ trunk_map (λ v. f (g v)) t
+trunk_map-map : {A B C : Type 0} (f : B → C) (g : A → B) (t : Trunk A) → trunk_map f (trunk_map g t) ≡ trunk_map (λ v. f (g v)) t
 trunk_map-map f g (inline n v) = refl
-trunk_map-map f g extern_block = refl
+trunk_map-map f g _ = refl
 
-ctor_map-itself : {A : Type 0} (c : Ctor A) → ctor_map (λ v. v) c ≡ c
-ctor_map-itself no_ctor = refl
-ctor_map-itself (ctor_with v) = refl
-ctor_map-itself (ctor_with_min vs) = ap ctor_with_min (map-id vs)
+leaf_map-itself : {A : Type 0} (l : Leaf A) → leaf_map (λ v. v) l ≡ l
+leaf_map-itself (struct_item n v s (ctor_with_min vs)) = ap (λ ws. struct_item n v s (ctor_with_min ws)) (map-id vs)
+leaf_map-itself _ = refl
 
-pub leaf_map-itself : {A : Type 0} (l : Leaf A) → leaf_map (λ v. v) l ≡ l
-leaf_map-itself (plain k n v) = refl
-leaf_map-itself (constant n v) = refl
-leaf_map-itself (extern_crate n v a) = refl
-leaf_map-itself (impl_item of_trait) = refl
-leaf_map-itself (macro_call p e x) = refl
-leaf_map-itself (macro_rules n) = refl
-leaf_map-itself (outline n v) = refl
-leaf_map-itself (use_item v t) = refl
-leaf_map-itself (struct_item n v s c) = ap (struct_item n v s) (ctor_map-itself c)
-
-pub trunk_map-itself : {A : Type 0} (t : Trunk A) → trunk_map (λ v. v) t ≡ t
+trunk_map-itself : {A : Type 0} (t : Trunk A) → trunk_map (λ v. v) t ≡ t
 trunk_map-itself (inline n v) = refl
-trunk_map-itself extern_block = refl
+trunk_map-itself _ = refl
 
-Agree-ids : (xs ys : List V) (vs : List V) → Extends xs ys → KnowsAll xs vs → Agree (vis_id ys) (vis_id xs) vs
-Agree-ids xs ys [] h k = tt
-Agree-ids xs ys (v ∷ vs) h k = (Knows-id xs ys v h k.0, Agree-ids xs ys vs h k.1)
-
-Agree-values : (xs : List V) (vs : List V) → KnowsAll xs vs → Agree (λ v. vis_value xs (vis_id xs v)) (λ v. v) vs
-Agree-values xs [] k = tt
-Agree-values xs (v ∷ vs) k = (Knows-value xs v k.0, Agree-values xs vs k.1)
-
-Agree-at : (xs : List V) (vs : List V) → KnowsAll xs vs → Agree {B = Option V} (λ v. value_at xs (vis_id xs v)) Some vs
-Agree-at xs [] k = tt
-Agree-at xs (v ∷ vs) k = (Knows-at xs v k.0, Agree-at xs vs k.1)
+ids-stay : (xs ys vs : List V) → Extends xs ys → KnowsAll xs vs → map (vis_id ys) vs ≡ map (vis_id xs) vs
+ids-stay xs ys [] h k = refl
+ids-stay xs ys (v ∷ vs) h k = λ i. Knows-id xs ys v h k.0 i ∷ ids-stay xs ys vs h k.1 i
 
 pub leaf-stable : (xs ys : List V) (l : Leaf V) → Extends xs ys → KnowsAll xs (leaf_vis l) → leaf_map (vis_id ys) l ≡ leaf_map (vis_id xs) l
-leaf-stable xs ys l h k = leaf_map-agree (vis_id ys) (vis_id xs) l (Agree-ids xs ys (leaf_vis l) h k)
+leaf-stable xs ys l h k = leaf-agree (vis_id ys) (vis_id xs) l (ids-stay xs ys (leaf_vis l) h k)
 
 pub trunk-stable : (xs ys : List V) (t : Trunk V) → Extends xs ys → KnowsAll xs (trunk_vis t) → trunk_map (vis_id ys) t ≡ trunk_map (vis_id xs) t
-trunk-stable xs ys t h k = trunk_map-agree (vis_id ys) (vis_id xs) t (Agree-ids xs ys (trunk_vis t) h k)
+trunk-stable xs ys t h k = trunk-agree (vis_id ys) (vis_id xs) t (ids-stay xs ys (trunk_vis t) h k)
 
-pub leaf-back : (xs : List V) (l : Leaf V) → KnowsAll xs (leaf_vis l) → leaf_map (vis_value xs) (leaf_map (vis_id xs) l) ≡ l
-leaf-back xs l k =
-    leaf_map-map (vis_value xs) (vis_id xs) l ∙ leaf_map-agree (λ v. vis_value xs (vis_id xs v)) (λ v. v) l (Agree-values xs (leaf_vis l) k) ∙ leaf_map-itself l
+-- what an id of a known visibility says, where the arena is not too long
+module _ {B : Type 0} (xs : List V) (few : length xs ≤ first_fixed) (says : Option V → B) where
+  values-said : (vs : List V) → KnowsAll xs vs → map (λ v. says (value_at xs (vis_id xs v))) vs ≡ map (λ v. says (Some v)) vs
+  values-said [] k = refl
+  values-said (v ∷ vs) k = λ i. says (Knows-at xs v few k.0 i) ∷ values-said vs k.1 i
 
-pub trunk-back : (xs : List V) (t : Trunk V) → KnowsAll xs (trunk_vis t) → trunk_map (vis_value xs) (trunk_map (vis_id xs) t) ≡ t
-trunk-back xs t k =
-    trunk_map-map (vis_value xs) (vis_id xs) t ∙ trunk_map-agree (λ v. vis_value xs (vis_id xs v)) (λ v. v) t (Agree-values xs (trunk_vis t) k) ∙ trunk_map-itself t
+  pub leaf-said : (l : Leaf V) → KnowsAll xs (leaf_vis l) → leaf_map (λ i. says (value_at xs i)) (leaf_map (vis_id xs) l) ≡ leaf_map (λ v. says (Some v)) l
+  leaf-said l k = leaf_map-map (λ i. says (value_at xs i)) (vis_id xs) l ∙ leaf-agree (λ v. says (value_at xs (vis_id xs v))) (λ v. says (Some v)) l (values-said (leaf_vis l) k)
 
-pub leaf-at : (xs : List V) (l : Leaf V) → KnowsAll xs (leaf_vis l) → leaf_map (value_at xs) (leaf_map (vis_id xs) l) ≡ leaf_map Some l
-leaf-at xs l k = leaf_map-map (value_at xs) (vis_id xs) l ∙ leaf_map-agree (λ v. value_at xs (vis_id xs v)) Some l (Agree-at xs (leaf_vis l) k)
+  pub trunk-said : (t : Trunk V) → KnowsAll xs (trunk_vis t) → trunk_map (λ i. says (value_at xs i)) (trunk_map (vis_id xs) t) ≡ trunk_map (λ v. says (Some v)) t
+  trunk-said t k = trunk_map-map (λ i. says (value_at xs i)) (vis_id xs) t ∙ trunk-agree (λ v. says (value_at xs (vis_id xs v))) (λ v. says (Some v)) t (values-said (trunk_vis t) k)
 
-pub trunk-at : (xs : List V) (t : Trunk V) → KnowsAll xs (trunk_vis t) → trunk_map (value_at xs) (trunk_map (vis_id xs) t) ≡ trunk_map Some t
-trunk-at xs t k = trunk_map-map (value_at xs) (vis_id xs) t ∙ trunk_map-agree (λ v. value_at xs (vis_id xs v)) Some t (Agree-at xs (trunk_vis t) k)
+pub leaf-back : (xs : List V) (l : Leaf V) → length xs ≤ first_fixed → KnowsAll xs (leaf_vis l) → leaf_map (vis_value xs) (leaf_map (vis_id xs) l) ≡ l
+leaf-back xs l few k = leaf-said xs few or_public l k ∙ leaf_map-itself l
 
-plain-place : (k : ℕ) → k < 4294967292 → plain_vis k ≡ place k
-plain-place k h =
-    let a : eqb k 4294967295 ≡ false = eqb-other k 4294967295 (omega arith) in
-    let b : eqb k 4294967294 ≡ false = eqb-other k 4294967294 (omega arith) in
-    let c : eqb k 4294967293 ≡ false = eqb-other k 4294967293 (omega arith) in
-    let d : eqb k 4294967292 ≡ false = eqb-other k 4294967292 (omega arith) in
-    rw (a, b, c, d) refl
+pub trunk-back : (xs : List V) (t : Trunk V) → length xs ≤ first_fixed → KnowsAll xs (trunk_vis t) → trunk_map (vis_value xs) (trunk_map (vis_id xs) t) ≡ t
+trunk-back xs t few k = trunk-said xs few or_public t k ∙ trunk_map-itself t
+
+-- the other way, from what ids say: a function that takes each visibility that one says to the id gives the item over ids back
+module _ (g : ℕ → Option V) (b : V → ℕ) (back : (i : ℕ) (v : V) → g i ≡ Some v → b v ≡ i) where
+  abbrev number : Option V → ℕ
+  number None = 0
+  number (Some v) = b v
+
+  numbers-back : (is : List ℕ) (vs : List V) → map g is ≡ map Some vs → map (λ i. number (g i)) is ≡ map (λ i. i) is
+  numbers-back [] vs h = refl
+  numbers-back (i ∷ is) [] h = absurd (cc)
+  numbers-back (i ∷ is) (v ∷ vs) h =
+      let e : g i ≡ Some v = cc in let r : map g is ≡ map Some vs = cc in λ j. (ap number e ∙ back i v e) j ∷ numbers-back is vs r j
+
+  leaf_vis-map : {A B : Type 0} (f : A → B) (l : Leaf A) → leaf_vis (leaf_map f l) ≡ map f (leaf_vis l)
+  leaf_vis-map f (struct_item n v s (ctor_with_min vs)) = refl
+  leaf_vis-map f _ = refl
+
+  trunk_vis-map : {A B : Type 0} (f : A → B) (t : Trunk A) → trunk_vis (trunk_map f t) ≡ map f (trunk_vis t)
+  trunk_vis-map f (inline n v) = refl
+  trunk_vis-map f _ = refl
+
+  pub leaf-ids : (l : Leaf ℕ) (m : Leaf V) → leaf_map g l ≡ leaf_map Some m → leaf_map b m ≡ l
+  leaf-ids l m h =
+      sym (leaf_map-map number Some m) ∙ ap (leaf_map number) (sym h) ∙ leaf_map-map number g l
+      ∙ leaf-agree (λ i. number (g i)) (λ i. i) l (numbers-back (leaf_vis l) (leaf_vis m) (sym (leaf_vis-map g l) ∙ ap leaf_vis h ∙ leaf_vis-map Some m))
+      ∙ leaf_map-itself l
+
+  pub trunk-ids : (t : Trunk ℕ) (w : Trunk V) → trunk_map g t ≡ trunk_map Some w → trunk_map b w ≡ t
+  trunk-ids t w h =
+      sym (trunk_map-map number Some w) ∙ ap (trunk_map number) (sym h) ∙ trunk_map-map number g t
+      ∙ trunk-agree (λ i. number (g i)) (λ i. i) t (numbers-back (trunk_vis t) (trunk_vis w) (sym (trunk_vis-map g t) ∙ ap trunk_vis h ∙ trunk_vis-map Some w))
+      ∙ trunk_map-itself t
+
+-- ---- what lowering meets
 
 -- a value that was inserted was met
 pub inserted-met : (xs ys : List V) (v : V) (p : Path) (e : VisibilityExplicitness) → v ≡ Module p e → ys ≡ insert xs v → ys ≡ meet xs v
 inserted-met xs ys v p e m i = i ∙ ap (insert xs) m ∙ ap (meet xs) (sym m)
 
--- the number that stands for a value which was inserted
-pub inserted : (xs ys : List V) (v : V) (p : Path) (e : VisibilityExplicitness) (k : ℕ) → v ≡ Module p e → ys ≡ insert xs v → k ≡ place_of xs v → k < 4294967292 → (ys ≡ meet xs v) × (plain_vis k ≡ vis_id ys v)
-inserted xs ys v p e k m i q h = (
-  inserted-met xs ys v p e m i,
-  plain-place k h ∙ ap place (q ∙ sym (place-insert xs v) ∙ ap (λ z. place_of z v) (sym i) ∙ ap (place_of ys) m) ∙ ap (vis_id ys) (sym m),
-)
-
-place-absent : (xs : List V) (v : V) → list_any (same v) xs ≡ false → place_of xs v ≡ length xs
-place-absent [] v h = refl
-place-absent (x ∷ xs) v h =
-    let p = or_parts (same v x) (list_any (same v) xs) h in
-    place-later x xs v p.0 ∙ ap suc (place-absent xs v p.1)
+-- and this is its id
+pub inserted-id : (xs ys : List V) (v : V) (p : Path) (e : VisibilityExplicitness) → v ≡ Module p e → ys ≡ insert xs v → place_of xs v ≡ vis_id ys v
+inserted-id xs ys v p e m i = sym (place-insert xs v) ∙ ap (λ z. place_of z v) (sym i) ∙ ap (place_of ys) m ∙ ap (vis_id ys) (sym m)
 
 pub inserted-fits : (xs ys : List V) (v : V) (n : ℕ) → ys ≡ insert xs v → place_of xs v < n → length xs ≤ n → length ys ≤ n
 inserted-fits xs ys v n i h k =
-    elim (bool_cases (list_any (same v) xs)) [
-      | inl e ↦ let q : ys ≡ xs = i ∙ rw e refl in omega (arith, ap length q)
-      | inr e ↦ let q : ys ≡ xs ++ v ∷ [] = i ∙ rw e refl in omega (arith, ap length q, length-append xs (v ∷ []), place-absent xs v e)
-    ]
-
-any-right : (xs ys : List V) (v : V) → list_any (same v) ys ≡ true → list_any (same v) (xs ++ ys) ≡ true
-any-right [] ys v h = h
-any-right (x ∷ xs) ys v h =
-    elim (bool_cases (same v x)) [
-      | inl e ↦ rw e refl
-      | inr e ↦ rw e (any-right xs ys v h)
-    ]
-
-any-insert : (xs : List V) (v : V) → list_any (same v) (insert xs v) ≡ true
-any-insert xs v =
-    elim (bool_cases (list_any (same v) xs)) [
-      | inl e ↦ rw (e, e) refl
-      | inr e ↦ rw e (any-right xs (v ∷ []) v (rw (same-itself v) refl))
-    ]
+    rw i (cond_both (list_any (same v) xs) xs (xs ++ v ∷ []) (λ zs. length zs ≤ n) (λ e. k) (λ e. omega (arith, place-absent xs v e, length-append xs (v ∷ []))))
 
 -- a visibility that was met changes nothing when it is met again
 pub meet-twice : (xs : List V) (v : V) → meet (meet xs v) v ≡ meet xs v
-meet-twice xs (Module p e) = rw (any-insert xs (Module p e)) refl
-meet-twice xs (PubSelf e) = refl
-meet-twice xs PubCrate = refl
-meet-twice xs Public = refl
+meet-twice xs (Module p e) =
+    elim (cases_Bool (list_any (same (Module p e)) (insert xs (Module p e)))) [
+      | inl t ↦ rw t refl
+      | inr t ↦ absurd (let h = Has-insert xs (Module p e) in omega (arith, place-absent (insert xs (Module p e)) (Module p e) t))
+    ]
+meet-twice xs _ = refl

@@ -1,17 +1,14 @@
 -- What stands in the column of attributes at the places.
 use Rattle.std.proofs.Common.{◌≡◌, ℕ, ◌+◌, ◌<◌, eqb, Bool, true, false, List, [], ◌∷◌, ◌++◌, length, map, suc, Option, Some, None, refl, ap, sym, ◌∙◌, arith, add-zero, append_assoc, length-append, inl, inr}
-use Rattle.std.specs.Prelude.{slice_get, ◌↔◌, IsTrue}
-use Rattle.std.proofs.lemmas.Bool.{eqb-true, false≢true}
+use Rattle.std.specs.Prelude.{◌↔◌, IsTrue}
+use Rattle.std.proofs.lemmas.Bool.{cases_Bool, eqb-true, ne_eqb, false≢true}
+use Rattle.std.proofs.lemmas.List.{map-id}
 use Rattle.hir_input.specs.declared.attr.Attr.{Attr}
 use Rattle.hir_input.specs.Cfg.{CfgView}
 use Rattle.item_tree_attrs.specs.Collected.{Collected, nothing as no_attrs}
 use Rattle.item_tree.specs.Column.{is_empty_of, is_empty, unless, some_unless, column_of, places_from, plain_place, stored_at, or_no_attrs, attrs_stored}
 use Rattle.item_tree.specs.Shown.{lent_attrs}
-use Rattle.item_tree.proofs.Arena.{bool_cases, eqb-other}
-
-pub get-at-seam : {X : Type 0} (us : List X) (x : X) (vs : List X) → slice_get (us ++ x ∷ vs) (length us) ≡ Some x
-get-at-seam [] x vs = refl
-get-at-seam (u ∷ us) x vs = get-at-seam us x vs
+use Rattle.item_tree.proofs.Pieces.{get-at-seam}
 
 empty-is_of : (xs : List Attr) (o : Option CfgView) → is_empty_of xs o ≡ true → ◌≡◌ {A = Collected} (record { attrs = xs; false_cfg = o }) no_attrs
 empty-is_of [] None h = refl
@@ -25,7 +22,7 @@ empty-is c h = empty-is_of c.attrs c.false_cfg h
 pub is_empty-told : (c : Collected) (b : Bool) → IsTrue b ↔ (c ≡ no_attrs) → is_empty c ≡ b
 is_empty-told c true h = ap is_empty (h.0 refl)
 is_empty-told c false h =
-    elim (bool_cases (is_empty c)) [
+    elim (cases_Bool (is_empty c)) [
       | inl e ↦ absurd (false≢true (h.1 (empty-is c e)))
       | inr e ↦ e
     ]
@@ -52,12 +49,8 @@ module _ {X : Type 0} (F : List Collected → Option ℕ → X) (g : Collected �
       ∙ each-place (us ++ p) vs cs in
       λ i. x i ∷ y i
 
-map-same : {X : Type 0} (xs : List X) → map (λ x. x) xs ≡ xs
-map-same [] = refl
-map-same (x ∷ xs) = ap (λ z. x ∷ z) (map-same xs)
-
 pub values-back : (us vs : List Collected) (cs : List Collected) → map (attrs_stored (us ++ (column_of cs ++ vs))) (places_from (length us) cs) ≡ cs
-values-back us vs cs = each-place attrs_stored (λ c. c) value-back us vs cs ∙ map-same cs
+values-back us vs cs = each-place attrs_stored (λ c. c) value-back us vs cs ∙ map-id cs
 
 lent-back_if : (b : Bool) (us vs : List Collected) (c : Collected) → stored_at (us ++ (unless b c ++ vs)) (some_unless b (length us)) ≡ some_unless b c
 lent-back_if true us vs c = refl
@@ -86,7 +79,7 @@ places-length k (c ∷ cs) = ap suc (places-length (k + length (unless (is_empty
 
 -- a number that is below the one for no place
 pub plain-place : (k : ℕ) → k < 4294967295 → plain_place k ≡ Some k
-plain-place k h = rw (eqb-other k 4294967295 (omega arith)) refl
+plain-place k h = rw (ne_eqb k 4294967295 (omega arith)) refl
 
 abbrev pub number_of : Option ℕ → ℕ
 number_of None = 4294967295
@@ -95,7 +88,7 @@ number_of (Some k) = k
 -- a place has one number
 pub number-plain : (i : ℕ) → number_of (plain_place i) ≡ i
 number-plain i =
-    elim (bool_cases (eqb i 4294967295)) [
+    elim (cases_Bool (eqb i 4294967295)) [
       | inl e ↦ rw e (sym (eqb-true i 4294967295 e))
       | inr e ↦ rw e refl
     ]

@@ -1,6 +1,5 @@
 -- The constructors of structs.
 use Rattle.std.proofs.Common.{◌≡◌, ℕ, ◌≤◌, List, [], ◌∷◌, ◌++◌, length, map, refl, ap, sym, ◌∙◌, subst, arith, append_assoc}
-use Rattle.std.proofs.lemmas.List.{map-append}
 use Rattle.item_tree_attrs.specs.Collected.{attr_limit}
 use Rattle.item_tree.specs.declared.fault.LowerError.{LowerError}
 use Rattle.item_tree.specs.declared.items.FieldsShape.{FieldsShape}
@@ -8,17 +7,17 @@ use Rattle.item_tree.specs.declared.rows.Rows.{Rows}
 use Rattle.item_tree.specs.Constructor.{ctor_from}
 use Rattle.item_tree.specs.Node.{Ctor, Head, struct_item, leaf, empty, more}
 use Rattle.item_tree.specs.Meeting.{meet, meet_all}
-use Rattle.item_tree.specs.Layout.{vis_id, plain_vis, ctor_map, leaf_map, ctor_vis, leaf_vis, leaf_row}
+use Rattle.item_tree.specs.Layout.{vis_id, ctor_map, ctor_vis, leaf_row}
 use Rattle.item_tree.specs.Growth.{Lowers, sizes_with, Meets, MeetsAll, MeetsUpTo, HasId, sizes_meeting, Pushes}
 use Rattle.item_tree.specs.Size.{IsPassed}
-use Rattle.item_tree.proofs.Arena.{V, Extends, Extends-meet_all, Knows, Knows-meet, Knows-id, meet-twice}
-use Rattle.item_tree.proofs.Lowering.{kept-adds, Adds-join, Lowers-leaf, length-Extends, passes-visibilities}
+use Rattle.item_tree.proofs.Arena.{V, Extends, length-Extends, Extends-meet_all, Knows, Knows-meet, Knows-id, meet-twice}
+use Rattle.item_tree.proofs.Lowering.{kept-adds, Adds-join, Lowers-leaf, passes-visibilities}
 
 pub has_id : (o a : Rows) (v : V) (i : ℕ) → Meets o a v i → HasId a v i
 has_id o a v i m = record { given = m.given; met = ap (λ z. meet z v) m.met ∙ meet-twice o.arena.keys v ∙ sym m.met }
 
 -- the id of a visibility stays while more are met
-id-stays : {o a : Rows} {v : V} {i : ℕ} {ys : List V} → Meets o a v i → Extends a.arena.keys ys → plain_vis i ≡ vis_id ys v
+id-stays : {o a : Rows} {v : V} {i : ℕ} {ys : List V} → Meets o a v i → Extends a.arena.keys ys → i ≡ vis_id ys v
 id-stays {o} {a} {v} {i} {ys} m h = m.given ∙ sym (Knows-id a.arena.keys ys v h (subst (λ z. Knows z v) (sym m.met) (Knows-meet o.arena.keys v)))
 
 -- one more of several is met
@@ -27,23 +26,23 @@ pub MeetsUpTo-step :
 MeetsUpTo-step {o} {a} {b} {v} {vs} {all} {i} {is} {js} rest e h m push =
     let end = meet_all b.arena.keys vs in
     let whole : meet_all a.arena.keys rest ≡ end = ap (meet_all a.arena.keys) e ∙ ap (λ z. meet_all z vs) (sym m.met) in
-    let id : plain_vis i ≡ vis_id end v = id-stays m (Extends-meet_all b.arena.keys vs) in
+    let id : i ≡ vis_id end v = id-stays m (Extends-meet_all b.arena.keys vs) in
     record {
       met = sym whole ∙ h.met;
       given =
-          rw (push, map-append plain_vis is (i ∷ []))
-          (append_assoc (map plain_vis is) (plain_vis i ∷ []) (map (vis_id end) vs) ∙ (λ j. map plain_vis is ++ id j ∷ map (vis_id end) vs) ∙ ap (λ z. map plain_vis is ++ map (vis_id end) z) (sym e)
-          ∙ subst (λ k. map plain_vis is ++ map (vis_id k) rest ≡ map (vis_id k) all) whole h.given);
+          rw push
+          (append_assoc is (i ∷ []) (map (vis_id end) vs) ∙ (λ j. is ++ id j ∷ map (vis_id end) vs) ∙ ap (λ z. is ++ map (vis_id end) z) (sym e)
+          ∙ subst (λ k. is ++ map (vis_id k) rest ≡ map (vis_id k) all) whole h.given);
       kept = m.kept ∙ ap (λ (r : Rows). record r { arena = b.arena }) h.kept;
       within = m.within;
     }
 
 pub Lowers-struct :
-    {o a b d : Rows} {i u : ℕ} (h q : Head) (n p : List ℕ) (v : V) (s t : FieldsShape) (c : Ctor V) (k : Ctor ℕ) → Meets o a v u → MeetsAll a b (ctor_vis c) → ctor_map plain_vis k ≡ ctor_map (vis_id b.arena.keys) c →
-    p ≡ n → t ≡ s → q ≡ h → length h.attrs.attrs ≤ attr_limit → Pushes b d (q, leaf_row (leaf_map plain_vis (struct_item p u t k))) i → Lowers o d 0 (more (leaf h (struct_item n v s c)) empty) (i ∷ [])
+    {o a b d : Rows} {i u : ℕ} (h q : Head) (n p : List ℕ) (v : V) (s t : FieldsShape) (c : Ctor V) (k : Ctor ℕ) → Meets o a v u → MeetsAll a b (ctor_vis c) → k ≡ ctor_map (vis_id b.arena.keys) c →
+    p ≡ n → t ≡ s → q ≡ h → length h.attrs.attrs ≤ attr_limit → Pushes b d (q, leaf_row (struct_item p u t k)) i → Lowers o d 0 (more (leaf h (struct_item n v s c)) empty) (i ∷ [])
 Lowers-struct {o} {a} {b} {d} {i} {u} h q n p v s t c k m w x e y z few push =
     let given = id-stays m (subst (λ z. Extends a.arena.keys z) (sym w.met) (Extends-meet_all a.arena.keys (ctor_vis c))) in
-    Lowers-leaf h q (struct_item n v s c) (leaf_map plain_vis (struct_item p u t k)) (Adds-join (kept-adds o a m.kept) (kept-adds a b w.kept))
+    Lowers-leaf h q (struct_item n v s c) (struct_item p u t k) (Adds-join (kept-adds o a m.kept) (kept-adds a b w.kept))
     (w.met ∙ ap (λ r. meet_all r (ctor_vis c)) m.met) (λ j. struct_item (e j) (given j) (y j) (x j)) z few (omega arith) (omega arith) push
 
 pub ctor_vis_from : (vs : List V) → ctor_vis (ctor_from vs) ≡ vs
@@ -67,4 +66,4 @@ unmet-first o a v vs all e h =
 pub own-unmet : (o : Rows) (h : Head) (n : List ℕ) (v : V) (s : FieldsShape) (c : Ctor V) (e : LowerError) → IsPassed (sizes_meeting o (v ∷ [])) e → IsPassed (sizes_with o 0 (more (leaf h (struct_item n v s c)) empty)) e
 own-unmet o h n v s c e =
     let x = meet o.arena.keys v in
-    passes-visibilities (length x) (sizes_with o 0 (more (leaf h (struct_item n v s c)) empty)) e (omega (arith, length-Extends x (meet_all x (ctor_vis c)) (Extends-meet_all x (ctor_vis c))))
+    passes-visibilities (length x) (sizes_with o 0 (more (leaf h (struct_item n v s c)) empty)) e (omega (arith, length-Extends x (meet_all x (ctor_vis c ++ [])) (Extends-meet_all x (ctor_vis c ++ []))))

@@ -5,12 +5,11 @@ use Rattle.std.proofs.lemmas.List.{map-append}
 use Rattle.std.proofs.lemmas.List.Sums.{sum_by-append}
 use Rattle.hir_input.specs.declared.ids.AstIdKind.{AstIdKind}
 use Rattle.item_tree.specs.declared.visibility.RawVisibility.{RawVisibility}
-use Rattle.item_tree.specs.declared.rows.Rows.{Rows}
 use Rattle.item_tree.specs.Node.{Node, Forest, leaf, parent, empty, more, leaf_kind, trunk_kind, node_count, count, Unfolding}
 use Rattle.item_tree.specs.Layout.{vis_id, leaf_map, trunk_map, Row, parent_row, row_tag, arena_of, node_walk, walk, node_rows, rows_of, ids, layout}
 use Rattle.item_tree.specs.Stats.{kind_is, one_if, node_count_of, count_of}
-use Rattle.item_tree.specs.Stored.{has_tag, tables_of}
-use Rattle.item_tree.specs.Same.{equal_of_same, same_of_equal}
+use Rattle.item_tree.specs.Stored.{has_tag}
+use Rattle.item_tree.specs.Same.{same_decides}
 use Rattle.item_tree.proofs.Equal.{tag_decides}
 use Rattle.hir_input.specs.contracts.ids.AstIdKind as kinds
 use Rattle.std.proofs.lemmas.Bool.Decides.{same_from_decides}
@@ -57,11 +56,8 @@ module _ (k : AstIdKind) (arena : List RawVisibility) where
 tag-same : (k tag : AstIdKind) → has_tag k tag ≡ kind_is k tag
 tag-same k tag =
     let d = tag_decides tag k in
-    same_from_decides (has_tag k tag) (kind_is k tag) ((λ h. sym (d.0 h)), (λ e. d.1 (sym e))) (equal_of_same kinds.the_row.coded k tag, same_of_equal kinds.the_row.coded k tag)
-
-pub count-tags : (k : AstIdKind) (tags : List AstIdKind) → count_by (has_tag k) tags ≡ count_by (kind_is k) tags
-count-tags k tags = λ i. count_by (λ tag. tag-same k tag i) tags
+    same_from_decides (has_tag k tag) (kind_is k tag) ((λ h. sym (d.0 h)), (λ e. d.1 (sym e))) (same_decides kinds.the_row.coded k tag)
 
 -- the tags of a tree count its nodes
-pub tags-count : (u : Unfolding) (top : List ℕ) (place : ℕ) (t : Rows) (k : AstIdKind) → layout u ≡ tables_of top place t → count_by (kind_is k) t.tags.items ≡ count_of k u.forest
-tags-count u top place t k canon = ap (λ z. count_by (kind_is k) z.tags) (sym canon) ∙ counted-forest k (arena_of u.forest) u.forest 0
+pub tags-count : (u : Unfolding) (k : AstIdKind) (tags : List AstIdKind) → (layout u).tags ≡ tags → count_by (has_tag k) tags ≡ count_of k u.forest
+tags-count u k tags e = (λ i. count_by (λ tag. tag-same k tag i) tags) ∙ ap (count_by (kind_is k)) (sym e) ∙ counted-forest k (arena_of u.forest) u.forest 0

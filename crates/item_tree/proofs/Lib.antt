@@ -10,10 +10,9 @@ pub mod Chains
 pub mod CallLemmas
 pub mod Calling
 pub mod VisibilityEq
-pub mod Arena
-pub mod Distinct
-pub mod Column
 pub mod Pieces
+pub mod Arena
+pub mod Column
 pub mod Canon
 pub mod Reached
 pub mod Lookup
@@ -21,7 +20,6 @@ pub mod VisOnce
 pub mod Walking
 pub mod Counted
 pub mod Equal
-pub mod ItemEq
 pub mod Lowering
 pub mod Statements
 pub mod Constructors

@@ -1,223 +1,180 @@
--- What stands in the rows of a layout.
-use Rattle.std.proofs.Common.{◌≡◌, ℕ, ◌/◌, ◌%◌, ◌<◌, ◌≤◌, eqb, inl, inr, false, List, [], ◌∷◌, ◌++◌, length, map, get_or, Some, None, refl, ap, sym, ◌∙◌, subst, append-nil, eq-eqb}
+-- What the stored tables of a tree say of what they unfold to.
+use Rattle.std.proofs.Common.{◌≡◌, ℕ, ◌/◌, ◌%◌, ◌<◌, ◌≤◌, List, [], ◌++◌, length, map, get_or, Some, None, Vec, Global, refl, ap, sym, ◌∙◌, subst, arith, append-nil}
 use Rattle.std.specs.Option.{option_map_or}
-use Rattle.std.specs.Prelude.{slice_get, is_some, IsSome, option_map, vec_len}
-use Rattle.std.proofs.lemmas.List.{length-map}
-use Rattle.std.proofs.lemmas.Bool.{false≢true, eqb-true}
-use Rattle.std.proofs.lemmas.Option.{slice_get-map, slice_get_read, slice_get_past}
-use Rattle.hir_input.specs.declared.ids.FileAstId.{FileAstId}
+use Rattle.std.specs.Prelude.{slice_get, is_some, option_map, vec_len}
+use Rattle.std.proofs.lemmas.List.{length-map, map-id}
+use Rattle.std.proofs.lemmas.Option.{same_Some, slice_get-map, slice_get_read, slice_get_within}
 use Rattle.hir_input.specs.declared.ids.AstIdKind.{AstIdKind}
-use Rattle.item_tree.specs.declared.visibility.RawVisibility.{RawVisibility}
-use Rattle.item_tree.specs.declared.items.ModKind.{ModKind}
-use Rattle.item_tree.specs.declared.items.ModKind.TheVariants.{Inline, Outline}
 use Rattle.item_tree.specs.declared.items.ModItem.{ModItem}
 use Rattle.item_tree.specs.declared.rows.AstKey.{AstKey}
 use Rattle.item_tree.specs.declared.rows.Rows.{Rows}
-use Rattle.item_tree.specs.Node.{Leaf, plain, constant, struct_item, outline, use_item, extern_crate, impl_item, macro_call, macro_rules, Trunk, inline, extern_block, leaf_kind, trunk_kind, Head, Node, Forest, leaf, parent, nodes, node_head, node_kind, node_ast, file_id, Unfolding}
-use Rattle.item_tree.specs.Layout.{leaf_map, trunk_map, vis_id, value_at, plain_vis, Row, RowItem, leaf_row, parent_row, row_tag, key_of, row_key, row_attrs, row_item, arena_of, node_walk, walk, ids, rows_of, kind_bit, layout, at_row, at, node_at, vis_at}
+use Rattle.item_tree.specs.Node.{Leaf, plain, Trunk, inline, leaf_kind, trunk_kind, Node, Forest, leaf, parent, nodes, node_head, node_kind, node_ast, Unfolding}
+use Rattle.item_tree.specs.Layout.{vis_id, leaf_map, trunk_map, trunk_vis, forest_vis, Row, row_tag, key_of, row_key, row_attrs, row_item, arena_of, walk, ids, node_id, rows_of, kind_bit, layout, node_at, vis_at, unfold_tables}
 use Rattle.item_tree.specs.Column.{is_empty, unless, some_unless, column_of, plain_place, stored_at}
-use Rattle.item_tree.specs.Reach.{child_ids}
-use Rattle.item_tree.specs.Shown.{IsContained, IsLeaf, IsParent, IsModule, lent_attrs, attrs_at}
-use Rattle.item_tree.specs.Stored.{item_row, leaf_plain, parent_plain, module_row, key_in, column_in, tables_of}
-use Rattle.item_tree.proofs.Arena.{KnowsNode, leaf-at, trunk-at, leaf_map-map, trunk_map-map, bool_cases}
+use Rattle.item_tree.specs.Reach.{top_ids}
+use Rattle.item_tree.specs.Shown.{IsContained, Lent, lent_leaf, lent_parent, IsLent, lent_attrs, attrs_at}
+use Rattle.item_tree.specs.Size.{Fits}
+use Rattle.item_tree.specs.Stored.{item_row, lent_ast, lent_row, key_in, column_in, tables_of, AreSound}
+use Rattle.item_tree.proofs.Arena.{KnowsAll-parts, leaf-said, trunk-said}
+use Rattle.item_tree.proofs.Canon.{kind_bit-small, length-rows_of}
 use Rattle.item_tree.proofs.Column.{lent-back, lent-each, places-length}
-use Rattle.item_tree.proofs.Canon.{has_walk}
-use Rattle.item_tree.proofs.Reached.{map-at-ids, row_children, children-stored, row-there, get-within, bit-at, row_of, length-rows_of, row-found, node-last, stored-last}
-use Rattle.item_tree.proofs.Pieces.{HasFrom, HasFrom-left}
-
-pub top-stands : (f : Forest) → map (node_at f) (ids 0 f) ≡ map Some (nodes f)
-unfolding node_at
-top-stands f = map-at-ids (walk f) 0 f (has_walk f)
+use Rattle.item_tree.proofs.Reached.{Lies, IsMet, row_of, node_at-id, child_ids-at, stand-at, row-met, at-id_of, row-within, top_ids-is, top-stands}
 
 pub leaf_kind-map : {V W : Type 0} (f : V → W) (l : Leaf V) → leaf_kind l ≡ leaf_kind (leaf_map f l)
 leaf_kind-map f (plain k n v) = refl
-leaf_kind-map f (constant n v) = refl
-leaf_kind-map f (extern_crate n v a) = refl
-leaf_kind-map f (impl_item of_trait) = refl
-leaf_kind-map f (macro_call p e x) = refl
-leaf_kind-map f (macro_rules n) = refl
-leaf_kind-map f (outline n v) = refl
-leaf_kind-map f (use_item v t) = refl
-leaf_kind-map f (struct_item n v s c) = refl
+leaf_kind-map f _ = refl
 
 pub trunk_kind-map : {V W : Type 0} (f : V → W) (t : Trunk V) → trunk_kind t ≡ trunk_kind (trunk_map f t)
 trunk_kind-map f (inline n v) = refl
-trunk_kind-map f extern_block = refl
+trunk_kind-map f _ = refl
 
--- What a row says of its node.
-module _ (arena : List RawVisibility) (ns : List Node) where
-  abbrev pub ItemIs : Head → RowItem → Node → Type 0
-  ItemIs h (leaf_row l) n = (m : Leaf RawVisibility) × (n ≡ leaf h m) × (leaf_map (value_at arena) l ≡ leaf_map Some m)
-  ItemIs h (parent_row t is) n =
-      (w : Trunk RawVisibility) × (g : Forest) × (n ≡ parent h w g) × (trunk_map (value_at arena) t ≡ trunk_map Some w) × (map (at ns) is ≡ map Some (nodes g))
+-- a column is read where its row stands
+column-read : {X Y : Type 0} (see : X → Y) (told : Row → Y) (xs : List X) (rs : List Row) (k : ℕ) (x : X) (r : Row) → map told rs ≡ map see xs → x ≡ get_or xs k x → slice_get rs k ≡ Some r → see x ≡ told r
+column-read see told xs rs k x r e g s =
+    let l : k < length xs = omega (arith, slice_get_within rs k r s, ap length e, length-map rs told, length-map xs see) in
+    same_Some _ _ (ap (option_map see) (sym (slice_get_read xs (length xs) k x refl l g)) ∙ sym (slice_get-map see xs k) ∙ ap (λ ys. slice_get ys k) (sym e) ∙ slice_get-map told rs k ∙ ap (option_map told) s)
 
-  pub record RowIs (r : Row) (n : Node) : Type 0 where
-    pub head : node_head n ≡ r.0
-    pub tag : node_kind n ≡ row_tag r
-    pub item : ItemIs r.0 r.1 n
-
-  pub row_is : (b : ℕ) (n : Node) → HasFrom ns b (node_walk n) → KnowsNode n arena → RowIs (row_of arena b n) n
-  row_is b (leaf h l) w k = record { head = refl; tag = leaf_kind-map (vis_id arena) l; item = (l, refl, leaf-at arena l k) }
-  row_is b (parent h t f) w k = record {
-    head = refl;
-    tag = trunk_kind-map (vis_id arena) t;
-    item = (t, f, refl, trunk-at arena t k.0, map-at-ids ns b f (HasFrom-left ns b (walk f) (parent h t f ∷ []) w));
-  }
-
--- What a row shows.
-abbrev pub IsRowShown : Unfolding → ℕ → FileAstId → RowItem → Type 0
-IsRowShown u i a (leaf_row l) = (h : Head) × (m : Leaf RawVisibility) × (node_at u.forest i ≡ Some (leaf h m)) × (a ≡ file_id (leaf_kind m) h) × (leaf_map (value_at (arena_of u.forest)) l ≡ leaf_map Some m)
-IsRowShown u i a (parent_row t is) =
-    (h : Head) × (w : Trunk RawVisibility) × (g : Forest) × (node_at u.forest i ≡ Some (parent h w g)) × (a ≡ file_id (trunk_kind w) h) × (trunk_map (value_at (arena_of u.forest)) t ≡ trunk_map Some w) × (map (node_at u.forest) is ≡ map Some (nodes g)) × (is ≡ child_ids u i)
-
-ItemIs-shown : (u : Unfolding) (i : ℕ) (n : Node) (a : FileAstId) (h : Head) (r : RowItem) → row_children r ≡ child_ids u i → node_at u.forest i ≡ Some n → node_ast n ≡ a → ItemIs (arena_of u.forest) (walk u.forest) h r n → IsRowShown u i a r
-unfolding node_at
-ItemIs-shown u i n a h (leaf_row l) c e q s = (h, s.0, e ∙ ap Some s.1, sym q ∙ ap node_ast s.1, s.2)
-ItemIs-shown u i n a h (parent_row t is) c e q s = (h, s.0, s.1, e ∙ ap Some s.2, sym q ∙ ap node_ast s.2, s.3, s.4, c)
-
-pub IsLeaf-row : (u : Unfolding) (i : ℕ) (a : FileAstId) (l : Leaf ℕ) → IsRowShown u i a (leaf_plain l) → IsLeaf u i a l
-unfolding vis_at
-IsLeaf-row u i a l h = record { head = h.0; item = h.1; found = h.2; ast_id = h.3; visible = sym (leaf_map-map (value_at (arena_of u.forest)) plain_vis l) ∙ h.4 }
-
-pub IsParent-row : (u : Unfolding) (i : ℕ) (a : FileAstId) (t : Trunk ℕ) (is : List ℕ) → IsRowShown u i a (parent_plain t is) → IsParent u i a t is
-unfolding vis_at
-IsParent-row u i a t is h = record { head = h.0; item = h.1; below = h.2; found = h.3; ast_id = h.4; visible = sym (trunk_map-map (value_at (arena_of u.forest)) plain_vis t) ∙ h.5; children = h.6; ids = h.7 }
-
-pub IsModule-row : (u : Unfolding) (i : ℕ) (a : FileAstId) (name : List ℕ) (v : ℕ) (k : ModKind) → IsRowShown u i a (module_row name v k) → IsModule u i a name v k
-IsModule-row u i a name v (Inline items) h = IsParent-row u i a (inline name v) items.items h
-IsModule-row u i a name v Outline h = IsLeaf-row u i a (outline name v) h
-
-at_row-is : (n : Node) (b : ℕ) → IsSome (at_row (Some n) b) → at_row (Some n) b ≡ Some n
-at_row-is n b h = rw (eq-eqb (kind_bit (node_kind n)) b (bit-at n b h)) refl
-
-is_some-at_row : (n : Node) (b : ℕ) → is_some (at_row (Some n) b) ≡ eqb (kind_bit (node_kind n)) b
-is_some-at_row n b =
-    elim (bool_cases (eqb (kind_bit (node_kind n)) b)) [ inl e ↦ rw e refl | inr e ↦ rw e refl ]
-
-some-same : {X : Type 0} (x y : X) → Some x ≡ Some y → x ≡ y
-some-same x y h = cc
-
--- What the tables of a tree say of what it unfolds to.
-module _ (u : Unfolding) (top : List ℕ) (place : ℕ) (t : Rows) (canon : layout u ≡ tables_of top place t) where
+module _ {u : Unfolding} {top : List ℕ} {place : ℕ} {t : Rows} (view : unfold_tables (tables_of top place t) ≡ u) (sound : AreSound top place t) where
   abbrev f : Forest
   f = u.forest
 
   abbrev rs : List Row
-  rs = rows_of (arena_of u.forest) u.forest 0
+  rs = rows_of (arena_of f) f 0
 
-  rows-len : length rs ≡ length (walk f)
-  rows-len = length-rows_of (arena_of f) f 0
+  pub fits : Fits u
+  fits = subst (λ w. Fits w) view sound.fits
 
-  pub top-stands_for : map (node_at f) top ≡ map Some (nodes f)
-  top-stands_for = ap (map (node_at f)) (sym (ap (λ z. z.top) canon)) ∙ top-stands f
+  pub canon : layout u ≡ tables_of top place t
+  canon = ap layout (sym view) ∙ sound.laid_out
 
-  pub tags-length : length t.tags.items ≡ length (walk f)
-  tags-length = ap (λ z. length z.tags) (sym canon) ∙ length-map rs row_tag ∙ rows-len
+  tops : ids 0 f ≡ top
+  tops = ap (λ z. z.top) canon
 
-  pub tags-len : vec_len t.tags ≡ length (walk f)
-  tags-len = t.tags.ok.0 ∙ tags-length
+  pub tops-are : top ≡ top_ids u
+  tops-are = sym tops ∙ sym (top_ids-is u)
 
-  pub keys-len : vec_len t.keys ≡ length (walk f)
-  keys-len = t.keys.ok.0 ∙ sym (length-map t.keys.items key_in) ∙ ap (λ z. length z.keys) (sym canon) ∙ length-map rs row_key ∙ rows-len
+  pub tops-stand : map (node_at f) top ≡ map Some (nodes f)
+  tops-stand = ap (map (node_at f)) (sym tops) ∙ top-stands u
 
-  pub items-len : vec_len t.items ≡ length (walk f)
-  items-len = t.items.ok.0 ∙ sym (length-map t.items.items item_row) ∙ ap (λ z. length z.items) (sym canon) ∙ length-map rs row_item ∙ rows-len
+  -- ---- each id has its place in the columns
 
-  -- the row and the node at a place
-  pub record Found (k : ℕ) : Type 0 where
-    pub row : Row
-    pub node : Node
-    pub row_at : slice_get rs k ≡ Some row
-    pub node_there : slice_get (walk f) k ≡ Some node
-    pub related : RowIs (arena_of f) (walk f) row node
+  tags : map row_tag rs ≡ map (λ k. k) t.tags.items
+  tags = ap (λ z. z.tags) canon ∙ sym (map-id t.tags.items)
 
-  pub found : (k : ℕ) → k < length (walk f) → Found k
-  found k h =
-      let r = row-found u k h in record {
-        row = row_of (arena_of f) r.first r.node;
-        node = r.node;
-        row_at = subst (λ j. slice_get rs j ≡ Some (row_of (arena_of f) r.first r.node)) r.row (stored-last u r.first r.node r.lies);
-        node_there = subst (λ j. slice_get (walk f) j ≡ Some r.node) r.row (node-last u r.first r.node r.lies);
-        related = row_is (arena_of f) (walk f) r.first r.node r.lies.walked r.lies.known;
-      }
+  column-length : {X Y : Type 0} (see : X → Y) (told : Row → Y) (xs : List X) → map told rs ≡ map see xs → length xs ≡ length (walk f)
+  column-length see told xs e = sym (length-map xs see) ∙ sym (ap length e) ∙ length-map rs told ∙ length-rows_of (arena_of f) f 0
 
-  -- the tag of a row is the node's kind
-  tag-read : (k : ℕ) (x : AstIdKind) (h : k < length (walk f)) → x ≡ get_or t.tags.items k x → x ≡ node_kind (found k h).node
-  tag-read k x h g =
-      let w = found k h in
-      let q : slice_get t.tags.items k ≡ Some x = slice_get_read t.tags.items (length (walk f)) k x (sym tags-length) h g in
-      let s : slice_get t.tags.items k ≡ Some (row_tag w.row) = ap (λ z. slice_get z.tags k) (sym canon) ∙ slice_get-map row_tag rs k ∙ ap (option_map row_tag) w.row_at in
-      some-same x (row_tag w.row) (sym q ∙ s) ∙ sym w.related.tag
+  within : {X : Type 0} (v : Vec X Global) → length v.items ≡ length (walk f) → (i k : ℕ) → k ≡ i / 2 → IsContained u i → k < vec_len v
+  unfolding node_at
+  within v e i k q h = rw (v.ok.0, e, q) (row-within (walk f) (i / 2) (i % 2) h)
 
-  key-read : (k : ℕ) (x : AstKey) (h : k < length (walk f)) → x ≡ get_or t.keys.items k x → key_in x ≡ key_of (node_head (found k h).node)
-  key-read k x h g =
-      let w = found k h in
-      let q : slice_get t.keys.items k ≡ Some x = slice_get_read t.keys.items (length (walk f)) k x (sym keys-len ∙ t.keys.ok.0) h g in
-      let s : slice_get (map key_in t.keys.items) k ≡ Some (row_key w.row) = ap (λ z. slice_get z.keys k) (sym canon) ∙ slice_get-map row_key rs k ∙ ap (option_map row_key) w.row_at in
-      some-same (key_in x) (row_key w.row) (ap (option_map key_in) (sym q) ∙ sym (slice_get-map key_in t.keys.items k) ∙ s) ∙ ap key_of (sym w.related.head)
+  pub in-tags : (i k : ℕ) → k ≡ i / 2 → IsContained u i → k < vec_len t.tags
+  in-tags = within t.tags (column-length (λ k. k) row_tag t.tags.items tags)
 
-  item-read : (k : ℕ) (x : ModItem) (h : k < length (walk f)) → x ≡ get_or t.items.items k x → item_row x ≡ (found k h).row.1
-  item-read k x h g =
-      let w = found k h in
-      let q : slice_get t.items.items k ≡ Some x = slice_get_read t.items.items (length (walk f)) k x (sym items-len ∙ t.items.ok.0) h g in
-      let s : slice_get (map item_row t.items.items) k ≡ Some (row_item w.row) = ap (λ z. slice_get z.items k) (sym canon) ∙ slice_get-map row_item rs k ∙ ap (option_map row_item) w.row_at in
-      some-same (item_row x) (row_item w.row) (ap (option_map item_row) (sym q) ∙ sym (slice_get-map item_row t.items.items k) ∙ s)
+  pub in-keys : (i k : ℕ) → k ≡ i / 2 → IsContained u i → k < vec_len t.keys
+  in-keys = within t.keys (column-length key_in row_key t.keys.items (ap (λ z. z.keys) canon))
+
+  pub in-items : (i k : ℕ) → k ≡ i / 2 → IsContained u i → k < vec_len t.items
+  in-items = within t.items (column-length item_row row_item t.items.items (ap (λ z. z.items) canon))
+
+  pub in-places : (i k : ℕ) → k ≡ i / 2 → IsContained u i → k < vec_len t.places
+  in-places =
+      within t.places (sym (length-map t.places.items plain_place) ∙ sym (ap (λ z. length z.places) canon) ∙ places-length 0 (map row_attrs rs) ∙ length-map rs row_attrs ∙ length-rows_of (arena_of f) f 0)
+
+  -- ---- what is read there
+
+  -- the head of a row is the node's, and its tag the node's kind
+  row-head : (b : ℕ) (n : Node) → (row_of u b n).0 ≡ node_head n
+  row-head b (leaf h l) = refl
+  row-head b (parent h s g) = refl
+
+  row-kind : (b : ℕ) (n : Node) → row_tag (row_of u b n) ≡ node_kind n
+  row-kind b (leaf h l) = sym (leaf_kind-map (vis_id (arena_of f)) l)
+  row-kind b (parent h s g) = sym (trunk_kind-map (vis_id (arena_of f)) s)
+
+  module _ (k : ℕ) {i : ℕ} (m : IsMet u i) (same : i / 2 ≡ k) where
+    abbrev row : Row
+    row = row_of u m.first m.node
+
+    stored : slice_get rs k ≡ Some row
+    stored = subst (λ j. slice_get rs j ≡ Some row) same m.stored
+
+    tag-read : (x : AstIdKind) → x ≡ get_or t.tags.items k x → x ≡ node_kind m.node
+    tag-read x g = column-read (λ z. z) row_tag t.tags.items rs k x row tags g stored ∙ row-kind m.first m.node
+
+    key-read : (x : AstKey) → x ≡ get_or t.keys.items k x → key_in x ≡ key_of (node_head m.node)
+    key-read x g = column-read key_in row_key t.keys.items rs k x row (ap (λ z. z.keys) canon) g stored ∙ ap key_of (row-head m.first m.node)
+
+    item-read : (x : ModItem) → x ≡ get_or t.items.items k x → item_row x ≡ row_item row
+    item-read x g = column-read item_row row_item t.items.items rs k x row (ap (λ z. z.items) canon) g stored
+
+  bit-of : {i : ℕ} (m : IsMet u i) → kind_bit (node_kind m.node) ≡ i % 2
+  bit-of m = let small = kind_bit-small (node_kind m.node) in let id = m.id in omega arith
 
   -- where the row is there, the id is contained exactly if its bit is that of the tag
-  pub contains-there : (i : ℕ) (x : AstIdKind) → i / 2 < length t.tags.items → x ≡ get_or t.tags.items (i / 2) x → (IsContained u i → kind_bit x ≡ i % 2) × (kind_bit x ≡ i % 2 → IsContained u i)
-  unfolding node_at
-  contains-there i x h g =
-      let l : i / 2 < length (walk f) = subst (λ z. i / 2 < z) tags-length h in
-      let w = found (i / 2) l in
-      let e : is_some (node_at f i) ≡ eqb (kind_bit x) (i % 2) =
-      ap (λ o. is_some (at_row o (i % 2))) w.node_there ∙ is_some-at_row w.node (i % 2) ∙ ap (λ z. eqb (kind_bit z) (i % 2)) (sym (tag-read (i / 2) x l g)) in
-      ((λ s. eqb-true (kind_bit x) (i % 2) (sym e ∙ s)), (λ q. e ∙ eq-eqb (kind_bit x) (i % 2) q))
+  pub contains-there : (i : ℕ) (x : AstIdKind) → i / 2 < length t.tags.items → x ≡ get_or t.tags.items (i / 2) x → (kind_bit x ≡ i % 2 → IsContained u i) × (IsContained u i → kind_bit x ≡ i % 2)
+  contains-there i x l g =
+      let r = row-met u (i / 2) (rw (← column-length (λ k. k) row_tag t.tags.items tags) l) in
+      let bits : kind_bit x ≡ r.0 % 2 = ap kind_bit (tag-read (i / 2) r.2 r.1 x g) ∙ bit-of r.2 in
+      let rows : r.0 / 2 ≡ i / 2 = r.1 in (
+        (λ b. let same : r.0 ≡ i = omega arith in subst (IsContained u) same (ap is_some r.2.found)),
+        (λ s. let m = at-id_of u i s in ap kind_bit (tag-read (i / 2) m refl x g) ∙ bit-of m),
+      )
 
   pub contains-past : (i : ℕ) → length t.tags.items ≤ i / 2 → IsContained u i → ⊥
-  unfolding node_at
-  contains-past i h s =
-      let l : length (walk f) ≤ i / 2 = subst (λ z. z ≤ i / 2) tags-length h in
-      let e : is_some (node_at f i) ≡ false = ap (λ o. is_some (at_row o (i % 2))) (slice_get_past (walk f) (i / 2) l) in
-      absurd (false≢true (sym e ∙ s))
+  contains-past i h s = let l : i / 2 < length t.tags.items = rw (← t.tags.ok.0) (in-tags i (i / 2) refl s) in absurd (omega arith)
 
-  pub within : (i : ℕ) → IsSome (node_at f i) → i / 2 < length (walk f)
-  unfolding node_at
-  within i h = get-within (walk f) (i / 2) (row-there (slice_get (walk f) (i / 2)) (i % 2) h)
-
-  at-found : (i : ℕ) (h : IsSome (node_at f i)) → node_at f i ≡ Some (found (i / 2) (within i h)).node
-  unfolding node_at
-  at-found i h =
-      let w = found (i / 2) (within i h) in
-      let e : node_at f i ≡ at_row (Some w.node) (i % 2) = ap (λ o. at_row o (i % 2)) w.node_there in
-      e ∙ at_row-is w.node (i % 2) (subst (λ o. IsSome o) e h)
-
-  pub ast-read : (i : ℕ) (x : AstIdKind) (y : AstKey) → IsSome (node_at f i) → x ≡ get_or t.tags.items (i / 2) x → y ≡ get_or t.keys.items (i / 2) y → option_map node_ast (node_at f i) ≡ Some (record { kind = x; hash = y.hash; number = y.number })
+  pub ast-read : (i : ℕ) (x : AstIdKind) (y : AstKey) → IsContained u i → x ≡ get_or t.tags.items (i / 2) x → y ≡ get_or t.keys.items (i / 2) y → option_map node_ast (node_at f i) ≡ Some (record { kind = x; hash = y.hash; number = y.number })
   ast-read i x y h g k =
-      ap (option_map node_ast) (at-found i h) ∙ (λ j. Some (record { kind = sym (tag-read (i / 2) x (within i h) g) j; hash = (sym (key-read (i / 2) y (within i h) k) j).hash; number = (sym (key-read (i / 2) y (within i h) k) j).number }))
+      let m = at-id_of u i h in
+      let kind = sym (tag-read (i / 2) m refl x g) in
+      let key = sym (key-read (i / 2) m refl y k) in
+      ap (option_map node_ast) m.found ∙ (λ j. Some (record { kind = kind j; hash = (key j).hash; number = (key j).number }))
 
-  pub shown : (i : ℕ) (a : FileAstId) (x : ModItem) → IsSome (node_at f i) → option_map node_ast (node_at f i) ≡ Some a → x ≡ get_or t.items.items (i / 2) x → IsRowShown u i a (item_row x)
-  shown i a x h e g =
-      let w = found (i / 2) (within i h) in
-      let q : node_ast w.node ≡ a = some-same (node_ast w.node) a (ap (option_map node_ast) (sym (at-found i h)) ∙ e) in
-      subst (λ z. IsRowShown u i a z) (sym (item-read (i / 2) x (within i h) g)) (ItemIs-shown u i w.node a w.row.0 w.row.1 (children-stored u i w.row h w.row_at) (at-found i h) q w.related.item)
+  -- ---- what is lent for an id is what stands in its row
 
-  pub places-len : vec_len t.places ≡ length (walk f)
-  places-len = t.places.ok.0 ∙ sym (length-map t.places.items plain_place) ∙ ap (λ z. length z.places) (sym canon) ∙ places-length 0 (map row_attrs rs) ∙ length-map rs row_attrs ∙ rows-len
+  lent-at : (b : ℕ) (n : Node) → Lies u b n → (k : Lent) → lent_ast k ≡ node_ast n → lent_row k ≡ row_item (row_of u b n) → IsLent u (node_id b n) k
+  unfolding vis_at
+  lent-at b (leaf h l) w (lent_leaf a m) q e =
+      let item : m ≡ leaf_map (vis_id (arena_of f)) l = cc in
+      record { head = h; item = l; found = node_at-id u b (leaf h l) w; ast_id = q; visible = ap (leaf_map (vis_at f)) item ∙ leaf-said (arena_of f) fits.visibilities (λ o. o) l w.known }
+  lent-at b (parent h s g) w (lent_parent a r is) q e =
+      let item : r ≡ trunk_map (vis_id (arena_of f)) s = cc in
+      let same : is ≡ ids b g = cc in
+      let below = same ∙ sym (child_ids-at u b (parent h s g) w) in
+      record {
+        head = h;
+        item = s;
+        below = g;
+        found = node_at-id u b (parent h s g) w;
+        ast_id = q;
+        visible = ap (trunk_map (vis_at f)) item ∙ trunk-said (arena_of f) fits.visibilities (λ o. o) s (KnowsAll-parts (arena_of f) (trunk_vis s) (forest_vis g) w.known).0;
+        ids = below;
+        children = ap (map (node_at f)) below ∙ stand-at u b (parent h s g) w;
+      }
+  lent-at b (leaf h l) w (lent_parent a r is) q e = absurd (cc)
+  lent-at b (parent h s g) w (lent_leaf a m) q e = absurd (cc)
 
-  pub attrs-read : (i : ℕ) (p : ℕ) → IsSome (node_at f i) → p ≡ get_or t.places.items (i / 2) p → stored_at (column_in t) (plain_place p) ≡ attrs_at u i
+  pub shown : (i : ℕ) (x : ModItem) (k : Lent) → IsContained u i → x ≡ get_or t.items.items (i / 2) x → option_map node_ast (node_at f i) ≡ Some (lent_ast k) → lent_row k ≡ item_row x → IsLent u i k
+  shown i x k h g q e =
+      let m = at-id_of u i h in
+      subst (λ j. IsLent u j k) m.id (lent-at m.first m.node m.lies k (same_Some _ _ (sym q ∙ ap (option_map node_ast) m.found)) (e ∙ item-read (i / 2) m refl x g))
+
+  -- ---- attributes
+
+  pub attrs-read : (i : ℕ) (p : ℕ) → IsContained u i → p ≡ get_or t.places.items (i / 2) p → stored_at (column_in t) (plain_place p) ≡ attrs_at u i
   attrs-read i p h g =
       let k = i / 2 in
-      let w = found k (within i h) in
+      let m = at-id_of u i h in
+      let r = row_of u m.first m.node in
       let column = (layout u).column in
-      let q : slice_get t.places.items k ≡ Some p = slice_get_read t.places.items (length (walk f)) k p (sym places-len ∙ t.places.ok.0) (within i h) g in
-      let r : slice_get (layout u).places k ≡ Some (plain_place p) = ap (λ z. slice_get z.places k) canon ∙ slice_get-map plain_place t.places.items k ∙ ap (option_map plain_place) q in
-      let a : slice_get (map (stored_at column) (layout u).places) k ≡ Some (stored_at column (plain_place p)) = slice_get-map (stored_at column) (layout u).places k ∙ ap (option_map (stored_at column)) r in
-      let b : slice_get (map lent_attrs (map row_attrs rs)) k ≡ Some (lent_attrs (row_attrs w.row)) =
-      slice_get-map lent_attrs (map row_attrs rs) k ∙ ap (option_map lent_attrs) (slice_get-map row_attrs rs k ∙ ap (option_map row_attrs) w.row_at) in
-      let e : map (stored_at column) (layout u).places ≡ map lent_attrs (map row_attrs rs) = lent-each [] (unless (is_empty u.top_attrs) u.top_attrs) (map row_attrs rs) in
-      let s : stored_at column (plain_place p) ≡ lent_attrs (row_attrs w.row) = some-same (stored_at column (plain_place p)) (lent_attrs (row_attrs w.row)) (sym a ∙ ap (λ z. slice_get z k) e ∙ b) in
-      ap (λ z. stored_at z (plain_place p)) (sym (ap (λ z. z.column) canon)) ∙ s
-      ∙ ap (λ z. lent_attrs z.attrs) (sym w.related.head) ∙ sym (ap (λ o. option_map_or (λ n. lent_attrs (node_head n).attrs) o None) (at-found i h))
+      let read : slice_get (layout u).places k ≡ Some (plain_place p) =
+      ap (λ z. slice_get z.places k) canon ∙ slice_get-map plain_place t.places.items k ∙ ap (option_map plain_place) (slice_get_read t.places.items (vec_len t.places) k p t.places.ok.0 (in-places i k refl h) g) in
+      let all : map (stored_at column) (layout u).places ≡ map lent_attrs (map row_attrs rs) = lent-each [] (unless (is_empty u.top_attrs) u.top_attrs) (map row_attrs rs) in
+      let one : Some (stored_at column (plain_place p)) ≡ Some (lent_attrs (row_attrs r)) =
+      ap (option_map (stored_at column)) (sym read) ∙ sym (slice_get-map (stored_at column) (layout u).places k) ∙ ap (λ z. slice_get z k) all ∙ slice_get-map lent_attrs (map row_attrs rs) k ∙ ap (option_map lent_attrs) (slice_get-map row_attrs rs k ∙ ap (option_map row_attrs) m.stored) in
+      ap (λ z. stored_at z.column (plain_place p)) (sym canon) ∙ same_Some _ _ one ∙ ap (λ z. lent_attrs z.attrs) (row-head m.first m.node)
+      ∙ ap (λ o. option_map_or (λ n. lent_attrs (node_head n).attrs) o None) (sym m.found)
 
   pub top_attrs-read : stored_at (column_in t) (plain_place place) ≡ lent_attrs u.top_attrs
   top_attrs-read =

@@ -15,20 +15,19 @@ use Rattle.item_tree.specs.declared.fault.LowerError.TheVariants.{TooManyItems, 
 use Rattle.item_tree.specs.declared.lower.Ctx.{Ctx}
 use Rattle.item_tree.specs.declared.rows.Rows.{Rows}
 use Rattle.item_tree.specs.Node.{Leaf, Trunk, trunk_kind, leaf_kind, Head, Node, Forest, leaf, parent, empty, more, add, outline, inline, extern_block, count, Unfolding}
-use Rattle.item_tree.specs.Meeting.{meet, meet_all, met, node_met}
+use Rattle.item_tree.specs.Meeting.{meet, meet_all}
 use Rattle.item_tree.specs.Visibility.{read_visibility}
 use Rattle.item_tree.specs.Kept.{head_of, module_node}
-use Rattle.item_tree.specs.Layout.{VisId, vis_id, plain_vis, leaf_map, trunk_map, leaf_vis, trunk_vis, arena_of, node_walk, walk, node_id, ids, Row, leaf_row, parent_row, row_tag, row_key, row_attrs, row_item, kind_bit, node_rows, rows_of, Tables, layout, unfold_tables}
+use Rattle.item_tree.specs.Layout.{vis_id, leaf_map, trunk_map, leaf_vis, trunk_vis, node_vis, forest_vis, arena_of, node_walk, walk, node_id, ids, Row, leaf_row, parent_row, row_tag, row_key, row_attrs, row_item, kind_bit, node_rows, rows_of, layout, unfold_tables}
 use Rattle.item_tree.specs.Column.{is_empty, unless, some_unless, column_of, places_from, plain_place}
 use Rattle.item_tree.specs.Imports.{super_limit}
 use Rattle.item_tree.specs.KeptUse.{use_tree_limit}
 use Rattle.item_tree.specs.Size.{most_attrs, leaf_supers, forest_supers, item_written, items_written, Sizes, IsPassed, only_items, only_visibilities, most_written, sizes_of, Fits, IsTooLarge}
 use Rattle.item_tree.specs.Stored.{item_row, key_in, keys_in, items_in, places_in, column_in, tables_of, AreSound}
 use Rattle.item_tree.specs.Growth.{items_below, attrs_in, kept_in, all_kept_in, row_count, Adds, Lowers, sizes_with, Meets, sizes_meeting, Puts, Pushes}
-use Rattle.item_tree.proofs.Distinct.{arena_met}
-use Rattle.item_tree.proofs.Arena.{V, Extends, Extends-met, KnowsAll, KnowsAll-meet_all, KnowsForest, KnowsNode, Knows-met, leaf-stable, trunk-stable}
+use Rattle.item_tree.proofs.Arena.{V, Extends, length-Extends, Extends-meet_all, meet_all-append, arena_met, KnowsAll, KnowsAll-parts, KnowsAll-meet_all, leaf-stable, trunk-stable}
 use Rattle.item_tree.proofs.Column.{column-append, places-append}
-use Rattle.item_tree.proofs.Canon.{unfold-layout}
+use Rattle.item_tree.proofs.Canon.{length-rows_of, unfold-layout}
 use Rattle.item_tree.proofs.Lookup.{trunk_kind-map, leaf_kind-map}
 use Rattle.item_tree.proofs.Counted.{length-walk}
 
@@ -50,9 +49,12 @@ pub forest_supers-join : (f g : Forest) → forest_supers (join f g) ≡ max (fo
 forest_supers-join empty g = omega arith
 forest_supers-join (more n f) g = omega (arith, forest_supers-join f g)
 
-pub met-join : (f g : Forest) (xs : List V) → met (join f g) xs ≡ met g (met f xs)
-met-join empty g xs = refl
-met-join (more n f) g xs = met-join f g (node_met n xs)
+forest_vis-join : (f g : Forest) → forest_vis (join f g) ≡ forest_vis f ++ forest_vis g
+forest_vis-join empty g = refl
+forest_vis-join (more n f) g = ap (λ vs. node_vis n ++ vs) (forest_vis-join f g) ∙ sym (append_assoc (node_vis n) (forest_vis f) (forest_vis g))
+
+met-join : (f g : Forest) (xs : List V) → meet_all xs (forest_vis (join f g)) ≡ meet_all (meet_all xs (forest_vis f)) (forest_vis g)
+met-join f g xs = ap (meet_all xs) (forest_vis-join f g) ∙ meet_all-append xs (forest_vis f) (forest_vis g)
 
 pub add-join : (o : Option Node) (f g : Forest) → add o (join f g) ≡ join (add o f) g
 add-join None f g = refl
@@ -71,33 +73,23 @@ rows-join xs (more n f) g b =
     ap (λ z. node_rows xs n b ++ z) (rows-join xs f g (b + length (node_walk n)) ∙ rw lb refl)
     ∙ sym (append_assoc (node_rows xs n b) (rows_of xs f (b + length (node_walk n))) (rows_of xs g (b + length (node_walk n ++ walk f))))
 
-module _ (xs : List V) where
-  mutual
-    length-node_rows : (n : Node) (b : ℕ) → length (node_rows xs n b) ≡ length (node_walk n)
-    length-node_rows (leaf h l) b = refl
-    length-node_rows (parent h t f) b =
-        omega (arith, length-append (rows_of xs f b) ((h, parent_row (trunk_map (vis_id xs) t) (ids b f)) ∷ []), length-append (walk f) (parent h t f ∷ []), length-rows f b)
-
-    pub length-rows : (f : Forest) (b : ℕ) → length (rows_of xs f b) ≡ length (walk f)
-    length-rows empty b = refl
-    length-rows (more n f) b =
-        omega (arith, length-append (node_rows xs n b) (rows_of xs f (b + length (node_walk n))), length-append (node_walk n) (walk f), length-node_rows n b, length-rows f (b + length (node_walk n)))
-
 -- rows stay the same as the arena grows
 module _ (xs ys : List V) (h : Extends xs ys) where
   mutual
-    pub rows-stable-node : (n : Node) (b : ℕ) → KnowsNode n xs → node_rows ys n b ≡ node_rows xs n b
+    rows-stable-node : (n : Node) (b : ℕ) → KnowsAll xs (node_vis n) → node_rows ys n b ≡ node_rows xs n b
     rows-stable-node (leaf a l) b k = ap (λ z. (a, leaf_row z) ∷ []) (leaf-stable xs ys l h k)
     rows-stable-node (parent a t f) b k =
-        let r = rows-stable f b k.1 in
-        let s = trunk-stable xs ys t h k.0 in
+        let known = KnowsAll-parts xs (trunk_vis t) (forest_vis f) k in
+        let r = rows-stable f b known.1 in
+        let s = trunk-stable xs ys t h known.0 in
         λ i. r i ++ (a, parent_row (s i) (ids b f)) ∷ []
 
-    pub rows-stable : (f : Forest) (b : ℕ) → KnowsForest f xs → rows_of ys f b ≡ rows_of xs f b
+    rows-stable : (f : Forest) (b : ℕ) → KnowsAll xs (forest_vis f) → rows_of ys f b ≡ rows_of xs f b
     rows-stable empty b k = refl
     rows-stable (more n f) b k =
-        let r = rows-stable-node n b k.0 in
-        let s = rows-stable f (b + length (node_walk n)) k.1 in
+        let known = KnowsAll-parts xs (node_vis n) (forest_vis f) k in
+        let r = rows-stable-node n b known.0 in
+        let s = rows-stable f (b + length (node_walk n)) known.1 in
         λ i. r i ++ s i
 
 -- ---- rows that are added
@@ -126,13 +118,13 @@ pub kept-adds : (a b : Rows) → b ≡ record a { arena = b.arena } → Adds a b
 kept-adds a b k = subst (λ z. Adds a z []) (sym k) (let n = Adds-nothing a in record { tags = n.tags; keys = n.keys; items = n.items; places = n.places; column = n.column })
 
 pub Lowers-count : {old new : Rows} {w : ℕ} {f : Forest} {is : List ℕ} → Lowers old new w f is → row_count new ≡ row_count old + count f
-Lowers-count {old} {new} {w} {f} h = Adds-count h.added ∙ ap (λ z. row_count old + z) (length-rows new.arena.keys f (row_count old) ∙ length-walk f)
+Lowers-count {old} {new} {w} {f} h = Adds-count h.added ∙ ap (λ z. row_count old + z) (length-rows_of new.arena.keys f (row_count old) ∙ length-walk f)
 
 pub Lowers-extends : {old new : Rows} {w : ℕ} {f : Forest} {is : List ℕ} → Lowers old new w f is → Extends old.arena.keys new.arena.keys
-Lowers-extends {old} {new} {w} {f} h = subst (λ z. Extends old.arena.keys z) (sym h.arena_met) (Extends-met f old.arena.keys)
+Lowers-extends {old} {new} {w} {f} h = subst (λ z. Extends old.arena.keys z) (sym h.arena_met) (Extends-meet_all old.arena.keys (forest_vis f))
 
-pub Lowers-knows : {old new : Rows} {w : ℕ} {f : Forest} {is : List ℕ} → Lowers old new w f is → KnowsForest f new.arena.keys
-Lowers-knows {old} {new} {w} {f} h = subst (λ z. KnowsForest f z) (sym h.arena_met) (Knows-met f old.arena.keys)
+pub Lowers-knows : {old new : Rows} {w : ℕ} {f : Forest} {is : List ℕ} → Lowers old new w f is → KnowsAll new.arena.keys (forest_vis f)
+Lowers-knows {old} {new} {w} {f} h = subst (λ z. KnowsAll z (forest_vis f)) (sym h.arena_met) (KnowsAll-meet_all old.arena.keys (forest_vis f))
 
 pub Lowers-join : {a b c : Rows} {v w : ℕ} {f g : Forest} {is js : List ℕ} → Lowers a b v f is → Lowers b c w g js → Lowers a c (max v w) (join f g) (is ++ js)
 Lowers-join {a} {b} {c} {v} {w} {f} {g} {is} {js} h k =
@@ -142,7 +134,7 @@ Lowers-join {a} {b} {c} {v} {w} {f} {g} {is} {js} h k =
     rows-join c.arena.keys f g (row_count a) ∙ ap (λ z. rows_of c.arena.keys f (row_count a) ++ rows_of c.arena.keys g z) (sym n) in
     record {
       given = rw (ids-join f g (row_count a), ← n, h.given, k.given) refl;
-      arena_met = k.arena_met ∙ ap (met g) h.arena_met ∙ sym (met-join f g a.arena.keys);
+      arena_met = k.arena_met ∙ ap (λ z. meet_all z (forest_vis g)) h.arena_met ∙ sym (met-join f g a.arena.keys);
       added = subst (λ z. Adds a c z) (sym r) (Adds-join (subst (λ z. Adds a b z) s h.added) k.added);
       use_trees = omega (arith, h.use_trees, k.use_trees);
       attributes = omega (arith, most_attrs-join f g, h.attributes, k.attributes);
@@ -150,14 +142,11 @@ Lowers-join {a} {b} {c} {v} {w} {f} {g} {is} {js} h k =
       within = k.within;
     }
 
-pub length-Extends : (xs ys : List V) → Extends xs ys → length xs ≤ length ys
-length-Extends xs ys h = omega (arith, ap length h.1, length-append xs h.0)
-
 -- ---- one node
 
 -- a node without children, whose visibilities were met
 pub Lowers-leaf :
-    {o a b : Rows} {i w : ℕ} (h k : Head) (l : Leaf V) (r : Leaf VisId) → Adds o a [] →
+    {o a b : Rows} {i w : ℕ} (h k : Head) (l : Leaf V) (r : Leaf ℕ) → Adds o a [] →
     a.arena.keys ≡ meet_all o.arena.keys (leaf_vis l) → r ≡ leaf_map (vis_id a.arena.keys) l → k ≡ h → length h.attrs.attrs ≤ attr_limit → leaf_supers l ≤ super_limit → w ≤ use_tree_limit →
     Pushes a b (k, leaf_row r) i → Lowers o b w (more (leaf h l) empty) (i ∷ [])
 Lowers-leaf {o} {a} {b} {i} {w} h k l r s m e q short few fits p =
@@ -166,7 +155,7 @@ Lowers-leaf {o} {a} {b} {i} {w} h k l r s m e q short few fits p =
     let z : (k, leaf_row r) ∷ [] ≡ rows_of b.arena.keys (more (leaf h l) empty) (row_count o) = λ j. (q j, leaf_row (x j)) ∷ [] in
     record {
       given = ap (λ v. v ∷ []) (p.given ∙ (λ j. 2 * n j + kind_bit (leaf_kind (e j))) ∙ ap (λ v. 2 * row_count o + kind_bit v) (sym (leaf_kind-map (vis_id a.arena.keys) l)));
-      arena_met = p.arena_kept ∙ m;
+      arena_met = p.arena_kept ∙ m ∙ sym (meet_all-append o.arena.keys (leaf_vis l) []);
       added = subst (λ v. Adds o b v) z (Adds-join s p.added);
       use_trees = fits;
       attributes = omega (arith, short);
@@ -176,7 +165,7 @@ Lowers-leaf {o} {a} {b} {i} {w} h k l r s m e q short few fits p =
 
 -- a node with children, whose visibilities were met before theirs
 pub Lowers-parent :
-    {o a b c : Rows} {w : ℕ} {f : Forest} {is : List ℕ} {i : ℕ} (h k : Head) (t : Trunk V) (r : Trunk VisId) → Adds o a [] →
+    {o a b c : Rows} {w : ℕ} {f : Forest} {is : List ℕ} {i : ℕ} (h k : Head) (t : Trunk V) (r : Trunk ℕ) → Adds o a [] →
     a.arena.keys ≡ meet_all o.arena.keys (trunk_vis t) → r ≡ trunk_map (vis_id a.arena.keys) t → k ≡ h → length h.attrs.attrs ≤ attr_limit →
     Lowers a b w f is → Pushes b c (k, parent_row r is) i → Lowers o c w (more (parent h t f) empty) (i ∷ [])
 Lowers-parent {o} {a} {b} {c} {w} {f} {is} {i} h k t r s m e q few l p =
@@ -191,7 +180,9 @@ Lowers-parent {o} {a} {b} {c} {w} {f} {is} {i} h k t r s m e q few l p =
     (λ j. y j ++ (q j, parent_row (x j) (given j)) ∷ []) ∙ sym (append-nil (rows_of c.arena.keys f (row_count o) ++ (h, parent_row (trunk_map (vis_id c.arena.keys) t) (ids (row_count o) f)) ∷ [])) in
     record {
       given = ap (λ v. v ∷ []) (p.given ∙ (λ j. 2 * d j + kind_bit (trunk_kind (e j))) ∙ ap (λ v. 2 * (row_count o + length (walk f)) + kind_bit v) (sym (trunk_kind-map (vis_id a.arena.keys) t)));
-      arena_met = p.arena_kept ∙ l.arena_met ∙ ap (met f) m;
+      arena_met =
+          p.arena_kept ∙ l.arena_met ∙ ap (λ z. meet_all z (forest_vis f)) m ∙ sym (meet_all-append o.arena.keys (trunk_vis t) (forest_vis f))
+          ∙ sym (meet_all-append o.arena.keys (trunk_vis t ++ forest_vis f) []);
       added = subst (λ v. Adds o c v) goal_rows (Adds-join s (Adds-join l.added p.added));
       use_trees = l.use_trees;
       attributes = omega (arith, few, l.attributes);
@@ -230,7 +221,7 @@ full-parent {o} {a} {b} {v} {f} w h t e s l =
 pub below-block : (o : Rows) (w : ℕ) (h : Head) (f : Forest) (e : LowerError) → IsPassed (sizes_with o w f) e → IsPassed (sizes_with o w (more (parent h extern_block f) empty)) e
 below-block o w h f e =
     passes (sizes_with o w f) (sizes_with o w (more (parent h extern_block f) empty)) e
-    (record { items = omega arith; visibilities = omega arith; use_trees = omega arith; attributes = omega arith; supers = omega arith })
+    (record { items = omega arith; visibilities = omega (arith, ap length (meet_all-append o.arena.keys (forest_vis f) [])); use_trees = omega arith; attributes = omega arith; supers = omega arith })
 
 -- ---- modules
 
@@ -286,18 +277,18 @@ module _ (ctx : Ctx) (m : ast_module.Module) where
 
   pub Lowers-inline :
       {o a b c : Rows} {is : List ℕ} {i u : ℕ} (k : Head) (n p : List ℕ) → m.name ≡ Some n → m.semicolon ≡ false → p ≡ n → k ≡ head → length head.attrs.attrs ≤ attr_limit → Meets o a (value m) u →
-      Lowers a b inside below is → Pushes b c (k, parent_row (inline p (plain_vis u)) is) i → Lowers o c module_written kept_module (i ∷ [])
+      Lowers a b inside below is → Pushes b c (k, parent_row (inline p u) is) i → Lowers o c module_written kept_module (i ∷ [])
   Lowers-inline {o} {a} {b} {c} {is} {i} {u} k n p e s q d few v h w =
       rw (kept-inline n e s, written-inline n e s)
-      (Lowers-parent head k (inline n (value m)) (inline p (plain_vis u)) (kept-adds o a v.kept) v.met (λ j. inline (q j) (v.given j)) d few h w)
+      (Lowers-parent head k (inline n (value m)) (inline p u) (kept-adds o a v.kept) v.met (λ j. inline (q j) (v.given j)) d few h w)
 
   pub unmet-module : (o : Rows) (n : List ℕ) (e : LowerError) → m.name ≡ Some n → IsPassed (sizes_meeting o (value m ∷ [])) e → IsPassed (sizes_with o module_written kept_module) e
   unmet-module o n e q =
       let k = meet o.arena.keys (value m) in
-      let h : length k ≤ length (met kept_module o.arena.keys) =
+      let h : length k ≤ length (meet_all o.arena.keys (forest_vis kept_module)) =
       elim (cases_Bool m.semicolon) [
         | inl s ↦ rw (kept-outline n q s) (omega arith)
-        | inr s ↦ rw (kept-inline n q s) (length-Extends k (met below k) (Extends-met below k))
+        | inr s ↦ rw (kept-inline n q s) (length-Extends k (meet_all k (forest_vis below ++ [])) (Extends-meet_all k (forest_vis below ++ [])))
       ] in
       passes-visibilities (length k) (sizes_with o module_written kept_module) e h
 
@@ -384,14 +375,14 @@ module _ (ctx : Ctx) {X : Type 0} (seen : X → ItemView) where
       IsPassed (sizes_with a (written_list xs) (kept_list xs)) e
   passed-step {a} {b} xs i x e q h p =
       let rest = kept_list (drop (i + 1) xs) in
-      let here = met (kept_one x) b.arena.keys in
+      let here = meet_all b.arena.keys (forest_vis (kept_one x)) in
       let whole : kept_list xs ≡ join (join (kept_list (take i xs)) (kept_one x)) rest = kept_list-split xs (i + 1) ∙ ap (λ f. join f rest) (kept_list-push xs i x q h) in
-      let m : met (kept_list xs) a.arena.keys ≡ met rest here =
-      ap (λ z. met z a.arena.keys) whole ∙ met-join (join (kept_list (take i xs)) (kept_one x)) rest a.arena.keys
-      ∙ ap (met rest) (met-join (kept_list (take i xs)) (kept_one x) a.arena.keys ∙ ap (met (kept_one x)) (sym p.arena_met)) in
+      let m : meet_all a.arena.keys (forest_vis (kept_list xs)) ≡ meet_all here (forest_vis rest) =
+      ap (λ z. meet_all a.arena.keys (forest_vis z)) whole ∙ met-join (join (kept_list (take i xs)) (kept_one x)) rest a.arena.keys
+      ∙ ap (λ z. meet_all z (forest_vis rest)) (met-join (kept_list (take i xs)) (kept_one x) a.arena.keys ∙ ap (λ z. meet_all z (forest_vis (kept_one x))) (sym p.arena_met)) in
       passes (sizes_with b (item_written (seen x)) (kept_one x)) (sizes_with a (written_list xs) (kept_list xs)) e (record {
         items = omega (arith, Lowers-count p, ap count whole, count-join (join (kept_list (take i xs)) (kept_one x)) rest, count-join (kept_list (take i xs)) (kept_one x));
-        visibilities = omega (arith, ap length m, length-Extends here (met rest here) (Extends-met rest here));
+        visibilities = omega (arith, ap length m, length-Extends here (meet_all here (forest_vis rest)) (Extends-meet_all here (forest_vis rest)));
         use_trees = omega (arith, written_list-split xs (i + 1), written_list-push xs i x q h);
         attributes = omega (arith, ap most_attrs whole, most_attrs-join (join (kept_list (take i xs)) (kept_one x)) rest, most_attrs-join (kept_list (take i xs)) (kept_one x));
         supers = omega (arith, ap forest_supers whole, forest_supers-join (join (kept_list (take i xs)) (kept_one x)) rest, forest_supers-join (kept_list (take i xs)) (kept_one x));
@@ -404,7 +395,7 @@ pub passed-from_nothing :
     IsPassed (sizes_with old (most_written s) f) e → IsTooLarge s (record { top_attrs = c; forest = f }) e
 passed-from_nothing old f c s e items arena h =
     let u : Unfolding = record { top_attrs = c; forest = f } in
-    let m : met f old.arena.keys ≡ arena_of f = ap (met f) arena ∙ sym (arena_met f) in
+    let m : meet_all old.arena.keys (forest_vis f) ≡ arena_of f = ap (λ z. meet_all z (forest_vis f)) arena ∙ sym (arena_met f) in
     passes (sizes_with old (most_written s) f) (sizes_of s u) e (record {
       items = omega (arith, ap length items);
       visibilities = omega (arith, ap length m);
@@ -415,10 +406,10 @@ passed-from_nothing old f c s e items arena h =
 
 -- ---- the tables of a tree whose rows were made from nothing
 
-pub record Unfolds (t : Tables) (u : Unfolding) : Type 0 where
-  pub unfolded : unfold_tables t ≡ u
+pub record Unfolds (top : List ℕ) (place : ℕ) (r : Rows) (u : Unfolding) : Type 0 where
+  pub unfolded : unfold_tables (tables_of top place r) ≡ u
   pub fit : Fits u
-  pub sound : AreSound t
+  pub sound : AreSound top place r
 
 module _
     (old new whole : Rows) {w : ℕ} (f : Forest) (c : Collected) (top : List ℕ) (place : ℕ)
@@ -432,7 +423,7 @@ module _
   rows = rows_of (arena_of f) f 0
 
   arena_is : new.arena.keys ≡ arena_of f
-  arena_is = h.arena_met ∙ ap (met f) arena_empty ∙ sym (arena_met f)
+  arena_is = h.arena_met ∙ ap (λ z. meet_all z (forest_vis f)) arena_empty ∙ sym (arena_met f)
 
   added : Adds old new rows
   added = subst (λ z. Adds old new z) (λ i. rows_of (arena_is i) f (length (items_empty i))) h.added
@@ -454,13 +445,13 @@ module _
       let arena : arena_of f ≡ whole.arena.keys = sym (ap (λ z. z.arena.keys) same ∙ arena_is) in
       λ i. record { top = t i; tags = tags i; keys = keys i; items = items i; places = places i; top_place = top_place i; column = column i; arena = arena i }
 
-  pub tables : Unfolds (tables_of top place whole) u
+  pub tables : Unfolds top place whole u
   tables =
-      let unfolded : unfold_tables (tables_of top place whole) ≡ u = ap unfold_tables (sym tables-layout) ∙ unfold-layout u in
       let fit : Fits u = record {
         items = omega (arith, h.within.items, Lowers-count h, ap length items_empty);
         visibilities = omega (arith, h.within.visibilities, ap length arena_is);
         attributes = omega (arith, few, h.attributes);
         supers = h.supers;
       } in
+      let unfolded : unfold_tables (tables_of top place whole) ≡ u = ap unfold_tables (sym tables-layout) ∙ unfold-layout u fit.visibilities in
       record { unfolded = unfolded; fit = fit; sound = record { laid_out = ap layout unfolded ∙ tables-layout; fits = subst (λ z. Fits z) (sym unfolded) fit } }

@@ -3,13 +3,13 @@ use Rattle.std.proofs.Common.{◌≡◌, ℕ, Bool, true, Option, None, suc, zer
 use Rattle.std.specs.Prelude.{◌==◌, ◌⊎◌, not, is_some, option_map, String}
 use Rattle.std.specs.Option.{option_map_or}
 use Rattle.std.specs.declared.alloc.Global.{Global}
+use Rattle.std.proofs.lemmas.Bool.{cases_Bool, ne_eqb}
 use Rattle.std.proofs.lemmas.Grind.{common_steps, flat_map-append}
 use Rattle.std.proofs.lemmas.List.{take_more, map-append, append-nil}
 use Rattle.hir_input.specs.declared.ids.FileAstId.{FileAstId}
 use Rattle.item_tree_attrs.specs.Collected.{Collected}
 use Rattle.item_tree.specs.declared.visibility.RawVisibility.{RawVisibility}
 use Rattle.item_tree.specs.Column.{is_empty, unless, some_unless}
-use Rattle.item_tree.proofs.Arena.{bool_cases, eqb-other}
 use Rattle.item_tree.proofs.Column.{empty-is}
 use Rattle.item_tree.specs.Node.{Trunk, inline, extern_block, Node, Forest, empty, more, nodes, node_head, Unfolding}
 use Rattle.item_tree.specs.Layout.{trunk_map, vis_at, node_at}
@@ -70,7 +70,7 @@ module _ (reserved : List (List ℕ)) where
   -- attributes that are lent have all lines that attributes have
   lent-lines : (opening : List ℕ) (k : ℕ) (c : Collected) → lent_lines reserved opening k (lent_attrs c) ≡ attrs_lines reserved opening k c
   lent-lines opening k c =
-      elim (bool_cases (is_empty c)) [
+      elim (cases_Bool (is_empty c)) [
         | inl e ↦ rw e (ap (attrs_lines reserved opening k) (sym (empty-is c e)))
         | inr e ↦ rw e refl
       ]
@@ -121,7 +121,7 @@ module _ (reserved : List (List ℕ)) where
   has-ids u [] empty e = refl
   has-ids u [] (more n f) e = absurd (cc)
   has-ids u (i ∷ is) empty e = absurd (cc)
-  has-ids u (i ∷ is) (more n f) e = ap not (eqb-other (length (i ∷ is)) 0 (omega arith))
+  has-ids u (i ∷ is) (more n f) e = ap not (ne_eqb (length (i ∷ is)) 0 (omega arith))
 
   -- the page is the lines of the top attributes, and those of the ids at the top
   pub page_of_ids :

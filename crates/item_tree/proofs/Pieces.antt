@@ -1,7 +1,15 @@
 -- Lists that stand in others.
-use Rattle.std.proofs.Common.{◌≡◌, ℕ, suc, ◌+◌, List, [], ◌∷◌, ◌++◌, length, Some, subst, arith, add-zero, append_assoc, append-nil, length-append}
+use Rattle.std.proofs.Common.{◌≡◌, ℕ, zero, suc, ◌+◌, List, [], ◌∷◌, ◌++◌, length, Some, refl, subst, arith, add-zero, append_assoc, append-nil, length-append}
 use Rattle.std.specs.Prelude.{slice_get}
-use Rattle.item_tree.proofs.Column.{get-at-seam}
+
+pub get-left : {X : Type 0} (xs ys : List X) (k : ℕ) (x : X) → slice_get xs k ≡ Some x → slice_get (xs ++ ys) k ≡ Some x
+get-left [] ys k x h = cc
+get-left (_ ∷ xs) ys zero x h = h
+get-left (_ ∷ xs) ys (suc k) x h = get-left xs ys k x h
+
+pub get-at-seam : {X : Type 0} (us : List X) (x : X) (vs : List X) → slice_get (us ++ x ∷ vs) (length us) ≡ Some x
+get-at-seam [] x vs = refl
+get-at-seam (u ∷ us) x vs = get-at-seam us x vs
 
 -- ys stands in xs from the place k on
 abbrev pub HasFrom : {A : Type 0} → List A → ℕ → List A → Type 0

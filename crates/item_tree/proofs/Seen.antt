@@ -1,9 +1,8 @@
 -- A constructor is seen exactly from where the struct and each of its fields are.
-use Rattle.std.proofs.Common.{◌≡◌, Bool, true, false, List, [], ◌∷◌, ◌++◌, Option, Some, None, refl, ap, sym, ◌∙◌, subst, inl, inr}
-use Rattle.std.proofs.lemmas.Bool.{false≢true, and_from}
-use Rattle.std.specs.Prelude.{◌&&◌, ◌||◌}
+use Rattle.std.proofs.Common.{◌≡◌, Bool, true, false, List, [], ◌∷◌, ◌++◌, Option, Some, None, refl, ap, sym, ◌∙◌, inl, inr}
+use Rattle.std.proofs.lemmas.Bool.{cases_Bool, cond_both, false≢true, and_from, and_parts}
 use Rattle.std.specs.List.{list_any, list_all, find}
-use Rattle.hir_input.specs.Syntax.{NamedView, FieldsView, record_fields, tuple_fields, no_fields, ItemView, ItemViews, SyntaxView, items_of, plain_item, const_item, struct_item, bare_module, listed_module, use_item, extern_crate, bare_extern_block, listed_extern_block, impl_item, macro_call, macro_rules, asm_item, no_items, item_and}
+use Rattle.hir_input.specs.Syntax.{NamedView, FieldsView, record_fields, tuple_fields, no_fields, ItemView, ItemViews, SyntaxView, items_of, struct_item, listed_module, no_items, item_and}
 use Rattle.item_tree.specs.declared.visibility.RawVisibility.TheVariants.{Module, PubSelf, PubCrate, Public}
 use Rattle.item_tree.specs.declared.visibility.VisibilityExplicitness.{VisibilityExplicitness}
 use Rattle.hir_input.specs.Path.{Path}
@@ -11,9 +10,8 @@ use Rattle.item_tree.specs.Constructor.{is_private, is_pub_crate, crate_or_publi
 use Rattle.item_tree.specs.Same.{agree}
 use Rattle.item_tree.specs.Sees.{Where, inside, in_crate, outside, Place, seen_from, sees_all, written_vis, CtorIsSeen, CtorIsSeenIn, CtorsAreSeenIn, CtorsAreSeen}
 use Rattle.item_tree.specs.Visibility.{same, firsts_behind, distinct}
-use Rattle.item_tree.proofs.Arena.{V, bool_cases}
+use Rattle.item_tree.proofs.Arena.{V}
 use Rattle.item_tree.proofs.Constructors.{ctor_vis_from}
-use Rattle.item_tree.proofs.Distinct.{IsModule, AreModules, AreModules-distinct}
 use Rattle.item_tree.proofs.VisibilityEq.{same-sound}
 
 -- From a place that is not inside, what is public is seen and what is private is not, and who sees a module's sees the crate's.
@@ -24,10 +22,7 @@ module _ (p : V → Bool) (public : p Public ≡ true) (private : (e : Visibilit
 
   All-from : (vs : List V) → list_all p vs ≡ true → All vs
   All-from [] h = tt
-  All-from (v ∷ vs) h = elim (bool_cases (p v)) [
-    | inl t ↦ (t, All-from vs (subst (λ b. (b && list_all p vs) ≡ true) t h))
-    | inr t ↦ absurd (false≢true (subst (λ b. (b && list_all p vs) ≡ true) t h))
-  ]
+  All-from (v ∷ vs) h = let b = and_parts (p v) (list_all p vs) h in (b.0, All-from vs b.1)
 
   All-to : (vs : List V) → All vs → list_all p vs ≡ true
   All-to [] h = refl
@@ -39,37 +34,28 @@ module _ (p : V → Bool) (public : p Public ≡ true) (private : (e : Visibilit
 
   All-same : (ms : List V) (v : V) → list_any (same v) ms ≡ true → All ms → p v ≡ true
   All-same [] v t h = absurd (false≢true t)
-  All-same (m ∷ ms) v t h = elim (bool_cases (same v m)) [
+  All-same (m ∷ ms) v t h = elim (cases_Bool (same v m)) [
     | inl s ↦ ap p (same-sound v m s) ∙ h.0
-    | inr s ↦ All-same ms v (subst (λ b. (b || list_any (same v) ms) ≡ true) s t) h.1
+    | inr s ↦ All-same ms v (rw s at t) h.1
   ]
+
+  -- nobody sees all of them, nor the first private one, where one is private
+  hidden : (vs : List V) (v : V) → find is_private vs ≡ Some v → (p v ≡ false) × (All vs → ⊥)
+  hidden [] v e = cc
+  hidden (PubSelf x ∷ vs) v e = let s : PubSelf x ≡ v = cc in (ap p (sym s) ∙ private x, λ h. false≢true (sym (private x) ∙ h.0))
+  hidden (_ ∷ vs) v e = let r = hidden vs v e in (r.0, λ h. r.1 h.1)
 
   -- ---- who sees all of them sees those that decide
 
   All-firsts : (before vs : List V) → All vs → All (firsts_behind before vs)
   All-firsts before [] h = tt
-  All-firsts before (Module q e ∷ vs) h =
-      elim (bool_cases (list_any (same (Module q e)) before)) [
-        | inl t ↦ rw t (All-firsts (before ++ Module q e ∷ []) vs h.1)
-        | inr t ↦ rw t (h.0, All-firsts (before ++ Module q e ∷ []) vs h.1)
-      ]
-  All-firsts before (PubSelf e ∷ vs) h = All-firsts before vs h.1
-  All-firsts before (PubCrate ∷ vs) h = All-firsts before vs h.1
-  All-firsts before (Public ∷ vs) h = All-firsts before vs h.1
-
-  All-found : (vs : List V) (v : V) → find is_private vs ≡ Some v → All vs → p v ≡ true
-  All-found [] v e h = cc
-  All-found (PubSelf x ∷ vs) v e h = let s : PubSelf x ≡ v = cc in subst (λ z. p z ≡ true) s h.0
-  All-found (Module q x ∷ vs) v e h = All-found vs v e h.1
-  All-found (PubCrate ∷ vs) v e h = All-found vs v e h.1
-  All-found (Public ∷ vs) v e h = All-found vs v e h.1
+  All-firsts before (Module q e ∷ vs) h = cond_both (list_any (same (Module q e)) before) _ _ All (λ t. All-firsts before vs h.1) (λ t. (h.0, All-firsts (before ++ Module q e ∷ []) vs h.1))
+  All-firsts before (_ ∷ vs) h = All-firsts before vs h.1
 
   crate-seen : (vs : List V) → All vs → list_any is_pub_crate vs ≡ true → p PubCrate ≡ true
   crate-seen [] h t = absurd (false≢true t)
   crate-seen (PubCrate ∷ vs) h t = h.0
-  crate-seen (Module q x ∷ vs) h t = crate-seen vs h.1 t
-  crate-seen (PubSelf x ∷ vs) h t = crate-seen vs h.1 t
-  crate-seen (Public ∷ vs) h t = crate-seen vs h.1 t
+  crate-seen (_ ∷ vs) h t = crate-seen vs h.1 t
 
   widest-seen : (ms : List V) (b : Bool) → All ms → (b ≡ true → p PubCrate ≡ true) → All (or_one ms (crate_or_public b))
   widest-seen [] true h f = (f refl, tt)
@@ -77,17 +63,10 @@ module _ (p : V → Bool) (public : p Public ≡ true) (private : (e : Visibilit
   widest-seen (m ∷ ms) b h f = h
 
   deciding-seen : (o : Option V) (vs : List V) → find is_private vs ≡ o → All vs → All (deciding_by o vs)
-  deciding-seen (Some v) vs e h = (All-found vs v e h, tt)
+  deciding-seen (Some v) vs e h = absurd ((hidden vs v e).1 h)
   deciding-seen None vs e h = widest-seen (distinct vs) (list_any is_pub_crate vs) (All-firsts [] vs h) (crate-seen vs h)
 
   -- ---- and who sees those sees all
-
-  found-hidden : (vs : List V) (v : V) → find is_private vs ≡ Some v → p v ≡ false
-  found-hidden [] v e = cc
-  found-hidden (PubSelf x ∷ vs) v e = let s : PubSelf x ≡ v = cc in subst (λ z. p z ≡ false) s (private x)
-  found-hidden (Module q x ∷ vs) v e = found-hidden vs v e
-  found-hidden (PubCrate ∷ vs) v e = found-hidden vs v e
-  found-hidden (Public ∷ vs) v e = found-hidden vs v e
 
   All-behind : (before vs : List V) → find is_private vs ≡ None → All before → All (firsts_behind before vs) → (list_any is_pub_crate vs ≡ true → p PubCrate ≡ true) → All vs
   All-behind before [] e b h f = tt
@@ -95,30 +74,29 @@ module _ (p : V → Bool) (public : p Public ≡ true) (private : (e : Visibilit
   All-behind before (PubCrate ∷ vs) e b h f = (f refl, All-behind before vs e b h (λ t. f refl))
   All-behind before (Public ∷ vs) e b h f = (public, All-behind before vs e b h f)
   All-behind before (Module q x ∷ vs) e b h f =
-      let more = before ++ Module q x ∷ [] in
-      elim (bool_cases (list_any (same (Module q x)) before)) [
-        | inl t ↦ let k : All (firsts_behind more vs) = rw t at h in
-            let seen = All-same before (Module q x) t b in
-            (seen, All-behind more vs e (All-push before (Module q x) b seen) k f)
-        | inr t ↦ let k : All (Module q x ∷ firsts_behind more vs) = rw t at h in (k.0, All-behind more vs e (All-push before (Module q x) b k.0) k.1 f)
+      elim (cases_Bool (list_any (same (Module q x)) before)) [
+        | inl t ↦ (All-same before (Module q x) t b, All-behind before vs e b (rw t at h) f)
+        | inr t ↦ let k : All (Module q x ∷ firsts_behind (before ++ Module q x ∷ []) vs) = rw t at h in (k.0, All-behind (before ++ Module q x ∷ []) vs e (All-push before (Module q x) b k.0) k.1 f)
       ]
 
-  module_wider : (m : V) → IsModule m → p m ≡ true → p PubCrate ≡ true
-  module_wider (Module q x) k h = wider q x h
-  module_wider (PubSelf x) k h = absurd k
-  module_wider PubCrate k h = absurd k
-  module_wider Public k h = absurd k
+  first-wider : (before vs : List V) (m : V) (ms : List V) → firsts_behind before vs ≡ m ∷ ms → p m ≡ true → p PubCrate ≡ true
+  first-wider before [] m ms e h = cc
+  first-wider before (Module q x ∷ vs) m ms e h =
+      elim (cases_Bool (list_any (same (Module q x)) before)) [
+        | inl t ↦ first-wider before vs m ms (rw t at e) h
+        | inr t ↦ let k : Module q x ∷ firsts_behind (before ++ Module q x ∷ []) vs ≡ m ∷ ms = rw t at e in
+            let s : Module q x ≡ m = cc in wider q x (ap p s ∙ h)
+      ]
+  first-wider before (_ ∷ vs) m ms e h = first-wider before vs m ms e h
 
-  widest-back : (ms : List V) (b : Bool) → AreModules ms → All (or_one ms (crate_or_public b)) → All ms × (b ≡ true → p PubCrate ≡ true)
-  widest-back [] true k h = (tt, (λ t. h.0))
-  widest-back [] false k h = (tt, (λ t. absurd (false≢true t)))
-  widest-back (m ∷ ms) b k h = (h, (λ t. module_wider m k.0 h.0))
+  widest-back : (vs ms : List V) (b : Bool) → distinct vs ≡ ms → All (or_one ms (crate_or_public b)) → All ms × (b ≡ true → p PubCrate ≡ true)
+  widest-back vs [] true e h = (tt, (λ t. h.0))
+  widest-back vs [] false e h = (tt, (λ t. absurd (false≢true t)))
+  widest-back vs (m ∷ ms) b e h = (h, (λ t. first-wider [] vs m ms e h.0))
 
   all-seen : (o : Option V) (vs : List V) → find is_private vs ≡ o → All (deciding_by o vs) → All vs
-  all-seen (Some v) vs e h = absurd (false≢true (sym (found-hidden vs v e) ∙ h.0))
-  all-seen None vs e h =
-      let r = widest-back (distinct vs) (list_any is_pub_crate vs) (AreModules-distinct vs) h in
-      All-behind [] vs e tt r.0 r.1
+  all-seen (Some v) vs e h = absurd (false≢true (sym (hidden vs v e).0 ∙ h.0))
+  all-seen None vs e h = let r = widest-back vs (distinct vs) (list_any is_pub_crate vs) refl h in All-behind [] vs e tt r.0 r.1
 
   pub decide : (vs : List V) → list_all p (deciding vs) ≡ list_all p vs
   decide vs =
@@ -146,17 +124,7 @@ mutual
   item-seen : (place : Place) (i : ItemView) → CtorIsSeenIn place i
   item-seen place (struct_item n fields) = ctor-seen place n fields
   item-seen place (listed_module n semicolon is) = items-seen place is
-  item-seen place (plain_item k n) = tt
-  item-seen place (const_item n) = tt
-  item-seen place (bare_module n semicolon) = tt
-  item-seen place (use_item u) = tt
-  item-seen place (extern_crate n rename) = tt
-  item-seen place (bare_extern_block n) = tt
-  item-seen place (listed_extern_block n is) = tt
-  item-seen place (impl_item n of_trait) = tt
-  item-seen place (macro_call c) = tt
-  item-seen place (macro_rules n name) = tt
-  item-seen place (asm_item n) = tt
+  item-seen place _ = tt
 
   items-seen : (place : Place) (is : ItemViews) → CtorsAreSeenIn place is
   items-seen place no_items = tt

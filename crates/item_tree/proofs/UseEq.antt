@@ -1,38 +1,31 @@
 -- `==` at aliases, use trees and uses decides whether they are one.
-use Rattle.std.proofs.Common.{◌≡◌, ℕ, ◌<◌, Bool, true, false, List, [], ◌∷◌, map, length, get_or, Option, None, Some, Vec, Global, refl, sym, ap, ◌∙◌}
+use Rattle.std.proofs.Common.{◌≡◌, ℕ, ◌<◌, Bool, true, false, List, [], ◌∷◌, map, length, get_or, Option, Vec, Global, refl, sym, ap, ◌∙◌}
 use Rattle.std.specs.Bool.{Decides}
 use Rattle.std.specs.Option.{option_eq}
-use Rattle.std.proofs.lemmas.Bool.Decides.{same_from_decides}
+use Rattle.std.proofs.lemmas.Bool.Decides.{same_from_decides, Decides-like}
 use Rattle.std.proofs.lemmas.List.{get_or-map, length-map}
 use base.Stored.{Coded}
 use Rattle.hir_input.specs.Path.{Path}
 use Rattle.hir_input.specs.contracts.mod_path.ModPathPartialEq.TheImpl as paths
-use Rattle.hir_input.proofs.CfgEq.{same_fact}
+use Rattle.hir_input.proofs.AttrEq.{option_decides}
 use Rattle.hir_input.proofs.PathEq.{path_decides}
 use Rattle.item_tree.specs.declared.use_tree.ImportAlias.{ImportAlias}
 use Rattle.item_tree.specs.declared.use_tree.UseTree.{UseTree}
 use Rattle.item_tree.specs.declared.use_tree.UseTreeKind.{UseTreeKind, Prefixed, Single, Glob}
-use Rattle.item_tree.specs.Same.{same, equal_of_same, same_of_equal}
+use Rattle.item_tree.specs.Same.{same, same_decides}
 use Rattle.item_tree.specs.Tree.{Tree, single, glob, prefixed, branches_from, tree_of, tree_of_kind, trees_of}
 use Rattle.item_tree.specs.TreeCode.{alias_code}
 use Rattle.item_tree.proofs.TreeLemmas.{tree_of-single, tree_of-glob, tree_of-prefixed}
 
 -- what decides whether two values are one is the test by their codes
 pub tells : {A : Type 0} (c : Coded A) (x y : A) (r : Bool) → Decides r (x ≡ y) → r ≡ same c x y
-tells c x y r d = same_from_decides r (same c x y) d (equal_of_same c x y, same_of_equal c x y)
-
--- ---- options
-
-pub option_decides : {T : Type 0} (E : T → T → Bool) → ((a b : T) → Decides (E a b) (a ≡ b)) → (o p : Option T) → Decides (option_eq E o p) (o ≡ p)
-option_decides E d None None = (λ h. refl, λ e. refl)
-option_decides E d (Some a) (Some b) = (λ h. ap Some ((d a b).0 h), λ e. (d a b).1 cc)
-option_decides E d o p = (λ h. cc, λ e. cc)
+tells c x y r d = same_from_decides r (same c x y) d (same_decides c x y)
 
 pub paths_decide : (p q : Option Path) (r : Bool) → r ≡ option_eq paths.ghosts.eq p q → Decides r (p ≡ q)
 paths_decide p q r e = rw e (option_decides paths.ghosts.eq path_decides p q)
 
 pub aliases_decide : (a b : Option ImportAlias) (r : Bool) → r ≡ option_eq (same alias_code) a b → Decides r (a ≡ b)
-aliases_decide a b r e = rw e (option_decides (same alias_code) (λ x y. (equal_of_same alias_code x y, same_of_equal alias_code x y)) a b)
+aliases_decide a b r e = rw e (option_decides (same alias_code) (same_decides alias_code) a b)
 
 -- ---- two tests, one after the other
 
@@ -46,14 +39,14 @@ second_tells p r d e f = (λ h. (d.0 e, f.0 h), λ both. f.1 both.1)
 module _ (k o : UseTreeKind) (r : Bool) where
   pub singles_tell : (p q : Path) (a b : Option ImportAlias) → k ≡ Single p a → o ≡ Single q b → Decides r ((p ≡ q) × (a ≡ b)) → Decides r (tree_of_kind k ≡ tree_of_kind o)
   singles_tell p q a b e f d =
-      rw (e, f, tree_of-single p a, tree_of-single q b) (same_fact r (λ s i. single (s.0 i) (s.1 i)) (λ s. (cc, cc)) d)
+      rw (e, f, tree_of-single p a, tree_of-single q b) (Decides-like r (λ s i. single (s.0 i) (s.1 i)) (λ s. (cc, cc)) d)
 
   pub globs_tell : (p q : Option Path) → k ≡ Glob p → o ≡ Glob q → Decides r (p ≡ q) → Decides r (tree_of_kind k ≡ tree_of_kind o)
-  globs_tell p q e f d = rw (e, f, tree_of-glob p, tree_of-glob q) (same_fact r (ap glob) (λ s. cc) d)
+  globs_tell p q e f d = rw (e, f, tree_of-glob p, tree_of-glob q) (Decides-like r (ap glob) (λ s. cc) d)
 
   pub lists_tell : (p q : Option Path) (v w : Vec UseTree Global) → k ≡ Prefixed p v → o ≡ Prefixed q w → Decides r ((p ≡ q) × (trees_of v.items ≡ trees_of w.items)) → Decides r (tree_of_kind k ≡ tree_of_kind o)
   lists_tell p q v w e f d =
-      rw (e, f, tree_of-prefixed p v, tree_of-prefixed q w) (same_fact r (λ s i. prefixed (s.0 i) (s.1 i)) (λ s. (cc, cc)) d)
+      rw (e, f, tree_of-prefixed p v, tree_of-prefixed q w) (Decides-like r (λ s i. prefixed (s.0 i) (s.1 i)) (λ s. (cc, cc)) d)
 
 -- ---- lists
 

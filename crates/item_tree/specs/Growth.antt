@@ -19,8 +19,8 @@ use Rattle.item_tree.specs.CrateView.{crate_view}
 use Rattle.item_tree.specs.Node.{Ctor, Node, Forest, empty, add, count, Unfolding}
 use Rattle.item_tree.specs.Kept.{kept, kept_all, top_attrs_of}
 use Rattle.item_tree.specs.Column.{is_empty, unless, some_unless, column_of, places_from, plain_place}
-use Rattle.item_tree.specs.Meeting.{meet, meet_all, met}
-use Rattle.item_tree.specs.Layout.{vis_id, plain_vis, ctor_map, ctor_vis, kind_bit, ids, Row, row_tag, row_key, row_attrs, row_item, rows_of}
+use Rattle.item_tree.specs.Meeting.{meet, meet_all}
+use Rattle.item_tree.specs.Layout.{vis_id, ctor_map, ctor_vis, forest_vis, kind_bit, ids, Row, row_tag, row_key, row_attrs, row_item, rows_of}
 use Rattle.item_tree.specs.Imports.{super_limit}
 use Rattle.item_tree.specs.KeptUse.{use_tree_limit}
 use Rattle.item_tree.specs.Size.{item_limit, visibility_limit, most_attrs, forest_supers, item_written, items_written, Sizes, IsPassed, only_visibilities}
@@ -84,7 +84,7 @@ pub record Adds (old new : Rows) (rows : List Row) : Type 0 where
 -- the rows of the forest were added, and these are the ids of its nodes; of its use trees w at most are written in one
 pub record Lowers (old new : Rows) (w : ℕ) (f : Forest) (is : List ℕ) : Type 0 where
   pub given : is ≡ ids (row_count old) f
-  pub arena_met : new.arena.keys ≡ met f old.arena.keys
+  pub arena_met : new.arena.keys ≡ meet_all old.arena.keys (forest_vis f)
   pub added : Adds old new (rows_of new.arena.keys f (row_count old))
   pub use_trees : w ≤ use_tree_limit
   pub attributes : most_attrs f ≤ attr_limit
@@ -99,7 +99,7 @@ to_list (Some i) = i ∷ []
 abbrev pub sizes_with : Rows → ℕ → Forest → Sizes
 sizes_with old w f = record {
   items = row_count old + count f;
-  visibilities = length (met f old.arena.keys);
+  visibilities = length (meet_all old.arena.keys (forest_vis f));
   use_trees = w;
   attributes = most_attrs f;
   supers = forest_supers f;
@@ -118,13 +118,13 @@ AreLowered ctx old new is r = MatchResult r (λ ids. Lowers old new (items_writt
 -- the visibility was met, and this is its id
 pub record Meets (old new : Rows) (v : RawVisibility) (i : ℕ) : Type 0 where
   pub met : new.arena.keys ≡ meet old.arena.keys v
-  pub given : plain_vis i ≡ vis_id new.arena.keys v
+  pub given : i ≡ vis_id new.arena.keys v
   pub kept : new ≡ record old { arena = new.arena }
   pub within : IsWithinLimits new
 
 -- the visibility was met before, and this is its id
 pub record HasId (r : Rows) (v : RawVisibility) (i : ℕ) : Type 0 where
-  pub given : plain_vis i ≡ vis_id r.arena.keys v
+  pub given : i ≡ vis_id r.arena.keys v
   pub met : meet r.arena.keys v ≡ r.arena.keys
 
 -- several visibilities were met, one after the other, and nothing else of the rows changed
@@ -136,7 +136,7 @@ pub record MeetsAll (old new : Rows) (vs : List RawVisibility) : Type 0 where
 -- the same of the first of several, up to the rest: these are the ids of the first
 pub record MeetsUpTo (old new : Rows) (vs rest : List RawVisibility) (is : List ℕ) : Type 0 where
   pub met : meet_all new.arena.keys rest ≡ meet_all old.arena.keys vs
-  pub given : map plain_vis is ++ map (vis_id (meet_all new.arena.keys rest)) rest ≡ map (vis_id (meet_all new.arena.keys rest)) vs
+  pub given : is ++ map (vis_id (meet_all new.arena.keys rest)) rest ≡ map (vis_id (meet_all new.arena.keys rest)) vs
   pub kept : new ≡ record old { arena = new.arena }
   pub within : IsWithinLimits new
 
@@ -147,7 +147,7 @@ sizes_meeting old vs = only_visibilities (length (meet_all old.arena.keys vs))
 -- the visibilities of a constructor were met, and this is the constructor of their ids
 pub record MeetsCtor (old new : Rows) (c : Ctor RawVisibility) (ctor : StructValueNsCtor) : Type 0 where
   pub met : MeetsAll old new (ctor_vis c)
-  pub given : ctor_map plain_vis (ctor_ids ctor) ≡ ctor_map (vis_id new.arena.keys) c
+  pub given : ctor_ids ctor ≡ ctor_map (vis_id new.arena.keys) c
 
 -- the constructor is lowered, or refused for its visibilities
 abbrev pub CtorIsLowered : Rows → Rows → Ctor RawVisibility → Result StructValueNsCtor LowerError → Type 0

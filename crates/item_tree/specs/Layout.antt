@@ -1,5 +1,5 @@
 -- The tables that a forest fixes by counting.
-use Rattle.std.specs.Prelude.{ℕ, ◌+◌, ◌*◌, ◌/◌, ◌%◌, eqb, ◌==◌, List, [], ◌∷◌, ◌++◌, length, map, slice_get, Option, Some, None, if◌then◌else◌}
+use Rattle.std.specs.Prelude.{ℕ, ◌+◌, ◌-◌, ◌*◌, ◌/◌, ◌%◌, ◌^◌, eqb, nat_lt, List, [], ◌∷◌, ◌++◌, length, map, slice_get, Option, Some, None, if◌then◌else◌}
 use Rattle.std.specs.List.{position_or_len}
 use Rattle.hir_input.specs.declared.ids.AstIdKind.{AstIdKind}
 use Rattle.hir_input.specs.declared.ids.AstIdKind.TheVariants as kind
@@ -13,33 +13,35 @@ use Rattle.item_tree.specs.Column.{is_empty, unless, some_unless, column_of, pla
 
 -- ---- visibilities, and the arena
 
--- where the value of a visibility stands: with four of them everywhere, the others in the arena
-pub data VisId : Type 0 where
-  fixed : RawVisibility → VisId
-  place : ℕ → VisId
+-- the visibilities that every tree has; their ids are the last of 32 bits, in this order
+abbrev pub fixed : List RawVisibility
+fixed = PubCrate ∷ PubSelf Explicit ∷ PubSelf Implicit ∷ Public ∷ []
+
+-- the first of these ids: those below are places in the arena
+abbrev pub first_fixed : ℕ
+first_fixed = 2 ^ 32 - 4
 
 -- the place of v in the arena
 abbrev pub place_of : List RawVisibility → RawVisibility → ℕ
 place_of arena v = position_or_len (same v) arena
 
-abbrev pub vis_id : List RawVisibility → RawVisibility → VisId
-vis_id arena (Module p e) = place (place_of arena (Module p e))
-vis_id arena v = fixed v
+-- the id of a visibility
+abbrev pub vis_id : List RawVisibility → RawVisibility → ℕ
+vis_id arena (Module p e) = place_of arena (Module p e)
+vis_id arena PubCrate = first_fixed
+vis_id arena (PubSelf Explicit) = first_fixed + 1
+vis_id arena (PubSelf Implicit) = first_fixed + 2
+vis_id arena Public = first_fixed + 3
 
--- what a stored number stands for
-abbrev pub plain_vis : ℕ → VisId
-plain_vis i = if i == 4294967295 then fixed Public else (if i == 4294967294 then fixed (PubSelf Implicit) else (if i == 4294967293 then fixed (PubSelf Explicit) else (if i == 4294967292 then fixed PubCrate else place i)))
-
--- the value of an id, where it has one
-abbrev pub value_at : List RawVisibility → VisId → Option RawVisibility
-value_at arena (fixed v) = Some v
-value_at arena (place k) = slice_get arena k
+-- the visibility of an id, where it has one
+abbrev pub value_at : List RawVisibility → ℕ → Option RawVisibility
+value_at arena i = if nat_lt i first_fixed then slice_get arena i else slice_get fixed (i - first_fixed)
 
 abbrev pub or_public : Option RawVisibility → RawVisibility
 or_public None = Public
 or_public (Some v) = v
 
-abbrev pub vis_value : List RawVisibility → VisId → RawVisibility
+abbrev pub vis_value : List RawVisibility → ℕ → RawVisibility
 vis_value arena i = or_public (value_at arena i)
 
 -- ---- items over other visibilities
@@ -134,10 +136,10 @@ abbrev pub ids : ℕ → Forest → List ℕ
 ids b empty = []
 ids b (more n f) = node_id b n ∷ ids (b + length (node_walk n)) f
 
--- the item of a row
+-- the item of a row, over ids
 pub data RowItem : Type 0 where
-  leaf_row : Leaf VisId → RowItem
-  parent_row : Trunk VisId → List ℕ → RowItem
+  leaf_row : Leaf ℕ → RowItem
+  parent_row : Trunk ℕ → List ℕ → RowItem
 
 abbrev pub row_kind : RowItem → AstIdKind
 row_kind (leaf_row l) = leaf_kind l
@@ -220,7 +222,7 @@ node_at f i = at (walk f) i
 
 -- the visibility that an id stands for
 unfoldable pub vis_at : Forest → ℕ → Option RawVisibility
-vis_at f i = value_at (arena_of f) (plain_vis i)
+vis_at f i = value_at (arena_of f) i
 
 -- ---- back from tables to what they unfold to
 

@@ -1,5 +1,6 @@
 -- Whether two values that have a code are the same.
 use Rattle.std.specs.Prelude.{◌≡◌, Bool, true, false, ◌&&◌, nat_eq, refl}
+use Rattle.std.specs.Bool.{Decides}
 use Rattle.std.specs.Cmp.{IsEquivalence}
 use Rattle.std.proofs.Common.{sym, ap, subst, arith}
 use Rattle.std.proofs.lemmas.Bool.Decides.{nat_tests}
@@ -60,6 +61,9 @@ module _ {A : Type 0} (c : Coded A) where
 
   pub same_of_equal : (x y : A) → x ≡ y → same c x y ≡ true
   same_of_equal x y e = subst (λ z. same c x z ≡ true) e (same_itself x)
+
+  pub same_decides : (x y : A) → Decides (same c x y) (x ≡ y)
+  same_decides x y = (equal_of_same x y, same_of_equal x y)
 
 -- two tests that are true at the same time are equal
 pub agree : (a b : Bool) → (a ≡ true → b ≡ true) → (b ≡ true → a ≡ true) → a ≡ b

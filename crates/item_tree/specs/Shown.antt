@@ -2,15 +2,15 @@
 use Rattle.std.specs.Prelude.{◌≡◌, ◌↔◌, ℕ, List, map, Option, Some, None, IsSome}
 use Rattle.std.specs.Option.{option_map_or}
 use Rattle.hir_input.specs.declared.ids.FileAstId.{FileAstId}
-use Rattle.hir_input.specs.Syntax.{fn_kind, union_kind, enum_kind, static_kind, trait_kind, type_alias_kind, macro_def_kind}
+use Rattle.hir_input.specs.Syntax as syntax
 use Rattle.item_tree_attrs.specs.Collected.{Collected}
 use Rattle.item_tree.specs.declared.visibility.RawVisibility.{RawVisibility}
 use Rattle.item_tree.specs.declared.items.StructValueNsCtor.{StructValueNsCtor}
 use Rattle.item_tree.specs.declared.items.StructValueNsCtor.TheVariants.{NoValueNsCtor, ValueNsCtorWithVis, ValueNsCtorWithMinVis}
 use Rattle.item_tree.specs.declared.items.ModKind.{ModKind}
 use Rattle.item_tree.specs.declared.items.ModKind.TheVariants.{Inline, Outline}
-use Rattle.item_tree.specs.declared.tree.ModItemKind.{ModItemKind}
-use Rattle.item_tree.specs.declared.tree.ModItemKind.TheVariants as item
+use Rattle.item_tree.specs.declared.items.ModItemKind.{ModItemKind}
+use Rattle.item_tree.specs.declared.items.ModItemKind.TheVariants as item
 use Rattle.item_tree.specs.Node.{Ctor, no_ctor, ctor_with, ctor_with_min, Leaf, plain, constant, struct_item, outline, use_item, extern_crate, impl_item, macro_call, macro_rules, Trunk, inline, extern_block, leaf_kind, trunk_kind, Head, Forest, leaf, parent, nodes, node_head, file_id, Unfolding}
 use Rattle.item_tree.specs.Column.{is_empty, some_unless}
 use Rattle.item_tree.specs.Layout.{leaf_map, trunk_map, node_at, vis_at}
@@ -71,13 +71,13 @@ lent_module a name v (Inline items) = lent_parent a (inline name v) items.items
 lent_module a name v Outline = lent_leaf a (outline name v)
 
 abbrev pub lent : ModItemKind → Lent
-lent (item.Function a x) = lent_leaf a (plain fn_kind x.now.name x.now.visibility)
-lent (item.Union a x) = lent_leaf a (plain union_kind x.now.name x.now.visibility)
-lent (item.Enum a x) = lent_leaf a (plain enum_kind x.now.name x.now.visibility)
-lent (item.Static a x) = lent_leaf a (plain static_kind x.now.name x.now.visibility)
-lent (item.Trait a x) = lent_leaf a (plain trait_kind x.now.name x.now.visibility)
-lent (item.TypeAlias a x) = lent_leaf a (plain type_alias_kind x.now.name x.now.visibility)
-lent (item.Macro2 a x) = lent_leaf a (plain macro_def_kind x.now.name x.now.visibility)
+lent (item.Function a x) = lent_leaf a (plain syntax.fn_kind x.now.name x.now.visibility)
+lent (item.Union a x) = lent_leaf a (plain syntax.union_kind x.now.name x.now.visibility)
+lent (item.Enum a x) = lent_leaf a (plain syntax.enum_kind x.now.name x.now.visibility)
+lent (item.Static a x) = lent_leaf a (plain syntax.static_kind x.now.name x.now.visibility)
+lent (item.Trait a x) = lent_leaf a (plain syntax.trait_kind x.now.name x.now.visibility)
+lent (item.TypeAlias a x) = lent_leaf a (plain syntax.type_alias_kind x.now.name x.now.visibility)
+lent (item.Macro2 a x) = lent_leaf a (plain syntax.macro_def_kind x.now.name x.now.visibility)
 lent (item.Const a x) = lent_leaf a (constant x.now.name x.now.visibility)
 lent (item.Struct a x) = lent_leaf a (struct_item x.now.name x.now.visibility x.now.shape (ctor_ids x.now.value_ns_ctor))
 lent (item.Mod a x) = lent_module a x.now.name x.now.visibility x.now.kind

@@ -1,49 +1,51 @@
 -- The tables of a tree as they stand in memory. Only private contracts speak of them.
-use Rattle.std.specs.Prelude.{◌≡◌, ℕ, Bool, List, map, Option}
-use Rattle.hir_input.specs.Syntax.{fn_kind, union_kind, enum_kind, static_kind, trait_kind, type_alias_kind, macro_def_kind}
+use Rattle.std.specs.Prelude.{◌≡◌, ℕ, Bool, List, map, Option, Some, None}
+use Rattle.hir_input.specs.Syntax as syntax
+use Rattle.hir_input.specs.declared.ids.FileAstId.{FileAstId}
 use Rattle.hir_input.specs.declared.ids.AstIdKind.{AstIdKind}
 use Rattle.hir_input.specs.contracts.ids.AstIdKindPartialEq.TheImpl as kinds
 use Rattle.item_tree_attrs.specs.Collected.{Collected, collected}
 use Rattle.item_tree.specs.declared.items.ModItem.{ModItem}
 use Rattle.item_tree.specs.declared.items.ModItem.TheVariants as item
-use Rattle.item_tree.specs.declared.items.ModKind.{ModKind}
-use Rattle.item_tree.specs.declared.items.ModKind.TheVariants.{Inline, Outline}
 use Rattle.item_tree.specs.declared.rows.AstKey.{AstKey}
 use Rattle.item_tree.specs.declared.rows.Rows.{Rows}
-use Rattle.item_tree.specs.Node.{Leaf, plain, constant, struct_item, outline, use_item, extern_crate, impl_item, macro_call, macro_rules, Trunk, inline, extern_block}
+use Rattle.item_tree.specs.Node.{plain, constant, struct_item, outline, use_item, extern_crate, impl_item, macro_call, macro_rules, inline, extern_block}
 use Rattle.item_tree.specs.Column.{plain_place}
-use Rattle.item_tree.specs.Layout.{leaf_map, trunk_map, plain_vis, Key, RowItem, leaf_row, parent_row, Tables, layout, unfold_tables}
-use Rattle.item_tree.specs.Shown.{ctor_ids}
+use Rattle.item_tree.specs.Layout.{Key, RowItem, leaf_row, parent_row, Tables, layout, unfold_tables}
+use Rattle.item_tree.specs.Items.{inline_ids}
+use Rattle.item_tree.specs.Shown.{ctor_ids, Lent, lent_leaf, lent_parent}
 use Rattle.item_tree.specs.Size.{Fits}
 
--- an item whose visibilities are stored as numbers
-abbrev pub leaf_plain : Leaf ℕ → RowItem
-leaf_plain l = leaf_row (leaf_map plain_vis l)
-
-abbrev pub parent_plain : Trunk ℕ → List ℕ → RowItem
-parent_plain t is = parent_row (trunk_map plain_vis t) is
-
-abbrev pub module_row : List ℕ → ℕ → ModKind → RowItem
-module_row name v (Inline items) = parent_plain (inline name v) items.items
-module_row name v Outline = leaf_plain (outline name v)
+abbrev pub module_row : List ℕ → ℕ → Option (List ℕ) → RowItem
+module_row name v (Some items) = parent_row (inline name v) items
+module_row name v None = leaf_row (outline name v)
 
 abbrev pub item_row : ModItem → RowItem
-item_row (item.Function x) = leaf_plain (plain fn_kind x.name x.visibility)
-item_row (item.Union x) = leaf_plain (plain union_kind x.name x.visibility)
-item_row (item.Enum x) = leaf_plain (plain enum_kind x.name x.visibility)
-item_row (item.Static x) = leaf_plain (plain static_kind x.name x.visibility)
-item_row (item.Trait x) = leaf_plain (plain trait_kind x.name x.visibility)
-item_row (item.TypeAlias x) = leaf_plain (plain type_alias_kind x.name x.visibility)
-item_row (item.Macro2 x) = leaf_plain (plain macro_def_kind x.name x.visibility)
-item_row (item.Const x) = leaf_plain (constant x.name x.visibility)
-item_row (item.Struct x) = leaf_plain (struct_item x.name x.visibility x.shape (ctor_ids x.value_ns_ctor))
-item_row (item.Mod x) = module_row x.name x.visibility x.kind
-item_row (item.Use x) = leaf_plain (use_item x.visibility x.tree)
-item_row (item.ExternCrate x) = leaf_plain (extern_crate x.name x.visibility x.alias)
-item_row (item.ExternBlock x) = parent_plain extern_block x.children.items
-item_row (item.Impl x) = leaf_plain (impl_item x.is_trait_impl)
-item_row (item.MacroCall x) = leaf_plain (macro_call x.path x.expand_to x.ctxt)
-item_row (item.MacroRules x) = leaf_plain (macro_rules x.name)
+item_row (item.Function x) = leaf_row (plain syntax.fn_kind x.name x.visibility)
+item_row (item.Union x) = leaf_row (plain syntax.union_kind x.name x.visibility)
+item_row (item.Enum x) = leaf_row (plain syntax.enum_kind x.name x.visibility)
+item_row (item.Static x) = leaf_row (plain syntax.static_kind x.name x.visibility)
+item_row (item.Trait x) = leaf_row (plain syntax.trait_kind x.name x.visibility)
+item_row (item.TypeAlias x) = leaf_row (plain syntax.type_alias_kind x.name x.visibility)
+item_row (item.Macro2 x) = leaf_row (plain syntax.macro_def_kind x.name x.visibility)
+item_row (item.Const x) = leaf_row (constant x.name x.visibility)
+item_row (item.Struct x) = leaf_row (struct_item x.name x.visibility x.shape (ctor_ids x.value_ns_ctor))
+item_row (item.Mod x) = module_row x.name x.visibility (inline_ids x.kind)
+item_row (item.Use x) = leaf_row (use_item x.visibility x.tree)
+item_row (item.ExternCrate x) = leaf_row (extern_crate x.name x.visibility x.alias)
+item_row (item.ExternBlock x) = parent_row extern_block x.children.items
+item_row (item.Impl x) = leaf_row (impl_item x.is_trait_impl)
+item_row (item.MacroCall x) = leaf_row (macro_call x.path x.expand_to x.ctxt)
+item_row (item.MacroRules x) = leaf_row (macro_rules x.name)
+
+-- the id and the item of what is lent
+abbrev pub lent_ast : Lent → FileAstId
+lent_ast (lent_leaf a l) = a
+lent_ast (lent_parent a t is) = a
+
+abbrev pub lent_row : Lent → RowItem
+lent_row (lent_leaf a l) = leaf_row l
+lent_row (lent_parent a t is) = parent_row t is
 
 -- whether a tag is this kind, as the code tests it
 abbrev pub has_tag : AstIdKind → AstIdKind → Bool
@@ -78,6 +80,6 @@ tables_of top place r = record {
 }
 
 -- the tables are those that their unfolding fixes, and no size is passed
-pub record AreSound (t : Tables) : Type 0 where
-  pub laid_out : layout (unfold_tables t) ≡ t
-  pub fits : Fits (unfold_tables t)
+pub record AreSound (top : List ℕ) (place : ℕ) (r : Rows) : Type 0 where
+  pub laid_out : layout (unfold_tables (tables_of top place r)) ≡ tables_of top place r
+  pub fits : Fits (unfold_tables (tables_of top place r))

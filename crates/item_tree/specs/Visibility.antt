@@ -28,7 +28,7 @@ same = same_by raw.the_row.coded
 -- the visibilities of modules among several that stand behind others: each where no equal one stands before it
 abbrev pub firsts_behind : List RawVisibility → List RawVisibility → List RawVisibility
 firsts_behind before [] = []
-firsts_behind before (Module p e ∷ vs) = (if list_any (same (Module p e)) before then [] else Module p e ∷ []) ++ firsts_behind (before ++ Module p e ∷ []) vs
+firsts_behind before (Module p e ∷ vs) = if list_any (same (Module p e)) before then firsts_behind before vs else Module p e ∷ firsts_behind (before ++ Module p e ∷ []) vs
 firsts_behind before (v ∷ vs) = firsts_behind before vs
 
 -- the distinct visibilities of modules among several, by first appearance

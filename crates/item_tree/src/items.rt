@@ -3,7 +3,8 @@ ghost use Rattle.std.specs.Prelude.{◌≡◌, ◌↔◌, ◌≢◌, ◌+◌, �
 ghost use Rattle.hir_input.specs.declared.ids.AstIdKind.TheVariants as kinds;
 ghost use Rattle.item_tree.specs.declared.items.FieldsShape.TheVariants.{Record};
 ghost use Rattle.item_tree.specs.Layout.{kind_bit, row_kind};
-ghost use Rattle.item_tree.specs.Stored.{item_row};
+ghost use Rattle.item_tree.specs.Shown.{lent};
+ghost use Rattle.item_tree.specs.Stored.{item_row, lent_ast, lent_row};
 ghost use Rattle.item_tree.specs.Tree.{tree_of};
 ghost use Rattle.item_tree.specs.UseItem.{UseFits};
 
@@ -11,7 +12,7 @@ mod copy;
 
 use crate::use_tree::{ImportAlias, UseTree};
 use crate::visibility::RawVisibilityId;
-use hir_input::{AstIdKind, ExpandTo, ModPath, Name, SyntaxContext};
+use hir_input::{AstIdKind, ExpandTo, FileAstId, ModPath, Name, SyntaxContext};
 use std::cmp::Ordering;
 use std::marker::Model;
 
@@ -142,14 +143,14 @@ pub enum StructValueNsCtor {
 }
 
 /// A constant, which may have no name.
-#[derive(Debug, Drop, PartialEq, Eq)]
+#[derive(Clone, Debug, Drop, PartialEq, Eq)]
 pub struct Const {
     pub name: Option<Name>,
     pub visibility: RawVisibilityId,
 }
 
 /// An enum.
-#[derive(Debug, Drop, PartialEq, Eq)]
+#[derive(Clone, Debug, Drop, PartialEq, Eq)]
 pub struct Enum {
     pub name: Name,
     pub visibility: RawVisibilityId,
@@ -162,7 +163,7 @@ pub struct ExternBlock {
 }
 
 /// An extern crate, which may be renamed.
-#[derive(Debug, Drop, PartialEq, Eq)]
+#[derive(Clone, Debug, Drop, PartialEq, Eq)]
 pub struct ExternCrate {
     pub name: Name,
     pub visibility: RawVisibilityId,
@@ -170,7 +171,7 @@ pub struct ExternCrate {
 }
 
 /// A function.
-#[derive(Debug, Drop, PartialEq, Eq)]
+#[derive(Clone, Debug, Drop, PartialEq, Eq)]
 pub struct Function {
     pub name: Name,
     pub visibility: RawVisibilityId,
@@ -183,14 +184,14 @@ pub struct Impl {
 }
 
 /// A macro 2.0.
-#[derive(Debug, Drop, PartialEq, Eq)]
+#[derive(Clone, Debug, Drop, PartialEq, Eq)]
 pub struct Macro2 {
     pub name: Name,
     pub visibility: RawVisibilityId,
 }
 
 /// A macro call.
-#[derive(Debug, Drop, PartialEq, Eq)]
+#[derive(Clone, Debug, Drop, PartialEq, Eq)]
 pub struct MacroCall {
     pub path: ModPath,
     pub expand_to: ExpandTo,
@@ -198,7 +199,7 @@ pub struct MacroCall {
 }
 
 /// A macro by example.
-#[derive(Debug, Drop, PartialEq, Eq)]
+#[derive(Clone, Debug, Drop, PartialEq, Eq)]
 pub struct MacroRules {
     pub name: Name,
 }
@@ -219,7 +220,7 @@ pub enum ModKind {
 }
 
 /// A static.
-#[derive(Debug, Drop, PartialEq, Eq)]
+#[derive(Clone, Debug, Drop, PartialEq, Eq)]
 pub struct Static {
     pub name: Name,
     pub visibility: RawVisibilityId,
@@ -235,21 +236,21 @@ pub struct Struct {
 }
 
 /// A trait.
-#[derive(Debug, Drop, PartialEq, Eq)]
+#[derive(Clone, Debug, Drop, PartialEq, Eq)]
 pub struct Trait {
     pub name: Name,
     pub visibility: RawVisibilityId,
 }
 
 /// A type alias.
-#[derive(Debug, Drop, PartialEq, Eq)]
+#[derive(Clone, Debug, Drop, PartialEq, Eq)]
 pub struct TypeAlias {
     pub name: Name,
     pub visibility: RawVisibilityId,
 }
 
 /// A union.
-#[derive(Debug, Drop, PartialEq, Eq)]
+#[derive(Clone, Debug, Drop, PartialEq, Eq)]
 pub struct Union {
     pub name: Name,
     pub visibility: RawVisibilityId,
@@ -443,6 +444,27 @@ pub(crate) enum ModItem {
     Use(Use),
 }
 
+/// An item that a tree lends, with its id.
+#[derive(Clone, Copy, Debug)]
+pub enum ModItemKind<'a> {
+    Const(FileAstId, &'a Const),
+    Enum(FileAstId, &'a Enum),
+    ExternBlock(FileAstId, &'a ExternBlock),
+    ExternCrate(FileAstId, &'a ExternCrate),
+    Function(FileAstId, &'a Function),
+    Impl(FileAstId, &'a Impl),
+    Macro2(FileAstId, &'a Macro2),
+    MacroCall(FileAstId, &'a MacroCall),
+    MacroRules(FileAstId, &'a MacroRules),
+    Mod(FileAstId, &'a Mod),
+    Static(FileAstId, &'a Static),
+    Struct(FileAstId, &'a Struct),
+    Trait(FileAstId, &'a Trait),
+    TypeAlias(FileAstId, &'a TypeAlias),
+    Union(FileAstId, &'a Union),
+    Use(FileAstId, &'a Use),
+}
+
 impl ModItem {
     // The kind of the syntax node that the item is lowered from.
     pub(crate) fn kind(&self) -> AstIdKind
@@ -465,6 +487,31 @@ impl ModItem {
             ModItem::TypeAlias(_) => TypeAlias::KIND,
             ModItem::Union(_) => Union::KIND,
             ModItem::Use(_) => Use::KIND,
+        }
+    }
+
+    // Lends the item, with its id.
+    pub(crate) fn lend(&self, ast_id: FileAstId) -> ModItemKind<'_>
+        ensures item { lent_row (lent result) ≡ item_row self.now }
+        ensures id { lent_ast (lent result) ≡ ast_id }
+    {
+        match self {
+            ModItem::Const(item) => ModItemKind::Const(ast_id, item),
+            ModItem::Enum(item) => ModItemKind::Enum(ast_id, item),
+            ModItem::ExternBlock(item) => ModItemKind::ExternBlock(ast_id, item),
+            ModItem::ExternCrate(item) => ModItemKind::ExternCrate(ast_id, item),
+            ModItem::Function(item) => ModItemKind::Function(ast_id, item),
+            ModItem::Impl(item) => ModItemKind::Impl(ast_id, item),
+            ModItem::Macro2(item) => ModItemKind::Macro2(ast_id, item),
+            ModItem::MacroCall(item) => ModItemKind::MacroCall(ast_id, item),
+            ModItem::MacroRules(item) => ModItemKind::MacroRules(ast_id, item),
+            ModItem::Mod(item) => ModItemKind::Mod(ast_id, item),
+            ModItem::Static(item) => ModItemKind::Static(ast_id, item),
+            ModItem::Struct(item) => ModItemKind::Struct(ast_id, item),
+            ModItem::Trait(item) => ModItemKind::Trait(ast_id, item),
+            ModItem::TypeAlias(item) => ModItemKind::TypeAlias(ast_id, item),
+            ModItem::Union(item) => ModItemKind::Union(ast_id, item),
+            ModItem::Use(item) => ModItemKind::Use(ast_id, item),
         }
     }
 }

@@ -2,7 +2,6 @@
 //! and a copy is its source. Each derive is held to it by a clause; the functions do nothing.
 ghost use Rattle.std.specs.Prelude.{◌≡◌};
 ghost use Rattle.hir_input.specs.Equality.{DecidesEq, DecidesEqOf, HashesAlike, IsCopied, IsCopiedOf};
-ghost use Rattle.hir_input.specs.declared.ids.AstIdKind.TheVariants as kinds;
 ghost use Rattle.item_tree.specs.Items.{block_value, inline_ids, mod_value, struct_value};
 ghost use Rattle.item_tree.specs.Shown.{ctor_ids};
 ghost use Rattle.item_tree.specs.Stats.{no_stats};
@@ -10,11 +9,11 @@ ghost use Rattle.item_tree.specs.Tree.{tree_of, tree_of_kind};
 
 use crate::fault::{EditFault, LowerError};
 use crate::items::{
-    Const, Enum, ExternBlock, ExternCrate, FieldsShape, Function, Impl, ItemTreeNode, Macro2,
-    MacroCall, MacroRules, Mod, ModItemId, ModKind, Static, Struct, StructValueNsCtor, Trait,
+    Const, Enum, ExternBlock, ExternCrate, FieldsShape, Function, Impl, Macro2, MacroCall,
+    MacroRules, Mod, ModItemId, ModItemKind, ModKind, Static, Struct, StructValueNsCtor, Trait,
     TypeAlias, Union, Use,
 };
-use crate::tree::{ItemTreeDataStats, ModItemKind};
+use crate::tree::ItemTreeDataStats;
 use crate::use_tree::{ImportAlias, ImportKind, UseTree, UseTreeIdx, UseTreeKind};
 use crate::visibility::{RawVisibility, RawVisibilityId, VisibilityExplicitness};
 use std::hash::Hash;
@@ -33,6 +32,7 @@ fn equal_parts()
 {}
 
 // `==` of visibilities and items is true exactly where their values are one.
+#[tactic(auto, using(crate::proofs::Equal::items_decide))]
 fn equal_items()
     ensures visibilities { DecidesEq ⟦<RawVisibility as PartialEq>⟧.eq }
     ensures constructors { DecidesEqOf ctor_ids ⟦<StructValueNsCtor as PartialEq>⟧.eq }
@@ -100,26 +100,6 @@ fn item_copies()
     ensures type_aliases { IsCopied ⟦<TypeAlias as Clone>⟧.is_clone }
     ensures unions { IsCopied ⟦<Union as Clone>⟧.is_clone }
     ensures uses { IsCopied ⟦<Use as Clone>⟧.is_clone }
-{}
-
-// Each item type has the kind of the syntax node that it is lowered from.
-fn kinds()
-    ensures constant { ⟦<Const as ItemTreeNode>⟧.KIND ≡ kinds.Const }
-    ensures enumeration { ⟦<Enum as ItemTreeNode>⟧.KIND ≡ kinds.Enum }
-    ensures extern_block { ⟦<ExternBlock as ItemTreeNode>⟧.KIND ≡ kinds.ExternBlock }
-    ensures extern_crate { ⟦<ExternCrate as ItemTreeNode>⟧.KIND ≡ kinds.ExternCrate }
-    ensures function { ⟦<Function as ItemTreeNode>⟧.KIND ≡ kinds.Fn }
-    ensures implementation { ⟦<Impl as ItemTreeNode>⟧.KIND ≡ kinds.Impl }
-    ensures macro_def { ⟦<Macro2 as ItemTreeNode>⟧.KIND ≡ kinds.MacroDef }
-    ensures macro_call { ⟦<MacroCall as ItemTreeNode>⟧.KIND ≡ kinds.MacroCall }
-    ensures macro_rules { ⟦<MacroRules as ItemTreeNode>⟧.KIND ≡ kinds.MacroRules }
-    ensures module { ⟦<Mod as ItemTreeNode>⟧.KIND ≡ kinds.Module }
-    ensures static_item { ⟦<Static as ItemTreeNode>⟧.KIND ≡ kinds.Static }
-    ensures structure { ⟦<Struct as ItemTreeNode>⟧.KIND ≡ kinds.Struct }
-    ensures trait_item { ⟦<Trait as ItemTreeNode>⟧.KIND ≡ kinds.Trait }
-    ensures type_alias { ⟦<TypeAlias as ItemTreeNode>⟧.KIND ≡ kinds.TypeAlias }
-    ensures union_item { ⟦<Union as ItemTreeNode>⟧.KIND ≡ kinds.Union }
-    ensures use_item { ⟦<Use as ItemTreeNode>⟧.KIND ≡ kinds.Use }
 {}
 
 // No items are counted by default.

@@ -9,9 +9,11 @@ ghost use Rattle.item_tree.specs.Walk.{AreContained, count_at};
 
 mod attrs;
 
-use crate::items::{Const, ExternCrate, MacroCall, MacroRules, ModItemId, ModKind, Use};
+use crate::items::{
+    Const, ExternCrate, MacroCall, MacroRules, ModItemId, ModItemKind, ModKind, Use,
+};
 use crate::line::{push_blank, push_indent, push_line};
-use crate::tree::{ItemTree, ModItemKind};
+use crate::tree::ItemTree;
 use crate::visibility::RawVisibility;
 use hir_input::{Edition, FileAstId, Name};
 use std::alloc::{AllocError, Global};

@@ -55,6 +55,11 @@ pub(crate) struct Rows {
     pub(crate) arena: IndexSet<RawVisibility>,
 }
 
+// The columns that tell the items, and those that tell their attributes and visibilities.
+type Items<'a> = (&'a [AstIdKind], &'a [AstKey], &'a [ModItem]);
+
+type Others<'a> = (&'a [u32], &'a [AttrsOrCfg], &'a [RawVisibility]);
+
 impl Rows {
     pub(crate) fn new(alloc: Global) -> Rows
         ensures tags { result.tags.items ≡ [] }
@@ -124,6 +129,21 @@ impl Rows {
         self.items.push(item)?;
         self.places.push(place)?;
         Ok(ModItemId::from_row(row as u32, kind))
+    }
+
+    // Lends the columns, the visibilities in their order.
+    pub(crate) fn columns(&self) -> (Items<'_>, Others<'_>)
+        ensures tags { result.0.0.now ≡ self.now.tags.items }
+        ensures keys { result.0.1.now ≡ self.now.keys.items }
+        ensures items { result.0.2.now ≡ self.now.items.items }
+        ensures places { result.1.0.now ≡ self.now.places.items }
+        ensures column { result.1.1.now ≡ self.now.column.items }
+        ensures arena { result.1.2.now ≡ self.now.arena.keys }
+    {
+        (
+            (&self.tags, &self.keys, &self.items),
+            (&self.places, &self.column, self.arena.as_slice()),
+        )
     }
 
     // Lends the attributes of a place, if it is one.

@@ -10,10 +10,7 @@ ghost use Rattle.item_tree.specs.Stats.{stats_of};
 ghost use Rattle.item_tree.specs.Stored.{AreSound, has_tag, tables_of};
 ghost use Rattle.item_tree.specs.Walk.{IsWalkedOnce};
 
-use crate::items::{
-    Const, Enum, ExternBlock, ExternCrate, Function, Impl, Macro2, MacroCall, MacroRules, Mod,
-    ModItem, ModItemId, Static, Struct, Trait, TypeAlias, Union, Use,
-};
+use crate::items::{ModItemId, ModItemKind};
 use crate::rows::{NO_ATTRS, Rows};
 use crate::visibility::{FixedVisibilities, PUB_CRATE, RawVisibility, RawVisibilityId};
 use hir_input::{AstIdKind, FileAstId};
@@ -47,28 +44,7 @@ impl Model for ItemTree {
 
     ghost view = { λ t. unfold_tables (tables_of t.top_level.items t.top_place t.rows) };
 
-    ghost invariant = { λ t. AreSound (tables_of t.top_level.items t.top_place t.rows) };
-}
-
-/// An item that a tree lends, with its id.
-#[derive(Clone, Copy, Debug)]
-pub enum ModItemKind<'a> {
-    Const(FileAstId, &'a Const),
-    Enum(FileAstId, &'a Enum),
-    ExternBlock(FileAstId, &'a ExternBlock),
-    ExternCrate(FileAstId, &'a ExternCrate),
-    Function(FileAstId, &'a Function),
-    Impl(FileAstId, &'a Impl),
-    Macro2(FileAstId, &'a Macro2),
-    MacroCall(FileAstId, &'a MacroCall),
-    MacroRules(FileAstId, &'a MacroRules),
-    Mod(FileAstId, &'a Mod),
-    Static(FileAstId, &'a Static),
-    Struct(FileAstId, &'a Struct),
-    Trait(FileAstId, &'a Trait),
-    TypeAlias(FileAstId, &'a TypeAlias),
-    Union(FileAstId, &'a Union),
-    Use(FileAstId, &'a Use),
+    ghost invariant = { λ t. AreSound t.top_level.items t.top_place t.rows };
 }
 
 /// How many items of a few kinds a tree has, at every depth.
@@ -97,7 +73,7 @@ impl ItemTree {
 
     // The tree of these tables.
     pub(crate) fn from_rows(top_level: Vec<ModItemId>, top_place: u32, rows: Rows) -> ItemTree
-        requires { AreSound (tables_of top_level.items top_place rows) }
+        requires { AreSound top_level.items top_place rows }
         ensures { result ≡ unfold_tables (tables_of top_level.items top_place rows) }
     {
         ItemTree {
@@ -162,24 +138,7 @@ impl ItemTree {
         ensures { IsShown self.now id result }
     {
         let ast_id = id.ast_id(self);
-        match &self.rows.items[id.row()] {
-            ModItem::Const(item) => ModItemKind::Const(ast_id, item),
-            ModItem::Enum(item) => ModItemKind::Enum(ast_id, item),
-            ModItem::ExternBlock(item) => ModItemKind::ExternBlock(ast_id, item),
-            ModItem::ExternCrate(item) => ModItemKind::ExternCrate(ast_id, item),
-            ModItem::Function(item) => ModItemKind::Function(ast_id, item),
-            ModItem::Impl(item) => ModItemKind::Impl(ast_id, item),
-            ModItem::Macro2(item) => ModItemKind::Macro2(ast_id, item),
-            ModItem::MacroCall(item) => ModItemKind::MacroCall(ast_id, item),
-            ModItem::MacroRules(item) => ModItemKind::MacroRules(ast_id, item),
-            ModItem::Mod(item) => ModItemKind::Mod(ast_id, item),
-            ModItem::Static(item) => ModItemKind::Static(ast_id, item),
-            ModItem::Struct(item) => ModItemKind::Struct(ast_id, item),
-            ModItem::Trait(item) => ModItemKind::Trait(ast_id, item),
-            ModItem::TypeAlias(item) => ModItemKind::TypeAlias(ast_id, item),
-            ModItem::Union(item) => ModItemKind::Union(ast_id, item),
-            ModItem::Use(item) => ModItemKind::Use(ast_id, item),
-        }
+        self.rows.items[id.row()].lend(ast_id)
     }
 
     /// How many items of a few kinds there are, at every depth. rust-analyzer's `ItemTree::item_tree_stats`.
@@ -233,9 +192,11 @@ impl Index<RawVisibilityId> for ItemTree {
 
     #[tactic(auto, unfolding(crate::specs::Layout::vis_at))]
     fn index(&self, id: RawVisibilityId) -> &RawVisibility {
-        match self.fixed.get(id) {
-            Some(visibility) => visibility,
-            None => &self.rows.arena.as_slice()[id.number() as usize],
+        let number = id.number();
+        if number < PUB_CRATE {
+            &self.rows.arena.as_slice()[number as usize]
+        } else {
+            &self.fixed.values[(number - PUB_CRATE) as usize]
         }
     }
 }
@@ -257,14 +218,9 @@ impl PartialEq for ItemTree {
         ensures gives { result ≡ same unfolding_code self.now other.now }
         ensures lend { IsTrue result → LendAlike self.now other.now }
     {
-        self.top_level == other.top_level
-            && self.top_place == other.top_place
-            && self.rows.tags == other.rows.tags
-            && self.rows.keys == other.rows.keys
-            && self.rows.items == other.rows.items
-            && self.rows.places == other.rows.places
-            && self.rows.column == other.rows.column
-            && self.rows.arena.as_slice() == other.rows.arena.as_slice()
+        let (top, others_top) = (self.top_level.as_slice(), other.top_level.as_slice());
+        (self.top_place, top, self.rows.columns())
+            == (other.top_place, others_top, other.rows.columns())
     }
 }
 

@@ -1,8 +1,8 @@
 //! Visibilities.
 ghost use Rattle.std.specs.Prelude.{◌≡◌, ◌↔◌, [], IsTrue, IfOk, option_copied};
 ghost use Rattle.item_tree.specs.Visibility.{read_visibility};
-ghost use Rattle.item_tree.specs.declared.visibility.RawVisibility.TheVariants.{PubSelf, PubCrate, Public};
-ghost use Rattle.item_tree.specs.declared.visibility.VisibilityExplicitness.TheVariants.{Explicit, Implicit};
+ghost use Rattle.item_tree.specs.Layout.{fixed};
+ghost use Rattle.item_tree.specs.declared.visibility.VisibilityExplicitness.TheVariants.{Explicit};
 
 use hir_input::ast::{PathNode, Visibility};
 use hir_input::{ModPath, PathKind};
@@ -90,41 +90,22 @@ impl RawVisibilityId {
     }
 }
 
-/// The values of the four ids that every tree has, which a tree keeps so that it can lend them.
+/// The visibilities that every tree has, in the order of their ids, which a tree keeps so that it can lend them.
 #[derive(Debug, Drop)]
 pub(crate) struct FixedVisibilities {
-    public: RawVisibility,
-    private_implicit: RawVisibility,
-    private_explicit: RawVisibility,
-    pub_crate: RawVisibility,
-    ghost public_is: { public ≡ Public },
-    ghost private_implicit_is: { private_implicit ≡ PubSelf Implicit },
-    ghost private_explicit_is: { private_explicit ≡ PubSelf Explicit },
-    ghost pub_crate_is: { pub_crate ≡ PubCrate },
+    pub(crate) values: [RawVisibility; 4],
+    ghost values_are: { values ≡ fixed },
 }
 
 impl FixedVisibilities {
-    ghost use Rattle.item_tree.specs.Layout.{value_at, plain_vis};
-
     pub(crate) fn new() -> FixedVisibilities {
         FixedVisibilities {
-            public: RawVisibility::Public,
-            private_implicit: RawVisibility::PubSelf(VisibilityExplicitness::Implicit),
-            private_explicit: RawVisibility::PubSelf(VisibilityExplicitness::Explicit),
-            pub_crate: RawVisibility::PubCrate,
-        }
-    }
-
-    // Lends the value of an id, if it is one of the four.
-    pub(crate) fn get(&self, id: RawVisibilityId) -> Option<&RawVisibility>
-        ensures { option_copied result ≡ value_at [] (plain_vis id) }
-    {
-        match id.id {
-            PUBLIC => Some(&self.public),
-            PRIVATE_IMPLICIT => Some(&self.private_implicit),
-            PRIVATE_EXPLICIT => Some(&self.private_explicit),
-            PUB_CRATE => Some(&self.pub_crate),
-            _ => None,
+            values: [
+                RawVisibility::PubCrate,
+                RawVisibility::PubSelf(VisibilityExplicitness::Explicit),
+                RawVisibility::PubSelf(VisibilityExplicitness::Implicit),
+                RawVisibility::Public,
+            ],
         }
     }
 }

@@ -1,35 +1,8 @@
-//! Copies of items.
+//! Copies of items that have lists of ids, and of uses.
 ghost use Rattle.std.specs.Prelude.{◌≡◌};
 
-use crate::items::{
-    Const, Enum, ExternBlock, ExternCrate, Function, Macro2, MacroCall, MacroRules, Mod, ModKind,
-    Static, Struct, StructValueNsCtor, Trait, TypeAlias, Union, Use,
-};
+use crate::items::{ExternBlock, Mod, ModKind, Struct, StructValueNsCtor, Use};
 use std::alloc::AllocError;
-
-impl Clone for Const {
-    ghost is_clone = { λ item copy. copy ≡ item };
-
-    fn clone(&self) -> Result<Const, AllocError> {
-        let name = self.name.clone()?;
-        Ok(Const {
-            name,
-            visibility: self.visibility,
-        })
-    }
-}
-
-impl Clone for Enum {
-    ghost is_clone = { λ item copy. copy ≡ item };
-
-    fn clone(&self) -> Result<Enum, AllocError> {
-        let name = self.name.clone()?;
-        Ok(Enum {
-            name,
-            visibility: self.visibility,
-        })
-    }
-}
 
 impl Clone for ExternBlock {
     ghost use Rattle.item_tree.specs.Items.{block_value};
@@ -39,67 +12,6 @@ impl Clone for ExternBlock {
     fn clone(&self) -> Result<ExternBlock, AllocError> {
         Ok(ExternBlock {
             children: self.children.clone()?,
-        })
-    }
-}
-
-impl Clone for ExternCrate {
-    ghost is_clone = { λ item copy. copy ≡ item };
-
-    fn clone(&self) -> Result<ExternCrate, AllocError> {
-        let name = self.name.clone()?;
-        let alias = self.alias.clone()?;
-        Ok(ExternCrate {
-            name,
-            visibility: self.visibility,
-            alias,
-        })
-    }
-}
-
-impl Clone for Function {
-    ghost is_clone = { λ item copy. copy ≡ item };
-
-    fn clone(&self) -> Result<Function, AllocError> {
-        let name = self.name.clone()?;
-        Ok(Function {
-            name,
-            visibility: self.visibility,
-        })
-    }
-}
-
-impl Clone for Macro2 {
-    ghost is_clone = { λ item copy. copy ≡ item };
-
-    fn clone(&self) -> Result<Macro2, AllocError> {
-        let name = self.name.clone()?;
-        Ok(Macro2 {
-            name,
-            visibility: self.visibility,
-        })
-    }
-}
-
-impl Clone for MacroCall {
-    ghost is_clone = { λ item copy. copy ≡ item };
-
-    fn clone(&self) -> Result<MacroCall, AllocError> {
-        let path = self.path.clone()?;
-        Ok(MacroCall {
-            path,
-            expand_to: self.expand_to,
-            ctxt: self.ctxt,
-        })
-    }
-}
-
-impl Clone for MacroRules {
-    ghost is_clone = { λ item copy. copy ≡ item };
-
-    fn clone(&self) -> Result<MacroRules, AllocError> {
-        Ok(MacroRules {
-            name: self.name.clone()?,
         })
     }
 }
@@ -135,18 +47,6 @@ impl Clone for Mod {
     }
 }
 
-impl Clone for Static {
-    ghost is_clone = { λ item copy. copy ≡ item };
-
-    fn clone(&self) -> Result<Static, AllocError> {
-        let name = self.name.clone()?;
-        Ok(Static {
-            name,
-            visibility: self.visibility,
-        })
-    }
-}
-
 impl Clone for StructValueNsCtor {
     ghost use Rattle.item_tree.specs.Shown.{ctor_ids};
 
@@ -178,42 +78,6 @@ impl Clone for Struct {
             visibility: self.visibility,
             shape: self.shape,
             value_ns_ctor,
-        })
-    }
-}
-
-impl Clone for Trait {
-    ghost is_clone = { λ item copy. copy ≡ item };
-
-    fn clone(&self) -> Result<Trait, AllocError> {
-        let name = self.name.clone()?;
-        Ok(Trait {
-            name,
-            visibility: self.visibility,
-        })
-    }
-}
-
-impl Clone for TypeAlias {
-    ghost is_clone = { λ item copy. copy ≡ item };
-
-    fn clone(&self) -> Result<TypeAlias, AllocError> {
-        let name = self.name.clone()?;
-        Ok(TypeAlias {
-            name,
-            visibility: self.visibility,
-        })
-    }
-}
-
-impl Clone for Union {
-    ghost is_clone = { λ item copy. copy ≡ item };
-
-    fn clone(&self) -> Result<Union, AllocError> {
-        let name = self.name.clone()?;
-        Ok(Union {
-            name,
-            visibility: self.visibility,
         })
     }
 }

@@ -2,7 +2,7 @@
 ghost use Rattle.std.specs.Prelude.{◌≡◌, ◌∷◌, [], IfOk, IfErr, OnOk, map, option_copied};
 ghost use Rattle.hir_input.specs.Syntax.{struct_item, struct_view, fields_view, tuple_fields};
 ghost use Rattle.item_tree.specs.Constructor.{ctor_of, ctor_from, deciding};
-ghost use Rattle.item_tree.specs.Layout.{plain_vis, vis_id};
+ghost use Rattle.item_tree.specs.Layout.{vis_id};
 ghost use Rattle.item_tree.specs.Kept.{shape_of};
 ghost use Rattle.item_tree.specs.Growth.{IsWithinLimits, IsLowered, CtorIsLowered, HasId, MeetsAll, sizes_meeting};
 ghost use Rattle.item_tree.specs.Size.{IsPassed};
@@ -112,7 +112,7 @@ fn read_visibilities(
 }
 
 // Those visibilities that decide who sees what needs all of them.
-#[tactic(auto, using(crate::proofs::Distinct::meet_distinct, crate::proofs::VisibilityEq::any_raw))]
+#[tactic(auto, using(crate::proofs::Arena::meet_distinct, crate::proofs::VisibilityEq::any_raw))]
 fn select_deciding(
     alloc: Global,
     written: Vec<RawVisibility>,
@@ -160,7 +160,7 @@ fn alloc_visibilities(
     requires { IsWithinLimits rows.old }
     ensures met { OnOk result (MeetsAll rows.old rows.new visibilities.keys) }
     ensures given { IfOk result (λ ids.
-        map plain_vis ids.items ≡ map (vis_id rows.new.arena.keys) visibilities.keys) }
+        ids.items ≡ map (vis_id rows.new.arena.keys) visibilities.keys) }
     ensures fault { IfErr result (IsPassed (sizes_meeting rows.old visibilities.keys)) }
 {
     let mut ids = Vec::new(alloc);

@@ -1,9 +1,10 @@
 //! Lowering of items that have a name and a visibility.
 ghost use Rattle.std.specs.Prelude.{◌≡◌};
 ghost use Rattle.hir_input.specs.Syntax.{plain_item, const_item, const_view, extern_crate, extern_crate_view};
+ghost use Rattle.item_tree.specs.Layout.{leaf_row};
 ghost use Rattle.item_tree.specs.Node.{plain};
 ghost use Rattle.item_tree.specs.Growth.{IsWithinLimits, IsLowered, kind_of, seen_node};
-ghost use Rattle.item_tree.specs.Stored.{item_row, leaf_plain};
+ghost use Rattle.item_tree.specs.Stored.{item_row};
 
 use crate::fault::LowerError;
 use crate::items::{
@@ -54,7 +55,7 @@ macro_rules! named {
 pub(super) use named;
 
 fn plain_item(kind: PlainKind, name: Name, visibility: RawVisibilityId) -> ModItem
-    ensures { item_row result ≡ leaf_plain (plain (kind_of kind) name visibility) }
+    ensures { item_row result ≡ leaf_row (plain (kind_of kind) name visibility) }
 {
     match kind {
         PlainKind::Enum => ModItem::Enum(Enum { name, visibility }),

@@ -1,22 +1,21 @@
 use Rattle.std.proofs.Common.{◌<◌, cond, [], ◌∷◌, ◌++◌, length, arith, refl, ap, ◌∙◌, subst}
-use Rattle.item_tree.specs.Layout.{plain_vis}
 use Rattle.item_tree.specs.Size.{visibility_limit}
-use Rattle.item_tree.proofs.Arena.{inserted, inserted-met, inserted-fits}
+use Rattle.item_tree.proofs.Arena.{inserted-met, inserted-id, inserted-fits}
 use Rattle.item_tree.proofs.VisibilityEq.{any_raw, place_raw}
 use Rattle.item_tree.proofs.rows.Rows.alloc_visibility.Goals as goal
 
 pub returns-else-place-clause-met : goal.returns-else-place-clause-met
 returns-else-place-clause-met c =
     let k = c.in_ok-place-in-Module in
+    let m = c.in-Module in
     let xs = c.args.self.now.arena.keys in
     let ys = c.insert_full.new.self.keys in
     let v = c.args.visibility in
     let keys = k.ensures.keys ∙ ap (λ b. cond b xs (xs ++ v ∷ [])) (any_raw v xs) in
     let index = k.ensures.index ∙ place_raw v xs in
-    let p = inserted xs ys v c.in-Module.field-0 c.in-Module.field-1 k.place c.in-Module.is keys index c.if-place.false in
     record {
-      met = p.0;
-      given = ap plain_vis c.from_number-in-Module.ensures ∙ p.1;
+      met = inserted-met xs ys v m.field-0 m.field-1 m.is keys;
+      given = c.from_number-in-Module.ensures ∙ index ∙ inserted-id xs ys v m.field-0 m.field-1 m.is keys;
       kept = refl;
       within = record {
         items = c.requires.items;
