@@ -177,9 +177,6 @@ listed_within (Some e) n ds less h = let inner = depth_array e ds h in let outer
 pub depth_listed_in : (key : List ℕ) (ms : Members) (ds : Items) → optional no_items as_array (field key (object ms)) ≡ Some ds → items_depth ds < depth (object ms)
 depth_listed_in key ms ds h = listed_within (field key (object ms)) (members_depth ms) ds (depth_field key (object ms)) h
 
--- the same after one member, or two, were taken out
-pub depth_after : (key other : List ℕ) (d e v : Data) → e ≡ without other d → bytes_eq key other ≡ false → Some v ≡ field key e → depth v < depth d
-depth_after key other d e v is apart found = depth_field key d v (sym (found ∙ ap (field key) is ∙ field_without key other d apart))
-
-pub depth_after_two : (key other more : List ℕ) (d e g v : Data) → e ≡ without other d → g ≡ without more e → bytes_eq key other ≡ false → bytes_eq key more ≡ false → Some v ≡ field key g → depth v < depth d
-depth_after_two key other more d e g v is later apart apart_more found = depth_after key other d e v is apart (found ∙ ap (field key) later ∙ field_without key more e apart_more)
+-- a member of another key was there before
+pub field_before : (key other : List ℕ) (d e v : Data) → e ≡ without other d → bytes_eq key other ≡ false → Some v ≡ field key e → Some v ≡ field key d
+field_before key other d e v is apart found = found ∙ ap (field key) is ∙ field_without key other d apart

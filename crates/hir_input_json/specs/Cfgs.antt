@@ -7,12 +7,16 @@ use Rattle.hir_input.specs.Cfg as condition
 use Rattle.hir_input_json.specs.Forms.{field, required, by_first, name, name_in, list_of, ◌>>=◌}
 use Rattle.hir_input_json.specs.Nested.{nested}
 
--- a key, and its value, which is required
-abbrev pub keyed_atom : Data → Option AtomView
-keyed_atom d = do
-  key ← required name (field (codes "key") d)
+-- an atom of this key, and of the value beside it, which is required
+abbrev pub keyed_by : Data → Data → Option AtomView
+keyed_by e d = do
+  key ← name e
   value ← required as_str (field (codes "value") d)
   Some (key_value key value)
+
+-- a key, which is required, and its value
+abbrev pub keyed_atom : Data → Option AtomView
+keyed_atom d = required (λ e. keyed_by e d) (field (codes "key") d)
 
 -- an atom: a name for a flag, or an object with a key
 abbrev pub atom : Data → Option AtomView

@@ -2,7 +2,7 @@
 ghost use Rattle.std.specs.Prelude.{◌≡◌, OnOk, map};
 ghost use Rattle.serde_json.specs.View.{view, items_view};
 ghost use Rattle.hir_input.specs.Cfg.{atom_view};
-ghost use Rattle.hir_input_json.specs.Cfgs.{atom as atom_form, keyed_atom as keyed_form};
+ghost use Rattle.hir_input_json.specs.Cfgs.{atom as atom_form, keyed_by};
 ghost use Rattle.hir_input_json.specs.Forms.{each, list_at as each_at};
 ghost use Rattle.hir_input_json.specs.Held.{held, without};
 ghost use Rattle.hir_input_json.specs.Reads.{Reads};
@@ -15,18 +15,16 @@ use hir_input::CfgAtom;
 use serde_json::{Map, Value};
 use std::alloc::Global;
 
-// A key and its value.
-#[tactic(auto, using(crate::proofs::Held::field_without))]
-pub(crate) fn keyed_atom_of(members: &mut Map<String, Value>) -> Result<CfgAtom, Fault>
-    ensures { Reads atom_view result (keyed_form (held members.old)) }
+// The atom of this key, with the value that the members hold.
+pub(crate) fn keyed_atom_of(key: Value, members: &mut Map<String, Value>) -> Result<CfgAtom, Fault>
+    ensures { Reads atom_view result (keyed_by (view key) (held members.old)) }
 {
-    let key = taken(members, "key").ok_or(Fault::WrongForm)?;
     let key = name_of(key)?;
     let value = required_text_at(members, "value")?;
     Ok(CfgAtom::KeyValue { key, value })
 }
 
-#[tactic(auto, using(crate::proofs::Held::no_field))]
+#[tactic(auto, using(crate::proofs::Held::field_without, crate::proofs::Held::no_field))]
 pub(crate) fn atom_of(value: Value) -> Result<CfgAtom, Fault>
     ensures { Reads atom_view result (atom_form (view value)) }
 {
@@ -34,13 +32,14 @@ pub(crate) fn atom_of(value: Value) -> Result<CfgAtom, Fault>
         return Ok(CfgAtom::Flag(name_of(value)?));
     }
     let mut members = members_of(value)?;
-    keyed_atom_of(&mut members)
+    let key = taken(&mut members, "key").ok_or(Fault::WrongForm)?;
+    keyed_atom_of(key, &mut members)
 }
 
 fn atoms_of(alloc: Global, items: Vec<Value>) -> Result<Vec<CfgAtom>, Fault>
     ensures { Reads (λ v. map atom_view v.items) result (each atom_form (items_view items.items)) }
 {
-    let mut atoms = Vec::new(alloc);
+    let mut atoms = Vec::with_capacity(alloc, items.len())?;
     for item in items {
         atoms.push(atom_of(item)?)?;
     }

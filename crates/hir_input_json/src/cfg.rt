@@ -10,7 +10,7 @@ ghost use Rattle.hir_input_json.specs.Reads.{Reads};
 
 use crate::atom::{atom_of, keyed_atom_of};
 use crate::fault::Fault;
-use crate::member::{array_of, field, members_of, removed, taken};
+use crate::member::{array_of, members_of, removed, taken};
 use hir_input::CfgExpr;
 use serde_json::{Map, Value};
 use std::alloc::Global;
@@ -45,8 +45,8 @@ fn cfg_by(alloc: Global, members: &mut Map<String, Value>) -> Result<CfgExpr, Fa
     ensures { Reads cfg_view result (cfg_with cfg_form (held members.old)) }
 {
     let inner = removed(members, "not");
-    if field(members, "key").is_some() {
-        return Ok(CfgExpr::Atom(keyed_atom_of(members)?));
+    if let Some(key) = taken(members, "key") {
+        return Ok(CfgExpr::Atom(keyed_atom_of(key, members)?));
     }
     if let Some(list) = taken(members, "all") {
         return Ok(CfgExpr::All(cfgs_in(alloc, list)?));

@@ -6,6 +6,7 @@ ghost use Rattle.serde_json.specs.Written.{has_float as holds_float, items_have_
 use serde_json::{Map, Value};
 
 /// Whether a number that is held as a float stands anywhere in the value, also under keys that no form names.
+#[inline(always)]
 #[cycle(floats)]
 pub fn has_float(value: &Value) -> bool
     ensures { result ≡ holds_float (view value.now) }
@@ -18,6 +19,7 @@ pub fn has_float(value: &Value) -> bool
     }
 }
 
+#[inline(never)]
 #[cycle(floats)]
 fn items_have_float(items: &Vec<Value>) -> bool
     ensures { result ≡ items_hold_float (items_view items.now.items) }
@@ -30,6 +32,7 @@ fn items_have_float(items: &Vec<Value>) -> bool
     false
 }
 
+#[inline(never)]
 #[cycle(floats)]
 fn members_have_float(members: &Map<String, Value>) -> bool
     ensures { result ≡ members_hold_float (members_view members.now.entries) }

@@ -49,6 +49,7 @@ fn found<'v>(members: &'v Map<String, Value>, key: &str) -> Option<&'v Value>
 }
 
 // Takes the member out, also if it is null, and leaves a null.
+#[inline(always)]
 pub(crate) fn removed(members: &mut Map<String, Value>, key: &str) -> Option<Value>
     ensures taken { option_map view result ≡ get_in key.now (held members.old) }
     ensures left { held members.new ≡ without key.now (held members.old) }
@@ -73,6 +74,7 @@ pub(crate) fn field<'v>(members: &'v Map<String, Value>, key: &str) -> Option<&'
 /// Takes the member out, unless it is null, and leaves a null.
 ///
 /// A null counts as absent, as in every form but a condition's.
+#[inline(always)]
 #[tactic(auto, unfolding(crate::specs::Forms::field))]
 pub fn taken(members: &mut Map<String, Value>, key: &str) -> Option<Value>
     ensures taken { option_map view result ≡ field_of key.now (held members.old) }

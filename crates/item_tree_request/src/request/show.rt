@@ -69,7 +69,7 @@ fn shows_of(alloc: Global, items: Vec<Value>, count: usize) -> Result<Vec<Show>,
     ensures reads { Reads (λ v. v.items) result (each (show_form count) (items_view items.items)) }
     ensures known { IfOk result (λ v. All (NamesCrate count) v.items) }
 {
-    let mut shows = Vec::new(alloc);
+    let mut shows = Vec::with_capacity(alloc, items.len())?;
     for item in items {
         shows.push(show_of(item, count)?)?;
     }

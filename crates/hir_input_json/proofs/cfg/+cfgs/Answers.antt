@@ -2,17 +2,27 @@
 use Rattle.std.proofs.Common.{arith, codes, refl, sym}
 use Rattle.serde_json.specs.View.{view}
 use Rattle.hir_input_json.specs.Held.{held}
-use Rattle.hir_input_json.proofs.Inside.{depth_after, depth_after_two, depth_get}
+use Rattle.hir_input_json.proofs.Inside.{depth_field, depth_get, field_before}
 use Rattle.hir_input_json.proofs.cfg.+cfgs.Goals as goal
 
 pub cfg_by-cfgs_in-requires : goal.cfg_by-cfgs_in-requires
 cfg_by-cfgs_in-requires t c =
-    let less = depth_after (codes "all") (codes "not") (held c.args.members.now) (held c.removed-inner.new.members) (view c.in-Some.list) c.removed-inner.ensures.left refl c.in-Some.ensures.taken in
+    let d = held c.args.members.now in
+    let rest = held c.removed-inner.new.members in
+    let list = view c.in-Some-taken.list in
+    let with_key = field_before (codes "all") (codes "key") rest (held c.taken.new.members) list c.in_default.ensures.left refl c.in-Some-taken.ensures.taken in
+    let less = depth_field (codes "all") d list (sym (field_before (codes "all") (codes "not") d rest list c.removed-inner.ensures.left refl with_key)) in
     (omega (arith, less), tt)
 
-pub cfg_by-cfgs_in-requires-in-Some-taken : goal.cfg_by-cfgs_in-requires-in-Some-taken
-cfg_by-cfgs_in-requires-in-Some-taken t c =
-    let less = depth_after_two (codes "any") (codes "not") (codes "all") (held c.args.members.now) (held c.removed-inner.new.members) (held c.taken.new.members) (view c.in-Some-taken.list) c.removed-inner.ensures.left c.in_default.ensures.left refl refl c.in-Some-taken.ensures.taken in
+pub cfg_by-cfgs_in-requires-in-Some-taken-2 : goal.cfg_by-cfgs_in-requires-in-Some-taken-2
+cfg_by-cfgs_in-requires-in-Some-taken-2 t c =
+    let d = held c.args.members.now in
+    let rest = held c.removed-inner.new.members in
+    let later = held c.taken.new.members in
+    let list = view c.in-Some-taken-2.list in
+    let with_all = field_before (codes "any") (codes "all") later (held c.taken-2.new.members) list c.in_default-taken.ensures.left refl c.in-Some-taken-2.ensures.taken in
+    let with_key = field_before (codes "any") (codes "key") rest later list c.in_default.ensures.left refl with_all in
+    let less = depth_field (codes "any") d list (sym (field_before (codes "any") (codes "not") d rest list c.removed-inner.ensures.left refl with_key)) in
     (omega (arith, less), tt)
 
 pub cfg_by-cfg_of-requires : goal.cfg_by-cfg_of-requires
