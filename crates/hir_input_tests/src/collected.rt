@@ -1,148 +1,97 @@
-use hir_input::ast::PathNode;
-use hir_input::{
-    AttrId, CfgAtom, CfgExpr, CfgOptions, EditionYear, Meta, ModPath, Name, PathKind, SyntaxContext,
-};
-use item_tree_attrs::{AttrError, Attrs, AttrsOrCfg};
+//! What metas collect, as it is lent.
+use hir_input::AttrId;
+use item_tree_attrs::{AttrError, Attrs, AttrsOrCfg, AttrsOwned};
+use item_tree_samples::attributes::{condition, options, words};
 use std::alloc::Global;
 use std::test::Fail;
 
-const CTXT: SyntaxContext = SyntaxContext::Root(EditionYear::E2024);
+// `#[word]` for each of these words, and behind them a cfg that is false, or none.
+type Written<'a> = (&'a [&'a str], bool);
 
-fn make_name(alloc: Global, text: &str) -> Result<Name, Fail> {
-    Ok(Name::new(String::from_str(alloc, text)?).ok_or("no name")?)
-}
-
-fn flag(alloc: Global, text: &str) -> Result<CfgExpr, Fail> {
-    Ok(CfgExpr::Atom(CfgAtom::Flag(make_name(alloc, text)?)))
-}
-
-fn make_path(alloc: Global, text: &str) -> Result<Option<PathNode>, Fail> {
-    let mut names = Vec::new(alloc);
-    names.push(make_name(alloc, text)?)?;
-    let path = ModPath::from_segments(PathKind::Plain, names).ok_or("no path")?;
-    Ok(Some(PathNode::Readable(path)))
-}
-
-fn word(alloc: Global, text: &str) -> Result<Meta, Fail> {
-    Ok(Meta::Path {
-        path: make_path(alloc, text)?,
-        ctxt: CTXT,
-    })
-}
-
-fn words(alloc: Global, texts: &[&str]) -> Result<AttrsOrCfg, Fail> {
-    let mut metas = Vec::new(alloc);
-    for text in texts {
-        metas.push(word(alloc, text)?)?;
+fn collected(alloc: Global, written: Written<'_>) -> Result<AttrsOrCfg, Fail> {
+    let (texts, is_disabled) = written;
+    let mut metas = words(alloc, texts)?;
+    if is_disabled {
+        metas.push(condition(alloc, "x")?)?;
     }
-    Ok(AttrsOrCfg::lower(alloc, &metas, &CfgOptions::new(Vec::new(alloc)), &[]).map_err(
-        |_| "refused",
-    )?)
+    let options = options(alloc, "")?;
+    Ok(AttrsOrCfg::lower(alloc, &metas, &options, &[])?)
 }
 
-// Attributes behind a cfg that is false.
-fn disabled(alloc: Global, text: &str) -> Result<AttrsOrCfg, Fail> {
-    let mut metas = Vec::new(alloc);
-    metas.push(word(alloc, text)?)?;
-    metas.push(Meta::Cfg(flag(alloc, "x")?))?;
-    Ok(AttrsOrCfg::lower(alloc, &metas, &CfgOptions::new(Vec::new(alloc)), &[]).map_err(
-        |_| "refused",
-    )?)
+// Whether the attributes of two owners are joined to those of the third.
+fn joins(
+    alloc: Global,
+    left: Written<'_>,
+    right: Written<'_>,
+    both: Written<'_>,
+) -> Result<bool, Fail> {
+    let joined = collected(alloc, left)?.merge(collected(alloc, right)?)?;
+    Ok(joined == collected(alloc, both)?)
 }
 
-// The names of the paths, each with a space behind it, and the cfg that is false, if any.
-fn shown(alloc: Global, attrs: &AttrsOrCfg) -> Result<String, Fail> {
-    let mut text = String::new(alloc);
+#[test]
+fn attributes_of_two_owners_are_joined(rt: HostRuntime) -> Result<(), Fail> {
+    let alloc = rt.alloc();
+    let (a, b) = (["a"].as_slice(), ["b"].as_slice());
+    let both = ["a", "b"].as_slice();
+    assert!(rt; joins(alloc, (&[], false), (b, true), (b, true))?);
+    assert!(rt; joins(alloc, (a, false), (b, true), (both, true))?);
+    assert!(rt; joins(alloc, (a, true), (b, false), (a, true))?);
+    Ok(())
+}
+
+// The cfg that is false, or an empty text.
+fn shown_condition(alloc: Global, attrs: &AttrsOrCfg) -> Result<String, Fail> {
     match attrs {
-        AttrsOrCfg::Enabled { attrs } => push_names(attrs.as_ref(), &mut text)?,
-        AttrsOrCfg::CfgDisabled(both) => {
-            push_names(both.1.as_ref(), &mut text)?;
-            text.push_str(both.0.to_string(alloc)?.as_str())?;
-        }
+        AttrsOrCfg::Enabled { .. } => Ok(String::new(alloc)),
+        AttrsOrCfg::CfgDisabled(both) => Ok(both.0.to_string(alloc)?),
     }
-    Ok(text)
-}
-
-fn push_names(attrs: Attrs<'_>, text: &mut String) -> Result<(), Fail> {
-    for attr in attrs.as_slice() {
-        if let Some(name) = attr.path.as_ident() {
-            text.push_str(name.text())?;
-            text.push_str(" ")?;
-        }
-    }
-    Ok(())
-}
-
-fn merged(left: AttrsOrCfg, right: AttrsOrCfg) -> Result<AttrsOrCfg, Fail> {
-    Ok(left.merge(right).map_err(|_| "refused")?)
 }
 
 #[test]
-fn merges_behind_enabled_attributes(rt: HostRuntime) -> Result<(), Fail> {
+fn the_false_cfg_is_kept(rt: HostRuntime) -> Result<(), Fail> {
     let alloc = rt.alloc();
-    let both = merged(AttrsOrCfg::empty(alloc), disabled(alloc, "b")?)?;
-    assert!(rt; both == disabled(alloc, "b")?);
-    let both = merged(words(alloc, &["a"])?, both)?;
-    assert_eq!(rt; shown(alloc, &both)?.as_str(), "a b x");
-    let all = merged(both, words(alloc, &["c"])?)?;
-    assert_eq!(rt; shown(alloc, &all)?.as_str(), "a b x");
+    let attrs = collected(alloc, (&[], true))?;
+    assert_eq!(rt; shown_condition(alloc, &attrs)?.as_str(), "x");
     Ok(())
 }
 
-// The ids and the names of the attributes behind a position, or of all.
-fn shown_after(alloc: Global, attrs: &AttrsOrCfg, after: Option<u32>) -> Result<String, Fail> {
+// The ids and the names of the attributes behind a position.
+fn shown_after(alloc: Global, attrs: &AttrsOwned, after: u32) -> Result<String, Fail> {
     let mut text = String::new(alloc);
-    if let AttrsOrCfg::Enabled { attrs } = attrs {
-        let attrs = attrs.as_ref();
-        let count = attrs.as_slice().len();
-        let rest = match after {
-            Some(id) if (id as usize) < count => attrs.iter_after(Some(AttrId::from_item_tree_index(
-                id,
-            ))),
-            _ => attrs.iter_after(None),
-        };
-        for (id, attr) in rest {
-            let index = id.item_tree_index();
+    let attrs = attrs.as_ref();
+    if (after as usize) < attrs.as_slice().len() {
+        for (id, attr) in attrs.iter_after(Some(AttrId::from_item_tree_index(after))) {
             let name = attr.path.as_ident().ok_or("no name")?.text();
-            write!(text, "{index} {name} ")?;
+            write!(text, "{} {name} ", id.item_tree_index())?;
         }
     }
     Ok(text)
 }
 
 #[test]
-fn iterates_with_the_same_ids(rt: HostRuntime) -> Result<(), Fail> {
+fn attributes_are_lent_by_id_and_by_key(rt: HostRuntime) -> Result<(), Fail> {
     let alloc = rt.alloc();
-    let attrs = words(alloc, &["a", "b", "c"])?;
-    assert_eq!(rt; shown_after(alloc, &attrs, None)?.as_str(), "0 a 1 b 2 c ");
-    assert_eq!(rt; shown_after(alloc, &attrs, Some(0))?.as_str(), "1 b 2 c ");
-    assert_eq!(rt; shown_after(alloc, &attrs, Some(2))?.as_str(), "");
-    Ok(())
-}
-
-#[test]
-fn asks_by_key(rt: HostRuntime) -> Result<(), Fail> {
-    let alloc = rt.alloc();
-    if let AttrsOrCfg::Enabled { attrs } = words(alloc, &["proc_macro", "a", "a"])? {
+    let texts = ["proc_macro", "a", "b", "a"].as_slice();
+    if let AttrsOrCfg::Enabled { attrs } = collected(alloc, (texts, false))? {
+        assert_eq!(rt; shown_after(alloc, &attrs, 0)?.as_str(), "1 a 2 b 3 a ");
+        assert_eq!(rt; shown_after(alloc, &attrs, 3)?.as_str(), "");
         let attrs = attrs.as_ref();
         assert_eq!(rt; attrs.by_key("a").attrs().clone()?.count(), 2);
-        assert!(rt; attrs.is_proc_macro());
-        assert!(rt; !attrs.is_proc_macro_attribute());
+        assert!(rt; attrs.is_proc_macro() && !attrs.is_proc_macro_attribute());
     }
     assert!(rt; !Attrs::EMPTY.is_proc_macro());
     Ok(())
 }
 
 #[test]
-fn shows_errors(rt: HostRuntime) -> Result<(), Fail> {
+fn errors_are_shown(rt: HostRuntime) -> Result<(), Fail> {
     let alloc = rt.alloc();
-    assert_eq!(rt;
-        AttrError::TooMany.to_string(alloc)?.as_str(),
-        "too many attributes"
-    );
-    assert_eq!(rt;
-        AttrError::OutOfMemory.to_string(alloc)?.as_str(),
-        "out of memory"
-    );
+    for (error, wanted) in [
+        (AttrError::TooMany, "too many attributes"),
+        (AttrError::OutOfMemory, "out of memory"),
+    ] {
+        assert_eq!(rt; error.to_string(alloc)?.as_str(), wanted);
+    }
     Ok(())
 }

@@ -1,0 +1,11 @@
+//! Written syntaxes for the tests of other crates, made of plain words and numbers.
+//!
+//! They are ordinary functions of a library, so that they are proved once for all crates of tests. Nothing is promised of
+//! their values: a test is run. Each error is want of memory.
+#![tactic(auto)]
+
+pub mod attributes;
+pub mod file;
+pub mod items;
+pub mod use_trees;
+pub mod words;
