@@ -3,7 +3,7 @@ use Rattle.std.proofs.Common.{◌≡◌, ℕ, suc, Bool, List, [], ◌∷◌, ta
 use Rattle.std.specs.Option.{option_or, option_map, unwrap_or}
 use Rattle.std.proofs.lemmas.List.Elements.{All-take}
 use Rattle.std.proofs.lemmas.Option.{same_Some, none-some}
-use Rattle.hir_input.specs.declared.cfg.CfgAtom.{CfgAtom}
+use Rattle.hir_input.specs.Cfg.{AtomView}
 use Rattle.hir_input.specs.Syntax.{SyntaxView}
 use Rattle.hir_input.specs.Bodies.{without_bodies}
 use Rattle.item_tree.specs.CrateView.{CrateView}
@@ -37,7 +37,7 @@ present_kept s (e ∷ es) place i h =
     or_kept (option_map without_bodies) (last_some (sets place) es) (sets place e) (present s place) (present_kept s es place i (λ k d within. h (suc k) d (omega (arith, within)))) (h 0 e (omega arith)).syntax
 
 -- and the crate stays what it is
-under_kept : (a b : Option (List CfgAtom)) (krate : Option CrateView) → under a krate ≡ krate → IfSome b (λ options. under (Some options) krate ≡ krate) → under (option_or a b) krate ≡ krate
+under_kept : (a b : Option (List AtomView)) (krate : Option CrateView) → under a krate ≡ krate → IfSome b (λ options. under (Some options) krate ≡ krate) → under (option_or a b) krate ≡ krate
 under_kept None None krate last first = refl
 under_kept None (Some o) krate last first = first
 under_kept (Some o) b krate last first = last

@@ -1,6 +1,6 @@
 -- What an edit that is made fits, and what a refused one passes.
 use Rattle.std.proofs.Common.{◌≡◌, ℕ, zero, suc, ◌<◌, List, [], ◌∷◌, length, slice_get, slice_index_or, Some, Option, sym, subst, arith}
-use Rattle.hir_input.specs.declared.cfg.CfgAtom.{CfgAtom}
+use Rattle.hir_input.specs.Cfg.{AtomView}
 use Rattle.hir_input.specs.Syntax.{SyntaxView}
 use Rattle.item_tree.specs.declared.fault.EditFault.TheVariants.{Lower}
 use Rattle.item_tree.specs.declared.fault.LowerError.{LowerError}
@@ -46,7 +46,7 @@ set_cause s k syntax OutOfMemory h = tt
 
 -- ---- options
 
-module _ (t : Table) (i : ℕ) (o : List CfgAtom) where
+module _ (t : Table) (i : ℕ) (o : List AtomView) where
   abbrev before : Table
   before = with_crates t (change_at i (given o) t.crates)
 

@@ -3,7 +3,7 @@ use Rattle.std.proofs.Common.{◌≡◌, ◌≢◌, ◌⊎◌, inl, inr, ℕ, ze
 use Rattle.std.specs.Option.{option_or, option_map, unwrap_or}
 use Rattle.std.proofs.lemmas.Option.{same_Some, none-some}
 use Rattle.std.proofs.lemmas.List.{take_all}
-use Rattle.hir_input.specs.declared.cfg.CfgAtom.{CfgAtom}
+use Rattle.hir_input.specs.Cfg.{AtomView}
 use Rattle.hir_input.specs.Syntax.{SyntaxView}
 use Rattle.item_tree.specs.CrateView.{CrateView}
 use Rattle.item_tree.specs.Node.{Unfolding}
@@ -33,7 +33,7 @@ front_present : (t : Table) (e : EditView) (es : List EditView) (place : Place) 
 front_present t e es place = ap (unwrap_or (last_some (sets place) es)) (present_step t e place) ∙ or_else (last_some (sets place) es) (sets place e) (present (state_of t) place)
 
 -- options given, and given again
-under_both : (a b : Option (List CfgAtom)) (krate : Option CrateView) → under a (under b krate) ≡ under (option_or a b) krate
+under_both : (a b : Option (List AtomView)) (krate : Option CrateView) → under a (under b krate) ≡ under (option_or a b) krate
 under_both None b krate = refl
 under_both (Some o) None krate = refl
 under_both (Some o) (Some p) None = refl

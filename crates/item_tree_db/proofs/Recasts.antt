@@ -9,7 +9,7 @@ use Rattle.std.specs.FinMap.Entries.{below_all, by_order}
 use Rattle.std.proofs.lemmas.Bool.Decides.{nat_tests}
 use Rattle.std.proofs.lemmas.Option.{same_Some}
 use Rattle.hir_input.specs.declared.ast.Syntax.{Syntax}
-use Rattle.hir_input.specs.declared.cfg.CfgAtom.{CfgAtom}
+use Rattle.hir_input.specs.Cfg.{AtomView}
 use Rattle.hir_input.specs.Syntax.{SyntaxView, syntax_view}
 use Rattle.item_tree.specs.declared.crate_data.CrateData.{CrateData}
 use Rattle.item_tree.specs.declared.fault.LowerError.{LowerError}
@@ -81,18 +81,18 @@ module _ {A : Type 0} (f : A → A) where
 -- ---- options
 
 -- given back what it had, a crate is what it was
-pub given_back : (o old : List CfgAtom) (i : ℕ) (crates : List CrateView) → option_map (λ k. k.options) (slice_get crates i) ≡ Some old → change_at i (given old) (change_at i (given o) crates) ≡ crates
+pub given_back : (o old : List AtomView) (i : ℕ) (crates : List CrateView) → option_map (λ k. k.options) (slice_get crates i) ≡ Some old → change_at i (given old) (change_at i (given o) crates) ≡ crates
 given_back o old i [] h = refl
 given_back o old zero (k ∷ crates) h = let e = same_Some k.options old h in λ j. record { root = k.root; options = sym e j; attrs = k.attrs } ∷ crates
 given_back o old (suc i) (k ∷ crates) h = ap (λ (ks : List CrateView). k ∷ ks) (given_back o old i crates h)
 
 -- and what it is given, it has
-pub given_options : (o now : List CfgAtom) (i : ℕ) (crates : List CrateView) → option_map (λ k. k.options) (slice_get (change_at i (given o) crates) i) ≡ Some now → now ≡ o
+pub given_options : (o now : List AtomView) (i : ℕ) (crates : List CrateView) → option_map (λ k. k.options) (slice_get (change_at i (given o) crates) i) ≡ Some now → now ≡ o
 given_options o now i [] h = cc
 given_options o now zero (k ∷ crates) h = sym (same_Some o now h)
 given_options o now (suc i) (k ∷ crates) h = given_options o now i crates h
 
-pub crates_given : (o : List CfgAtom) (crates : List CrateData) (i : ℕ) (x y : CrateData) → x ≡ get_or crates i x → y ≡ record { root = x.root; cfg = o; attrs = x.attrs } → i < length crates
+pub crates_given : (o : List AtomView) (crates : List CrateData) (i : ℕ) (x y : CrateData) → x ≡ get_or crates i x → y ≡ record { root = x.root; cfg = o; attrs = x.attrs } → i < length crates
     → map crate_view (set crates i y) ≡ change_at i (given o) (map crate_view crates)
 crates_given o [] i x y e q h = absurd (omega arith)
 crates_given o (c ∷ crates) zero x y e q h = ap (λ (z : CrateData). crate_view z ∷ map crate_view crates) (q ∙ ap (λ (z : CrateData). record { root = z.root; cfg = o; attrs = z.attrs }) e)

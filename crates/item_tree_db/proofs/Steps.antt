@@ -8,7 +8,7 @@ use Rattle.std.specs.FinMap.Entries.{find-put}
 use Rattle.std.proofs.lemmas.Bool.Decides.{nat_tests}
 use Rattle.std.proofs.lemmas.List.{length-map}
 use Rattle.std.proofs.lemmas.Option.{slice_get-map}
-use Rattle.hir_input.specs.declared.cfg.CfgAtom.{CfgAtom}
+use Rattle.hir_input.specs.Cfg.{AtomView}
 use Rattle.hir_input.specs.Syntax.{SyntaxView}
 use Rattle.item_tree.specs.CrateView.{CrateView}
 use Rattle.item_tree.specs.Node.{Unfolding}
@@ -186,19 +186,19 @@ recast_row_by n start count skipped place k i given_crate own (Some placed) long
     ] refl
 
 -- the crates
-given_at : (o : List CfgAtom) (crates : List CrateView) (k i : ℕ) → slice_get (change_at k (given o) crates) i ≡ under (cond (nat_eq k i) (Some o) None) (slice_get crates i)
+given_at : (o : List AtomView) (crates : List CrateView) (k i : ℕ) → slice_get (change_at k (given o) crates) i ≡ under (cond (nat_eq k i) (Some o) None) (slice_get crates i)
 given_at o crates k i = elim (nat_eq k i) as (λ b. nat_eq k i ≡ b → slice_get (change_at k (given o) crates) i ≡ under (cond b (Some o) None) (slice_get crates i)) [
   | true ↦ λ h. ap (λ (m : ℕ). slice_get (change_at m (given o) crates) i) (sym (equal i k h)) ∙ get_here (given o) i crates
   | false ↦ λ h. get_other (given o) k i crates (not_equal k i h)
 ] refl
 
-given_or_own : (o : List CfgAtom) (crates : List CrateView) (k i : ℕ) → cond (nat_eq k i) (slice_get (change_at k (given o) crates) k) (slice_get crates i) ≡ slice_get (change_at k (given o) crates) i
+given_or_own : (o : List AtomView) (crates : List CrateView) (k i : ℕ) → cond (nat_eq k i) (slice_get (change_at k (given o) crates) k) (slice_get crates i) ≡ slice_get (change_at k (given o) crates) i
 given_or_own o crates k i = elim (nat_eq k i) as (λ b. nat_eq k i ≡ b → cond b (slice_get (change_at k (given o) crates) k) (slice_get crates i) ≡ slice_get (change_at k (given o) crates) i) [
   | true ↦ λ h. ap (λ (m : ℕ). slice_get (change_at k (given o) crates) m) (sym (equal i k h))
   | false ↦ λ h. sym (get_other (given o) k i crates (not_equal k i h))
 ] refl
 
-cfg_row : (t : Table) (l : Places) (at : ℕ → Place) (k : ℕ) (o : List CfgAtom) (q i : ℕ) → i < length t.crates → HasRows (length t.crates) l → (row_found t.start i (find l q)).tree ≡ unfolding_of t.skipped (at q) (slice_get t.crates i) (syntax_found (find l q))
+cfg_row : (t : Table) (l : Places) (at : ℕ → Place) (k : ℕ) (o : List AtomView) (q i : ℕ) → i < length t.crates → HasRows (length t.crates) l → (row_found t.start i (find l q)).tree ≡ unfolding_of t.skipped (at q) (slice_get t.crates i) (syntax_found (find l q))
     → row_found t.start i (find (recast_in (t.number + 1) t.skipped at k (slice_get (change_at k (given o) t.crates) k) l) q) ≡ settled_row (t.number + 1) (row_found t.start i (find l q)) (fresh_row (t.number + 1) t.skipped (at q) (slice_get (change_at k (given o) t.crates) i) (syntax_found (find l q)))
 cfg_row t l at k o q i p h tree =
     let n = t.number + 1 in

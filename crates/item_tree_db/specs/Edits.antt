@@ -1,6 +1,6 @@
 -- Edits as plain data.
 use Rattle.std.specs.Prelude.{ℕ, List, map, take}
-use Rattle.hir_input.specs.declared.cfg.CfgAtom.{CfgAtom}
+use Rattle.hir_input.specs.Cfg.{AtomView}
 use Rattle.hir_input.specs.Syntax.{SyntaxView, syntax_view}
 use Rattle.item_tree_db.specs.declared.edit.Edit.{Edit}
 use Rattle.item_tree_db.specs.declared.edit.Edit.TheVariants.{SetFile, RemoveFile, SetCfg}
@@ -10,7 +10,7 @@ use Rattle.item_tree_db.specs.declared.edit.AllRefused.{AllRefused}
 pub data EditView : Type 0 where
   set_file : ℕ → SyntaxView → EditView
   remove_file : ℕ → EditView
-  set_cfg : ℕ → List CfgAtom → EditView
+  set_cfg : ℕ → List AtomView → EditView
 
 abbrev pub edit_view : Edit → EditView
 edit_view (SetFile file syntax) = set_file file.0 (syntax_view syntax)

@@ -1,7 +1,7 @@
 -- Whole histories: what stands after a list of edits.
 use Rattle.std.specs.Prelude.{◌≡◌, ◌≢◌, ◌⊎◌, ℕ, zero, suc, ◌+◌, ◌<◌, ◌≤◌, ◌==◌, List, [], ◌∷◌, length, take, Option, None, Some, Bool, not, if◌then◌else◌, option_map, slice_get, All, IfSome}
 use Rattle.std.specs.Option.{option_or, unwrap_or}
-use Rattle.hir_input.specs.declared.cfg.CfgAtom.{CfgAtom}
+use Rattle.hir_input.specs.Cfg.{AtomView}
 use Rattle.hir_input.specs.Syntax.{SyntaxView}
 use Rattle.hir_input.specs.Bodies.{without_bodies}
 use Rattle.item_tree.specs.CrateView.{CrateView}
@@ -31,13 +31,13 @@ sets (File file) (set_cfg k options) = None
 sets (Block block) edit = None
 
 -- the options that an edit gives crate i, if it gives it any
-abbrev pub gives : ℕ → EditView → Option (List CfgAtom)
+abbrev pub gives : ℕ → EditView → Option (List AtomView)
 gives i (set_file k syntax) = None
 gives i (remove_file k) = None
 gives i (set_cfg k options) = if k == i then Some options else None
 
 -- a crate of the list under the options that it is given, if it is given any
-abbrev pub under : Option (List CfgAtom) → Option CrateView → Option CrateView
+abbrev pub under : Option (List AtomView) → Option CrateView → Option CrateView
 under None krate = krate
 under (Some options) krate = option_map (given options) krate
 

@@ -3,7 +3,7 @@ use Rattle.std.specs.Prelude.{ℕ, ◌^◌, ◌<◌, ◌==◌, Bool, false, List
 use Rattle.std.specs.Option.{option_and_then, option_map, unwrap_or}
 use Rattle.std.specs.Ordering.{nat_cmp}
 use Rattle.std.specs.FinMap as map
-use Rattle.hir_input.specs.declared.cfg.CfgAtom.{CfgAtom}
+use Rattle.hir_input.specs.Cfg.{AtomView}
 use Rattle.hir_input.specs.declared.ids.Crate.{Crate}
 use Rattle.hir_input.specs.Syntax.{SyntaxView}
 use Rattle.item_tree.specs.CrateView.{CrateView}
@@ -44,11 +44,11 @@ abbrev pub IsKnown : State → Crate → Type 0
 IsKnown s krate = krate.0 < length s.crates
 
 -- the present options of a crate
-abbrev pub options : State → Crate → Option (List CfgAtom)
+abbrev pub options : State → Crate → Option (List AtomView)
 options s krate = option_map (λ k. k.options) (slice_get s.crates krate.0)
 
 -- the crate under other options
-abbrev pub given : List CfgAtom → CrateView → CrateView
+abbrev pub given : List AtomView → CrateView → CrateView
 given options krate = record { root = krate.root; options = options; attrs = krate.attrs }
 
 -- what a list of entries has at a number

@@ -1,20 +1,23 @@
 -- The texts of shows over a table are those after the edits that led to it.
 use Rattle.std.proofs.Common.{◌≡◌, ℕ, ◌<◌, List, [], ◌∷◌, ◌++◌, All, codes, decimal, length, map, suc, refl, ap, ◌∙◌, arith}
-use Rattle.std.specs.List.{flat_map}
+use Rattle.std.specs.List.{flat_map, AllByRecursion}
 use Rattle.std.proofs.lemmas.List.{length-take, length-map}
 use Rattle.item_tree.specs.declared.crate_data.CrateData.{CrateData}
 use Rattle.item_tree.specs.CrateView.{crate_view}
 use Rattle.item_tree.specs.Page.{page}
 use Rattle.item_tree_db.specs.declared.place.Place.TheVariants.{File}
 use Rattle.item_tree_db.specs.State.{State, crate_limit, new_table}
-use Rattle.item_tree_db.specs.Edits.{EditView}
+use Rattle.item_tree_db.specs.declared.edit.Edit.{Edit}
+use Rattle.item_tree_db.specs.declared.edit.Edit.TheVariants.{SetFile, RemoveFile, SetCfg}
+use Rattle.item_tree_db.specs.Edits.{EditView, edit_view}
+use Rattle.item_tree_db.specs.Refusal.{NamesKnown}
 use Rattle.item_tree_db.specs.History.{IsAfter}
 use Rattle.item_tree_request.specs.declared.request.show.Show.{Show}
 use Rattle.item_tree_request.specs.declared.request.show.ShowKind.{ShowKind}
 use Rattle.item_tree_request.specs.declared.request.show.ShowKind.TheVariants.{Page, Tree, Imports}
 use Rattle.item_tree_request.specs.ImportLines.{import_lines}
 use Rattle.item_tree_request.specs.Outputs.{heading, page_text, imports_text, shown, shown_as}
-use Rattle.item_tree_request.specs.Seen.{NamesCrate}
+use Rattle.item_tree_request.specs.Seen.{NamesCrate, EditNamesCrate}
 
 -- the show names a crate of the table
 abbrev pub Knows : State → Show → Type 0
@@ -49,6 +52,16 @@ output-after reserved s u edits (show ∷ shows) after known =
 pub knows_new : (crates : List CrateData) (skipped : List (List ℕ)) (start : ℕ) (shows : List Show) → All (NamesCrate (length crates)) shows → All (Knows (new_table (map crate_view crates) skipped start)) shows
 knows_new crates skipped start shows named = λ k d within. let h = named k d within in omega (arith, h.0, h.1, length-take crate_limit (map crate_view crates), length-map crates crate_view)
 
+edit_known : (crates : List CrateData) (skipped : List (List ℕ)) (start : ℕ) (e : Edit) → EditNamesCrate (length crates) e → NamesKnown (new_table (map crate_view crates) skipped start) (edit_view e)
+edit_known crates skipped start (SetFile file syntax) named = tt
+edit_known crates skipped start (RemoveFile file) named = tt
+edit_known crates skipped start (SetCfg krate options) named = omega (arith, named.0, named.1, length-take crate_limit (map crate_view crates), length-map crates crate_view)
+
 -- after edits the crates are the same
 pub knows_after : (s u : State) (edits : List EditView) (shows : List Show) → IsAfter s edits u → All (Knows s) shows → All (Knows u) shows
-knows_after s u edits shows after known = λ k d within. let h = known k d within in let same = ap length after.crates in omega (arith, h, same)
+knows_after s u edits shows after known = λ k d within. let h = known k d within in let same = after.count in omega (arith, h, same)
+
+-- the edits of a request name crates of a new table of its crates
+pub edits_known : (crates : List CrateData) (skipped : List (List ℕ)) (start : ℕ) (edits : List Edit) → All (EditNamesCrate (length crates)) edits → AllByRecursion (NamesKnown (new_table (map crate_view crates) skipped start)) (map edit_view edits)
+edits_known crates skipped start [] named = tt
+edits_known crates skipped start (e ∷ es) named = (edit_known crates skipped start e (named 0 e (omega arith)), edits_known crates skipped start es (λ k d within. named (suc k) d (omega (arith, within))))

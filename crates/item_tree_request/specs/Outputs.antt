@@ -1,5 +1,5 @@
 -- The output of a request, and the sizes that refuse one.
-use Rattle.std.specs.Prelude.{◌≡◌, ℕ, ◌+◌, ◌<◌, ◌≤◌, List, ◌++◌, length, take, All, Some, codes, decimal, slice_get}
+use Rattle.std.specs.Prelude.{◌≡◌, ℕ, ◌+◌, ◌<◌, ◌≤◌, List, ◌++◌, length, take, Some, codes, decimal, slice_get}
 use Rattle.std.specs.List.{flat_map}
 use Rattle.item_tree.specs.Page.{page}
 use Rattle.item_tree.specs.declared.fault.EditFault.{EditFault}
@@ -7,10 +7,10 @@ use Rattle.item_tree.specs.declared.fault.EditFault.TheVariants.{TooManyEdits, L
 use Rattle.item_tree.specs.declared.fault.LowerError.{LowerError}
 use Rattle.item_tree.specs.declared.fault.LowerError.TheVariants.{OutOfMemory}
 use Rattle.item_tree_db.specs.declared.place.Place.TheVariants.{File}
-use Rattle.item_tree_db.specs.State.{State, file_at, new_table}
-use Rattle.item_tree_db.specs.Edits.{EditView, set_file, remove_file}
+use Rattle.item_tree_db.specs.State.{State, new_table}
+use Rattle.item_tree_db.specs.Edits.{EditView}
 use Rattle.item_tree_db.specs.History.{unfolding_after, changed_after}
-use Rattle.item_tree_db.specs.Refusal.{last_number, EditFits, IsTooLargeIn}
+use Rattle.item_tree_db.specs.Refusal.{last_number, FirstFit, PassesAfter}
 use Rattle.item_tree_request.specs.declared.request.show.Show.{Show}
 use Rattle.item_tree_request.specs.declared.request.show.ShowKind.{ShowKind}
 use Rattle.item_tree_request.specs.declared.request.show.ShowKind.TheVariants.{Page, Tree, Imports}
@@ -53,15 +53,14 @@ output q = flat_map (shown q.edition.reserved (table_of q) q.edits) q.shows
 -- none of the first n edits passes a size: their numbers are no higher than the last, and their trees fit
 pub record NonePasses (s : State) (edits : List EditView) (n : ℕ) : Type 0 where
   pub numbers : s.number + n ≤ last_number
-  pub trees : All (EditFits s) (take n edits)
+  pub trees : FirstFit s edits n
 
--- the tree of an edit passes this size in some crate
-abbrev pub TreePasses : State → EditView → LowerError → Type 0
-TreePasses s (set_file k syntax) OutOfMemory = ⊥
-TreePasses s (set_file k syntax) error = IsTooLargeIn s.crates s.skipped (file_at k) syntax error
-TreePasses s (remove_file k) error = ⊥
+-- some tree that the edit, made after those, lowers passes this size
+abbrev pub TreePasses : State → List EditView → EditView → LowerError → Type 0
+TreePasses s before edit OutOfMemory = ⊥
+TreePasses s before edit error = PassesAfter s before edit error
 
 -- the edit at this place, counted from 0, passes this size: its number is past the last, or it has a number and its tree is too large
 abbrev pub PassesAt : State → List EditView → ℕ → EditFault → Type 0
 PassesAt s edits place TooManyEdits = (place < length edits) × (last_number < s.number + place + 1)
-PassesAt s edits place (Lower error) = (s.number + place + 1 ≤ last_number) × ((edit : EditView) × (slice_get edits place ≡ Some edit) × TreePasses s edit error)
+PassesAt s edits place (Lower error) = (s.number + place + 1 ≤ last_number) × ((edit : EditView) × (slice_get edits place ≡ Some edit) × TreePasses s (take place edits) edit error)

@@ -31,7 +31,7 @@ parts d = do
   skipped ← list_at name (codes "skipped") d
   language ← edition_at d
   crates ← list_at crate_data (codes "crates") d
-  edits ← list_at edit (codes "edits") d
+  edits ← list_at (edit (length crates)) (codes "edits") d
   shows ← list_at (show (length crates)) (codes "shows") d
   Some (record { start = start; skipped = skipped; edition = language; crates = crates; edits = edits; shows = shows })
 

@@ -1,12 +1,12 @@
 //! From the bytes of a request to its output.
-ghost use Rattle.std.specs.Prelude.{◌≡◌, IfOk, length, map, MatchResult, string_bytes};
+ghost use Rattle.std.specs.Prelude.{◌≡◌, All, IfOk, length, map, MatchResult, string_bytes};
 ghost use Rattle.serde_json.specs.View.{view};
 ghost use Rattle.item_tree.specs.CrateView.{crate_view};
 ghost use Rattle.item_tree_db.specs.State.{new_table};
 ghost use Rattle.item_tree_db.specs.Edits.{edit_view};
 ghost use Rattle.item_tree_request.specs.Made.{IsMade, IsServed, IsUnmade, refusal_of};
 ghost use Rattle.item_tree_request.specs.Outputs.{table_of};
-ghost use Rattle.item_tree_request.specs.Seen.{request_view, KnowsShows};
+ghost use Rattle.item_tree_request.specs.Seen.{request_view, EditNamesCrate, NamesOwnCrates};
 ghost use Rattle.item_tree_request.specs.Requests.{IsJsonText, IsRequest};
 ghost use Rattle.item_tree_request.specs.Runs.{IsOutputOf, IsRefusedFor};
 
@@ -36,7 +36,7 @@ fn value_of(alloc: Global, bytes: &[u8]) -> Result<Value, RunError>
 // The request that the bytes are a JSON text of.
 fn read_request(alloc: Global, bytes: &[u8]) -> Result<Request, RunError>
     ensures reads { MatchResult result (λ request. IsRequest bytes.now (request_view request)) (IsRefusedFor bytes.now) }
-    ensures known { IfOk result KnowsShows }
+    ensures known { IfOk result NamesOwnCrates }
 {
     let value = value_of(alloc, bytes)?;
     match request_of(alloc, value) {
@@ -64,6 +64,7 @@ fn sources_of(
     start: u64,
     edits: Vec<Edit>,
 ) -> Result<Sources, RunError>
+    requires { All (EditNamesCrate (length crates.items)) edits.items }
     ensures { MatchResult result
         (IsMade (new_table (map crate_view crates.items) skipped.items start) (map edit_view edits.items))
         (IsUnmade (new_table (map crate_view crates.items) skipped.items start) (map edit_view edits.items)) }
@@ -81,7 +82,7 @@ fn sources_of(
 
 // The texts of a request's shows after its edits.
 fn serve(alloc: Global, request: Request) -> Result<String, RunError>
-    requires { KnowsShows request }
+    requires { NamesOwnCrates request }
     ensures { MatchResult result
         (λ text. IsServed (request_view request) (string_bytes text))
         (IsUnmade (table_of (request_view request)) (request_view request).edits) }

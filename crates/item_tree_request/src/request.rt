@@ -6,7 +6,7 @@ ghost use Rattle.hir_input_json.specs.Forms.{field as field_of, optional, whole,
 ghost use Rattle.hir_input_json.specs.Held.{held, without};
 ghost use Rattle.hir_input_json.specs.declared.fault.Fault.TheVariants.{WrongForm};
 ghost use Rattle.hir_input_json.specs.Reads.{Reads};
-ghost use Rattle.item_tree_request.specs.Seen.{request_view, KnowsShows};
+ghost use Rattle.item_tree_request.specs.Seen.{request_view, NamesOwnCrates};
 ghost use Rattle.item_tree_request.specs.Requests.{request as request_form, parts as parts_form};
 
 mod crates;
@@ -69,11 +69,11 @@ fn settings_at(alloc: Global, members: &mut Map<String, Value>) -> Result<Settin
 #[tactic(auto, using(hir_input_json::proofs::Held::field_without))]
 fn parts_of(alloc: Global, members: &mut Map<String, Value>) -> Result<Request, Fault>
     ensures reads { Reads request_view result (parts_form (held members.old)) }
-    ensures known { IfOk result KnowsShows }
+    ensures known { IfOk result NamesOwnCrates }
 {
     let settings = settings_at(alloc, members)?;
     let crates = crates_at(alloc, members)?;
-    let edits = edits_at(alloc, members)?;
+    let edits = edits_at(alloc, members, &crates)?;
     let shows = shows_at(alloc, members, &crates)?;
     let Settings {
         start,
@@ -93,7 +93,7 @@ fn parts_of(alloc: Global, members: &mut Map<String, Value>) -> Result<Request, 
 #[tactic(auto, unfolding(crate::specs::Requests::request))]
 pub(crate) fn request_of(alloc: Global, value: Value) -> Result<Request, Fault>
     ensures reads { Reads request_view result (request_form (view value)) }
-    ensures known { IfOk result KnowsShows }
+    ensures known { IfOk result NamesOwnCrates }
 {
     if has_float(&value) {
         return Err(Fault::WrongForm);

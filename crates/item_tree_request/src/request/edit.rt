@@ -1,59 +1,93 @@
 //! Edits, read from their forms.
-ghost use Rattle.std.specs.Prelude.{◌≡◌, OnOk, codes, map};
+ghost use Rattle.std.specs.Prelude.{◌≡◌, All, IfOk, OnOk, codes, length, map};
 ghost use Rattle.serde_json.specs.View.{view, items_view};
+ghost use Rattle.hir_input.specs.Syntax.{syntax_view};
 ghost use Rattle.item_tree_db.specs.Edits.{edit_view};
-ghost use Rattle.item_tree_request.specs.Edits.{edit as edit_form, set_file_edit};
-ghost use Rattle.hir_input_json.specs.Forms.{each, list_at as each_at};
+ghost use Rattle.item_tree.specs.CrateView.{crate_view};
+ghost use Rattle.item_tree_request.specs.Edits.{edit as edit_form, set_cfg_edit};
+ghost use Rattle.item_tree_request.specs.Seen.{EditNamesCrate};
+ghost use Rattle.hir_input_json.specs.Forms.{each, field as field_of, required, list_at as each_at};
+ghost use Rattle.hir_input_json.specs.Syntaxes.{syntax as syntax_form};
 ghost use Rattle.hir_input_json.specs.Held.{held, without};
 ghost use Rattle.hir_input_json.specs.Reads.{Reads};
 
-use hir_input::HirFileId;
+use hir_input::ast::Syntax;
+use hir_input::{CfgOptions, Crate, HirFileId};
 use hir_input_json::Fault;
+use hir_input_json::atom::atoms_at;
 use hir_input_json::member::{id_at, list_at, members_of, taken, word_at};
 use hir_input_json::syntax::syntax_of;
+use item_tree::CrateData;
 use item_tree_db::Edit;
 use serde_json::{Map, Value};
 use std::alloc::Global;
 
-fn set_file_of(alloc: Global, members: &mut Map<String, Value>) -> Result<Edit, Fault>
-    ensures { Reads edit_view result (set_file_edit (held members.old)) }
+fn syntax_at(alloc: Global, members: &mut Map<String, Value>) -> Result<Syntax, Fault>
+    ensures { Reads syntax_view result (required syntax_form (field_of (codes "syntax") (held members.old))) }
 {
-    let file = HirFileId(id_at(members, "file")?);
     let syntax = taken(members, "syntax").ok_or(Fault::WrongForm)?;
-    let syntax = syntax_of(alloc, syntax)?;
-    Ok(Edit::SetFile { file, syntax })
+    syntax_of(alloc, syntax)
 }
 
+#[tactic(auto, using(hir_input_json::proofs::Held::field_without))]
+fn set_cfg_of(alloc: Global, members: &mut Map<String, Value>, count: usize) -> Result<Edit, Fault>
+    ensures reads { Reads edit_view result (set_cfg_edit count (held members.old)) }
+    ensures known { IfOk result (EditNamesCrate count) }
+{
+    let krate = id_at(members, "crate")?;
+    if krate as usize >= count {
+        return Err(Fault::WrongForm);
+    }
+    let options = CfgOptions::new(atoms_at(alloc, members, "cfg")?);
+    Ok(Edit::SetCfg {
+        krate: Crate(krate),
+        options,
+    })
+}
+
+// An edit of a table of this many crates.
 #[tactic(auto, using(hir_input_json::proofs::Held::no_field))]
-fn edit_of(alloc: Global, value: Value) -> Result<Edit, Fault>
-    ensures { Reads edit_view result (edit_form (view value)) }
+fn edit_of(alloc: Global, value: Value, count: usize) -> Result<Edit, Fault>
+    ensures reads { Reads edit_view result (edit_form count (view value)) }
+    ensures known { IfOk result (EditNamesCrate count) }
 {
     let mut members = members_of(value)?;
     match word_at(&members, "edit")? {
-        "set_file" => set_file_of(alloc, &mut members),
+        "set_file" => {
+            let file = HirFileId(id_at(&members, "file")?);
+            let syntax = syntax_at(alloc, &mut members)?;
+            Ok(Edit::SetFile { file, syntax })
+        }
         "remove_file" => {
             let file = HirFileId(id_at(&members, "file")?);
             Ok(Edit::RemoveFile { file })
         }
+        "set_cfg" => set_cfg_of(alloc, &mut members, count),
         _ => Err(Fault::WrongForm),
     }
 }
 
-fn edits_of(alloc: Global, items: Vec<Value>) -> Result<Vec<Edit>, Fault>
-    ensures { Reads (λ v. map edit_view v.items) result (each edit_form (items_view items.items)) }
+fn edits_of(alloc: Global, items: Vec<Value>, count: usize) -> Result<Vec<Edit>, Fault>
+    ensures reads { Reads (λ v. map edit_view v.items) result (each (edit_form count) (items_view items.items)) }
+    ensures known { IfOk result (λ v. All (EditNamesCrate count) v.items) }
 {
     let mut edits = Vec::with_capacity(alloc, items.len())?;
     for item in items {
-        edits.push(edit_of(alloc, item)?)?;
+        edits.push(edit_of(alloc, item, count)?)?;
     }
     Ok(edits)
 }
 
-// Takes the edits out.
-pub(crate) fn edits_at(alloc: Global, members: &mut Map<String, Value>) -> Result<Vec<Edit>, Fault>
-    ensures reads { Reads (λ v. map edit_view v.items) result (each_at edit_form (codes "edits") (held members.old)) }
+// Takes the edits of a table of these crates out.
+pub(crate) fn edits_at(
+    alloc: Global,
+    members: &mut Map<String, Value>,
+    crates: &Vec<CrateData>,
+) -> Result<Vec<Edit>, Fault>
+    ensures reads { Reads (λ v. map edit_view v.items) result (each_at (edit_form (length (map crate_view crates.now.items))) (codes "edits") (held members.old)) }
+    ensures known { IfOk result (λ v. All (EditNamesCrate (length crates.now.items)) v.items) }
     ensures left { OnOk result (held members.new ≡ without (codes "edits") (held members.old)) }
 {
     let items = list_at(alloc, members, "edits")?;
-    edits_of(alloc, items)
+    edits_of(alloc, items, crates.len())
 }

@@ -12,7 +12,7 @@ output_of-requires c =
     let r = c.args.request in
     let s = new_table (map crate_view r.crates.items) r.skipped.items r.start in
     let made = c.in_ok-sources.ensures in
-    let known = knows_new r.crates.items r.skipped.items r.start r.shows.items c.requires in
+    let known = knows_new r.crates.items r.skipped.items r.start r.shows.items c.requires.shows in
     subst (All (Knows c.in_ok-sources.sources)) (sym c.deref.ensures.value) (knows_after s c.in_ok-sources.sources (map edit_view r.edits.items) r.shows.items made.after known)
 
 pub returns-in-Ok : goal.returns-in-Ok
@@ -21,6 +21,6 @@ returns-in-Ok c =
     let s = new_table (map crate_view r.crates.items) r.skipped.items r.start in
     let edits = map edit_view r.edits.items in
     let made = c.in_ok-sources.ensures in
-    let known = knows_new r.crates.items r.skipped.items r.start r.shows.items c.requires in
+    let known = knows_new r.crates.items r.skipped.items r.start r.shows.items c.requires.shows in
     let same = output-after r.edition.reserved.items s c.in_ok-sources.sources edits r.shows.items made.after known in
     record { none_passes = made.none_passes; is_output = c.in-Ok.ensures ∙ ap (flat_map (shown r.edition.reserved.items c.in_ok-sources.sources [])) c.deref.ensures.value ∙ same }

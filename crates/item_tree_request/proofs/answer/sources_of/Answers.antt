@@ -1,8 +1,10 @@
-use Rattle.std.proofs.Common.{◌≤◌, map, rules, arith, subst}
+use Rattle.std.proofs.Common.{◌≤◌, map, rules, arith, subst, sym}
+use Rattle.std.specs.List.{AllByRecursion}
 use Rattle.item_tree_db.specs.Edits.{edit_view}
-use Rattle.item_tree_db.specs.Refusal.{last_number}
+use Rattle.item_tree_db.specs.Refusal.{last_number, NamesKnown}
 use Rattle.item_tree_request.specs.Made.{IsMade, IsUnmade, refusal_of}
 use Rattle.item_tree_request.proofs.Made.{is_made, is_unmade, found_in_map}
+use Rattle.item_tree_request.proofs.Outputs.{edits_known}
 use Rattle.item_tree_request.proofs.answer.sources_of.Goals as goal
 
 pub returns-in-Ok : goal.returns-in-Ok
@@ -24,3 +26,6 @@ returns-in-Err c =
     let unmade = is_unmade c.new-sources.result c.edit_all.new.self edits all.place (edit_view all.refused.edit) all.refused.cause found refused.refused (omega (arith, small, number)) refused.fits_before refused.cause refused.full in
     let told = subst (λ s. IsUnmade s edits (refusal_of all.place all.refused.cause)) c.new-sources.ensures unmade in
     rw c.refusal.ensures told
+
+pub edit_all-requires : goal.edit_all-requires
+edit_all-requires c = subst (λ s. AllByRecursion (NamesKnown s) (map edit_view c.args.edits.items)) (sym c.new-sources.ensures) (edits_known c.args.crates.items c.args.skipped.items c.args.start c.args.edits.items c.requires)

@@ -1,11 +1,14 @@
--- the reading is what was read, and then the reading of what is left
-use Rattle.std.proofs.Common.{◌≡◌, map}
+-- the reading is what was read, and then the reading of what is left; each edit names no crate but one of those
+use Rattle.std.proofs.Common.{◌≡◌, All, map}
 use Rattle.serde_json.specs.View.{items_view}
 use Rattle.item_tree_db.specs.Edits.{edit_view}
 use Rattle.hir_input_json.specs.Forms.{each}
 use Rattle.item_tree_request.specs.Edits.{edit}
+use Rattle.item_tree_request.specs.Seen.{EditNamesCrate}
 use Rattle.hir_input_json.proofs.Lists.{joined}
 use Rattle.item_tree_request.proofs.request.edit.edits_of.Given as goal
 
 abbrev pub invariant-loop-item : goal.invariant-loop-item
-invariant-loop-item l = each edit (items_view l.fn.items.items) ≡ joined (map edit_view l.edits.items) (each edit (items_view l.item-iterator.rest.items))
+invariant-loop-item l =
+    (each (edit l.count) (items_view l.fn.items.items) ≡ joined (map edit_view l.edits.items) (each (edit l.count) (items_view l.item-iterator.rest.items)))
+    × All (EditNamesCrate l.count) l.edits.items
