@@ -1,7 +1,7 @@
 -- The reading of a syntax and of a block.
 use Rattle.std.specs.Prelude.{List, ℕ, codes, Option, Some, None, option_map}
 use Rattle.serde_json.specs.Data.{Data}
-use Rattle.serde_json.specs.Find.{as_str}
+use Rattle.serde_json.specs.Find.{as_str, as_object}
 use Rattle.hir_input.specs.Syntax.{CallView, items_from, StmtView, item_stmt, call_stmt, other_stmt, TailView, no_tail, call_tail, other_tail, SyntaxView, source_file, macro_items, macro_stmts, block_expr, error}
 use Rattle.hir_input_json.specs.Forms.{field, required, optional, by_first, on_word, list_at, ◌>>=◌}
 use Rattle.hir_input_json.specs.Items.{item, call_form}
@@ -10,6 +10,7 @@ use Rattle.hir_input_json.specs.Metas.{attrs_at}
 -- a macro call of a statement or a tail; the word of its kind may be absent
 abbrev pub call : Data → Option CallView
 call d = do
+  _ ← as_object d
   word ← optional (codes "macro_call") as_str (field (codes "is") d)
   on_word word (codes "macro_call") (call_form d) None
 
