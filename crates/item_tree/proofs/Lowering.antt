@@ -53,7 +53,7 @@ forest_vis-join : (f g : Forest) → forest_vis (join f g) ≡ forest_vis f ++ f
 forest_vis-join empty g = refl
 forest_vis-join (more n f) g = ap (λ vs. node_vis n ++ vs) (forest_vis-join f g) ∙ sym (append_assoc (node_vis n) (forest_vis f) (forest_vis g))
 
-met-join : (f g : Forest) (xs : List V) → meet_all xs (forest_vis (join f g)) ≡ meet_all (meet_all xs (forest_vis f)) (forest_vis g)
+pub met-join : (f g : Forest) (xs : List V) → meet_all xs (forest_vis (join f g)) ≡ meet_all (meet_all xs (forest_vis f)) (forest_vis g)
 met-join f g xs = ap (meet_all xs) (forest_vis-join f g) ∙ meet_all-append xs (forest_vis f) (forest_vis g)
 
 pub add-join : (o : Option Node) (f g : Forest) → add o (join f g) ≡ join (add o f) g

@@ -9,12 +9,13 @@ use Rattle.item_tree.specs.declared.lower.Ctx.{Ctx}
 use Rattle.item_tree.specs.declared.rows.Rows.{Rows}
 use Rattle.item_tree.specs.declared.fault.LowerError.{LowerError}
 use Rattle.item_tree.specs.Node.{Forest, empty, add, count}
-use Rattle.item_tree.specs.Meeting.{met}
+use Rattle.item_tree.specs.Meeting.{meet_all}
+use Rattle.item_tree.specs.Layout.{forest_vis}
 use Rattle.item_tree.specs.Size.{item_written, items_written, IsPassed, most_attrs, forest_supers}
 use Rattle.item_tree.specs.Growth.{kept_in, all_kept_in, Lowers, sizes_with}
 use Rattle.item_tree.specs.Statements.{stmt_item, tail_item}
-use Rattle.item_tree.proofs.Arena.{Extends-met}
-use Rattle.item_tree.proofs.Lowering.{join, add-join, count-join, most_attrs-join, forest_supers-join, met-join, length-Extends, passes, Lowers-count, Lowers-join}
+use Rattle.item_tree.proofs.Arena.{length-Extends, Extends-meet_all}
+use Rattle.item_tree.proofs.Lowering.{join, add-join, count-join, most_attrs-join, forest_supers-join, met-join, passes, Lowers-count, Lowers-join}
 
 module _ (ctx : Ctx) where
   abbrev of_stmts : List Stmt → Forest
@@ -50,7 +51,7 @@ module _ (a : Rows) (v w : ℕ) (f g : Forest) (e : LowerError) where
   passed-front =
       passes (sizes_with a v f) (sizes_with a (max v w) (join f g)) e (record {
         items = omega (arith, count-join f g);
-        visibilities = omega (arith, ap length (met-join f g a.arena.keys), length-Extends (met f a.arena.keys) (met g (met f a.arena.keys)) (Extends-met g (met f a.arena.keys)));
+        visibilities = let here = meet_all a.arena.keys (forest_vis f) in omega (arith, ap length (met-join f g a.arena.keys), length-Extends here (meet_all here (forest_vis g)) (Extends-meet_all here (forest_vis g)));
         use_trees = omega arith;
         attributes = omega (arith, most_attrs-join f g);
         supers = omega (arith, forest_supers-join f g);
@@ -60,7 +61,7 @@ module _ (a : Rows) (v w : ℕ) (f g : Forest) (e : LowerError) where
   passed-behind {b} h =
       passes (sizes_with b w g) (sizes_with a (max v w) (join f g)) e (record {
         items = omega (arith, Lowers-count h, count-join f g);
-        visibilities = omega (arith, ap length (met-join f g a.arena.keys ∙ ap (met g) (sym h.arena_met)));
+        visibilities = omega (arith, ap length (met-join f g a.arena.keys ∙ ap (λ z. meet_all z (forest_vis g)) (sym h.arena_met)));
         use_trees = omega arith;
         attributes = omega (arith, most_attrs-join f g);
         supers = omega (arith, forest_supers-join f g);
