@@ -13,12 +13,14 @@ pub fn bare_crate(alloc: Global) -> CrateData {
     }
 }
 
-pub fn tree_of(alloc: Global, syntax: &Syntax) -> Result<ItemTree, LowerError> {
-    lower_syntax(alloc, syntax, false, &bare_crate(alloc), &[])
+// A tree in a box: whoever holds a tree itself, and drops it, is proved slowly.
+pub fn tree_of(alloc: Global, syntax: &Syntax) -> Result<Box<ItemTree>, LowerError> {
+    let tree = lower_syntax(alloc, syntax, false, &bare_crate(alloc), &[])?;
+    Ok(Box::new(alloc, tree)?)
 }
 
 // The tree of the file with an item of each kind.
-pub fn tree_of_all_kinds(alloc: Global) -> Result<ItemTree, LowerError> {
+pub fn tree_of_all_kinds(alloc: Global) -> Result<Box<ItemTree>, LowerError> {
     tree_of(alloc, &file(alloc, 18)?)
 }
 

@@ -156,7 +156,8 @@ fn shown_visibility(alloc: Global, tree: &ItemTree) -> Result<String, Fail> {
 
 #[test]
 fn an_id_lends_its_visibility(rt: HostRuntime) -> Result<(), Fail> {
-    let shown = shown_visibility(rt.alloc(), &tree_of_all_kinds(rt.alloc())?)?;
+    let tree = tree_of_all_kinds(rt.alloc())?;
+    let shown = shown_visibility(rt.alloc(), &tree)?;
     assert_eq!(rt;
         shown.as_str(),
         "Module(ModPath { kind: Super(1), segments: [] }, Explicit)"
@@ -187,11 +188,11 @@ fn has_any_of(tree: &ItemTree, other: &ItemTree) -> bool {
     false
 }
 
-fn one_function(alloc: Global) -> Result<ItemTree, LowerError> {
+fn one_function(alloc: Global) -> Result<Box<ItemTree>, LowerError> {
     tree_of(alloc, &items::one_function(alloc, Vec::new(alloc))?)
 }
 
-fn one_use(alloc: Global) -> Result<ItemTree, LowerError> {
+fn one_use(alloc: Global) -> Result<Box<ItemTree>, LowerError> {
     let item = items::use_of(alloc, 1, use_trees::nested(alloc)?);
     tree_of(alloc, &items::file_of(alloc, item)?)
 }
