@@ -4,7 +4,7 @@
 set -uo pipefail
 cd "$(dirname "${BASH_SOURCE[0]}")" || exit 2
 program=crates/item_tree_tool/out/item_tree_tool
-tests=crates/item_tree_tests/out/item_tree_tests_tests
+tests="crates/item_tree_tests/out/item_tree_tests_tests crates/item_tree_db_tests/out/item_tree_db_tests_tests"
 log=$(mktemp)
 trap 'rm -f "$log"' EXIT
 

@@ -1,12 +1,14 @@
 #!/usr/bin/env bash
 # Refuses each request for memory in turn, one a run, until a run makes no further request.
 #
-#   refused_memory.sh PROGRAM TESTS
+#   refused_memory.sh PROGRAM TESTS ..
 #
 # The program, on each request that it answers, has to end with status 5, the line `out of memory` and nothing written.
-# Each test of the binary TESTS whose name holds `when_memory_is_refused` has to pass in every run.
+# Each test of the binaries TESTS whose name holds `when_memory_is_refused` has to pass in every run.
 set -uo pipefail
-program=$(realpath "$1") tests=$(realpath "$2")
+program=$(realpath "$1")
+shift
+mapfile -t binaries < <(realpath "$@")
 here=$(cd "$(dirname "${BASH_SOURCE[0]}")" && pwd)
 work=$(mktemp -d)
 trap 'rm -rf "$work"' EXIT
@@ -42,11 +44,13 @@ for wanted in "$here"/requests/*/*.out; do
     judge $? "request $name: status $status with no request for memory refused"
 done
 
-for name in $("$tests" --list | sed -n 's/: test$//p' | grep when_memory_is_refused); do
-    for ((request = 1; ; request++)); do
-        refuse "$request" "$tests" "$name"
-        judge "$status" "test $name: failed with request $request for memory refused"
-        [ "$made" -ge "$request" ] || break
+for tests in "${binaries[@]}"; do
+    for name in $("$tests" --list | sed -n 's/: test$//p' | grep when_memory_is_refused); do
+        for ((request = 1; ; request++)); do
+            refuse "$request" "$tests" "$name"
+            judge "$status" "test $name: failed with request $request for memory refused"
+            [ "$made" -ge "$request" ] || break
+        done
     done
 done
 

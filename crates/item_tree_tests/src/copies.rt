@@ -1,130 +1,107 @@
-//! A copy of each item is its source.
-use crate::syntax::{crate_data, name, one_function};
-use hir_input::{ExpandTo, ModPath, Name, PathKind, SyntaxContext};
+//! Copies and readings, whole or refused, and of two requests never both refused.
+use crate::lowered::{first_use, is_right, tree_of_all_kinds};
+use hir_input::PathKind;
+use hir_input::ast::Visibility;
 use item_tree::{
-    Const, Enum, ExternBlock, ExternCrate, FieldsShape, Function, Impl, ImportAlias, ItemTree,
-    Macro2, MacroCall, MacroRules, Mod, ModItemId, ModItemKind, ModKind, RawVisibilityId, Static,
-    Struct, StructValueNsCtor, Trait, TypeAlias, Union, lower_syntax,
+    ImportAlias, ItemTree, LowerError, RawVisibility, VisibilityExplicitness, visibility_from_ast,
 };
-use std::alloc::Global;
-use std::test::Fail;
+use item_tree_samples::words::{name, path, within};
+use std::alloc::{AllocError, Global};
 
-fn is_copied<T: Clone + PartialEq + Drop>(source: &T) -> bool {
-    match source.clone() {
-        Ok(copy) => copy == *source,
-        Err(_) => false,
+// Whether a copy is made, of two requests at least once, and equal to its source, which is still equal to its twin.
+fn is_copied<T: Clone + PartialEq + Drop>(source: &T, twin: &T) -> bool {
+    let mut is_made = false;
+    for _ in 0..2 {
+        if let Ok(copy) = source.clone() {
+            if copy != *source {
+                return false;
+            }
+            is_made = true;
+        }
+    }
+    is_made && *source == *twin
+}
+
+fn is_path_copied(alloc: Global) -> Result<bool, LowerError> {
+    let source = path(alloc, PathKind::Super(2), "a")?;
+    let twin = path(alloc, PathKind::Super(2), "a")?;
+    Ok(is_copied(&source, &twin))
+}
+
+fn is_name_copied(alloc: Global) -> Result<bool, LowerError> {
+    let source = name(alloc, "g")?;
+    let twin = name(alloc, "g")?;
+    Ok(is_copied(&source, &twin))
+}
+
+#[test]
+fn copies_of_words_are_whole_or_refused_when_memory_is_refused(rt: HostRuntime) {
+    assert!(rt; is_right(is_path_copied(rt.alloc())));
+    assert!(rt; is_right(is_name_copied(rt.alloc())));
+}
+
+fn alias(alloc: Global) -> Result<ImportAlias, AllocError> {
+    match name(alloc, "g")? {
+        Some(name) => Ok(ImportAlias::Alias(name)),
+        None => Ok(ImportAlias::Underscore),
     }
 }
 
-// The tree of one function.
-fn lowered(alloc: Global) -> Result<ItemTree, Fail> {
-    let krate = crate_data(alloc, None)?;
-    let syntax = one_function(alloc, Vec::new(alloc))?;
-    Ok(lower_syntax(alloc, &syntax, false, &krate, &[])?)
+fn is_alias_copied(alloc: Global) -> Result<bool, LowerError> {
+    let source = alias(alloc)?;
+    let twin = alias(alloc)?;
+    Ok(is_copied(&source, &twin))
 }
 
-// The id of the one item, a function, and that of its visibility.
-#[tactic(auto, using(item_tree::proofs::Walking::ids_contained))]
-fn only_ids(tree: &ItemTree) -> Result<(ModItemId, RawVisibilityId), Fail> {
-    let [id] = tree.top_level_items() else {
-        return Err(Fail::new("not one item"));
-    };
-    match tree.index(*id) {
-        ModItemKind::Function(_, item) => Ok((*id, item.visibility)),
-        _ => Err(Fail::new("not a function")),
+// Whether the first use is copied, and its parts.
+fn is_use_copied(source: &ItemTree, twin: &ItemTree) -> Option<bool> {
+    let (source, twin) = (first_use(source)?, first_use(twin)?);
+    let (source_tree, twin_tree) = (source.use_tree(), twin.use_tree());
+    Some(
+        is_copied(source, twin)
+            && is_copied(source_tree, twin_tree)
+            && is_copied(source_tree.kind(), twin_tree.kind()),
+    )
+}
+
+fn are_uses_copied(alloc: Global) -> Result<bool, LowerError> {
+    let source = tree_of_all_kinds(alloc)?;
+    let twin = tree_of_all_kinds(alloc)?;
+    Ok(is_use_copied(&source, &twin) == Some(true))
+}
+
+#[test]
+fn copies_of_uses_are_whole_or_refused_when_memory_is_refused(rt: HostRuntime) {
+    assert!(rt; is_right(is_alias_copied(rt.alloc())));
+    assert!(rt; is_right(are_uses_copied(rt.alloc())));
+}
+
+// Whether a visibility is read as wanted, of two requests at least once, and copied.
+fn is_read(alloc: Global, written: &Visibility, wanted: &RawVisibility) -> bool {
+    let mut is_read = false;
+    for _ in 0..2 {
+        if let Ok(read) = visibility_from_ast(alloc, Some(written)) {
+            if !is_copied(&read, wanted) {
+                return false;
+            }
+            is_read = true;
+        }
+    }
+    is_read
+}
+
+fn is_visibility_read(alloc: Global) -> Result<bool, LowerError> {
+    let written = within(alloc, PathKind::Crate, "m")?;
+    match path(alloc, PathKind::Crate, "m")? {
+        Some(path) => {
+            let wanted = RawVisibility::Module(path, VisibilityExplicitness::Explicit);
+            Ok(is_read(alloc, &written, &wanted))
+        }
+        None => Ok(false),
     }
 }
 
-fn any_name(alloc: Global) -> Result<Name, Fail> {
-    Ok(name(alloc, "f")?.ok_or("no name")?)
-}
-
-// One name goes from item to item.
 #[test]
-fn types_and_values_are_copied(rt: HostRuntime) -> Result<(), Fail> {
-    let (_, visibility) = only_ids(&lowered(rt.alloc())?)?;
-    let name = any_name(rt.alloc())?;
-    let item = Function { name, visibility };
-    assert!(rt; is_copied(&item));
-    let name = item.name;
-    let item = Union { name, visibility };
-    assert!(rt; is_copied(&item));
-    let name = item.name;
-    let item = Enum { name, visibility };
-    assert!(rt; is_copied(&item));
-    let name = item.name;
-    let item = TypeAlias { name, visibility };
-    assert!(rt; is_copied(&item));
-    let name = item.name;
-    let item = Static { name, visibility };
-    assert!(rt; is_copied(&item));
-    let name = Some(item.name);
-    assert!(rt; is_copied(&Const { name, visibility }));
-    Ok(())
-}
-
-#[test]
-fn macros_traits_and_crates_are_copied(rt: HostRuntime) -> Result<(), Fail> {
-    let (_, visibility) = only_ids(&lowered(rt.alloc())?)?;
-    let name = any_name(rt.alloc())?;
-    let item = MacroRules { name };
-    assert!(rt; is_copied(&item));
-    let name = item.name;
-    let item = Macro2 { name, visibility };
-    assert!(rt; is_copied(&item));
-    let name = item.name;
-    let item = Trait { name, visibility };
-    assert!(rt; is_copied(&item));
-    let name = item.name;
-    let alias = Some(ImportAlias::Underscore);
-    let item = ExternCrate {
-        name,
-        visibility,
-        alias,
-    };
-    assert!(rt; is_copied(&item));
-    let is_trait_impl = true;
-    assert!(rt; is_copied(&Impl { is_trait_impl }));
-    Ok(())
-}
-
-#[test]
-fn items_with_ids_are_copied(rt: HostRuntime) -> Result<(), Fail> {
-    let alloc = rt.alloc();
-    let (item, visibility) = only_ids(&lowered(alloc)?)?;
-    let children = vec![in alloc; item]?;
-    let block = ExternBlock { children };
-    assert!(rt; is_copied(&block));
-    let name = any_name(alloc)?;
-    let kind = ModKind::Inline {
-        items: block.children,
-    };
-    let module = Mod {
-        name,
-        visibility,
-        kind,
-    };
-    assert!(rt; is_copied(&module));
-    let item = Struct {
-        name: module.name,
-        visibility,
-        shape: FieldsShape::Tuple,
-        value_ns_ctor: StructValueNsCtor::ValueNsCtorWithMinVis(vec![in alloc;
-            visibility, visibility,
-        ]?),
-    };
-    assert!(rt; is_copied(&item));
-    Ok(())
-}
-
-#[test]
-fn calls_are_copied(rt: HostRuntime) -> Result<(), Fail> {
-    let segments = vec![in rt.alloc(); any_name(rt.alloc())?]?;
-    let call = MacroCall {
-        path: ModPath::from_segments(PathKind::Plain, segments).ok_or("no path")?,
-        expand_to: ExpandTo::Items,
-        ctxt: SyntaxContext::Expanded(7),
-    };
-    assert!(rt; is_copied(&call));
-    Ok(())
+fn a_visibility_is_read_or_refused_when_memory_is_refused(rt: HostRuntime) {
+    assert!(rt; is_right(is_visibility_read(rt.alloc())));
 }

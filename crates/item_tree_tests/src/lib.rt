@@ -1,5 +1,5 @@
-//! Tests of what only a call can show, of every library above `item_tree_attrs`: copies, what stands where a request for memory
-//! is refused, constructors, ids of other trees, counts of items, tables as `Debug` shows them, and one small example of use.
+//! Tests of what only a call can show, of `item_tree` and of the two examples over it: pages, copies, uses, what stands where
+//! a request for memory is refused, ids of other trees, and tables as `Debug` shows them.
 //!
 //! A crate with tests is proved twice; these call what is public, so no library has any.
 //!
@@ -10,24 +10,12 @@
 #[cfg(test)]
 mod copies;
 #[cfg(test)]
-mod edits;
+mod imports;
 #[cfg(test)]
-mod example;
+mod items;
 #[cfg(test)]
-mod kinds;
+mod lowered;
 #[cfg(test)]
-mod lists;
+mod trees;
 #[cfg(test)]
-mod syntax;
-#[cfg(test)]
-mod table;
-#[cfg(test)]
-mod tables;
-#[cfg(test)]
-mod tree;
-#[cfg(test)]
-mod uses;
-#[cfg(test)]
-mod values;
-#[cfg(test)]
-mod walks;
+mod use_trees;

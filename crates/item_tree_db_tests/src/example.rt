@@ -1,14 +1,15 @@
 //! The table of trees in a few lines: a file is set, and its tree is read.
-use crate::syntax::{crate_data, one_function};
+use crate::table::crate_with;
 use hir_input::{Crate, Edition, EditionYear, HirFileId};
 use item_tree::ModItemKind;
 use item_tree_db::{Edit, Place, Sources, file_item_tree};
+use item_tree_samples::items::one_function;
 use std::test::Fail;
 
 #[test]
 fn a_file_is_set_and_its_tree_is_read(rt: HostRuntime) -> Result<(), Fail> {
     let alloc = rt.alloc();
-    let crates = vec![in alloc; crate_data(alloc, None)?]?;
+    let crates = vec![in alloc; crate_with(alloc, "")?]?;
     let syntax = one_function(alloc, Vec::new(alloc))?;
     let edition = Edition {
         year: EditionYear::E2024,

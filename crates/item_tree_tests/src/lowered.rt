@@ -1,0 +1,57 @@
+//! Trees that the tests read, of a crate without options and attributes.
+use hir_input::ast::Syntax;
+use hir_input::{CfgOptions, HirFileId};
+use item_tree::{CrateData, ItemTree, LowerError, Mod, ModItemKind, Use, lower_syntax};
+use item_tree_samples::file::file;
+use std::alloc::Global;
+
+pub fn bare_crate(alloc: Global) -> CrateData {
+    CrateData {
+        root: HirFileId(0),
+        cfg: CfgOptions::new(Vec::new(alloc)),
+        attrs: Vec::new(alloc),
+    }
+}
+
+// A tree in a box: whoever holds a tree itself, and drops it, is proved slowly.
+pub fn tree_of(alloc: Global, syntax: &Syntax) -> Result<Box<ItemTree>, LowerError> {
+    let tree = lower_syntax(alloc, syntax, false, &bare_crate(alloc), &[])?;
+    Ok(Box::new(alloc, tree)?)
+}
+
+// The tree of the file with an item of each kind.
+pub fn tree_of_all_kinds(alloc: Global) -> Result<Box<ItemTree>, LowerError> {
+    tree_of(alloc, &file(alloc, 18)?)
+}
+
+// The first use at the top of a tree.
+pub fn first_use(tree: &ItemTree) -> Option<&Use> {
+    for id in tree.top_level_items() {
+        if tree.contains(*id) {
+            if let ModItemKind::Use(_, item) = tree.index(*id) {
+                return Some(item);
+            }
+        }
+    }
+    None
+}
+
+// The first module at the top of a tree.
+pub fn first_module(tree: &ItemTree) -> Option<&Mod> {
+    for id in tree.top_level_items() {
+        if tree.contains(*id) {
+            if let ModItemKind::Mod(_, module) = tree.index(*id) {
+                return Some(module);
+            }
+        }
+    }
+    None
+}
+
+// Whether an answer is as wanted, or refused for want of memory.
+pub fn is_right(answer: Result<bool, LowerError>) -> bool {
+    match answer {
+        Ok(is_wanted) => is_wanted,
+        Err(error) => error == LowerError::OutOfMemory,
+    }
+}

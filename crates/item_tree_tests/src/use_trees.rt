@@ -1,0 +1,41 @@
+//! What is kept of a use tree, and where it is written.
+use crate::lowered::is_right;
+use hir_input::ast::UseTree;
+use item_tree::{LowerError, lower_use_tree};
+use item_tree_samples::use_trees::{partly_kept, two_names, unreadable};
+use std::alloc::Global;
+use std::test::Fail;
+
+#[test]
+fn an_unreadable_use_tree_is_not_kept(rt: HostRuntime) -> Result<(), Fail> {
+    assert!(rt; lower_use_tree(rt.alloc(), &unreadable())?.is_none());
+    Ok(())
+}
+
+// Whether a use tree is kept as another, at these places, of two requests at least once.
+fn is_kept(alloc: Global, written: &UseTree, kept: &item_tree::UseTree, wanted: &[u32]) -> bool {
+    let mut is_kept = false;
+    for _ in 0..2 {
+        if let Ok(Some((tree, places))) = lower_use_tree(alloc, written) {
+            if tree != *kept || places.as_slice() != wanted {
+                return false;
+            }
+            is_kept = true;
+        }
+    }
+    is_kept
+}
+
+// Whether `a::{b, c::* as g, ?, d}` is kept as `a::{b, d}`.
+fn is_partly_kept(alloc: Global) -> Result<bool, LowerError> {
+    let written = partly_kept(alloc)?;
+    match lower_use_tree(alloc, &two_names(alloc)?)? {
+        Some((kept, _)) => Ok(is_kept(alloc, &written, &kept, &[0, 1, 4])),
+        None => Ok(false),
+    }
+}
+
+#[test]
+fn places_are_whole_or_refused_when_memory_is_refused(rt: HostRuntime) {
+    assert!(rt; is_right(is_partly_kept(rt.alloc())));
+}
