@@ -1,8 +1,9 @@
 //! What stands of a table where a request for memory is refused.
-use crate::table::{FILE, set, table};
+use crate::table::{FILE, function, table};
 use hir_input::Crate;
+use hir_input::ast::Syntax;
 use item_tree::{EditFault, LowerError};
-use item_tree_db::{Edit, EditRefused, Place, Sources};
+use item_tree_db::{AllRefused, Edit, EditRefused, Place, Sources};
 use std::alloc::{AllocError, Global};
 
 // Whether an edit of the file is handed back for want of memory.
@@ -11,10 +12,10 @@ fn is_handed_back(refused: &EditRefused) -> bool {
         && matches!(refused.edit, Edit::SetFile { file: FILE, .. })
 }
 
-// Whether an edit is made, and is the next one, or is handed back.
-fn is_made_or_refused(sources: &mut Sources, edit: Edit) -> bool {
+// Whether the file is set, and this is the next edit, or the edit is handed back.
+fn is_set_or_refused(sources: &mut Sources, syntax: Syntax) -> bool {
     let before = sources.number();
-    match sources.edit(edit) {
+    match sources.edit(Edit::SetFile { file: FILE, syntax }) {
         Ok(number) => Some(number) == before.checked_add(1) && sources.number() == number,
         Err(refused) => is_handed_back(&refused) && sources.number() == before,
     }
@@ -34,10 +35,10 @@ fn stands(sources: &Sources) -> bool {
 // Whether a first edit of the file and a second one are made or handed back.
 fn are_made_or_refused(alloc: Global) -> Result<bool, AllocError> {
     let mut sources = table(alloc, 0)?;
-    let first = set(alloc, false)?;
-    let second = set(alloc, true)?;
-    let is_first = is_made_or_refused(&mut sources, first) && stands(&sources);
-    let is_second = is_made_or_refused(&mut sources, second) && stands(&sources);
+    let first = function(alloc, false)?;
+    let second = function(alloc, true)?;
+    let is_first = is_set_or_refused(&mut sources, first) && stands(&sources);
+    let is_second = is_set_or_refused(&mut sources, second) && stands(&sources);
     Ok(is_first && is_second && sources.number() > 0)
 }
 
@@ -46,27 +47,30 @@ fn an_edit_is_made_or_handed_back_when_memory_is_refused(rt: HostRuntime) {
     assert!(rt; are_made_or_refused(rt.alloc()).unwrap_or(true));
 }
 
-fn history(alloc: Global) -> Result<Vec<Edit>, AllocError> {
-    let mut edits = Vec::new(alloc);
-    edits.push(set(alloc, false)?)?;
-    edits.push(Edit::RemoveFile { file: FILE })?;
-    edits.push(Edit::RemoveFile { file: FILE })?;
-    edits.push(set(alloc, false)?)?;
-    Ok(edits)
+// The place of a refused edit, if it is one that takes memory and is handed back.
+fn refused_place(all: &AllRefused) -> Option<usize> {
+    match all.place {
+        0 | 3 if is_handed_back(&all.refused) => Some(all.place),
+        _ => None,
+    }
 }
 
-// How many edits of the history are made, all or those before one that takes memory.
-fn count_made(sources: &mut Sources, edits: Vec<Edit>) -> Option<usize> {
-    match sources.edit_all(edits) {
-        Ok(4) => Some(4),
-        Ok(_) => None,
-        Err(all) if all.place == 0 || all.place == 3 => {
-            if is_handed_back(&all.refused) {
-                return Some(all.place);
-            }
-            None
-        }
-        Err(_) => None,
+// Sets the file, removes it twice, and sets it again. How many edits are made: all, or those before one that takes memory.
+fn count_made(alloc: Global, sources: &mut Sources) -> Result<Option<usize>, AllocError> {
+    let first = Edit::SetFile {
+        file: FILE,
+        syntax: function(alloc, false)?,
+    };
+    let second = Edit::RemoveFile { file: FILE };
+    let third = Edit::RemoveFile { file: FILE };
+    let fourth = Edit::SetFile {
+        file: FILE,
+        syntax: function(alloc, false)?,
+    };
+    match sources.edit_all(vec![in alloc; first, second, third, fourth]?) {
+        Ok(4) => Ok(Some(4)),
+        Ok(_) => Ok(None),
+        Err(all) => Ok(refused_place(&all)),
     }
 }
 
@@ -82,8 +86,7 @@ fn stands_after(sources: &Sources, made: usize) -> bool {
 
 fn is_history_made(alloc: Global) -> Result<bool, AllocError> {
     let mut sources = table(alloc, 0)?;
-    let edits = history(alloc)?;
-    match count_made(&mut sources, edits) {
+    match count_made(alloc, &mut sources)? {
         Some(made) => Ok(stands_after(&sources, made)),
         None => Ok(false),
     }

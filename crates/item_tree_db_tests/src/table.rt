@@ -1,7 +1,8 @@
-//! Tables and edits that the tests use.
+//! Tables and syntaxes that the tests use.
 use hir_input::HirFileId;
+use hir_input::ast::Syntax;
 use item_tree::CrateData;
-use item_tree_db::{Edit, Sources};
+use item_tree_db::Sources;
 use item_tree_samples::attributes::{condition, options, word};
 use item_tree_samples::items::one_function;
 use std::alloc::{AllocError, Global};
@@ -27,13 +28,12 @@ pub fn table(alloc: Global, start: u64) -> Result<Box<Sources>, AllocError> {
     Ok(Box::new(alloc, sources)?)
 }
 
-// Sets the file to `#[cfg(test)] #[a] fn f() {}`, or to the same without the second attribute.
-pub fn set(alloc: Global, is_marked: bool) -> Result<Edit, AllocError> {
+// `#[cfg(test)] #[a] fn f() {}`, or the same without the second attribute.
+pub fn function(alloc: Global, is_marked: bool) -> Result<Syntax, AllocError> {
     let mut attrs = Vec::new(alloc);
     attrs.push(condition(alloc, "test")?)?;
     if is_marked {
         attrs.push(word(alloc, "a")?)?;
     }
-    let syntax = one_function(alloc, attrs)?;
-    Ok(Edit::SetFile { file: FILE, syntax })
+    one_function(alloc, attrs)
 }
