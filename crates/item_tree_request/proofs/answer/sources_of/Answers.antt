@@ -1,7 +1,8 @@
-use Rattle.std.proofs.Common.{◌≤◌, map, rules, arith, subst, sym}
+use Rattle.std.proofs.Common.{◌≤◌, length, map, rules, arith, subst, sym}
 use Rattle.std.specs.List.{AllByRecursion}
+use Rattle.std.proofs.lemmas.List.{length-map}
 use Rattle.item_tree_db.specs.Edits.{edit_view}
-use Rattle.item_tree_db.specs.Refusal.{last_number, NamesKnown}
+use Rattle.item_tree_db.specs.Refusal.{last_number, NamesKnown, FirstFit}
 use Rattle.item_tree_request.specs.Made.{IsMade, IsUnmade, refusal_of}
 use Rattle.item_tree_request.proofs.Made.{is_made, is_unmade, found_in_map}
 use Rattle.item_tree_request.proofs.Outputs.{edits_known}
@@ -12,7 +13,8 @@ returns-in-Ok c =
     let edits = map edit_view c.args.edits.items in
     let number = c.in-Ok.ensures.number in
     let small : c.in-Ok.field-0 ≤ last_number = search rules in
-    let made = is_made c.new-sources.result c.edit_all.new.self edits c.in-Ok.ensures.ok (omega (arith, small, number)) c.in-Ok.ensures.fits in
+    let fit : FirstFit c.new-sources.result edits (length edits) = subst (FirstFit c.new-sources.result edits) (sym (length-map c.args.edits.items edit_view)) c.in-Ok.ensures.fits in
+    let made = is_made c.new-sources.result c.edit_all.new.self edits c.in-Ok.ensures.ok (omega (arith, small, number)) fit in
     subst (λ s. IsMade s edits c.edit_all.new.self) c.new-sources.ensures made
 
 pub returns-in-Err : goal.returns-in-Err
