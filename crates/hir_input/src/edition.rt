@@ -27,7 +27,7 @@ impl Edition {
     pub(crate) fn reserves(&self, name: &Name) -> bool
         ensures { result ≡ is_among self.now.reserved.items name.now }
     {
-        self.reserved.contains(name)
+        self.reserved.iter().any(|word| word == name)
     }
 }
 
