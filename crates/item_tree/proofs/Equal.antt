@@ -166,7 +166,7 @@ pub tables_decide :
     Decides
     ((m == n && pointwise ◌==◌ is js)
     && (((pointwise tag_eqs.ghosts.eq s.tags.items t.tags.items && pointwise key_eqs.ghosts.eq s.keys.items t.keys.items) && pointwise item_eqs.ghosts.eq s.items.items t.items.items)
-    && ((pointwise ◌==◌ s.places.items t.places.items && pointwise attrs_eqs.ghosts.eq s.column.items t.column.items) && pointwise raw_eq s.arena.keys t.arena.keys)))
+    && ((pointwise ◌==◌ s.places.items t.places.items && pointwise attrs_eqs.ghosts.eq s.column.items t.column.items) && pointwise raw_eq s.arena t.arena)))
     (u ≡ w)
 tables_decide u w is js m n s t few cs ct =
     Decides-like _
@@ -184,4 +184,4 @@ tables_decide u w is js m n s t few cs ct =
     ((ap (λ z. z.top_place) t, ap (λ z. z.top) t), (((ap (λ z. z.tags) t, ap (λ z. z.keys) t), ap (λ z. z.items) t), ((ap (λ z. z.places) t, ap (λ z. z.column) t), ap (λ z. z.arena) t))))
     (Decides-and _ _ (Decides-and _ _ (place_decides m n) (numbers_decide is js))
     (Decides-and _ _ (Decides-and _ _ (Decides-and _ _ (pointwise_decides tag_decides s.tags.items t.tags.items) (maps_decide _ key_in key_decides s.keys.items t.keys.items)) (maps_decide _ item_row item_decides s.items.items t.items.items))
-    (Decides-and _ _ (Decides-and _ _ (maps_decide _ plain_place place_decides s.places.items t.places.items) (maps_decide _ collected attrs_decide s.column.items t.column.items)) (pointwise_decides raw_decides s.arena.keys t.arena.keys))))
+    (Decides-and _ _ (Decides-and _ _ (maps_decide _ plain_place place_decides s.places.items t.places.items) (maps_decide _ collected attrs_decide s.column.items t.column.items)) (pointwise_decides raw_decides s.arena t.arena))))

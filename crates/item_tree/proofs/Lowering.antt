@@ -118,23 +118,23 @@ pub kept-adds : (a b : Rows) → b ≡ record a { arena = b.arena } → Adds a b
 kept-adds a b k = subst (λ z. Adds a z []) (sym k) (let n = Adds-nothing a in record { tags = n.tags; keys = n.keys; items = n.items; places = n.places; column = n.column })
 
 pub Lowers-count : {old new : Rows} {w : ℕ} {f : Forest} {is : List ℕ} → Lowers old new w f is → row_count new ≡ row_count old + count f
-Lowers-count {old} {new} {w} {f} h = Adds-count h.added ∙ ap (λ z. row_count old + z) (length-rows_of new.arena.keys f (row_count old) ∙ length-walk f)
+Lowers-count {old} {new} {w} {f} h = Adds-count h.added ∙ ap (λ z. row_count old + z) (length-rows_of new.arena f (row_count old) ∙ length-walk f)
 
-pub Lowers-extends : {old new : Rows} {w : ℕ} {f : Forest} {is : List ℕ} → Lowers old new w f is → Extends old.arena.keys new.arena.keys
-Lowers-extends {old} {new} {w} {f} h = subst (λ z. Extends old.arena.keys z) (sym h.arena_met) (Extends-meet_all old.arena.keys (forest_vis f))
+pub Lowers-extends : {old new : Rows} {w : ℕ} {f : Forest} {is : List ℕ} → Lowers old new w f is → Extends old.arena new.arena
+Lowers-extends {old} {new} {w} {f} h = subst (λ z. Extends old.arena z) (sym h.arena_met) (Extends-meet_all old.arena (forest_vis f))
 
-pub Lowers-knows : {old new : Rows} {w : ℕ} {f : Forest} {is : List ℕ} → Lowers old new w f is → KnowsAll new.arena.keys (forest_vis f)
-Lowers-knows {old} {new} {w} {f} h = subst (λ z. KnowsAll z (forest_vis f)) (sym h.arena_met) (KnowsAll-meet_all old.arena.keys (forest_vis f))
+pub Lowers-knows : {old new : Rows} {w : ℕ} {f : Forest} {is : List ℕ} → Lowers old new w f is → KnowsAll new.arena (forest_vis f)
+Lowers-knows {old} {new} {w} {f} h = subst (λ z. KnowsAll z (forest_vis f)) (sym h.arena_met) (KnowsAll-meet_all old.arena (forest_vis f))
 
 pub Lowers-join : {a b c : Rows} {v w : ℕ} {f g : Forest} {is js : List ℕ} → Lowers a b v f is → Lowers b c w g js → Lowers a c (max v w) (join f g) (is ++ js)
 Lowers-join {a} {b} {c} {v} {w} {f} {g} {is} {js} h k =
     let n = Lowers-count h ∙ ap (λ z. row_count a + z) (sym (length-walk f)) in
-    let s : rows_of b.arena.keys f (row_count a) ≡ rows_of c.arena.keys f (row_count a) = sym (rows-stable b.arena.keys c.arena.keys (Lowers-extends k) f (row_count a) (Lowers-knows h)) in
-    let r : rows_of c.arena.keys (join f g) (row_count a) ≡ rows_of c.arena.keys f (row_count a) ++ rows_of c.arena.keys g (row_count b) =
-    rows-join c.arena.keys f g (row_count a) ∙ ap (λ z. rows_of c.arena.keys f (row_count a) ++ rows_of c.arena.keys g z) (sym n) in
+    let s : rows_of b.arena f (row_count a) ≡ rows_of c.arena f (row_count a) = sym (rows-stable b.arena c.arena (Lowers-extends k) f (row_count a) (Lowers-knows h)) in
+    let r : rows_of c.arena (join f g) (row_count a) ≡ rows_of c.arena f (row_count a) ++ rows_of c.arena g (row_count b) =
+    rows-join c.arena f g (row_count a) ∙ ap (λ z. rows_of c.arena f (row_count a) ++ rows_of c.arena g z) (sym n) in
     record {
       given = rw (ids-join f g (row_count a), ← n, h.given, k.given) refl;
-      arena_met = k.arena_met ∙ ap (λ z. meet_all z (forest_vis g)) h.arena_met ∙ sym (met-join f g a.arena.keys);
+      arena_met = k.arena_met ∙ ap (λ z. meet_all z (forest_vis g)) h.arena_met ∙ sym (met-join f g a.arena);
       added = subst (λ z. Adds a c z) (sym r) (Adds-join (subst (λ z. Adds a b z) s h.added) k.added);
       use_trees = omega (arith, h.use_trees, k.use_trees);
       attributes = omega (arith, most_attrs-join f g, h.attributes, k.attributes);
@@ -147,15 +147,15 @@ Lowers-join {a} {b} {c} {v} {w} {f} {g} {is} {js} h k =
 -- a node without children, whose visibilities were met
 pub Lowers-leaf :
     {o a b : Rows} {i w : ℕ} (h k : Head) (l : Leaf V) (r : Leaf ℕ) → Adds o a [] →
-    a.arena.keys ≡ meet_all o.arena.keys (leaf_vis l) → r ≡ leaf_map (vis_id a.arena.keys) l → k ≡ h → length h.attrs.attrs ≤ attr_limit → leaf_supers l ≤ super_limit → w ≤ use_tree_limit →
+    a.arena ≡ meet_all o.arena (leaf_vis l) → r ≡ leaf_map (vis_id a.arena) l → k ≡ h → length h.attrs.attrs ≤ attr_limit → leaf_supers l ≤ super_limit → w ≤ use_tree_limit →
     Pushes a b (k, leaf_row r) i → Lowers o b w (more (leaf h l) empty) (i ∷ [])
 Lowers-leaf {o} {a} {b} {i} {w} h k l r s m e q short few fits p =
     let n : row_count a ≡ row_count o = omega (arith, Adds-count s) in
-    let x : r ≡ leaf_map (vis_id b.arena.keys) l = e ∙ ap (λ z. leaf_map (vis_id z) l) (sym p.arena_kept) in
-    let z : (k, leaf_row r) ∷ [] ≡ rows_of b.arena.keys (more (leaf h l) empty) (row_count o) = λ j. (q j, leaf_row (x j)) ∷ [] in
+    let x : r ≡ leaf_map (vis_id b.arena) l = e ∙ ap (λ z. leaf_map (vis_id z) l) (sym p.arena_kept) in
+    let z : (k, leaf_row r) ∷ [] ≡ rows_of b.arena (more (leaf h l) empty) (row_count o) = λ j. (q j, leaf_row (x j)) ∷ [] in
     record {
-      given = ap (λ v. v ∷ []) (p.given ∙ (λ j. 2 * n j + kind_bit (leaf_kind (e j))) ∙ ap (λ v. 2 * row_count o + kind_bit v) (sym (leaf_kind-map (vis_id a.arena.keys) l)));
-      arena_met = p.arena_kept ∙ m ∙ sym (meet_all-append o.arena.keys (leaf_vis l) []);
+      given = ap (λ v. v ∷ []) (p.given ∙ (λ j. 2 * n j + kind_bit (leaf_kind (e j))) ∙ ap (λ v. 2 * row_count o + kind_bit v) (sym (leaf_kind-map (vis_id a.arena) l)));
+      arena_met = p.arena_kept ∙ m ∙ sym (meet_all-append o.arena (leaf_vis l) []);
       added = subst (λ v. Adds o b v) z (Adds-join s p.added);
       use_trees = fits;
       attributes = omega (arith, short);
@@ -166,23 +166,23 @@ Lowers-leaf {o} {a} {b} {i} {w} h k l r s m e q short few fits p =
 -- a node with children, whose visibilities were met before theirs
 pub Lowers-parent :
     {o a b c : Rows} {w : ℕ} {f : Forest} {is : List ℕ} {i : ℕ} (h k : Head) (t : Trunk V) (r : Trunk ℕ) → Adds o a [] →
-    a.arena.keys ≡ meet_all o.arena.keys (trunk_vis t) → r ≡ trunk_map (vis_id a.arena.keys) t → k ≡ h → length h.attrs.attrs ≤ attr_limit →
+    a.arena ≡ meet_all o.arena (trunk_vis t) → r ≡ trunk_map (vis_id a.arena) t → k ≡ h → length h.attrs.attrs ≤ attr_limit →
     Lowers a b w f is → Pushes b c (k, parent_row r is) i → Lowers o c w (more (parent h t f) empty) (i ∷ [])
 Lowers-parent {o} {a} {b} {c} {w} {f} {is} {i} h k t r s m e q few l p =
     let n : row_count a ≡ row_count o = omega (arith, Adds-count s) in
     let d : row_count b ≡ row_count o + length (walk f) = omega (arith, Lowers-count l, length-walk f, n) in
-    let known : KnowsAll a.arena.keys (trunk_vis t) = subst (λ z. KnowsAll z (trunk_vis t)) (sym m) (KnowsAll-meet_all o.arena.keys (trunk_vis t)) in
-    let x : r ≡ trunk_map (vis_id c.arena.keys) t =
-    e ∙ sym (trunk-stable a.arena.keys b.arena.keys t (Lowers-extends l) known) ∙ ap (λ z. trunk_map (vis_id z) t) (sym p.arena_kept) in
-    let y : rows_of b.arena.keys f (row_count a) ≡ rows_of c.arena.keys f (row_count o) = λ j. rows_of (sym p.arena_kept j) f (n j) in
+    let known : KnowsAll a.arena (trunk_vis t) = subst (λ z. KnowsAll z (trunk_vis t)) (sym m) (KnowsAll-meet_all o.arena (trunk_vis t)) in
+    let x : r ≡ trunk_map (vis_id c.arena) t =
+    e ∙ sym (trunk-stable a.arena b.arena t (Lowers-extends l) known) ∙ ap (λ z. trunk_map (vis_id z) t) (sym p.arena_kept) in
+    let y : rows_of b.arena f (row_count a) ≡ rows_of c.arena f (row_count o) = λ j. rows_of (sym p.arena_kept j) f (n j) in
     let given : is ≡ ids (row_count o) f = l.given ∙ ap (λ z. ids z f) n in
-    let goal_rows : rows_of b.arena.keys f (row_count a) ++ (k, parent_row r is) ∷ [] ≡ rows_of c.arena.keys (more (parent h t f) empty) (row_count o) =
-    (λ j. y j ++ (q j, parent_row (x j) (given j)) ∷ []) ∙ sym (append-nil (rows_of c.arena.keys f (row_count o) ++ (h, parent_row (trunk_map (vis_id c.arena.keys) t) (ids (row_count o) f)) ∷ [])) in
+    let goal_rows : rows_of b.arena f (row_count a) ++ (k, parent_row r is) ∷ [] ≡ rows_of c.arena (more (parent h t f) empty) (row_count o) =
+    (λ j. y j ++ (q j, parent_row (x j) (given j)) ∷ []) ∙ sym (append-nil (rows_of c.arena f (row_count o) ++ (h, parent_row (trunk_map (vis_id c.arena) t) (ids (row_count o) f)) ∷ [])) in
     record {
-      given = ap (λ v. v ∷ []) (p.given ∙ (λ j. 2 * d j + kind_bit (trunk_kind (e j))) ∙ ap (λ v. 2 * (row_count o + length (walk f)) + kind_bit v) (sym (trunk_kind-map (vis_id a.arena.keys) t)));
+      given = ap (λ v. v ∷ []) (p.given ∙ (λ j. 2 * d j + kind_bit (trunk_kind (e j))) ∙ ap (λ v. 2 * (row_count o + length (walk f)) + kind_bit v) (sym (trunk_kind-map (vis_id a.arena) t)));
       arena_met =
-          p.arena_kept ∙ l.arena_met ∙ ap (λ z. meet_all z (forest_vis f)) m ∙ sym (meet_all-append o.arena.keys (trunk_vis t) (forest_vis f))
-          ∙ sym (meet_all-append o.arena.keys (trunk_vis t ++ forest_vis f) []);
+          p.arena_kept ∙ l.arena_met ∙ ap (λ z. meet_all z (forest_vis f)) m ∙ sym (meet_all-append o.arena (trunk_vis t) (forest_vis f))
+          ∙ sym (meet_all-append o.arena (trunk_vis t ++ forest_vis f) []);
       added = subst (λ v. Adds o c v) goal_rows (Adds-join s (Adds-join l.added p.added));
       use_trees = l.use_trees;
       attributes = omega (arith, few, l.attributes);
@@ -221,7 +221,7 @@ full-parent {o} {a} {b} {v} {f} w h t e s l =
 pub below-block : (o : Rows) (w : ℕ) (h : Head) (f : Forest) (e : LowerError) → IsPassed (sizes_with o w f) e → IsPassed (sizes_with o w (more (parent h extern_block f) empty)) e
 below-block o w h f e =
     passes (sizes_with o w f) (sizes_with o w (more (parent h extern_block f) empty)) e
-    (record { items = omega arith; visibilities = omega (arith, ap length (meet_all-append o.arena.keys (forest_vis f) [])); use_trees = omega arith; attributes = omega arith; supers = omega arith })
+    (record { items = omega arith; visibilities = omega (arith, ap length (meet_all-append o.arena (forest_vis f) [])); use_trees = omega arith; attributes = omega arith; supers = omega arith })
 
 -- ---- modules
 
@@ -284,8 +284,8 @@ module _ (ctx : Ctx) (m : ast_module.Module) where
 
   pub unmet-module : (o : Rows) (n : List ℕ) (e : LowerError) → m.name ≡ Some n → IsPassed (sizes_meeting o (value m ∷ [])) e → IsPassed (sizes_with o module_written kept_module) e
   unmet-module o n e q =
-      let k = meet o.arena.keys (value m) in
-      let h : length k ≤ length (meet_all o.arena.keys (forest_vis kept_module)) =
+      let k = meet o.arena (value m) in
+      let h : length k ≤ length (meet_all o.arena (forest_vis kept_module)) =
       elim (cases_Bool m.semicolon) [
         | inl s ↦ rw (kept-outline n q s) (omega arith)
         | inr s ↦ rw (kept-inline n q s) (length-Extends k (meet_all k (forest_vis below ++ [])) (Extends-meet_all k (forest_vis below ++ [])))
@@ -375,11 +375,11 @@ module _ (ctx : Ctx) {X : Type 0} (seen : X → ItemView) where
       IsPassed (sizes_with a (written_list xs) (kept_list xs)) e
   passed-step {a} {b} xs i x e q h p =
       let rest = kept_list (drop (i + 1) xs) in
-      let here = meet_all b.arena.keys (forest_vis (kept_one x)) in
+      let here = meet_all b.arena (forest_vis (kept_one x)) in
       let whole : kept_list xs ≡ join (join (kept_list (take i xs)) (kept_one x)) rest = kept_list-split xs (i + 1) ∙ ap (λ f. join f rest) (kept_list-push xs i x q h) in
-      let m : meet_all a.arena.keys (forest_vis (kept_list xs)) ≡ meet_all here (forest_vis rest) =
-      ap (λ z. meet_all a.arena.keys (forest_vis z)) whole ∙ met-join (join (kept_list (take i xs)) (kept_one x)) rest a.arena.keys
-      ∙ ap (λ z. meet_all z (forest_vis rest)) (met-join (kept_list (take i xs)) (kept_one x) a.arena.keys ∙ ap (λ z. meet_all z (forest_vis (kept_one x))) (sym p.arena_met)) in
+      let m : meet_all a.arena (forest_vis (kept_list xs)) ≡ meet_all here (forest_vis rest) =
+      ap (λ z. meet_all a.arena (forest_vis z)) whole ∙ met-join (join (kept_list (take i xs)) (kept_one x)) rest a.arena
+      ∙ ap (λ z. meet_all z (forest_vis rest)) (met-join (kept_list (take i xs)) (kept_one x) a.arena ∙ ap (λ z. meet_all z (forest_vis (kept_one x))) (sym p.arena_met)) in
       passes (sizes_with b (item_written (seen x)) (kept_one x)) (sizes_with a (written_list xs) (kept_list xs)) e (record {
         items = omega (arith, Lowers-count p, ap count whole, count-join (join (kept_list (take i xs)) (kept_one x)) rest, count-join (kept_list (take i xs)) (kept_one x));
         visibilities = omega (arith, ap length m, length-Extends here (meet_all here (forest_vis rest)) (Extends-meet_all here (forest_vis rest)));
@@ -391,11 +391,11 @@ module _ (ctx : Ctx) {X : Type 0} (seen : X → ItemView) where
 -- ---- a size that is passed by rows made from nothing is one of the tree
 
 pub passed-from_nothing :
-    (old : Rows) (f : Forest) (c : Collected) (s : SyntaxView) (e : LowerError) → old.items.items ≡ [] → old.arena.keys ≡ [] →
+    (old : Rows) (f : Forest) (c : Collected) (s : SyntaxView) (e : LowerError) → old.items.items ≡ [] → old.arena ≡ [] →
     IsPassed (sizes_with old (most_written s) f) e → IsTooLarge s (record { top_attrs = c; forest = f }) e
 passed-from_nothing old f c s e items arena h =
     let u : Unfolding = record { top_attrs = c; forest = f } in
-    let m : meet_all old.arena.keys (forest_vis f) ≡ arena_of f = ap (λ z. meet_all z (forest_vis f)) arena ∙ sym (arena_met f) in
+    let m : meet_all old.arena (forest_vis f) ≡ arena_of f = ap (λ z. meet_all z (forest_vis f)) arena ∙ sym (arena_met f) in
     passes (sizes_with old (most_written s) f) (sizes_of s u) e (record {
       items = omega (arith, ap length items);
       visibilities = omega (arith, ap length m);
@@ -414,7 +414,7 @@ pub record Unfolds (top : List ℕ) (place : ℕ) (r : Rows) (u : Unfolding) : T
 module _
     (old new whole : Rows) {w : ℕ} (f : Forest) (c : Collected) (top : List ℕ) (place : ℕ)
     (tags_empty : old.tags.items ≡ []) (keys_empty : old.keys.items ≡ []) (items_empty : old.items.items ≡ [])
-    (places_empty : old.places.items ≡ []) (column_empty : old.column.items ≡ []) (arena_empty : old.arena.keys ≡ [])
+    (places_empty : old.places.items ≡ []) (column_empty : old.column.items ≡ []) (arena_empty : old.arena ≡ [])
     (few : length c.attrs ≤ attr_limit) (h : Lowers old new w f top) (k : Puts new.column whole.column c place) (same : whole ≡ record new { column = whole.column }) where
   abbrev pub u : Unfolding
   u = record { top_attrs = c; forest = f }
@@ -422,7 +422,7 @@ module _
   abbrev rows : List Row
   rows = rows_of (arena_of f) f 0
 
-  arena_is : new.arena.keys ≡ arena_of f
+  arena_is : new.arena ≡ arena_of f
   arena_is = h.arena_met ∙ ap (λ z. meet_all z (forest_vis f)) arena_empty ∙ sym (arena_met f)
 
   added : Adds old new rows
@@ -442,7 +442,7 @@ module _
       let top_place : some_unless (is_empty c) (length (column_of (map row_attrs rows))) ≡ plain_place place =
       sym (k.given ∙ ap (some_unless (is_empty c)) (sym (length-map new.column.items collected) ∙ ap length column_is)) in
       let column : column_of (map row_attrs rows) ++ unless (is_empty c) c ≡ column_in whole = sym (k.added ∙ ap (λ z. z ++ unless (is_empty c) c) column_is) in
-      let arena : arena_of f ≡ whole.arena.keys = sym (ap (λ z. z.arena.keys) same ∙ arena_is) in
+      let arena : arena_of f ≡ whole.arena = sym (ap (λ z. z.arena) same ∙ arena_is) in
       λ i. record { top = t i; tags = tags i; keys = keys i; items = items i; places = places i; top_place = top_place i; column = column i; arena = arena i }
 
   pub tables : Unfolds top place whole u

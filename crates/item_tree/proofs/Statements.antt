@@ -51,7 +51,7 @@ module _ (a : Rows) (v w : ℕ) (f g : Forest) (e : LowerError) where
   passed-front =
       passes (sizes_with a v f) (sizes_with a (max v w) (join f g)) e (record {
         items = omega (arith, count-join f g);
-        visibilities = let here = meet_all a.arena.keys (forest_vis f) in omega (arith, ap length (met-join f g a.arena.keys), length-Extends here (meet_all here (forest_vis g)) (Extends-meet_all here (forest_vis g)));
+        visibilities = let here = meet_all a.arena (forest_vis f) in omega (arith, ap length (met-join f g a.arena), length-Extends here (meet_all here (forest_vis g)) (Extends-meet_all here (forest_vis g)));
         use_trees = omega arith;
         attributes = omega (arith, most_attrs-join f g);
         supers = omega (arith, forest_supers-join f g);
@@ -61,7 +61,7 @@ module _ (a : Rows) (v w : ℕ) (f g : Forest) (e : LowerError) where
   passed-behind {b} h =
       passes (sizes_with b w g) (sizes_with a (max v w) (join f g)) e (record {
         items = omega (arith, Lowers-count h, count-join f g);
-        visibilities = omega (arith, ap length (met-join f g a.arena.keys ∙ ap (λ z. meet_all z (forest_vis g)) (sym h.arena_met)));
+        visibilities = omega (arith, ap length (met-join f g a.arena ∙ ap (λ z. meet_all z (forest_vis g)) (sym h.arena_met)));
         use_trees = omega arith;
         attributes = omega (arith, most_attrs-join f g);
         supers = omega (arith, forest_supers-join f g);

@@ -70,8 +70,17 @@ row_count r = length r.items.items
 -- no size is passed so far
 pub record IsWithinLimits (r : Rows) : Type 0 where
   pub items : row_count r ≤ item_limit
-  pub visibilities : length r.arena.keys ≤ visibility_limit
+  pub visibilities : length r.arena ≤ visibility_limit
   pub column : length r.column.items ≤ row_count r
+
+-- the rows stay, whatever room they have
+pub record Keeps (old new : Rows) : Type 0 where
+  pub tags : new.tags.items ≡ old.tags.items
+  pub keys : new.keys.items ≡ old.keys.items
+  pub items : new.items.items ≡ old.items.items
+  pub places : new.places.items ≡ old.places.items
+  pub column : new.column.items ≡ old.column.items
+  pub arena : new.arena ≡ old.arena
 
 -- these rows were added at the end of each column
 pub record Adds (old new : Rows) (rows : List Row) : Type 0 where
@@ -84,8 +93,8 @@ pub record Adds (old new : Rows) (rows : List Row) : Type 0 where
 -- the rows of the forest were added, and these are the ids of its nodes; of its use trees w at most are written in one
 pub record Lowers (old new : Rows) (w : ℕ) (f : Forest) (is : List ℕ) : Type 0 where
   pub given : is ≡ ids (row_count old) f
-  pub arena_met : new.arena.keys ≡ meet_all old.arena.keys (forest_vis f)
-  pub added : Adds old new (rows_of new.arena.keys f (row_count old))
+  pub arena_met : new.arena ≡ meet_all old.arena (forest_vis f)
+  pub added : Adds old new (rows_of new.arena f (row_count old))
   pub use_trees : w ≤ use_tree_limit
   pub attributes : most_attrs f ≤ attr_limit
   pub supers : forest_supers f ≤ super_limit
@@ -99,7 +108,7 @@ to_list (Some i) = i ∷ []
 abbrev pub sizes_with : Rows → ℕ → Forest → Sizes
 sizes_with old w f = record {
   items = row_count old + count f;
-  visibilities = length (meet_all old.arena.keys (forest_vis f));
+  visibilities = length (meet_all old.arena (forest_vis f));
   use_trees = w;
   attributes = most_attrs f;
   supers = forest_supers f;
@@ -117,37 +126,37 @@ AreLowered ctx old new is r = MatchResult r (λ ids. Lowers old new (items_writt
 
 -- the visibility was met, and this is its id
 pub record Meets (old new : Rows) (v : RawVisibility) (i : ℕ) : Type 0 where
-  pub met : new.arena.keys ≡ meet old.arena.keys v
-  pub given : i ≡ vis_id new.arena.keys v
+  pub met : new.arena ≡ meet old.arena v
+  pub given : i ≡ vis_id new.arena v
   pub kept : new ≡ record old { arena = new.arena }
   pub within : IsWithinLimits new
 
 -- the visibility was met before, and this is its id
 pub record HasId (r : Rows) (v : RawVisibility) (i : ℕ) : Type 0 where
-  pub given : i ≡ vis_id r.arena.keys v
-  pub met : meet r.arena.keys v ≡ r.arena.keys
+  pub given : i ≡ vis_id r.arena v
+  pub met : meet r.arena v ≡ r.arena
 
 -- several visibilities were met, one after the other, and nothing else of the rows changed
 pub record MeetsAll (old new : Rows) (vs : List RawVisibility) : Type 0 where
-  pub met : new.arena.keys ≡ meet_all old.arena.keys vs
+  pub met : new.arena ≡ meet_all old.arena vs
   pub kept : new ≡ record old { arena = new.arena }
   pub within : IsWithinLimits new
 
 -- the same of the first of several, up to the rest: these are the ids of the first
 pub record MeetsUpTo (old new : Rows) (vs rest : List RawVisibility) (is : List ℕ) : Type 0 where
-  pub met : meet_all new.arena.keys rest ≡ meet_all old.arena.keys vs
-  pub given : is ++ map (vis_id (meet_all new.arena.keys rest)) rest ≡ map (vis_id (meet_all new.arena.keys rest)) vs
+  pub met : meet_all new.arena rest ≡ meet_all old.arena vs
+  pub given : is ++ map (vis_id (meet_all new.arena rest)) rest ≡ map (vis_id (meet_all new.arena rest)) vs
   pub kept : new ≡ record old { arena = new.arena }
   pub within : IsWithinLimits new
 
 -- what these visibilities pass once they are met
 abbrev pub sizes_meeting : Rows → List RawVisibility → Sizes
-sizes_meeting old vs = only_visibilities (length (meet_all old.arena.keys vs))
+sizes_meeting old vs = only_visibilities (length (meet_all old.arena vs))
 
 -- the visibilities of a constructor were met, and this is the constructor of their ids
 pub record MeetsCtor (old new : Rows) (c : Ctor RawVisibility) (ctor : StructValueNsCtor) : Type 0 where
   pub met : MeetsAll old new (ctor_vis c)
-  pub given : ctor_ids ctor ≡ ctor_map (vis_id new.arena.keys) c
+  pub given : ctor_ids ctor ≡ ctor_map (vis_id new.arena) c
 
 -- the constructor is lowered, or refused for its visibilities
 abbrev pub CtorIsLowered : Rows → Rows → Ctor RawVisibility → Result StructValueNsCtor LowerError → Type 0
@@ -162,5 +171,5 @@ pub record Puts (old new : Vec AttrsOrCfg Global) (c : Collected) (place : ℕ) 
 pub record Pushes (old new : Rows) (r : Row) (i : ℕ) : Type 0 where
   pub given : i ≡ 2 * row_count old + kind_bit (row_tag r)
   pub added : Adds old new (r ∷ [])
-  pub arena_kept : new.arena.keys ≡ old.arena.keys
+  pub arena_kept : new.arena ≡ old.arena
   pub within : IsWithinLimits new

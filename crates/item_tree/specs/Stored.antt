@@ -76,7 +76,7 @@ tables_of top place r = record {
   places = places_in r;
   top_place = plain_place place;
   column = column_in r;
-  arena = r.arena.keys;
+  arena = r.arena;
 }
 
 -- the tables are those that their unfolding fixes, and no size is passed

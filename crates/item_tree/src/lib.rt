@@ -12,6 +12,7 @@ pub(crate) mod rows;
 pub mod tree;
 pub mod use_tree;
 pub mod visibility;
+mod visibility_set;
 
 pub use crate_data::CrateData;
 pub use fault::{EditFault, LowerError};

@@ -180,7 +180,7 @@ fn lower_items(ctx: Ctx, rows: &mut Rows, items: &[ast::Item]) -> Result<Vec<Mod
     requires { IsWithinLimits rows.old }
     ensures { AreLowered ctx.entry rows.old rows.new (items_view items.now) result }
 {
-    let mut ids = Vec::new(ctx.alloc);
+    let mut ids = Vec::with_capacity(ctx.alloc, items.len())?;
     for item in items {
         if let Some(id) = lower_item(ctx, rows, item)? {
             ids.push(id)?;
@@ -318,5 +318,5 @@ fn lower_visibility(
         (IsPassed (sizes_meeting rows.old (read_visibility (option_copied visibility.entry) ∷ []))) }
 {
     let visibility = visibility_from_ast(alloc, visibility)?;
-    rows.alloc_visibility(visibility)
+    rows.alloc_visibility(alloc, visibility)
 }

@@ -5,7 +5,7 @@ ghost use Rattle.item_tree.specs.Column.{plain_place, stored_at};
 ghost use Rattle.item_tree.specs.Layout.{head_of_key};
 ghost use Rattle.item_tree.specs.Stored.{key_in, item_row, column_in};
 ghost use Rattle.item_tree.specs.Size.{IsPassed, only_items};
-ghost use Rattle.item_tree.specs.Growth.{IsWithinLimits, Meets, Puts, Pushes, row_count, sizes_meeting};
+ghost use Rattle.item_tree.specs.Growth.{IsWithinLimits, Keeps, Meets, Puts, Pushes, row_count, sizes_meeting};
 
 use crate::fault::LowerError;
 use crate::items::{ModItem, ModItemId};
@@ -13,8 +13,8 @@ use crate::visibility::{
     PRIVATE_EXPLICIT, PRIVATE_IMPLICIT, PUB_CRATE, PUBLIC, RawVisibility, RawVisibilityId,
     VisibilityExplicitness,
 };
+use crate::visibility_set::VisibilitySet;
 use hir_input::AstIdKind;
-use indexmap::IndexSet;
 use item_tree_attrs::AttrsOrCfg;
 use std::alloc::{AllocError, Global};
 
@@ -52,7 +52,7 @@ pub(crate) struct Rows {
     pub(crate) items: Vec<ModItem>,
     pub(crate) places: Vec<u32>,
     pub(crate) column: Vec<AttrsOrCfg>,
-    pub(crate) arena: IndexSet<RawVisibility>,
+    pub(crate) arena: VisibilitySet,
 }
 
 // The columns that tell the items, and those that tell their attributes and visibilities.
@@ -67,7 +67,7 @@ impl Rows {
         ensures items { result.items.items ≡ [] }
         ensures places { result.places.items ≡ [] }
         ensures column { result.column.items ≡ [] }
-        ensures arena { result.arena.keys ≡ [] }
+        ensures arena { result.arena ≡ [] }
     {
         Rows {
             tags: Vec::new(alloc),
@@ -75,13 +75,14 @@ impl Rows {
             items: Vec::new(alloc),
             places: Vec::new(alloc),
             column: Vec::new(alloc),
-            arena: IndexSet::new(alloc),
+            arena: VisibilitySet::new(),
         }
     }
 
     // The id of a visibility, which the arena keeps once.
     pub(crate) fn alloc_visibility(
         &mut self,
+        alloc: Global,
         visibility: RawVisibility,
     ) -> Result<RawVisibilityId, LowerError>
         requires { IsWithinLimits self.old }
@@ -98,7 +99,7 @@ impl Rows {
             }
             RawVisibility::PubCrate => Ok(RawVisibilityId::from_number(PUB_CRATE)),
             RawVisibility::Module(_, _) => {
-                let (place, _) = self.arena.insert_full(visibility)?;
+                let place = self.arena.insert(alloc, visibility)?;
                 if place >= PUB_CRATE as usize {
                     return Err(LowerError::TooManyVisibilities);
                 }
@@ -131,6 +132,18 @@ impl Rows {
         Ok(ModItemId::from_row(row as u32, kind))
     }
 
+    // Gives back the room that no row takes.
+    pub(crate) fn shrink_to_fit(&mut self)
+        ensures { Keeps self.old self.new }
+    {
+        self.tags.shrink_to_fit();
+        self.keys.shrink_to_fit();
+        self.items.shrink_to_fit();
+        self.places.shrink_to_fit();
+        self.column.shrink_to_fit();
+        self.arena.shrink_to_fit();
+    }
+
     // Lends the columns, the visibilities in their order.
     pub(crate) fn columns(&self) -> (Items<'_>, Others<'_>)
         ensures tags { result.0.0.now ≡ self.now.tags.items }
@@ -138,7 +151,7 @@ impl Rows {
         ensures items { result.0.2.now ≡ self.now.items.items }
         ensures places { result.1.0.now ≡ self.now.places.items }
         ensures column { result.1.1.now ≡ self.now.column.items }
-        ensures arena { result.1.2.now ≡ self.now.arena.keys }
+        ensures arena { result.1.2.now ≡ self.now.arena }
     {
         (
             (&self.tags, &self.keys, &self.items),

@@ -71,11 +71,17 @@ impl ItemTree {
         }
     }
 
-    // The tree of these tables.
-    pub(crate) fn from_rows(top_level: Vec<ModItemId>, top_place: u32, rows: Rows) -> ItemTree
+    // The tree of these tables, in no more room than they take.
+    pub(crate) fn from_rows(
+        mut top_level: Vec<ModItemId>,
+        top_place: u32,
+        mut rows: Rows,
+    ) -> ItemTree
         requires { AreSound top_level.items top_place rows }
         ensures { result ≡ unfold_tables (tables_of top_level.items top_place rows) }
     {
+        top_level.shrink_to_fit();
+        rows.shrink_to_fit();
         ItemTree {
             top_level,
             top_place,
@@ -129,7 +135,7 @@ impl ItemTree {
         ensures { IsTrue result ↔ HasVisibility self.now id }
     {
         let number = id.number();
-        number >= PUB_CRATE || (number as usize) < self.rows.arena.len()
+        number >= PUB_CRATE || (number as usize) < self.rows.arena.as_slice().len()
     }
 
     /// Lends the item of an id. rust-analyzer's `ItemTree::index`.

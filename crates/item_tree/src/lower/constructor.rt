@@ -160,12 +160,12 @@ fn alloc_visibilities(
     requires { IsWithinLimits rows.old }
     ensures met { OnOk result (MeetsAll rows.old rows.new visibilities.keys) }
     ensures given { IfOk result (λ ids.
-        ids.items ≡ map (vis_id rows.new.arena.keys) visibilities.keys) }
+        ids.items ≡ map (vis_id rows.new.arena) visibilities.keys) }
     ensures fault { IfErr result (IsPassed (sizes_meeting rows.old visibilities.keys)) }
 {
     let mut ids = Vec::new(alloc);
     for visibility in visibilities {
-        ids.push(rows.alloc_visibility(visibility)?)?;
+        ids.push(rows.alloc_visibility(alloc, visibility)?)?;
     }
     Ok(ids)
 }

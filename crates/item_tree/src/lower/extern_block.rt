@@ -53,7 +53,7 @@ fn lower_extern_items(
     requires { IsWithinLimits rows.old }
     ensures { AreLowered ctx.entry rows.old rows.new (items_from (map extern_item_view items.now)) result }
 {
-    let mut ids = Vec::new(ctx.alloc);
+    let mut ids = Vec::with_capacity(ctx.alloc, items.len())?;
     for item in items {
         if let Some(id) = lower_extern_item(ctx, rows, item)? {
             ids.push(id)?;

@@ -7,7 +7,7 @@ use Rattle.item_tree.proofs.lower.constructor.alloc_visibilities.Goals as goal
 pub returns-in_err-alloc_visibility-clause-fault : goal.returns-in_err-alloc_visibility-clause-fault
 returns-in_err-alloc_visibility-clause-fault c =
     let p = err_from_is_err_and c.from_residual.result c.from_residual.ensures.1 in
-    let k = c.loop-visibility.rows.arena.keys in
+    let k = c.loop-visibility.rows.arena in
     rw (p.1, p.2)
     (unmet-first c.args.rows.now c.loop-visibility.rows c.in-Some.visibility c.next.new.self c.args.visibilities.keys c.in_err-alloc_visibility.field-0.0
     (ap (meet_all k) (sym c.in-Some.ensures.steps) ∙ c.loop-visibility.invariant.met) c.in_err-alloc_visibility.ensures.fault)

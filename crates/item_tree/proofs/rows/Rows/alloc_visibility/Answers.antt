@@ -8,8 +8,8 @@ pub returns-else-place-clause-met : goal.returns-else-place-clause-met
 returns-else-place-clause-met c =
     let k = c.in_ok-place-in-Module in
     let m = c.in-Module in
-    let xs = c.args.self.now.arena.keys in
-    let ys = c.insert_full.new.self.keys in
+    let xs = c.args.self.now.arena in
+    let ys = c.insert.new.self in
     let v = c.args.visibility in
     let keys = k.ensures.keys ∙ ap (λ b. cond b xs (xs ++ v ∷ [])) (any_raw v xs) in
     let index = k.ensures.index ∙ place_raw v xs in
@@ -27,7 +27,7 @@ returns-else-place-clause-met c =
 pub returns-then-place-clause-fault : goal.returns-then-place-clause-fault
 returns-then-place-clause-fault c =
     let k = c.in_ok-place-in-Module in
-    let xs = c.args.self.now.arena.keys in
+    let xs = c.args.self.now.arena in
     let v = c.args.visibility in
-    let met = inserted-met xs c.insert_full.new.self.keys v c.in-Module.field-0 c.in-Module.field-1 c.in-Module.is (k.ensures.keys ∙ ap (λ b. cond b xs (xs ++ v ∷ [])) (any_raw v xs)) in
+    let met = inserted-met xs c.insert.new.self v c.in-Module.field-0 c.in-Module.field-1 c.in-Module.is (k.ensures.keys ∙ ap (λ b. cond b xs (xs ++ v ∷ [])) (any_raw v xs)) in
     omega (arith, ap length met, k.ensures.within, c.if-place.true)
