@@ -4,15 +4,13 @@ use Rattle.std.specs.declared.vec.Vec.{Vec}
 use Rattle.std.specs.declared.alloc.Global.{Global}
 use Rattle.hir_input.specs.declared.attr.Meta.{Meta}
 use Rattle.hir_input.specs.Attr.{meta_view}
-use Rattle.hir_input.specs.Syntax.{NamedView, PlainKind, fn_kind, union_kind, enum_kind, static_kind, trait_kind, type_alias_kind, macro_def_kind, ItemView, ItemViews, no_items, listed_module, listed_extern_block}
+use Rattle.hir_input.specs.Syntax.{NamedView, ItemView, ItemViews, no_items, listed_module, listed_extern_block}
 use Rattle.item_tree_attrs.specs.declared.collect.AttrsOrCfg.{AttrsOrCfg}
 use Rattle.item_tree_attrs.specs.Collected.{Collected, collected, collected_from, attr_limit}
 use Rattle.item_tree.specs.declared.visibility.RawVisibility.{RawVisibility}
 use Rattle.item_tree.specs.declared.items.StructValueNsCtor.{StructValueNsCtor}
 use Rattle.item_tree.specs.declared.lower.Ctx.{Ctx}
 use Rattle.item_tree.specs.declared.lower.named.NamedNode.{NamedNode}
-use Rattle.item_tree.specs.declared.lower.named.PlainKind as named
-use Rattle.item_tree.specs.declared.lower.named.PlainKind.TheVariants as plain
 use Rattle.item_tree.specs.declared.rows.Rows.{Rows}
 use Rattle.item_tree.specs.declared.fault.LowerError.{LowerError}
 use Rattle.item_tree.specs.CrateView.{crate_view}
@@ -26,16 +24,6 @@ use Rattle.item_tree.specs.KeptUse.{use_tree_limit}
 use Rattle.item_tree.specs.Size.{item_limit, visibility_limit, most_attrs, forest_supers, item_written, items_written, Sizes, IsPassed, only_visibilities}
 use Rattle.item_tree.specs.Shown.{ctor_ids}
 use Rattle.item_tree.specs.Stored.{keys_in, items_in, places_in, column_in}
-
--- the kind of a plain item
-abbrev pub kind_of : named.PlainKind → PlainKind
-kind_of plain.Enum = enum_kind
-kind_of plain.Function = fn_kind
-kind_of plain.Macro2 = macro_def_kind
-kind_of plain.Static = static_kind
-kind_of plain.Trait = trait_kind
-kind_of plain.TypeAlias = type_alias_kind
-kind_of plain.Union = union_kind
 
 -- a node with a name and a visibility, but for its body
 abbrev pub seen_node : NamedNode → NamedView

@@ -23,14 +23,12 @@ use crate::items::{Impl, Mod, ModItem, ModItemId, ModKind, Use};
 use crate::lower::constructor::lower_struct;
 use crate::lower::extern_block::lower_extern_block;
 use crate::lower::macros::{lower_macro_call, lower_macro_rules};
-use crate::lower::named::{
-    NamedNode, PlainKind, lower_const, lower_extern_crate, lower_named, named,
-};
+use crate::lower::named::{NamedNode, lower_const, lower_extern_crate, lower_named, named};
 use crate::lower::stmts::lower_stmts;
 use crate::rows::{Rows, ast_key, push_attrs};
 use crate::tree::ItemTree;
 use crate::visibility::{RawVisibilityId, visibility_from_ast};
-use hir_input::{Meta, Name, ast};
+use hir_input::{AstIdKind, Meta, Name, ast};
 use item_tree_attrs::AttrsOrCfg;
 use std::alloc::Global;
 pub use use_tree::lower_use_tree;
@@ -200,10 +198,10 @@ fn lower_item(ctx: Ctx, rows: &mut Rows, item: &ast::Item) -> Result<Option<ModI
         ast::Item::Enum(node) => lower_named(ctx, rows, named!(Enum, node)),
         ast::Item::ExternBlock(node) => lower_extern_block(ctx, rows, node),
         ast::Item::ExternCrate(node) => lower_extern_crate(ctx, rows, node),
-        ast::Item::Fn(node) => lower_named(ctx, rows, named!(Function, node)),
+        ast::Item::Fn(node) => lower_named(ctx, rows, named!(Fn, node)),
         ast::Item::Impl(node) => lower_impl(ctx, rows, node),
         ast::Item::MacroCall(node) => lower_macro_call(ctx, rows, node),
-        ast::Item::MacroDef(node) => lower_named(ctx, rows, named!(Macro2, node)),
+        ast::Item::MacroDef(node) => lower_named(ctx, rows, named!(MacroDef, node)),
         ast::Item::MacroRules(node) => lower_macro_rules(ctx, rows, node),
         ast::Item::Module(node) => lower_module(ctx, rows, node),
         ast::Item::Static(node) => lower_named(ctx, rows, named!(Static, node)),

@@ -264,14 +264,18 @@ impl ItemTree {
         ensures { let reserved = printer.entry.edition.now.reserved.items in
             OnOk result (Gains out.old out.new (own_lines_at reserved self.now printer.entry.level id)) }
     {
+        // The lines of an item that has a name and a visibility.
+        macro_rules! named {
+            ($ast_id:ident, $item:ident, $word:literal, $end:literal) => {{
+                let visibility = &self[$item.visibility];
+                printer.push_named(out, $ast_id, visibility, $word, &$item.name, $end)
+            }};
+        }
         match self.index(id) {
             ModItemKind::Const(ast_id, item) => {
                 printer.push_const(out, ast_id, item, &self[item.visibility])
             }
-            ModItemKind::Enum(ast_id, item) => {
-                let visibility = &self[item.visibility];
-                printer.push_named(out, ast_id, visibility, "enum", &item.name, " { ... }")
-            }
+            ModItemKind::Enum(ast_id, item) => named!(ast_id, item, "enum", " { ... }"),
             ModItemKind::ExternBlock(ast_id, item) => {
                 printer.push_fixed(out, ast_id, "extern {")?;
                 self.push_below(out, printer, &item.children)
@@ -279,48 +283,23 @@ impl ItemTree {
             ModItemKind::ExternCrate(ast_id, item) => {
                 printer.push_extern_crate(out, ast_id, item, &self[item.visibility])
             }
-            ModItemKind::Function(ast_id, item) => {
-                let visibility = &self[item.visibility];
-                printer.push_named(out, ast_id, visibility, "fn", &item.name, ";")
-            }
+            ModItemKind::Function(ast_id, item) => named!(ast_id, item, "fn", ";"),
             ModItemKind::Impl(ast_id, _) => printer.push_fixed(out, ast_id, "impl { ... }"),
-            ModItemKind::Macro2(ast_id, item) => {
-                let visibility = &self[item.visibility];
-                printer.push_named(out, ast_id, visibility, "macro", &item.name, " { ... }")
-            }
+            ModItemKind::Macro2(ast_id, item) => named!(ast_id, item, "macro", " { ... }"),
             ModItemKind::MacroCall(ast_id, item) => printer.push_macro_call(out, ast_id, item),
             ModItemKind::MacroRules(ast_id, item) => printer.push_macro_rules(out, ast_id, item),
             ModItemKind::Mod(ast_id, item) => match &item.kind {
                 ModKind::Inline { items } => {
-                    let visibility = &self[item.visibility];
-                    printer.push_named(out, ast_id, visibility, "mod", &item.name, " {")?;
+                    named!(ast_id, item, "mod", " {")?;
                     self.push_below(out, printer, items)
                 }
-                ModKind::Outline => {
-                    let visibility = &self[item.visibility];
-                    printer.push_named(out, ast_id, visibility, "mod", &item.name, ";")
-                }
+                ModKind::Outline => named!(ast_id, item, "mod", ";"),
             },
-            ModItemKind::Static(ast_id, item) => {
-                let visibility = &self[item.visibility];
-                printer.push_named(out, ast_id, visibility, "static", &item.name, " = _;")
-            }
-            ModItemKind::Struct(ast_id, item) => {
-                let visibility = &self[item.visibility];
-                printer.push_named(out, ast_id, visibility, "struct", &item.name, " { ... }")
-            }
-            ModItemKind::Trait(ast_id, item) => {
-                let visibility = &self[item.visibility];
-                printer.push_named(out, ast_id, visibility, "trait", &item.name, " { ... }")
-            }
-            ModItemKind::TypeAlias(ast_id, item) => {
-                let visibility = &self[item.visibility];
-                printer.push_named(out, ast_id, visibility, "type", &item.name, ";")
-            }
-            ModItemKind::Union(ast_id, item) => {
-                let visibility = &self[item.visibility];
-                printer.push_named(out, ast_id, visibility, "union", &item.name, " { ... }")
-            }
+            ModItemKind::Static(ast_id, item) => named!(ast_id, item, "static", " = _;"),
+            ModItemKind::Struct(ast_id, item) => named!(ast_id, item, "struct", " { ... }"),
+            ModItemKind::Trait(ast_id, item) => named!(ast_id, item, "trait", " { ... }"),
+            ModItemKind::TypeAlias(ast_id, item) => named!(ast_id, item, "type", ";"),
+            ModItemKind::Union(ast_id, item) => named!(ast_id, item, "union", " { ... }"),
             ModItemKind::Use(ast_id, item) => {
                 printer.push_use(out, ast_id, item, &self[item.visibility()])
             }

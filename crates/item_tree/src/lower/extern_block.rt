@@ -6,10 +6,10 @@ ghost use Rattle.item_tree.specs.Growth.{IsWithinLimits, IsLowered, AreLowered, 
 use crate::fault::LowerError;
 use crate::items::{ExternBlock, ModItem, ModItemId};
 use crate::lower::macros::lower_macro_call;
-use crate::lower::named::{NamedNode, PlainKind, lower_named, named};
+use crate::lower::named::{NamedNode, lower_named, named};
 use crate::lower::{Ctx, lower_attrs};
 use crate::rows::{Rows, ast_key};
-use hir_input::ast;
+use hir_input::{AstIdKind, ast};
 use std::alloc::Global;
 
 // An extern block without a list has no items.
@@ -71,7 +71,7 @@ fn lower_extern_item(
     ensures { IsLowered ctx.entry rows.old rows.new (extern_item_view item.now) result }
 {
     match item {
-        ast::ExternItem::Fn(node) => lower_named(ctx, rows, named!(Function, node)),
+        ast::ExternItem::Fn(node) => lower_named(ctx, rows, named!(Fn, node)),
         ast::ExternItem::MacroCall(node) => lower_macro_call(ctx, rows, node),
         ast::ExternItem::Static(node) => lower_named(ctx, rows, named!(Static, node)),
         ast::ExternItem::TypeAlias(node) => lower_named(ctx, rows, named!(TypeAlias, node)),

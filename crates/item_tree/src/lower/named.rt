@@ -1,9 +1,10 @@
 //! Lowering of items that have a name and a visibility.
 ghost use Rattle.std.specs.Prelude.{◌≡◌};
+ghost use Rattle.hir_input.specs.Code.Syntax.{plain_kind};
 ghost use Rattle.hir_input.specs.Syntax.{plain_item, const_item, const_view, extern_crate, extern_crate_view};
 ghost use Rattle.item_tree.specs.Layout.{leaf_row};
 ghost use Rattle.item_tree.specs.Node.{plain};
-ghost use Rattle.item_tree.specs.Growth.{IsWithinLimits, IsLowered, kind_of, seen_node};
+ghost use Rattle.item_tree.specs.Growth.{IsWithinLimits, IsLowered, seen_node};
 ghost use Rattle.item_tree.specs.Stored.{item_row};
 
 use crate::fault::LowerError;
@@ -14,25 +15,13 @@ use crate::lower::use_tree::lower_alias;
 use crate::lower::{Ctx, lower_attrs, lower_visibility};
 use crate::rows::{AstKey, Rows, ast_key};
 use crate::visibility::RawVisibilityId;
-use hir_input::{Meta, Name, ast};
+use hir_input::{AstIdKind, Meta, Name, ast};
 use std::alloc::Global;
-
-/// The kinds of items that differ in nothing but the kind.
-#[derive(Clone, Copy)]
-pub(super) enum PlainKind {
-    Enum,
-    Function,
-    Macro2,
-    Static,
-    Trait,
-    TypeAlias,
-    Union,
-}
 
 /// What lowering reads of a node that may have a name and a visibility.
 #[derive(Clone, Copy)]
 pub(super) struct NamedNode<'a> {
-    pub(super) kind: PlainKind,
+    pub(super) kind: AstIdKind,
     pub(super) key: AstKey,
     pub(super) attrs: &'a [Meta],
     pub(super) name: Option<&'a Name>,
@@ -43,7 +32,7 @@ pub(super) struct NamedNode<'a> {
 macro_rules! named {
     ($kind:ident, $node:expr) => {
         NamedNode {
-            kind: PlainKind::$kind,
+            kind: AstIdKind::$kind,
             key: ast_key!($node),
             attrs: &$node.attrs,
             name: $node.name.as_ref(),
@@ -54,17 +43,18 @@ macro_rules! named {
 
 pub(super) use named;
 
-fn plain_item(kind: PlainKind, name: Name, visibility: RawVisibilityId) -> ModItem
-    ensures { item_row result ≡ leaf_row (plain (kind_of kind) name visibility) }
+// An item that differs from others in nothing but the kind: a function, unless the kind is that of another.
+fn plain_item(kind: AstIdKind, name: Name, visibility: RawVisibilityId) -> ModItem
+    ensures { item_row result ≡ leaf_row (plain (plain_kind kind) name visibility) }
 {
     match kind {
-        PlainKind::Enum => ModItem::Enum(Enum { name, visibility }),
-        PlainKind::Function => ModItem::Function(Function { name, visibility }),
-        PlainKind::Macro2 => ModItem::Macro2(Macro2 { name, visibility }),
-        PlainKind::Static => ModItem::Static(Static { name, visibility }),
-        PlainKind::Trait => ModItem::Trait(Trait { name, visibility }),
-        PlainKind::TypeAlias => ModItem::TypeAlias(TypeAlias { name, visibility }),
-        PlainKind::Union => ModItem::Union(Union { name, visibility }),
+        AstIdKind::Enum => ModItem::Enum(Enum { name, visibility }),
+        AstIdKind::MacroDef => ModItem::Macro2(Macro2 { name, visibility }),
+        AstIdKind::Static => ModItem::Static(Static { name, visibility }),
+        AstIdKind::Trait => ModItem::Trait(Trait { name, visibility }),
+        AstIdKind::TypeAlias => ModItem::TypeAlias(TypeAlias { name, visibility }),
+        AstIdKind::Union => ModItem::Union(Union { name, visibility }),
+        _ => ModItem::Function(Function { name, visibility }),
     }
 }
 
@@ -75,7 +65,7 @@ pub(super) fn lower_named(
 ) -> Result<Option<ModItemId>, LowerError>
     requires { IsWithinLimits rows.old }
     ensures { IsLowered ctx.entry rows.old rows.new
-        (plain_item (kind_of node.entry.kind) (seen_node node.entry)) result }
+        (plain_item (plain_kind node.entry.kind) (seen_node node.entry)) result }
 {
     let Some(name) = node.name else {
         return Ok(None);
