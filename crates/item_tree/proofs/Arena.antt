@@ -14,7 +14,7 @@ use Rattle.item_tree.specs.declared.visibility.RawVisibility.{RawVisibility}
 use Rattle.item_tree.specs.declared.visibility.RawVisibility.TheVariants.{Module, PubSelf}
 use Rattle.item_tree.specs.Node.{ctor_with_min, Leaf, struct_item, Trunk, inline, Forest}
 use Rattle.item_tree.specs.Layout.{fixed, first_fixed, place_of, vis_id, or_public, vis_value, value_at, leaf_map, trunk_map, leaf_vis, trunk_vis, forest_vis, arena_of}
-use Rattle.item_tree.specs.Meeting.{meet, meet_all}
+use Rattle.item_tree.specs.Inner.Meeting.{meet, meet_all}
 use Rattle.item_tree.specs.Visibility.{same, firsts_behind, distinct}
 use Rattle.item_tree.proofs.Pieces.{get-left, get-at-seam}
 use Rattle.item_tree.proofs.VisibilityEq.{same-sound, same-itself}

@@ -35,7 +35,7 @@ use Rattle.item_tree.specs.Same.{same, same_decides}
 use Rattle.item_tree.specs.Shown.{ctor_ids}
 use Rattle.item_tree.specs.Column.{plain_place}
 use Rattle.item_tree.specs.Stored.{module_row, item_row, key_in, tables_of}
-use Rattle.item_tree.specs.TreeCode.{use_item_code}
+use Rattle.item_tree.specs.Code.Tree.{use_item_code}
 use Rattle.item_tree.specs.UseItem.{UseItem}
 use Rattle.item_tree.proofs.Canon.{layout-injective}
 use Rattle.item_tree.proofs.Column.{plain_place-injective}

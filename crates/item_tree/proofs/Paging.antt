@@ -16,7 +16,7 @@ use Rattle.item_tree.specs.Layout.{trunk_map, vis_at, node_at}
 use Rattle.item_tree.specs.Shown.{IsParent, StandFor, lent_attrs, attrs_at}
 use Rattle.item_tree.specs.Line.{Line, text, blank, line_text}
 use Rattle.item_tree.specs.Page.{item_opening, top_opening, with_blanks, id_text, attrs_lines, trunk_header, own_lines, parts, page_parts, page_lines}
-use Rattle.item_tree.specs.PageByIds.{Gains, gap, item_lines, lent_lines, node_lines, own_lines_at, lines_at, list_lines}
+use Rattle.item_tree.specs.Inner.PageByIds.{Gains, gap, item_lines, lent_lines, node_lines, own_lines_at, lines_at, list_lines}
 use Rattle.item_tree.proofs.Walking.{map_of_id, parent_of_id}
 
 -- ---- one more part behind others

@@ -9,11 +9,11 @@ use Rattle.item_tree.specs.declared.lower.Ctx.{Ctx}
 use Rattle.item_tree.specs.declared.rows.Rows.{Rows}
 use Rattle.item_tree.specs.declared.fault.LowerError.{LowerError}
 use Rattle.item_tree.specs.Node.{Forest, empty, add, count}
-use Rattle.item_tree.specs.Meeting.{meet_all}
+use Rattle.item_tree.specs.Inner.Meeting.{meet_all}
 use Rattle.item_tree.specs.Layout.{forest_vis}
 use Rattle.item_tree.specs.Size.{item_written, items_written, IsPassed, most_attrs, forest_supers}
-use Rattle.item_tree.specs.Growth.{kept_in, all_kept_in, Lowers, sizes_with}
-use Rattle.item_tree.specs.Statements.{stmt_item, tail_item}
+use Rattle.item_tree.specs.Inner.Growth.{kept_in, all_kept_in, Lowers, sizes_with}
+use Rattle.item_tree.specs.Inner.Statements.{stmt_item, tail_item}
 use Rattle.item_tree.proofs.Arena.{length-Extends, Extends-meet_all}
 use Rattle.item_tree.proofs.Lowering.{join, add-join, count-join, most_attrs-join, forest_supers-join, met-join, passes, Lowers-count, Lowers-join}
 

@@ -7,7 +7,7 @@ use Rattle.item_tree.specs.declared.use_tree.UseTree.{UseTree}
 use Rattle.item_tree.specs.declared.use_tree.UseTreeKind.{UseTreeKind, Prefixed, Single, Glob}
 use Rattle.item_tree.specs.declared.use_tree.UseTreeKind.TheVariants.{rolls-Prefixed, rolls-Single, rolls-Glob}
 use Rattle.item_tree.specs.declared.use_tree.UseTreeKind.TheFolds.{fold-roll-UseTreeKind, fold_out-UseTree}
-use Rattle.item_tree.specs.Expanding.{branch_count}
+use Rattle.item_tree.specs.Inner.Expanding.{branch_count}
 use Rattle.item_tree.specs.Tree.{Tree, Branches, branch_and, single, glob, prefixed, tree_nodes, branch_nodes, tree_count, tree_of, tree_of_kind, trees_of, kind_step, tree_step}
 
 pub tree_of-prefixed : (before : Option Path) (list : Vec UseTree Global) → tree_of_kind (Prefixed before list) ≡ prefixed before (trees_of list.items)

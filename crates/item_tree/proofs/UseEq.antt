@@ -14,7 +14,7 @@ use Rattle.item_tree.specs.declared.use_tree.UseTree.{UseTree}
 use Rattle.item_tree.specs.declared.use_tree.UseTreeKind.{UseTreeKind, Prefixed, Single, Glob}
 use Rattle.item_tree.specs.Same.{same, same_decides}
 use Rattle.item_tree.specs.Tree.{Tree, single, glob, prefixed, branches_from, tree_of, tree_of_kind, trees_of}
-use Rattle.item_tree.specs.TreeCode.{alias_code}
+use Rattle.item_tree.specs.Code.Tree.{alias_code}
 use Rattle.item_tree.proofs.TreeLemmas.{tree_of-single, tree_of-glob, tree_of-prefixed}
 
 -- what decides whether two values are one is the test by their codes

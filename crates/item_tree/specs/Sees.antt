@@ -8,7 +8,7 @@ use Rattle.item_tree.specs.declared.visibility.RawVisibility.TheVariants.{Module
 use Rattle.item_tree.specs.Constructor.{ctor_of}
 use Rattle.item_tree.specs.Layout.{ctor_vis}
 use Rattle.item_tree.specs.Same.{same}
-use Rattle.item_tree.specs.TreeCode.{path_code}
+use Rattle.item_tree.specs.Code.Tree.{path_code}
 use Rattle.item_tree.specs.Visibility.{read_visibility}
 
 -- where a place is: in the module that all of this stands in, elsewhere in the crate, or outside of the crate

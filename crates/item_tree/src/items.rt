@@ -266,7 +266,7 @@ pub struct Use {
 
 impl Model for Use {
     ghost use Rattle.item_tree.specs.Tree.{tree_of};
-    ghost use Rattle.item_tree.specs.TreeCode.{use_item_code};
+    ghost use Rattle.item_tree.specs.Code.Tree.{use_item_code};
     ghost use Rattle.item_tree.specs.UseItem.{UseItem, UseFits};
 
     ghost Value = { UseItem };
@@ -307,7 +307,7 @@ impl PartialEq for Use {
     ghost use Rattle.std.specs.Prelude.{◌≡◌, ◌↔◌, IsTrue};
     ghost use Rattle.std.specs.Cmp.{partial_equiv_from_equiv};
     ghost use Rattle.item_tree.specs.Same.{same, same_is_equivalence};
-    ghost use Rattle.item_tree.specs.TreeCode.{use_item_code};
+    ghost use Rattle.item_tree.specs.Code.Tree.{use_item_code};
 
     ghost eq = { same use_item_code };
 

@@ -6,8 +6,8 @@ ghost use Rattle.item_tree.specs.Lowered.{kept_in, kept_without_bodies, FitsIn, 
 ghost use Rattle.item_tree.specs.Sees.{CtorsAreSeen};
 ghost use Rattle.item_tree.specs.KeptUse.{use_tree_limit};
 ghost use Rattle.item_tree.specs.Size.{Fits, IsTooLarge, IsPassed, only_attributes, items_written};
-ghost use Rattle.item_tree.specs.Growth.{IsWithinLimits, IsLowered, AreLowered, Meets, sizes_meeting, attrs_in, top_attrs_in, tree_in, items_below};
-ghost use Rattle.item_tree.specs.Statements.{body_items};
+ghost use Rattle.item_tree.specs.Inner.Growth.{IsWithinLimits, IsLowered, AreLowered, Meets, sizes_meeting, attrs_in, top_attrs_in, tree_in, items_below};
+ghost use Rattle.item_tree.specs.Inner.Statements.{body_items};
 ghost use Rattle.item_tree.specs.Visibility.{read_visibility};
 
 mod constructor;

@@ -3,7 +3,7 @@ ghost use Rattle.std.specs.Prelude.{◌≡◌, ◌+◌, ◌<◌, ◌^◌, ◌∷
 ghost use Rattle.std.specs.List.{sum_by};
 ghost use Rattle.item_tree.specs.Line.{text};
 ghost use Rattle.item_tree.specs.Page.{shown_visibility, id_text, call_id_text, named_header, constant_header, use_header, extern_crate_header, macro_call_header, macro_rules_header, page};
-ghost use Rattle.item_tree.specs.PageByIds.{Gains, gap, item_lines, own_lines_at, lines_at, list_lines};
+ghost use Rattle.item_tree.specs.Inner.PageByIds.{Gains, gap, item_lines, own_lines_at, lines_at, list_lines};
 ghost use Rattle.item_tree.specs.Shown.{IsContained};
 ghost use Rattle.item_tree.specs.Walk.{AreContained, count_at};
 

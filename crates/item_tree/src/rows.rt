@@ -5,7 +5,7 @@ ghost use Rattle.item_tree.specs.Column.{plain_place, stored_at};
 ghost use Rattle.item_tree.specs.Layout.{head_of_key};
 ghost use Rattle.item_tree.specs.Stored.{key_in, item_row, column_in};
 ghost use Rattle.item_tree.specs.Size.{IsPassed, only_items};
-ghost use Rattle.item_tree.specs.Growth.{IsWithinLimits, Keeps, Meets, Puts, Pushes, row_count, sizes_meeting};
+ghost use Rattle.item_tree.specs.Inner.Growth.{IsWithinLimits, Keeps, Meets, Puts, Pushes, row_count, sizes_meeting};
 
 use crate::fault::LowerError;
 use crate::items::{ModItem, ModItemId};

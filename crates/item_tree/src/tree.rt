@@ -33,7 +33,7 @@ pub struct ItemTree {
 
 impl Model for ItemTree {
     ghost use Rattle.item_tree.specs.Node.{Unfolding};
-    ghost use Rattle.item_tree.specs.NodeCode.{unfolding_code};
+    ghost use Rattle.item_tree.specs.Code.Node.{unfolding_code};
 
     ghost Value = { Unfolding };
 
@@ -209,7 +209,7 @@ impl Index<RawVisibilityId> for ItemTree {
 
 impl PartialEq for ItemTree {
     ghost use Rattle.item_tree.specs.Same.{same, same_is_equivalence};
-    ghost use Rattle.item_tree.specs.NodeCode.{unfolding_code};
+    ghost use Rattle.item_tree.specs.Code.Node.{unfolding_code};
     ghost use Rattle.item_tree.specs.Shown.{LendAlike};
     ghost use Rattle.std.specs.Cmp.{partial_equiv_from_equiv};
     ghost use Rattle.std.specs.Prelude.{◌≡◌, ◌↔◌, IsTrue};

@@ -19,7 +19,7 @@ impl Model for VisibilitySet {
     ghost use Rattle.std.specs.Prelude.{List, []};
     ghost use Rattle.std.specs.Coded.{coded_list};
     ghost use Rattle.std.specs.Option.{option_map_or};
-    ghost use Rattle.item_tree.specs.NodeCode.{vis_code};
+    ghost use Rattle.item_tree.specs.Code.Node.{vis_code};
     ghost use Rattle.item_tree.specs.declared.visibility.RawVisibility.{RawVisibility};
 
     ghost Value = { List RawVisibility };

@@ -7,7 +7,7 @@ use Rattle.hir_input.specs.Cfg.{AtomView}
 use Rattle.hir_input.specs.Syntax.{SyntaxView}
 use Rattle.item_tree.specs.CrateView.{CrateView}
 use Rattle.item_tree.specs.Node.{Unfolding}
-use Rattle.item_tree.specs.NodeCode.{unfolding_code}
+use Rattle.item_tree.specs.Code.Node.{unfolding_code}
 use Rattle.item_tree.specs.Same.{same, equal_of_same, same_of_equal}
 use Rattle.item_tree_db.specs.declared.place.Place.{Place}
 use Rattle.item_tree_db.specs.State.{State, file_at, present, unfolding_of, unfolding_at, change_number}

@@ -4,9 +4,9 @@ use Rattle.std.specs.Coded.{Coded, code_by, coded×, coded_list, coded_option, c
 use Rattle.hir_input.specs.Syntax.{SyntaxView}
 use Rattle.hir_input.specs.Code.Syntax.{syntax_code}
 use Rattle.item_tree.specs.CrateView.{CrateView}
-use Rattle.item_tree.specs.CrateCode.{crate_code}
+use Rattle.item_tree.specs.Code.Crate.{crate_code}
 use Rattle.item_tree.specs.Node.{Unfolding}
-use Rattle.item_tree.specs.NodeCode.{unfolding_code}
+use Rattle.item_tree.specs.Code.Node.{unfolding_code}
 use Rattle.item_tree_db.specs.declared.rows.Row.{Row}
 use Rattle.item_tree_db.specs.State.{Held, State}
 use Rattle.item_tree_db.specs.Slots.{Placed}

@@ -6,7 +6,7 @@ use Rattle.hir_input.specs.Syntax.{SyntaxView}
 use Rattle.hir_input.specs.Bodies.{without_bodies}
 use Rattle.item_tree.specs.CrateView.{CrateView}
 use Rattle.item_tree.specs.Node.{Unfolding}
-use Rattle.item_tree.specs.NodeCode.{unfolding_code}
+use Rattle.item_tree.specs.Code.Node.{unfolding_code}
 use Rattle.item_tree.specs.Same.{same}
 use Rattle.item_tree_db.specs.declared.place.Place.{Place}
 use Rattle.item_tree_db.specs.declared.place.Place.TheVariants.{File, Block}

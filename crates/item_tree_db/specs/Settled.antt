@@ -6,7 +6,7 @@ use Rattle.hir_input.specs.Syntax.{SyntaxView, syntax_view}
 use Rattle.item_tree.specs.declared.crate_data.CrateData.{CrateData}
 use Rattle.item_tree.specs.CrateView.{CrateView, crate_view}
 use Rattle.item_tree.specs.Node.{nothing}
-use Rattle.item_tree.specs.NodeCode.{unfolding_code}
+use Rattle.item_tree.specs.Code.Node.{unfolding_code}
 use Rattle.item_tree.specs.Same.{same}
 use Rattle.item_tree_db.specs.declared.rows.Row.{Row}
 use Rattle.item_tree_db.specs.declared.place.Place.{Place}

@@ -1,7 +1,7 @@
 //! Lowering of extern blocks.
 ghost use Rattle.std.specs.Prelude.{map};
 ghost use Rattle.hir_input.specs.Syntax.{extern_block_view, extern_item_view, items_from};
-ghost use Rattle.item_tree.specs.Growth.{IsWithinLimits, IsLowered, AreLowered, items_below};
+ghost use Rattle.item_tree.specs.Inner.Growth.{IsWithinLimits, IsLowered, AreLowered, items_below};
 
 use crate::fault::LowerError;
 use crate::items::{ExternBlock, ModItem, ModItemId};

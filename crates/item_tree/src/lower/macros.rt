@@ -1,6 +1,6 @@
 //! Lowering of macro calls and of macros by example.
 ghost use Rattle.hir_input.specs.Syntax.{macro_call, call_view, macro_rules, macro_rules_view};
-ghost use Rattle.item_tree.specs.Growth.{IsWithinLimits, IsLowered};
+ghost use Rattle.item_tree.specs.Inner.Growth.{IsWithinLimits, IsLowered};
 
 use crate::fault::LowerError;
 use crate::items::{MacroCall, MacroRules, ModItem, ModItemId};

@@ -4,7 +4,7 @@ ghost use Rattle.hir_input.specs.Code.Syntax.{plain_kind};
 ghost use Rattle.hir_input.specs.Syntax.{plain_item, const_item, const_view, extern_crate, extern_crate_view};
 ghost use Rattle.item_tree.specs.Layout.{leaf_row};
 ghost use Rattle.item_tree.specs.Node.{plain};
-ghost use Rattle.item_tree.specs.Growth.{IsWithinLimits, IsLowered, seen_node};
+ghost use Rattle.item_tree.specs.Inner.Growth.{IsWithinLimits, IsLowered, seen_node};
 ghost use Rattle.item_tree.specs.Stored.{item_row};
 
 use crate::fault::LowerError;

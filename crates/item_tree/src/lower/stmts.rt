@@ -1,8 +1,8 @@
 //! Lowering of statements.
 ghost use Rattle.std.specs.Prelude.{map};
 ghost use Rattle.hir_input.specs.Syntax.{items_from, stmt_items, stmts_view, tail_view};
-ghost use Rattle.item_tree.specs.Growth.{IsWithinLimits, IsLowered, AreLowered};
-ghost use Rattle.item_tree.specs.Statements.{stmt_item, tail_item};
+ghost use Rattle.item_tree.specs.Inner.Growth.{IsWithinLimits, IsLowered, AreLowered};
+ghost use Rattle.item_tree.specs.Inner.Statements.{stmt_item, tail_item};
 
 use crate::fault::LowerError;
 use crate::items::ModItemId;

@@ -6,7 +6,7 @@ ghost use Rattle.item_tree_attrs.specs.Collected.{collected};
 ghost use Rattle.item_tree_attrs.specs.Query.{listed};
 ghost use Rattle.item_tree.specs.Line.{lines_of_text};
 ghost use Rattle.item_tree.specs.Page.{attr_text, false_cfg_text, shown_input};
-ghost use Rattle.item_tree.specs.PageByIds.{Gains, lent_lines};
+ghost use Rattle.item_tree.specs.Inner.PageByIds.{Gains, lent_lines};
 
 use super::Printer;
 use crate::line::push_text;

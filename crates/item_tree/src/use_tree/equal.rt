@@ -8,7 +8,7 @@ impl PartialEq for ImportAlias {
     ghost use Rattle.std.specs.Prelude.{◌≡◌, ◌↔◌, IsTrue};
     ghost use Rattle.std.specs.Cmp.{partial_equiv_from_equiv};
     ghost use Rattle.item_tree.specs.Same.{same, same_is_equivalence};
-    ghost use Rattle.item_tree.specs.TreeCode.{alias_code};
+    ghost use Rattle.item_tree.specs.Code.Tree.{alias_code};
 
     ghost eq = { same alias_code };
 
@@ -90,7 +90,7 @@ impl PartialEq for UseTreeKind {
     ghost use Rattle.std.specs.Cmp.{on_per, partial_equiv_from_equiv};
     ghost use Rattle.item_tree.specs.Same.{same, same_is_equivalence};
     ghost use Rattle.item_tree.specs.Tree.{tree_of_kind};
-    ghost use Rattle.item_tree.specs.TreeCode.{tree_code};
+    ghost use Rattle.item_tree.specs.Code.Tree.{tree_code};
 
     ghost eq = { on tree_of_kind (same tree_code) };
 
@@ -119,7 +119,7 @@ impl PartialEq for UseTree {
     ghost use Rattle.std.specs.Cmp.{on_per, partial_equiv_from_equiv};
     ghost use Rattle.item_tree.specs.Same.{same, same_is_equivalence};
     ghost use Rattle.item_tree.specs.Tree.{tree_of};
-    ghost use Rattle.item_tree.specs.TreeCode.{tree_code};
+    ghost use Rattle.item_tree.specs.Code.Tree.{tree_code};
 
     ghost eq = { on tree_of (same tree_code) };
 

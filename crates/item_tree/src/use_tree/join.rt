@@ -2,7 +2,7 @@
 ghost use Rattle.std.specs.Prelude.{◌≡◌, ◌+◌, ◌≤◌, ◌++◌, [], ◌∷◌, IfOk, IfSome, MatchOption, Some, None};
 ghost use Rattle.hir_input.specs.Path.{HasWords};
 ghost use Rattle.hir_input.specs.Words.{words, read_words};
-ghost use Rattle.item_tree.specs.Expanding.{chain_of, supers_before, joined_kind};
+ghost use Rattle.item_tree.specs.Inner.Expanding.{chain_of, supers_before, joined_kind};
 ghost use Rattle.item_tree.specs.Imports.{super_count, supers_in, super_limit, is_self, read_chain, read_below, read_star, kind_below};
 
 use crate::use_tree::ImportKind;

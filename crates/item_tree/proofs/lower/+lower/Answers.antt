@@ -3,7 +3,7 @@ use Rattle.std.proofs.lemmas.Result.{err_from_is_err_and}
 use Rattle.hir_input.specs.Syntax.{item_view}
 use Rattle.item_tree_attrs.specs.Collected.{attr_limit}
 use Rattle.item_tree.specs.Visibility.{read_visibility}
-use Rattle.item_tree.specs.Growth.{attrs_in, Meets, sizes_meeting, to_list}
+use Rattle.item_tree.specs.Inner.Growth.{attrs_in, Meets, sizes_meeting, to_list}
 use Rattle.item_tree.specs.Size.{IsPassed}
 use Rattle.item_tree.proofs.Lowering.{unmet-module, Lowers-step, passed-step, Lowers-inline, full-inline}
 use Rattle.item_tree.proofs.lower.+lower.Goals as goal

@@ -1,6 +1,6 @@
 use Rattle.std.proofs.lemmas.Result.{err_from_is_err_and}
 use Rattle.std.proofs.Common.{sym, ◌∙◌, ap}
-use Rattle.item_tree.specs.Meeting.{meet_all}
+use Rattle.item_tree.specs.Inner.Meeting.{meet_all}
 use Rattle.item_tree.proofs.Constructors.{unmet-first, MeetsUpTo-step}
 use Rattle.item_tree.proofs.lower.constructor.alloc_visibilities.Goals as goal
 

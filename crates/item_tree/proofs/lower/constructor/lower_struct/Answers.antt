@@ -5,7 +5,7 @@ use Rattle.item_tree_attrs.specs.Collected.{attr_limit}
 use Rattle.item_tree.specs.Constructor.{ctor_of}
 use Rattle.item_tree.specs.Kept.{shape_of}
 use Rattle.item_tree.specs.Visibility.{read_visibility}
-use Rattle.item_tree.specs.Growth.{attrs_in, Meets, sizes_meeting}
+use Rattle.item_tree.specs.Inner.Growth.{attrs_in, Meets, sizes_meeting}
 use Rattle.item_tree.specs.Size.{IsPassed}
 use Rattle.item_tree.proofs.Constructors.{Lowers-struct, own-unmet}
 use Rattle.item_tree.proofs.lower.constructor.lower_struct.Goals as goal

@@ -1,7 +1,7 @@
 use Rattle.std.proofs.Common.{◌≤◌, length, subst, refl, ap, ◌∙◌}
 use Rattle.std.proofs.lemmas.Result.{err_from_is_err_and}
 use Rattle.item_tree_attrs.specs.Collected.{attr_limit}
-use Rattle.item_tree.specs.Growth.{attrs_in}
+use Rattle.item_tree.specs.Inner.Growth.{attrs_in}
 use Rattle.item_tree.specs.Node.{extern_block}
 use Rattle.item_tree.proofs.Lowering.{block_head, Adds-nothing, Lowers-parent, full-parent, below-block, kept-block, written-block}
 use Rattle.item_tree.proofs.lower.extern_block.lower_extern_block.Goals as goal

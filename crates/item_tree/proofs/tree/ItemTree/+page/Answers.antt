@@ -2,7 +2,7 @@ use Rattle.std.proofs.Common.{◌∙◌, ap, refl, sym, subst, inl, inr, string_
 use Rattle.std.proofs.lemmas.Result.{on_ok_weaker}
 use Rattle.item_tree.specs.Node.{inline, extern_block}
 use Rattle.item_tree.specs.Page.{item_opening}
-use Rattle.item_tree.specs.PageByIds.{Gains, lent_lines}
+use Rattle.item_tree.specs.Inner.PageByIds.{Gains, lent_lines}
 use Rattle.item_tree.specs.Shown.{IsModule, IsParent}
 use Rattle.item_tree.proofs.Paging.{gains_more, item_gains, parent_gains}
 use Rattle.item_tree.proofs.tree.ItemTree.+page.Goals as goal

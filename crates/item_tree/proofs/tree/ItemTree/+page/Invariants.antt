@@ -1,6 +1,6 @@
 use Rattle.std.proofs.Common.{◌+◌, ◌*◌, take}
 use Rattle.std.specs.List.{sum_by}
-use Rattle.item_tree.specs.PageByIds.{Gains, list_lines}
+use Rattle.item_tree.specs.Inner.PageByIds.{Gains, list_lines}
 use Rattle.item_tree.specs.Walk.{count_at}
 use Rattle.item_tree.proofs.tree.ItemTree.+page.Given as goal
 

@@ -1,4 +1,4 @@
--- A code of unfoldings, which the model of a type that holds trees asks for. No contract says more by it.
+-- A code of unfoldings.
 use Rattle.std.specs.Prelude.{◌≡◌, ℕ, List, Option, refl}
 use Rattle.std.specs.Coded.{Coded, code_by, coded×, coded_list, coded_option, coded_bool, coded_ℕ}
 use Rattle.std.proofs.Common.{ap, arith}
@@ -21,7 +21,7 @@ use Rattle.item_tree.specs.contracts.items.FieldsShape as shape
 use Rattle.item_tree.specs.declared.use_tree.ImportAlias.{ImportAlias}
 use Rattle.item_tree.specs.contracts.use_tree.ImportAlias as alias
 use Rattle.item_tree.specs.Tree.{Tree}
-use Rattle.item_tree.specs.TreeCode.{tree_code}
+use Rattle.item_tree.specs.Code.Tree.{tree_code}
 use Rattle.item_tree.specs.Node.{Ctor, no_ctor, ctor_with, ctor_with_min, Leaf, plain, constant, struct_item, outline, use_item, extern_crate, impl_item, macro_call, macro_rules, Trunk, inline, extern_block, Head, Node, leaf, parent, Forest, empty, more, Unfolding}
 
 abbrev pub head_code : Coded Head

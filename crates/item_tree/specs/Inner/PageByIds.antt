@@ -1,4 +1,4 @@
--- The lines of a page by ids, of which the steps of `pretty_print` speak. No public contract says more by them.
+-- The lines of a page by ids, of which the steps of `pretty_print` speak.
 use Rattle.std.specs.Prelude.{◌≡◌, ℕ, List, [], ◌∷◌, ◌++◌, map, string_bytes, String, Bool, true, false, Option, Some, None}
 use Rattle.std.specs.declared.alloc.Global.{Global}
 use Rattle.hir_input.specs.declared.ids.FileAstId.{FileAstId}

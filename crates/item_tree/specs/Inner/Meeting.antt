@@ -1,4 +1,4 @@
--- What becomes of the visibilities in the arena as more are met, one after the other. Only private contracts speak of it.
+-- What becomes of the visibilities in the arena as more are met, one after the other.
 use Rattle.std.specs.Prelude.{List, [], ◌∷◌, ◌++◌, if◌then◌else◌}
 use Rattle.std.specs.List.{list_any}
 use Rattle.item_tree.specs.declared.visibility.RawVisibility.{RawVisibility}

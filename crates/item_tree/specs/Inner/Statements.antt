@@ -1,4 +1,4 @@
--- The items of statements one by one. Only private contracts speak of them.
+-- The items of statements one by one.
 use Rattle.std.specs.Prelude.{[]}
 use Rattle.hir_input.specs.declared.ast.Stmt.{Stmt}
 use Rattle.hir_input.specs.declared.ast.Stmt.TheVariants as stmt

@@ -1,4 +1,4 @@
--- What lowering adds to the rows. Only private contracts speak of it.
+-- What lowering adds to the rows.
 use Rattle.std.specs.Prelude.{◌≡◌, ℕ, ◌+◌, ◌*◌, ◌≤◌, Bool, List, [], ◌∷◌, ◌++◌, length, map, Option, Some, None, Result, MatchResult, option_copied}
 use Rattle.std.specs.declared.vec.Vec.{Vec}
 use Rattle.std.specs.declared.alloc.Global.{Global}
@@ -17,7 +17,7 @@ use Rattle.item_tree.specs.CrateView.{crate_view}
 use Rattle.item_tree.specs.Node.{Ctor, Node, Forest, empty, add, count, Unfolding}
 use Rattle.item_tree.specs.Kept.{kept, kept_all, top_attrs_of}
 use Rattle.item_tree.specs.Column.{is_empty, unless, some_unless, column_of, places_from, plain_place}
-use Rattle.item_tree.specs.Meeting.{meet, meet_all}
+use Rattle.item_tree.specs.Inner.Meeting.{meet, meet_all}
 use Rattle.item_tree.specs.Layout.{vis_id, ctor_map, ctor_vis, forest_vis, kind_bit, ids, Row, row_tag, row_key, row_attrs, row_item, rows_of}
 use Rattle.item_tree.specs.Imports.{super_limit}
 use Rattle.item_tree.specs.KeptUse.{use_tree_limit}

@@ -1,4 +1,4 @@
--- Codes of aliases, of use trees and of uses, which models of types that hold them and their `==` ask for. No contract says more by them.
+-- Codes of aliases, of use trees and of uses.
 use Rattle.std.specs.Prelude.{◌≡◌, ◌⊎◌, ℕ, List, [], ◌∷◌, Option, None, refl}
 use Rattle.std.specs.Coded.{Coded, code_by, coded×, coded⊎, coded_list, coded_option, coded_ℕ}
 use Rattle.std.proofs.Common.{inl, inr, ap}

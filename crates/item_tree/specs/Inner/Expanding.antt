@@ -1,4 +1,4 @@
--- What the parts of `Use::expand` promise each other. For private contracts and invariants alone.
+-- What the parts of `Use::expand` promise each other.
 use Rattle.std.specs.Prelude.{ℕ, suc, ◌+◌, ◌≡◌, List, [], ◌∷◌, ◌++◌, length, Option, Some, None}
 use Rattle.std.specs.List.{FoldsTo}
 use Rattle.std.proofs.Common.{Bor}

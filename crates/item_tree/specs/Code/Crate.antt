@@ -1,4 +1,4 @@
--- A code of crates, which the model of a type that holds them asks for. No contract says more by it.
+-- A code of crates.
 use Rattle.std.specs.Prelude.{List, refl}
 use Rattle.std.specs.Coded.{Coded, code_by, coded×}
 use Rattle.hir_input.specs.declared.ids.HirFileId.{HirFileId}
