@@ -1,7 +1,7 @@
 -- What is kept does not depend on body texts.
 use Rattle.std.proofs.Common.{◌≡◌, ℕ, Bool, List, [], ◌∷◌, map, refl, ap, ◌∙◌}
 use Rattle.std.specs.Prelude.{Some, option_map}
-use Rattle.hir_input.specs.Syntax.{ItemView, ItemViews, plain_item, const_item, struct_item, bare_module, listed_module, use_item, extern_crate, bare_extern_block, listed_extern_block, impl_item, macro_call, macro_rules, asm_item, no_items, item_and, StmtView, item_stmt, call_stmt, other_stmt, TailView, no_tail, call_tail, other_tail, stmt_items, SyntaxView, source_file, macro_items, macro_stmts, block_expr, error}
+use Rattle.hir_input.specs.Syntax.{ItemView, ItemViews, listed_module, listed_extern_block, macro_call, no_items, item_and, StmtView, item_stmt, call_stmt, other_stmt, TailView, call_tail, stmt_items, SyntaxView, source_file, macro_items, macro_stmts, block_expr, error}
 use Rattle.hir_input.specs.Bodies.{item_without_bodies, items_without_bodies, call_without_body, stmt_without_bodies, tail_without_body, without_bodies}
 use Rattle.item_tree_attrs.specs.Collected.{nothing}
 use Rattle.hir_input.specs.Cfg.{AtomView}
@@ -13,20 +13,10 @@ use Rattle.item_tree.specs.Node.{parent, extern_block, add}
 module _ (options : List AtomView) (skipped : List (List ℕ)) where
   mutual
     kept-item_without_bodies : (i : ItemView) → kept options skipped (item_without_bodies i) ≡ kept options skipped i
-    kept-item_without_bodies (plain_item k n) = refl
-    kept-item_without_bodies (const_item n) = refl
-    kept-item_without_bodies (struct_item n k) = refl
-    kept-item_without_bodies (bare_module n semicolon) = refl
     kept-item_without_bodies (listed_module n semicolon is) =
         ap (λ f. option_map (λ name. module_node semicolon (head_of options skipped n.node) name (read_visibility n.visibility) f) n.name) (kept_all-items_without_bodies is)
-    kept-item_without_bodies (use_item u) = refl
-    kept-item_without_bodies (extern_crate n rename) = refl
-    kept-item_without_bodies (bare_extern_block n) = refl
     kept-item_without_bodies (listed_extern_block n is) = ap (λ f. Some (parent (head_of options skipped n) extern_block f)) (kept_all-items_without_bodies is)
-    kept-item_without_bodies (impl_item n of_trait) = refl
-    kept-item_without_bodies (macro_call c) = refl
-    kept-item_without_bodies (macro_rules n name) = refl
-    kept-item_without_bodies (asm_item n) = refl
+    kept-item_without_bodies _ = refl
 
     pub kept_all-items_without_bodies : (is : ItemViews) → kept_all options skipped (items_without_bodies is) ≡ kept_all options skipped is
     kept_all-items_without_bodies no_items = refl
@@ -34,9 +24,8 @@ module _ (options : List AtomView) (skipped : List (List ℕ)) where
 
 -- the items of statements without bodies
 stmt_items-without_bodies : (stmts : List StmtView) (tail : TailView) → stmt_items (map stmt_without_bodies stmts) (tail_without_body tail) ≡ items_without_bodies (stmt_items stmts tail)
-stmt_items-without_bodies [] no_tail = refl
 stmt_items-without_bodies [] (call_tail c) = refl
-stmt_items-without_bodies [] other_tail = refl
+stmt_items-without_bodies [] _ = refl
 stmt_items-without_bodies (item_stmt i ∷ stmts) tail = ap (item_and (item_without_bodies i)) (stmt_items-without_bodies stmts tail)
 stmt_items-without_bodies (call_stmt c ∷ stmts) tail = ap (item_and (macro_call (call_without_body c))) (stmt_items-without_bodies stmts tail)
 stmt_items-without_bodies (other_stmt ∷ stmts) tail = stmt_items-without_bodies stmts tail

@@ -1,5 +1,5 @@
 -- Calls at the items of a list, one part after another.
-use Rattle.std.proofs.Common.{List, [], ◌∷◌, ◌++◌, refl, sym, ap, ◌∙◌, subst, append_assoc, append-nil, Result, Ok, Err, OnErr}
+use Rattle.std.proofs.Common.{List, [], ◌∷◌, ◌++◌, sym, ap, ◌∙◌, subst, append_assoc, Result, Ok, Err, OnErr}
 use Rattle.std.specs.List.{FoldsTo}
 use Rattle.item_tree.specs.Calls.{MayCallAt, CalledAtAll, CalledAtSome}
 use Rattle.item_tree.specs.Inner.Expanding.{CallsLeft}
@@ -16,19 +16,11 @@ pub MayCallAt-rest : {F A : Type 0} (pre : F → A → Type 0) (step : F → A �
 MayCallAt-rest pre step f [] ys g h c = subst (λ k. MayCallAt pre step k ys) c h
 MayCallAt-rest pre step f (x ∷ xs) ys g h c = MayCallAt-rest pre step c.0 xs ys g (h.1 c.0 c.1) c.2
 
-pub CallsLeft-start : {F A : Type 0} (step : F → A → F → Type 0) (f : F) (xs : List A) → CallsLeft step f xs f xs
-CallsLeft-start step f xs = record { done = []; is_front = refl; calls = refl }
-
 pub CallsLeft-more : {F A : Type 0} (step : F → A → F → Type 0) (f : F) (all xs ys : List A) (g h : F) → CallsLeft step f all g (xs ++ ys) → CalledAtAll step g xs h → CallsLeft step f all h ys
 CallsLeft-more step f all xs ys g h c d = record {
   done = c.done ++ xs;
   is_front = append_assoc c.done xs ys ∙ c.is_front;
   calls = FoldsTo-append step f c.done xs g h c.calls d.calls;
-}
-
-pub CallsLeft-end : {F A : Type 0} (step : F → A → F → Type 0) (f : F) (all : List A) (g : F) → CallsLeft step f all g [] → CalledAtAll step f all g
-CallsLeft-end step f all g c = record {
-  calls = subst (λ xs. FoldsTo step f xs g) (sym (append-nil c.done) ∙ c.is_front) c.calls;
 }
 
 pub CallsLeft-some : {F A : Type 0} (step : F → A → F → Type 0) (f : F) (all xs ys : List A) (g h : F) → CallsLeft step f all g (xs ++ ys) → CalledAtSome step g xs h → CalledAtSome step f all h

@@ -1,8 +1,9 @@
 -- What a caller of `Use::expand` proves of its closure, and learns of the calls.
-use Rattle.std.proofs.Common.{◌≡◌, ℕ, ◌+◌, ◌<◌, ◌≤◌, List, [], ◌∷◌, ◌++◌, length, Option, Some, None, refl, sym, ap, ◌∙◌, append_assoc, append-nil, length-append, arith}
+use Rattle.std.proofs.Common.{◌≡◌, ℕ, ◌+◌, ◌<◌, ◌≤◌, List, [], ◌∷◌, ◌++◌, length, Option, Some, None, refl, sym, ap, ◌∙◌, append-nil, length-append, arith}
 use Rattle.std.specs.List.{flat_map}
 use Rattle.std.proofs.lemmas.Fn.{chained_keeps}
-use Rattle.std.proofs.lemmas.Grind.{flat_map-append}
+use Rattle.std.proofs.lemmas.List.{flat_map_more, map-id}
+use Rattle.std.proofs.lemmas.List.Concat.{flat_map_single}
 use Rattle.hir_input.specs.Path.{Path}
 use Rattle.item_tree.specs.declared.use_tree.ImportAlias.{ImportAlias}
 use Rattle.item_tree.specs.declared.use_tree.ImportKind.{ImportKind}
@@ -55,20 +56,15 @@ calls_add step Whole list made f xs g adds c =
     calls_keep step (λ ys k. Whole k → list k ≡ list f ++ flat_map made ys) f xs g
     (λ ys k x h e s w.
     let m = adds k x h s w in
-    m.1 ∙ ap (λ zs. zs ++ made x) (e m.0) ∙ append_assoc (list f) (flat_map made ys) (made x)
-    ∙ ap (λ zs. list f ++ zs) (ap (λ zs. flat_map made ys ++ zs) (sym (append-nil (made x))) ∙ sym (flat_map-append made ys (x ∷ []))))
+    m.1 ∙ ap (λ zs. zs ++ made x) (e m.0) ∙ flat_map_more made (list f) ys x)
     (λ w. sym (append-nil (list f))) c
-
-flat_map-each : {A : Type 0} (xs : List A) → flat_map (λ x. x ∷ []) xs ≡ xs
-flat_map-each [] = refl
-flat_map-each (x ∷ xs) = ap (λ zs. x ∷ zs) (flat_map-each xs)
 
 -- a closure that gathers what it is called at, as long as nothing is refused
 pub calls_gather : {F A : Type 0} (step : F → A → F → Type 0) (Whole : F → Type 0) (list : F → List A) (f : F) (xs : List A) (g : F)
     → ((k : F) (x : A) (h : F) → step k x h → Whole h → Whole k × (list h ≡ list k ++ x ∷ []))
     → CalledAtAll step f xs g → Whole g → list g ≡ list f ++ xs
 calls_gather step Whole list f xs g more c w =
-    calls_add step Whole list (λ x. x ∷ []) f xs g more c w ∙ ap (λ zs. list f ++ zs) (flat_map-each xs)
+    calls_add step Whole list (λ x. x ∷ []) f xs g more c w ∙ ap (λ zs. list f ++ zs) (flat_map_single (λ x. x) xs ∙ map-id xs)
 
 import_of-one : (i : ℕ) (k : ImportKind) (a : Option ImportAlias) (p : Option Path) → length (import_of i k a p) ≤ 1
 import_of-one i k a None = omega arith

@@ -147,8 +147,3 @@ read_chain_alone p h = ap read_words (append-nil (words p)) ∙ read-words p h
 -- a path below another
 pub read_chain_both : (p q : Path) → read_chain (p ∷ q ∷ []) ≡ read_words (words p ++ words q)
 read_chain_both p q = ap (λ ws. read_words (words p ++ ws)) (append-nil (words q))
-
--- `self` below a path means that path
-pub read_below_self : (b : Bool) (q p : Path) → b ≡ true → read_below b (q ∷ []) p ≡ read_chain (q ∷ [])
-read_below_self true q p e = refl
-read_below_self false q p e = cc

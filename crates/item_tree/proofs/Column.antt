@@ -1,7 +1,6 @@
 -- What stands in the column of attributes at the places.
-use Rattle.std.proofs.Common.{◌≡◌, ℕ, ◌+◌, ◌<◌, eqb, Bool, true, false, List, [], ◌∷◌, ◌++◌, length, map, suc, Option, Some, None, refl, ap, sym, ◌∙◌, arith, add-zero, append_assoc, length-append, inl, inr}
-use Rattle.std.specs.Prelude.{◌↔◌, IsTrue}
-use Rattle.std.proofs.lemmas.Bool.{cases_Bool, eqb-true, ne_eqb, false≢true}
+use Rattle.std.proofs.Common.{◌≡◌, ℕ, ◌+◌, eqb, Bool, true, false, List, [], ◌∷◌, ◌++◌, length, map, suc, Option, Some, None, refl, ap, sym, ◌∙◌, arith, add-zero, append_assoc, length-append, inl, inr}
+use Rattle.std.proofs.lemmas.Bool.{cases_Bool, eqb-true}
 use Rattle.std.proofs.lemmas.List.{map-id}
 use Rattle.hir_input.specs.declared.attr.Attr.{Attr}
 use Rattle.hir_input.specs.Cfg.{CfgView}
@@ -17,15 +16,6 @@ empty-is_of (a ∷ rest) cfg h = cc
 
 pub empty-is : (c : Collected) → is_empty c ≡ true → c ≡ no_attrs
 empty-is c h = empty-is_of c.attrs c.false_cfg h
-
--- the test of a value by what it says
-pub is_empty-told : (c : Collected) (b : Bool) → IsTrue b ↔ (c ≡ no_attrs) → is_empty c ≡ b
-is_empty-told c true h = ap is_empty (h.0 refl)
-is_empty-told c false h =
-    elim (cases_Bool (is_empty c)) [
-      | inl e ↦ absurd (false≢true (h.1 (empty-is c e)))
-      | inr e ↦ e
-    ]
 
 value-back_if : (b : Bool) (us vs : List Collected) (c : Collected) → is_empty c ≡ b → attrs_stored (us ++ (unless b c ++ vs)) (some_unless b (length us)) ≡ c
 value-back_if true us vs c h = sym (empty-is c h)
@@ -76,10 +66,6 @@ places-append k (c ∷ cs) ds =
 pub places-length : (k : ℕ) (cs : List Collected) → length (places_from k cs) ≡ length cs
 places-length k [] = refl
 places-length k (c ∷ cs) = ap suc (places-length (k + length (unless (is_empty c) c)) cs)
-
--- a number that is below the one for no place
-pub plain-place : (k : ℕ) → k < 4294967295 → plain_place k ≡ Some k
-plain-place k h = rw (ne_eqb k 4294967295 (omega arith)) refl
 
 abbrev pub number_of : Option ℕ → ℕ
 number_of None = 4294967295

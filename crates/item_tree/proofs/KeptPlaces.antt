@@ -62,14 +62,9 @@ places_stand w places t e kept =
 
 -- ---- one place for each kept node
 
-length-bare : (k : ℕ) (path : Option PathNode) (star : Bool) (rename : Option Rename) → length (if_kept (kept_bare path star rename) (k ∷ [])) ≡ option_map_or tree_count (kept_bare path star rename) 0
-length-bare k (Some Unreadable) star rename = refl
-length-bare k None true (Some r) = refl
-length-bare k None true None = refl
-length-bare k None false rename = refl
-length-bare k (Some (Readable p)) true (Some r) = refl
-length-bare k (Some (Readable p)) true None = refl
-length-bare k (Some (Readable p)) false rename = refl
+length-bare : (k : ℕ) (t : Option Tree) → kept_nodes t ≡ option_to_list t → length (if_kept t (k ∷ [])) ≡ option_map_or tree_count t 0
+length-bare k None e = refl
+length-bare k (Some t) e = sym (ap length e)
 
 length-listed : (k : ℕ) (prefix : Option (Option Path)) (places : List ℕ) (ts : List Tree) → length places ≡ length (branch_nodes (branches_from ts))
     → length (if_kept prefix (k ∷ places)) ≡ option_map_or tree_count (option_map (λ p. prefixed p (branches_from ts)) prefix) 0
@@ -82,7 +77,7 @@ length-kept_nodes (Some t) = refl
 
 mutual
   pub length-kept_places : (k : ℕ) (w : UseTreeView) → length (kept_places k w) ≡ kept_count w
-  length-kept_places k (bare_tree n) = length-bare k n.path n.star n.rename
+  length-kept_places k (bare_tree n) = length-bare k (kept_bare n.path n.star n.rename) (kept_nodes-bare n.path n.star n.rename)
   length-kept_places k (listed_tree n us) = length-listed k (kept_prefix n.path) (all_kept_places (k + 1) us) (kept_trees us) (length-all_kept_places (k + 1) us)
 
   length-all_kept_places : (k : ℕ) (us : UseTreeViews) → length (all_kept_places k us) ≡ length (branch_nodes (branches_from (kept_trees us)))

@@ -152,8 +152,7 @@ module _ {u : Unfolding} {top : List ℕ} {place : ℕ} {t : Rows} (view : unfol
         ids = below;
         children = ap (map (node_at f)) below ∙ stand-at u b (parent h s g) w;
       }
-  lent-at b (leaf h l) w (lent_parent a r is) q e = absurd (cc)
-  lent-at b (parent h s g) w (lent_leaf a m) q e = absurd (cc)
+  lent-at b _ w _ q e = absurd (cc)
 
   pub shown : (i : ℕ) (x : ModItem) (k : Lent) → IsContained u i → x ≡ get_or t.items.items (i / 2) x → option_map node_ast (node_at f i) ≡ Some (lent_ast k) → lent_row k ≡ item_row x → IsLent u i k
   shown i x k h g q e =

@@ -303,9 +303,7 @@ module _ (ctx : Ctx) (m : ast_module.Module) where
 pub none_written : (xs : List ExternItem) → items_written (items_from (map extern_item_view xs)) ≡ 0
 none_written [] = refl
 none_written (external.Fn n ∷ xs) = omega (arith, none_written xs)
-none_written (external.MacroCall n ∷ xs) = omega (arith, none_written xs)
-none_written (external.Static n ∷ xs) = omega (arith, none_written xs)
-none_written (external.TypeAlias n ∷ xs) = omega (arith, none_written xs)
+none_written (_ ∷ xs) = omega (arith, none_written xs)
 
 module _ (ctx : Ctx) where
   abbrev pub block_head : ast_block.ExternBlock → Head

@@ -86,9 +86,8 @@ module _ (reserved : List (List ℕ)) where
 
   same-trunk : (t s : Trunk RawVisibility) → trunk_map Some t ≡ trunk_map Some s → t ≡ s
   same-trunk (inline n v) (inline m w) e = cc
-  same-trunk (inline n v) extern_block e = absurd (cc)
-  same-trunk extern_block (inline m w) e = absurd (cc)
   same-trunk extern_block extern_block e = refl
+  same-trunk _ _ e = absurd (cc)
 
   -- the lines of an item with children are those of its header, of its children's ids, and of its end
   parent_lines :
@@ -119,9 +118,8 @@ module _ (reserved : List (List ℕ)) where
 
   has-ids : (u : Unfolding) (is : List ℕ) (f : Forest) → StandFor u is f → not (length is == 0) ≡ has_nodes f
   has-ids u [] empty e = refl
-  has-ids u [] (more n f) e = absurd (cc)
-  has-ids u (i ∷ is) empty e = absurd (cc)
   has-ids u (i ∷ is) (more n f) e = ap not (ne_eqb (length (i ∷ is)) 0 (omega arith))
+  has-ids u _ _ e = absurd (cc)
 
   -- the page is the lines of the top attributes, and those of the ids at the top
   pub page_of_ids :

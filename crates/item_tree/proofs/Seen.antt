@@ -2,12 +2,12 @@
 use Rattle.std.proofs.Common.{◌≡◌, Bool, true, false, List, [], ◌∷◌, ◌++◌, Option, Some, None, refl, ap, sym, ◌∙◌, inl, inr}
 use Rattle.std.proofs.lemmas.Bool.{cases_Bool, cond_both, false≢true, and_from, and_parts}
 use Rattle.std.specs.List.{list_any, list_all, find}
+use Rattle.std.proofs.lemmas.Bool.Decides.{same_from_decides}
 use Rattle.hir_input.specs.Syntax.{NamedView, FieldsView, record_fields, tuple_fields, no_fields, ItemView, ItemViews, SyntaxView, items_of, struct_item, listed_module, no_items, item_and}
 use Rattle.item_tree.specs.declared.visibility.RawVisibility.TheVariants.{Module, PubSelf, PubCrate, Public}
 use Rattle.item_tree.specs.declared.visibility.VisibilityExplicitness.{VisibilityExplicitness}
 use Rattle.hir_input.specs.Path.{Path}
 use Rattle.item_tree.specs.Constructor.{is_private, is_pub_crate, crate_or_public, or_one, deciding_by, deciding}
-use Rattle.item_tree.specs.Same.{agree}
 use Rattle.item_tree.specs.Sees.{Where, inside, in_crate, outside, Place, seen_from, sees_all, written_vis, CtorIsSeen, CtorIsSeenIn, CtorsAreSeenIn, CtorsAreSeen}
 use Rattle.item_tree.specs.Visibility.{same, firsts_behind, distinct}
 use Rattle.item_tree.proofs.Arena.{V}
@@ -100,9 +100,9 @@ module _ (p : V → Bool) (public : p Public ≡ true) (private : (e : Visibilit
 
   pub decide : (vs : List V) → list_all p (deciding vs) ≡ list_all p vs
   decide vs =
-      agree (list_all p (deciding vs)) (list_all p vs)
-      (λ h. All-to vs (all-seen (find is_private vs) vs refl (All-from (deciding vs) h)))
-      (λ h. All-to (deciding vs) (deciding-seen (find is_private vs) vs refl (All-from vs h)))
+      same_from_decides (list_all p (deciding vs)) (list_all p vs)
+      ((λ h. All-to vs (all-seen (find is_private vs) vs refl (All-from (deciding vs) h))), (λ h. All-to (deciding vs) (deciding-seen (find is_private vs) vs refl (All-from vs h))))
+      ((λ h. h), (λ h. h))
 
 inside-sees : (modules : List Path) (vs : List V) → list_all (seen_from inside modules) vs ≡ true
 inside-sees modules [] = refl

@@ -8,10 +8,10 @@ use Rattle.hir_input.specs.Syntax.{items_from, item_view, stmt_items, stmts_view
 use Rattle.item_tree.specs.declared.lower.Ctx.{Ctx}
 use Rattle.item_tree.specs.declared.rows.Rows.{Rows}
 use Rattle.item_tree.specs.declared.fault.LowerError.{LowerError}
-use Rattle.item_tree.specs.Node.{Forest, empty, add, count}
+use Rattle.item_tree.specs.Node.{Forest, empty, add}
 use Rattle.item_tree.specs.Inner.Meeting.{meet_all}
 use Rattle.item_tree.specs.Layout.{forest_vis}
-use Rattle.item_tree.specs.Size.{item_written, items_written, IsPassed, most_attrs, forest_supers}
+use Rattle.item_tree.specs.Size.{item_written, items_written, IsPassed}
 use Rattle.item_tree.specs.Inner.Growth.{kept_in, all_kept_in, Lowers, sizes_with}
 use Rattle.item_tree.specs.Inner.Statements.{stmt_item, tail_item}
 use Rattle.item_tree.proofs.Arena.{length-Extends, Extends-meet_all}
@@ -28,9 +28,8 @@ module _ (ctx : Ctx) where
   of_both stmts end = all_kept_in ctx (stmt_items (stmts_view stmts) (tail_view end))
 
   kept-stmts : (stmts : List Stmt) (end : Tail) → join (of_stmts stmts) (of_tail end) ≡ of_both stmts end
-  kept-stmts [] tail.Nothing = refl
   kept-stmts [] (tail.MacroCall c) = refl
-  kept-stmts [] tail.Other = refl
+  kept-stmts [] _ = refl
   kept-stmts (stmt.Item i ∷ stmts) end = sym (add-join (kept_in ctx (item_view i)) (of_stmts stmts) (of_tail end)) ∙ ap (add (kept_in ctx (item_view i))) (kept-stmts stmts end)
   kept-stmts (stmt.MacroCall c ∷ stmts) end =
       let call = kept_in ctx (stmt_item (stmt.MacroCall c)) in
@@ -38,12 +37,10 @@ module _ (ctx : Ctx) where
   kept-stmts (stmt.Other ∷ stmts) end = kept-stmts stmts end
 
 written-stmts : (stmts : List Stmt) (end : Tail) → max (items_written (items_from (map stmt_item stmts))) (item_written (tail_item end)) ≡ items_written (stmt_items (stmts_view stmts) (tail_view end))
-written-stmts [] tail.Nothing = refl
 written-stmts [] (tail.MacroCall c) = refl
-written-stmts [] tail.Other = refl
+written-stmts [] _ = refl
 written-stmts (stmt.Item i ∷ stmts) end = omega (arith, written-stmts stmts end)
-written-stmts (stmt.MacroCall c ∷ stmts) end = omega (arith, written-stmts stmts end)
-written-stmts (stmt.Other ∷ stmts) end = omega (arith, written-stmts stmts end)
+written-stmts (_ ∷ stmts) end = omega (arith, written-stmts stmts end)
 
 -- what one of two parts passes, the whole passes
 module _ (a : Rows) (v w : ℕ) (f g : Forest) (e : LowerError) where

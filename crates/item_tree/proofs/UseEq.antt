@@ -54,8 +54,7 @@ branches_from-injective : (ts us : List Tree) → branches_from ts ≡ branches_
 branches_from-injective [] [] h = refl
 branches_from-injective (t ∷ ts) (u ∷ us) h =
     let first : t ≡ u = cc in let more : branches_from ts ≡ branches_from us = cc in λ i. first i ∷ branches_from-injective ts us more i
-branches_from-injective [] (u ∷ us) h = cc
-branches_from-injective (t ∷ ts) [] h = cc
+branches_from-injective _ _ h = cc
 
 module _ (ts us : List UseTree) where
   one_by_one : trees_of ts ≡ trees_of us → map tree_of ts ≡ map tree_of us

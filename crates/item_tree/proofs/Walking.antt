@@ -3,7 +3,7 @@ use Rattle.std.proofs.Common.{◌≡◌, ℕ, zero, suc, ◌+◌, ◌<◌, List,
 use Rattle.std.specs.Prelude.{is_some, IsSome}
 use Rattle.std.specs.Option.{option_map_or}
 use Rattle.std.specs.List.{sum_by, flat_map}
-use Rattle.std.proofs.lemmas.List.Sums.{sum-map, sum_by-cons, get_or-le-sum_by}
+use Rattle.std.proofs.lemmas.List.Sums.{sum-map, sum_by-cons}
 use Rattle.std.proofs.lemmas.List.Folds.{flat_map-map}
 use Rattle.hir_input.specs.declared.ids.FileAstId.{FileAstId}
 use Rattle.item_tree.specs.declared.visibility.RawVisibility.{RawVisibility}
@@ -22,12 +22,11 @@ module _ {X : Type 0} (u : Unfolding) (d : X) (h : Node → X) where
 
   pub map_of_id : (is : List ℕ) (ns : List Node) → map (node_at u.forest) is ≡ map Some ns → map (of_id u d h) is ≡ map h ns
   map_of_id [] [] e = refl
-  map_of_id [] (n ∷ ns) e = absurd (cc)
-  map_of_id (i ∷ is) [] e = absurd (cc)
   map_of_id (i ∷ is) (n ∷ ns) e =
       let first : node_at u.forest i ≡ Some n = cc in
       let others : map (node_at u.forest) is ≡ map Some ns = cc in
       rw (first, map_of_id is ns others) refl
+  map_of_id _ _ e = absurd (cc)
 
   pub leaf_of_id : (i : ℕ) (a : FileAstId) (l : Leaf ℕ) (p : IsLeaf u i a l) → of_id u d h i ≡ h (leaf p.head p.item)
   leaf_of_id i a l p = of_id_is i (leaf p.head p.item) p.found
@@ -61,9 +60,6 @@ ids_contained u is f e = all_contained u is (nodes f) e
 pub children_contained : {u : Unfolding} {i : ℕ} {a : FileAstId} {t : Trunk ℕ} {is : List ℕ} → IsParent u i a t is → AreContained u is
 children_contained {u} {i} {a} {t} {is} p = ids_contained u is p.below p.children
 
-pub child_contained : {u : Unfolding} {i : ℕ} {a : FileAstId} {t : Trunk ℕ} {is : List ℕ} (k d : ℕ) → IsParent u i a t is → k < length is → IsContained u (get_or is k d)
-child_contained k d p h = children_contained p k d h
-
 -- an item without children has no ids of children
 pub leaf_childless : {u : Unfolding} {i : ℕ} {a : FileAstId} {l : Leaf ℕ} → IsLeaf u i a l → child_ids u i ≡ []
 unfolding child_ids
@@ -96,6 +92,3 @@ pub parent_counts : {u : Unfolding} {i : ℕ} {a : FileAstId} {t : Trunk ℕ} {i
 parent_counts {u} {i} {a} {t} {is} p =
     let whole : count_at u i ≡ suc (count p.below) = parent_of_id u 0 node_count i a t is p in
     omega (arith, whole, ids_count u is p.below p.children)
-
-pub child_falls : {u : Unfolding} {i : ℕ} {a : FileAstId} {t : Trunk ℕ} {is : List ℕ} (k d : ℕ) → IsParent u i a t is → k < length is → count_at u (get_or is k d) < count_at u i
-child_falls {u} {i} {a} {t} {is} k d p h = omega (arith, parent_counts p, get_or-le-sum_by (count_at u) is k d h)

@@ -3,19 +3,15 @@ use Rattle.std.specs.Prelude.{◌≡◌, Bool, true, false, ◌&&◌, nat_eq, re
 use Rattle.std.specs.Bool.{Decides}
 use Rattle.std.specs.Cmp.{IsEquivalence}
 use Rattle.std.proofs.Common.{sym, ap, subst, arith}
-use Rattle.std.proofs.lemmas.Bool.Decides.{nat_tests}
+use Rattle.std.proofs.lemmas.Bool.{and_parts}
+use Rattle.std.proofs.lemmas.Bool.Decides.{nat_tests, same_from_decides, Decides-like}
 use base.Stored.{Gv, gnil, gnum, gcons, Coded}
 
 alike : Gv → Gv → Bool
 alike gnil gnil = true
-alike gnil (gnum n) = false
-alike gnil (gcons c d) = false
-alike (gnum m) gnil = false
 alike (gnum m) (gnum n) = nat_eq m n
-alike (gnum m) (gcons c d) = false
-alike (gcons a b) gnil = false
-alike (gcons a b) (gnum n) = false
 alike (gcons a b) (gcons c d) = alike a c && alike b d
+alike _ _ = false
 
 alike_itself : (a : Gv) → alike a a ≡ true
 unfolding alike
@@ -23,28 +19,16 @@ alike_itself gnil = refl
 alike_itself (gnum n) = grind (arith, nat_tests)
 alike_itself (gcons a b) = rw (alike_itself a) (alike_itself b)
 
-first : (s t : Bool) → (s && t) ≡ true → s ≡ true
-first true t h = refl
-first false t h = h
-
-second : (s t : Bool) → (s && t) ≡ true → t ≡ true
-second true t h = h
-second false t h = cc
-
 alike_same : (a b : Gv) → alike a b ≡ true → a ≡ b
 unfolding alike
 alike_same gnil gnil h = refl
-alike_same gnil (gnum n) h = cc
-alike_same gnil (gcons c d) h = cc
-alike_same (gnum m) gnil h = cc
 alike_same (gnum m) (gnum n) h = let e : m ≡ n = grind (arith, nat_tests) in ap gnum e
-alike_same (gnum m) (gcons c d) h = cc
-alike_same (gcons a b) gnil h = cc
-alike_same (gcons a b) (gnum n) h = cc
 alike_same (gcons a b) (gcons c d) h =
-    let left = alike_same a c (first _ _ h) in
-    let right = alike_same b d (second _ _ h) in
+    let both = and_parts (alike a c) (alike b d) h in
+    let left = alike_same a c both.0 in
+    let right = alike_same b d both.1 in
     λ i. gcons (left i) (right i)
+alike_same _ _ h = cc
 
 -- whether the two values are the same
 pub same : {A : Type 0} → Coded A → A → A → Bool
@@ -65,16 +49,9 @@ module _ {A : Type 0} (c : Coded A) where
   pub same_decides : (x y : A) → Decides (same c x y) (x ≡ y)
   same_decides x y = (equal_of_same x y, same_of_equal x y)
 
--- two tests that are true at the same time are equal
-pub agree : (a b : Bool) → (a ≡ true → b ≡ true) → (b ≡ true → a ≡ true) → a ≡ b
-agree true b f g = sym (f refl)
-agree false true f g = cc (g refl)
-agree false false f g = refl
-
-module _ {A : Type 0} (c : Coded A) where
   pub same_is_equivalence : IsEquivalence (same c)
   same_is_equivalence = record {
-    refl = same_itself c;
-    symm = λ x y. agree _ _ (λ h. same_of_equal c y x (sym (equal_of_same c x y h))) (λ h. same_of_equal c x y (sym (equal_of_same c y x h)));
-    congr = λ x y z h. ap (λ v. same c v z) (equal_of_same c x y h);
+    refl = same_itself;
+    symm = λ x y. same_from_decides (same c x y) (same c y x) (same_decides x y) (Decides-like (same c y x) sym sym (same_decides y x));
+    congr = λ x y z h. ap (λ v. same c v z) (equal_of_same x y h);
   }
