@@ -1,53 +1,109 @@
-//! A copy is equal to its source.
-use hir_input::{Attr, AttrInput, Edition, EditionYear, ModPath, Name, PathKind, SyntaxContext};
-use item_tree_samples::attributes::{literal, nested, options, tokens};
+//! A copy is equal to its source, or refused, and of two requests never both are refused; the source is as it was.
+use hir_input::{Attr, AttrInput, Edition, EditionYear, PathKind, SyntaxContext};
+use item_tree_samples::attributes::{flag, literal, nested, options, tokens};
 use item_tree_samples::words;
-use std::alloc::Global;
-use std::test::Fail;
+use std::alloc::{AllocError, Global};
 
-fn is_copied<T: Clone + PartialEq + Drop>(source: &T) -> bool {
-    match source.clone() {
-        Ok(copy) => copy == *source,
-        Err(_) => false,
+// Whether a copy is made, of two requests at least once, and equal to its source, which is still equal to its twin.
+fn is_copied<T: Clone + PartialEq + Drop>(source: &T, twin: &T) -> bool {
+    let mut is_made = false;
+    for _ in 0..2 {
+        if let Ok(copy) = source.clone() {
+            if copy != *source {
+                return false;
+            }
+            is_made = true;
+        }
+    }
+    is_made && *source == *twin
+}
+
+fn edition(alloc: Global) -> Result<Edition, AllocError> {
+    let mut reserved = Vec::new(alloc);
+    if let Some(word) = words::name(alloc, "type")? {
+        reserved.push(word)?;
+    }
+    Ok(Edition {
+        year: EditionYear::E2024,
+        reserved,
+    })
+}
+
+fn is_edition_copied(alloc: Global) -> Result<bool, AllocError> {
+    let source = edition(alloc)?;
+    let twin = edition(alloc)?;
+    Ok(is_copied(&source, &twin))
+}
+
+#[test]
+fn copies_of_editions_are_whole_or_refused_when_memory_is_refused(rt: HostRuntime) {
+    assert!(rt; is_edition_copied(rt.alloc()).unwrap_or(true));
+}
+
+// `#[super::a = "a"]`
+fn attr(alloc: Global) -> Result<Option<Attr>, AllocError> {
+    let input = Some(AttrInput::Literal(literal(alloc)?));
+    match words::path(alloc, PathKind::Super(1), "a")? {
+        Some(path) => Ok(Some(Attr {
+            path,
+            input,
+            ctxt: SyntaxContext::Root(EditionYear::E2024),
+        })),
+        None => Ok(None),
     }
 }
 
-fn any_name(alloc: Global) -> Result<Name, Fail> {
-    Ok(words::name(alloc, "type")?.ok_or("no name")?)
+fn is_attr_copied(alloc: Global) -> Result<bool, AllocError> {
+    match (attr(alloc)?, attr(alloc)?) {
+        (Some(source), Some(twin)) => Ok(is_copied(&source, &twin)),
+        _ => Ok(false),
+    }
 }
 
-fn any_path(alloc: Global) -> Result<ModPath, Fail> {
-    Ok(words::path(alloc, PathKind::Super(1), "a")?.ok_or("no path")?)
+fn is_literal_copied(alloc: Global) -> Result<bool, AllocError> {
+    let source = literal(alloc)?;
+    let twin = literal(alloc)?;
+    Ok(is_copied(&source, &twin))
 }
 
-#[test]
-fn editions_and_paths_are_copied(rt: HostRuntime) -> Result<(), Fail> {
-    let alloc = rt.alloc();
-    let edition = Edition {
-        year: EditionYear::E2024,
-        reserved: vec![in alloc; any_name(alloc)?]?,
-    };
-    assert!(rt; is_copied(&edition));
-    assert!(rt; is_copied(&any_path(alloc)?));
-    Ok(())
-}
-
-#[test]
-fn attributes_are_copied(rt: HostRuntime) -> Result<(), Fail> {
-    let alloc = rt.alloc();
-    let attr = Attr {
-        path: any_path(alloc)?,
-        input: Some(AttrInput::Literal(literal(alloc)?)),
-        ctxt: SyntaxContext::Root(EditionYear::E2024),
-    };
-    assert!(rt; is_copied(&attr));
-    assert!(rt; is_copied(&AttrInput::TokenTree(tokens(alloc)?)));
-    Ok(())
+fn are_tokens_copied(alloc: Global) -> Result<bool, AllocError> {
+    let source = AttrInput::TokenTree(tokens(alloc)?);
+    let twin = AttrInput::TokenTree(tokens(alloc)?);
+    Ok(is_copied(&source, &twin))
 }
 
 #[test]
-fn metas_and_options_are_copied(rt: HostRuntime) -> Result<(), Fail> {
-    assert!(rt; is_copied(&nested(rt.alloc())?));
-    assert!(rt; is_copied(&options(rt.alloc(), "test")?));
-    Ok(())
+fn copies_of_attributes_are_whole_or_refused_when_memory_is_refused(rt: HostRuntime) {
+    assert!(rt; is_attr_copied(rt.alloc()).unwrap_or(true));
+    assert!(rt; is_literal_copied(rt.alloc()).unwrap_or(true));
+    assert!(rt; are_tokens_copied(rt.alloc()).unwrap_or(true));
+}
+
+fn is_meta_copied(alloc: Global) -> Result<bool, AllocError> {
+    let source = nested(alloc)?;
+    let twin = nested(alloc)?;
+    Ok(is_copied(&source, &twin))
+}
+
+#[test]
+fn copies_of_metas_are_whole_or_refused_when_memory_is_refused(rt: HostRuntime) {
+    assert!(rt; is_meta_copied(rt.alloc()).unwrap_or(true));
+}
+
+fn is_condition_copied(alloc: Global) -> Result<bool, AllocError> {
+    let source = flag(alloc, "test")?;
+    let twin = flag(alloc, "test")?;
+    Ok(is_copied(&source, &twin))
+}
+
+fn are_options_copied(alloc: Global) -> Result<bool, AllocError> {
+    let source = options(alloc, "test")?;
+    let twin = options(alloc, "test")?;
+    Ok(is_copied(&source, &twin))
+}
+
+#[test]
+fn copies_of_options_are_whole_or_refused_when_memory_is_refused(rt: HostRuntime) {
+    assert!(rt; is_condition_copied(rt.alloc()).unwrap_or(true));
+    assert!(rt; are_options_copied(rt.alloc()).unwrap_or(true));
 }
