@@ -10,11 +10,15 @@
 #[cfg(test)]
 mod copies;
 #[cfg(test)]
+mod ids;
+#[cfg(test)]
 mod imports;
 #[cfg(test)]
 mod items;
 #[cfg(test)]
 mod lowered;
+#[cfg(test)]
+mod refusals;
 #[cfg(test)]
 mod trees;
 #[cfg(test)]
