@@ -10,8 +10,8 @@ use Rattle.item_tree.specs.Node.{Unfolding}
 use Rattle.item_tree.specs.Code.Node.{unfolding_code}
 use Rattle.item_tree.specs.Same.{same, equal_of_same, same_of_equal}
 use Rattle.item_tree_db.specs.declared.place.Place.{Place}
-use Rattle.item_tree_db.specs.State.{State, file_at, present, unfolding_of, unfolding_at, change_number}
-use Rattle.item_tree_db.specs.Edits.{EditView, set_file, remove_file, set_cfg}
+use Rattle.item_tree_db.specs.State.{State, present, unfolding_of, unfolding_at, change_number}
+use Rattle.item_tree_db.specs.Edits.{EditView, set, remove, set_cfg}
 use Rattle.item_tree_db.specs.Refusal.{TreeFits, FitsAfter, FirstFit}
 use Rattle.item_tree_db.specs.History.{sets, gives, under, crate_after, last_some, last_below, present_after, unfolding_after, moves, changed_after, IsChangeNumber, IsAfter, IsFooting}
 use Rattle.item_tree_db.specs.Table.{Table, after, after_all, state_of, IsSound}
@@ -171,8 +171,8 @@ run_crate t [] i = refl
 run_crate t (e ∷ es) i = run_crate (after t e) es i ∙ front_crate t e es i
 
 fits_front : (t : Table) (es : List EditView) (e : EditView) → FitsAfter (state_of (after_all t es)) [] e → FitsAfter (state_of t) es e
-fits_front t es (set_file k syntax) h = λ i. subst (λ (names : List (List ℕ)). TreeFits names (file_at k) (crate_after (state_of t) es i) (Some syntax)) (same_skipped_all t es) (subst (λ (krate : Option CrateView). TreeFits (after_all t es).skipped (file_at k) krate (Some syntax)) (run_crate t es i) (h i))
-fits_front t es (remove_file k) h = tt
+fits_front t es (set place syntax) h = λ i. subst (λ (names : List (List ℕ)). TreeFits names place (crate_after (state_of t) es i) (Some syntax)) (same_skipped_all t es) (subst (λ (krate : Option CrateView). TreeFits (after_all t es).skipped place krate (Some syntax)) (run_crate t es i) (h i))
+fits_front t es (remove place) h = tt
 fits_front t es (set_cfg i o) h = λ place.
     let krate = under (Some o) (crate_after (state_of t) es i) in
     subst (λ (names : List (List ℕ)). TreeFits names place krate (present_after (state_of t) es place)) (same_skipped_all t es)

@@ -1,3 +1,4 @@
+pub mod Places
 pub mod Mapped
 pub mod Recasts
 pub mod Lowered

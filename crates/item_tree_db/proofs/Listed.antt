@@ -1,5 +1,5 @@
 -- Elements of lists, and lists in an order.
-use Rattle.std.proofs.Common.{◌≡◌, ◌⊎◌, inl, inr, ℕ, zero, suc, ◌<◌, Bool, true, false, cond, List, [], ◌∷◌, ◌++◌, length, map, filter, slice_index_or, All, refl, sym, ap, subst, ◌∙◌, arith, Contains, AllPairs}
+use Rattle.std.proofs.Common.{◌≡◌, ◌⊎◌, inl, inr, ℕ, zero, suc, ◌<◌, Bool, true, false, cond, List, [], ◌∷◌, ◌++◌, length, filter, slice_index_or, All, refl, sym, ap, subst, ◌∙◌, arith, Contains, AllPairs}
 
 abbrev pub In : {A : Type 0} → A → List A → Type 0
 In x [] = ⊥
@@ -65,18 +65,3 @@ module _ {A : Type 0} where
     all_pairs (x ∷ xs) h zero (suc j) d p q = h.0 (slice_index_or xs j d) (in_get xs j d (omega arith))
     all_pairs (x ∷ xs) h (suc i) zero d p q = absurd (omega arith)
     all_pairs (x ∷ xs) h (suc i) (suc j) d p q = all_pairs xs h.1 i j d (omega arith) (omega arith)
-
-module _ {A B : Type 0} (f : A → B) where
-  pub in_map : (y : B) (xs : List A) → In y (map f xs) → (x : A) × In x xs × (f x ≡ y)
-  in_map y [] h = absurd h
-  in_map y (x ∷ xs) (inl e) = (x, inl refl, e)
-  in_map y (x ∷ xs) (inr h) = let r = in_map y xs h in (r.0, inr r.1, r.2)
-
-  pub map_in : (x : A) (xs : List A) → In x xs → In (f x) (map f xs)
-  map_in x [] h = absurd h
-  map_in x (y ∷ xs) (inl e) = inl (ap f e)
-  map_in x (y ∷ xs) (inr h) = inr (map_in x xs h)
-
-  pub order_map : (R : B → B → Type 0) (xs : List A) → InOrder (λ x y. R (f x) (f y)) xs → InOrder R (map f xs)
-  order_map R [] h = tt
-  order_map R (x ∷ xs) h = (λ y i. let r = in_map y xs i in subst (λ (z : B). R (f x) z) r.2 (h.0 r.0 r.1), order_map R xs h.1)

@@ -3,7 +3,7 @@ use Rattle.std.proofs.Common.{◌≡◌, ℕ, zero, suc, ◌+◌, List, [], ◌�
 use Rattle.std.specs.List.{AllByRecursion}
 use Rattle.item_tree_db.specs.declared.edit.Edit.{Edit}
 use Rattle.item_tree_db.specs.State.{given}
-use Rattle.item_tree_db.specs.Edits.{EditView, edit_view, set_file, remove_file, set_cfg}
+use Rattle.item_tree_db.specs.Edits.{EditView, edit_view, set, remove, set_cfg}
 use Rattle.item_tree_db.specs.Refusal.{NamesKnown}
 use Rattle.item_tree_db.specs.Table.{Table, after, after_all, state_of}
 use Rattle.item_tree_db.proofs.Recasts.{length-change_at}
@@ -43,8 +43,8 @@ popped n xs x ys e = record {
 
 -- the number of crates and the skipped names stay
 pub same_count : (t : Table) (e : EditView) → length (after t e).crates ≡ length t.crates
-same_count t (set_file k syntax) = refl
-same_count t (remove_file k) = refl
+same_count t (set place syntax) = refl
+same_count t (remove place) = refl
 same_count t (set_cfg k options) = length-change_at (given options) k t.crates
 
 pub same_count_all : (t : Table) (es : List EditView) → length (after_all t es).crates ≡ length t.crates
@@ -52,8 +52,8 @@ same_count_all t [] = refl
 same_count_all t (e ∷ es) = same_count_all (after t e) es ∙ same_count t e
 
 pub same_skipped : (t : Table) (e : EditView) → (after t e).skipped ≡ t.skipped
-same_skipped t (set_file k syntax) = refl
-same_skipped t (remove_file k) = refl
+same_skipped t (set place syntax) = refl
+same_skipped t (remove place) = refl
 same_skipped t (set_cfg k options) = refl
 
 pub same_skipped_all : (t : Table) (es : List EditView) → (after_all t es).skipped ≡ t.skipped
@@ -62,8 +62,8 @@ same_skipped_all t (e ∷ es) = same_skipped_all (after t e) es ∙ same_skipped
 
 -- so an edit names a crate that is known still
 known_still : (t u : Table) (e : EditView) → length u.crates ≡ length t.crates → NamesKnown (state_of t) e → NamesKnown (state_of u) e
-known_still t u (set_file k syntax) same h = tt
-known_still t u (remove_file k) same h = tt
+known_still t u (set place syntax) same h = tt
+known_still t u (remove place) same h = tt
 known_still t u (set_cfg k options) same h = rw same h
 
 known_at : (t : Table) (n : ℕ) (xs : List Edit) (x : Edit) (ys : List Edit) → drop n xs ≡ x ∷ ys → AllByRecursion (NamesKnown (state_of t)) (views xs) → NamesKnown (state_of t) (edit_view x)

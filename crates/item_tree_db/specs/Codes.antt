@@ -7,6 +7,8 @@ use Rattle.item_tree.specs.CrateView.{CrateView}
 use Rattle.item_tree.specs.Code.Crate.{crate_code}
 use Rattle.item_tree.specs.Node.{Unfolding}
 use Rattle.item_tree.specs.Code.Node.{unfolding_code}
+use Rattle.item_tree_db.specs.contracts.place.Place as place
+use Rattle.item_tree_db.specs.declared.place.Place.{Place}
 use Rattle.item_tree_db.specs.declared.rows.Row.{Row}
 use Rattle.item_tree_db.specs.State.{Held, State}
 use Rattle.item_tree_db.specs.Slots.{Placed}
@@ -25,10 +27,10 @@ held_code =
 
 abbrev pub state_code : Coded State
 state_code =
-    code_by (List CrateView × (List (List ℕ) × (ℕ × (ℕ × List (ℕ × Held)))))
-    (coded× (coded_list crate_code) (coded× names_code (coded× coded_ℕ (coded× coded_ℕ (coded_list (coded× coded_ℕ held_code))))))
-    (λ s. (s.crates, (s.skipped, (s.start, (s.number, s.files)))))
-    (λ p. record { crates = p.0; skipped = p.1.0; start = p.1.1.0; number = p.1.1.1.0; files = p.1.1.1.1 })
+    code_by (List CrateView × (List (List ℕ) × (ℕ × (ℕ × List (Place × Held)))))
+    (coded× (coded_list crate_code) (coded× names_code (coded× coded_ℕ (coded× coded_ℕ (coded_list (coded× place.the_row.coded held_code))))))
+    (λ s. (s.crates, (s.skipped, (s.start, (s.number, s.places)))))
+    (λ p. record { crates = p.0; skipped = p.1.0; start = p.1.1.0; number = p.1.1.1.0; places = p.1.1.1.1 })
     (λ _. refl)
 
 -- ---- within the crate
@@ -44,13 +46,13 @@ placed_code {S} c =
     (λ p. record { syntax = p.0; rows = p.1 })
     (λ _. refl)
 
-abbrev pub slots_code : {S : Type 0} → Coded S → Coded (List (ℕ × Placed S))
-slots_code c = coded_list (coded× coded_ℕ (placed_code c))
+abbrev pub slots_code : {S : Type 0} → Coded S → Coded (List (Place × Placed S))
+slots_code c = coded_list (coded× place.the_row.coded (placed_code c))
 
 abbrev pub table_code : Coded Table
 table_code =
     code_by (List CrateView × (List (List ℕ) × (ℕ × (ℕ × Places))))
     (coded× (coded_list crate_code) (coded× names_code (coded× coded_ℕ (coded× coded_ℕ (slots_code syntax_code)))))
-    (λ t. (t.crates, (t.skipped, (t.start, (t.number, t.files)))))
-    (λ p. record { crates = p.0; skipped = p.1.0; start = p.1.1.0; number = p.1.1.1.0; files = p.1.1.1.1 })
+    (λ t. (t.crates, (t.skipped, (t.start, (t.number, t.places)))))
+    (λ p. record { crates = p.0; skipped = p.1.0; start = p.1.1.0; number = p.1.1.1.0; places = p.1.1.1.1 })
     (λ _. refl)

@@ -1,20 +1,24 @@
 -- Edits as plain data.
 use Rattle.std.specs.Prelude.{ℕ, List, map, take}
 use Rattle.hir_input.specs.Cfg.{AtomView}
-use Rattle.hir_input.specs.Syntax.{SyntaxView, syntax_view}
+use Rattle.hir_input.specs.Syntax.{SyntaxView, syntax_view, block_view}
 use Rattle.item_tree_db.specs.declared.edit.Edit.{Edit}
-use Rattle.item_tree_db.specs.declared.edit.Edit.TheVariants.{SetFile, RemoveFile, SetCfg}
+use Rattle.item_tree_db.specs.declared.edit.Edit.TheVariants.{SetFile, RemoveFile, SetBlock, RemoveBlock, SetCfg}
 use Rattle.item_tree_db.specs.declared.edit.AllRefused.{AllRefused}
+use Rattle.item_tree_db.specs.declared.place.Place.{Place}
+use Rattle.item_tree_db.specs.declared.place.Place.TheVariants.{File, Block}
 
--- an edit, with the number of its file or crate
+-- an edit sets the syntax of a place, or removes it, or gives options to the crate with a number
 pub data EditView : Type 0 where
-  set_file : ℕ → SyntaxView → EditView
-  remove_file : ℕ → EditView
+  set : Place → SyntaxView → EditView
+  remove : Place → EditView
   set_cfg : ℕ → List AtomView → EditView
 
 abbrev pub edit_view : Edit → EditView
-edit_view (SetFile file syntax) = set_file file.0 (syntax_view syntax)
-edit_view (RemoveFile file) = remove_file file.0
+edit_view (SetFile file syntax) = set (File file) (syntax_view syntax)
+edit_view (RemoveFile file) = remove (File file)
+edit_view (SetBlock block syntax) = set (Block block) (block_view syntax)
+edit_view (RemoveBlock block) = remove (Block block)
 edit_view (SetCfg krate options) = set_cfg krate.0 options
 
 -- those of a list before its refused one

@@ -9,9 +9,9 @@ use Rattle.item_tree.specs.Node.{Unfolding}
 use Rattle.item_tree.specs.Code.Node.{unfolding_code}
 use Rattle.item_tree.specs.Same.{same}
 use Rattle.item_tree_db.specs.declared.place.Place.{Place}
-use Rattle.item_tree_db.specs.declared.place.Place.TheVariants.{File, Block}
+use Rattle.item_tree_db.specs.PlaceOrder.{same_place}
 use Rattle.item_tree_db.specs.State.{State, given, present, unfolding_of, unfolding_at, change_number}
-use Rattle.item_tree_db.specs.Edits.{EditView, set_file, remove_file, set_cfg}
+use Rattle.item_tree_db.specs.Edits.{EditView, set, remove, set_cfg}
 
 -- what the last element has that has any
 abbrev pub last_some : {A B : Type 0} → (A → Option B) → List A → Option B
@@ -25,15 +25,14 @@ last_below p (suc n) = if p n then Some n else last_below p n
 
 -- the syntax that an edit leaves at a place, if it sets or removes that place
 abbrev pub sets : Place → EditView → Option (Option SyntaxView)
-sets (File file) (set_file k syntax) = if k == file.0 then Some (Some syntax) else None
-sets (File file) (remove_file k) = if k == file.0 then Some None else None
-sets (File file) (set_cfg k options) = None
-sets (Block block) edit = None
+sets place (set at syntax) = if same_place at place then Some (Some syntax) else None
+sets place (remove at) = if same_place at place then Some None else None
+sets place (set_cfg k options) = None
 
 -- the options that an edit gives crate i, if it gives it any
 abbrev pub gives : ℕ → EditView → Option (List AtomView)
-gives i (set_file k syntax) = None
-gives i (remove_file k) = None
+gives i (set at syntax) = None
+gives i (remove at) = None
 gives i (set_cfg k options) = if k == i then Some options else None
 
 -- a crate of the list under the options that it is given, if it is given any

@@ -1,9 +1,11 @@
 pub mod PlaceOrder
 pub mod State
 pub mod Edits
+pub mod TreeIds
 pub mod History
 pub mod Refusal
 pub mod Since
+pub mod Source
 pub mod Settled
 pub mod Slots
 pub mod Walk

@@ -1,5 +1,5 @@
 -- The order of places.
-use Rattle.std.specs.Prelude.{◌≡◌, ℕ, refl}
+use Rattle.std.specs.Prelude.{◌≡◌, ℕ, ◌==◌, Bool, false, refl}
 use Rattle.std.specs.declared.cmp.Ordering.{Ordering}
 use Rattle.std.specs.Cmp.{IsTotalOrder, IsPartialOrder, partial_order_from_own_ties, partial_order_from_total, nat_cmp_total, on_total, then_total}
 use Rattle.std.specs.Ordering.{as_partial_cmp, eq_by_cmp, nat_cmp, on, then_cmp}
@@ -16,6 +16,13 @@ kind_of (Block block) = 1
 abbrev pub number_of : Place → ℕ
 number_of (File file) = file.0
 number_of (Block block) = block.0
+
+-- the same kind of place, with the same number
+abbrev pub same_place : Place → Place → Bool
+same_place (File a) (File b) = a.0 == b.0
+same_place (File a) (Block b) = false
+same_place (Block a) (File b) = false
+same_place (Block a) (Block b) = a.0 == b.0
 
 -- files come before blocks, and each by their numbers
 abbrev pub place_cmp : Place → Place → Ordering

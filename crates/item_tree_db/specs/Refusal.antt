@@ -9,8 +9,8 @@ use Rattle.item_tree.specs.CrateView.{CrateView}
 use Rattle.item_tree.specs.Size.{FitsWith, IsTooLarge}
 use Rattle.item_tree_db.specs.declared.place.Place.{Place}
 use Rattle.item_tree_db.specs.declared.edit.EditRefused.{EditRefused}
-use Rattle.item_tree_db.specs.State.{State, file_at, kept_at}
-use Rattle.item_tree_db.specs.Edits.{EditView, set_file, remove_file, set_cfg, edit_view}
+use Rattle.item_tree_db.specs.State.{State, kept_at}
+use Rattle.item_tree_db.specs.Edits.{EditView, set, remove, set_cfg, edit_view}
 use Rattle.item_tree_db.specs.History.{under, crate_after, present_after}
 
 -- no edit has a number above this one
@@ -19,8 +19,8 @@ last_number = 2 ^ 64 - 1
 
 -- the crate that an edit names, if it names one, is of the list
 abbrev pub NamesKnown : State → EditView → Type 0
-NamesKnown s (set_file k syntax) = Unit {0}
-NamesKnown s (remove_file k) = Unit {0}
+NamesKnown s (set place syntax) = Unit {0}
+NamesKnown s (remove place) = Unit {0}
 NamesKnown s (set_cfg i options) = i < length s.crates
 
 -- a crate's tree of a syntax passes no size; where there is no crate or no syntax, nothing is lowered
@@ -35,16 +35,16 @@ TreePasses skipped place krate None error = ⊥
 TreePasses skipped place None (Some syntax) error = ⊥
 TreePasses skipped place (Some krate) (Some syntax) error = IsTooLarge syntax (kept_at skipped place syntax krate) error
 
--- no tree that the edit, made after those, lowers passes a size: of its file in each crate, or of each place in its crate under its options; a removal lowers nothing
+-- no tree that the edit, made after those, lowers passes a size: of its place in each crate, or of each place in its crate under its options; a removal lowers nothing
 abbrev pub FitsAfter : State → List EditView → EditView → Type 0
-FitsAfter s before (set_file k syntax) = (i : ℕ) → TreeFits s.skipped (file_at k) (crate_after s before i) (Some syntax)
-FitsAfter s before (remove_file k) = Unit {0}
+FitsAfter s before (set place syntax) = (i : ℕ) → TreeFits s.skipped place (crate_after s before i) (Some syntax)
+FitsAfter s before (remove place) = Unit {0}
 FitsAfter s before (set_cfg i options) = (place : Place) → TreeFits s.skipped place (under (Some options) (crate_after s before i)) (present_after s before place)
 
 -- some tree that it lowers passes this size
 abbrev pub PassesAfter : State → List EditView → EditView → LowerError → Type 0
-PassesAfter s before (set_file k syntax) error = (i : ℕ) × TreePasses s.skipped (file_at k) (crate_after s before i) (Some syntax) error
-PassesAfter s before (remove_file k) error = ⊥
+PassesAfter s before (set place syntax) error = (i : ℕ) × TreePasses s.skipped place (crate_after s before i) (Some syntax) error
+PassesAfter s before (remove place) error = ⊥
 PassesAfter s before (set_cfg i options) error = (place : Place) × TreePasses s.skipped place (under (Some options) (crate_after s before i)) (present_after s before place) error
 
 -- each of the first n edits fits, made after those before it
@@ -54,7 +54,7 @@ FirstFit s edits n = (m : ℕ) → m < n → IfSome (slice_get edits m) (FitsAft
 -- the table s may refuse the edit for this cause: a size that it passes, or want of memory; a removal for no other than its number
 abbrev pub IsCause : State → EditView → EditFault → Type 0
 IsCause s edit TooManyEdits = s.number ≡ last_number
-IsCause s (remove_file k) (Lower error) = ⊥
+IsCause s (remove place) (Lower error) = ⊥
 IsCause s edit (Lower OutOfMemory) = Unit {0}
 IsCause s edit (Lower error) = PassesAfter s [] edit error
 

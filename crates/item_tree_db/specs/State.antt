@@ -1,7 +1,6 @@
 -- What callers see of a table: no trees, since the present syntaxes fix them.
 use Rattle.std.specs.Prelude.{ℕ, ◌^◌, ◌<◌, ◌==◌, Bool, false, List, [], length, take, Option, None, Some, slice_get}
 use Rattle.std.specs.Option.{option_and_then, option_map, unwrap_or}
-use Rattle.std.specs.Ordering.{nat_cmp}
 use Rattle.std.specs.FinMap as map
 use Rattle.hir_input.specs.Cfg.{AtomView}
 use Rattle.hir_input.specs.declared.ids.Crate.{Crate}
@@ -11,6 +10,7 @@ use Rattle.item_tree.specs.Node.{Unfolding, nothing}
 use Rattle.item_tree.specs.Kept.{kept_syntax}
 use Rattle.item_tree_db.specs.declared.place.Place.{Place}
 use Rattle.item_tree_db.specs.declared.place.Place.TheVariants.{File, Block}
+use Rattle.item_tree_db.specs.PlaceOrder.{place_cmp}
 
 -- what is held of a place that was ever set
 pub record Held : Type 0 where
@@ -28,8 +28,8 @@ pub record State : Type 0 where
   pub start : ℕ
   -- the number of the last edit
   pub number : ℕ
-  -- the files that were ever set, in the order of their numbers
-  pub files : List (ℕ × Held)
+  -- the places that were ever set, in their order
+  pub places : List (Place × Held)
 
 -- how many crates have a number
 abbrev pub crate_limit : ℕ
@@ -37,7 +37,7 @@ crate_limit = 2 ^ 32
 
 -- nothing set
 abbrev pub new_table : List CrateView → List (List ℕ) → ℕ → State
-new_table crates skipped start = record { crates = take crate_limit crates; skipped = skipped; start = start; number = start; files = [] }
+new_table crates skipped start = record { crates = take crate_limit crates; skipped = skipped; start = start; number = start; places = [] }
 
 -- the crate is of the list
 abbrev pub IsKnown : State → Crate → Type 0
@@ -51,22 +51,13 @@ options s krate = option_map (λ k. k.options) (slice_get s.crates krate.0)
 abbrev pub given : List AtomView → CrateView → CrateView
 given options krate = record { root = krate.root; options = options; attrs = krate.attrs }
 
--- what a list of entries has at a number
-abbrev pub find : {X : Type 0} → List (ℕ × X) → ℕ → Option X
-find l k = map.find nat_cmp k l
-
--- the place of a file
-abbrev pub file_at : ℕ → Place
-file_at k = File (record { 0 = k })
-
--- of a place; no block is ever set
-abbrev pub held_at : State → Place → Option Held
-held_at s (File file) = find s.files file.0
-held_at s (Block block) = None
+-- what a list of entries has at a place
+abbrev pub find : {X : Type 0} → List (Place × X) → Place → Option X
+find l place = map.find place_cmp place l
 
 -- the present syntax of a place
 abbrev pub present : State → Place → Option SyntaxView
-present s place = option_and_then (λ held. held.syntax) (held_at s place)
+present s place = option_and_then (λ held. held.syntax) (find s.places place)
 
 -- the place is the crate's root file
 abbrev pub is_root_of : CrateView → Place → Bool
@@ -89,4 +80,4 @@ unfolding_at s place i = unfolding_of s.skipped place (slice_get s.crates i) (pr
 
 -- the number of the last edit at which it became another, or the start
 abbrev pub change_number : State → Place → ℕ → ℕ
-change_number s place i = unwrap_or (option_and_then (λ held. slice_get held.changed i) (held_at s place)) s.start
+change_number s place i = unwrap_or (option_and_then (λ held. slice_get held.changed i) (find s.places place)) s.start

@@ -1,6 +1,6 @@
 //! Edits of a table, and their refusals.
-use hir_input::ast::Syntax;
-use hir_input::{CfgOptions, Crate, HirFileId};
+use hir_input::ast::{BlockExpr, Syntax};
+use hir_input::{BlockId, CfgOptions, Crate, HirFileId};
 use item_tree::EditFault;
 use thiserror::Error;
 
@@ -11,6 +11,10 @@ pub enum Edit {
     SetFile { file: HirFileId, syntax: Syntax },
     /// The file has no syntax from now on. It may be one that was never set.
     RemoveFile { file: HirFileId },
+    /// The block has this syntax from now on.
+    SetBlock { block: BlockId, syntax: BlockExpr },
+    /// The block has no syntax from now on. It may be one that was never set.
+    RemoveBlock { block: BlockId },
     /// These options are set for the crate from now on, and no others. The crate is one of the table's list.
     SetCfg { krate: Crate, options: CfgOptions },
 }

@@ -7,10 +7,13 @@ pub mod place;
 mod rows;
 mod shelf;
 pub mod since;
+mod source;
 pub mod sources;
 mod store;
+pub mod tree_id;
 
 pub use edit::{AllRefused, Edit, EditRefused};
 pub use place::Place;
 pub use since::ChangedSince;
 pub use sources::{Sources, file_item_tree};
+pub use tree_id::TreeId;

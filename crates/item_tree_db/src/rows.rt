@@ -1,16 +1,15 @@
 //! The trees of one place, one for each crate, with their change numbers.
-ghost use Rattle.std.specs.Prelude.{◌≡◌, All, IfErr, IfOk, OnOk, Some, length, map, option_copied, option_map};
-ghost use Rattle.hir_input.specs.Syntax.{syntax_view};
+ghost use Rattle.std.specs.Prelude.{◌≡◌, All, IfErr, IfOk, OnOk, length, map, option_copied};
 ghost use Rattle.item_tree.specs.CrateView.{crate_view};
 ghost use Rattle.item_tree.specs.Size.{FitsWith, IsTooLarge};
-ghost use Rattle.item_tree_db.specs.declared.place.Place.TheVariants.{File};
-ghost use Rattle.item_tree_db.specs.Lowering.{SyntaxPasses};
-ghost use Rattle.item_tree_db.specs.Refusal.{TreeFits, TreePasses};
-ghost use Rattle.item_tree_db.specs.Settled.{settled, settled_row, empty_row, cleared, fresh_row, brought_to};
+ghost use Rattle.item_tree_db.specs.Lowering.{SyntaxPasses, SourceFits, SourcePasses};
+ghost use Rattle.item_tree_db.specs.Settled.{settled, settled_row, empty_row, cleared, fresh_at, brought_to};
+ghost use Rattle.item_tree_db.specs.Source.{source_place, source_view};
+ghost use Rattle.item_tree_db.specs.State.{kept_at};
 
-use hir_input::ast::Syntax;
-use hir_input::{HirFileId, Name};
-use item_tree::{CrateData, ItemTree, LowerError, lower_syntax};
+use crate::source::Source;
+use hir_input::Name;
+use item_tree::{CrateData, ItemTree, LowerError, lower_block, lower_syntax};
 use std::alloc::Global;
 use std::mem;
 
@@ -68,45 +67,61 @@ pub fn settle_first(rows: &mut [Row], alloc: Global, start: u64, number: u64)
     }
 }
 
-// The syntax of a file lowered for one crate, under its own options.
+// What is set at a place, lowered for a crate under its own options.
+fn lower_source(
+    alloc: Global,
+    krate: &CrateData,
+    skipped: &[Name],
+    source: &Source,
+) -> Result<ItemTree, LowerError>
+    ensures tree { let kept = kept_at skipped.now (source_place source.now) (source_view source.now) (crate_view krate.now) in
+        IfOk result (λ tree. tree ≡ kept) }
+    ensures fits { IfOk result (FitsWith (source_view source.now)) }
+    ensures refused { let kept = kept_at skipped.now (source_place source.now) (source_view source.now) (crate_view krate.now) in
+        IfErr result (IsTooLarge (source_view source.now) kept) }
+{
+    match source {
+        Source::File { file, syntax } => {
+            lower_syntax(alloc, syntax, *file == krate.root, krate, skipped)
+        }
+        Source::Block { syntax, .. } => lower_block(alloc, syntax, krate, skipped),
+    }
+}
+
 fn lower_row(
     alloc: Global,
     krate: &CrateData,
     skipped: &[Name],
-    file: HirFileId,
-    syntax: &Syntax,
+    source: &Source,
     number: u64,
 ) -> Result<Row, LowerError>
-    ensures row { IfOk result (λ row. row ≡ brought_to number skipped.now file syntax.now krate.now) }
-    ensures fits { IfOk result (λ row. FitsWith (syntax_view syntax.now) row.tree) }
-    ensures refused { let fresh = brought_to number skipped.now file syntax.now krate.now in
-        IfErr result (IsTooLarge (syntax_view syntax.now) fresh.tree) }
+    ensures row { IfOk result (λ row. row ≡ brought_to number skipped.now source.now krate.now) }
+    ensures fits { IfOk result (λ row. FitsWith (source_view source.now) row.tree) }
+    ensures refused { let fresh = brought_to number skipped.now source.now krate.now in
+        IfErr result (IsTooLarge (source_view source.now) fresh.tree) }
 {
-    let tree = lower_syntax(alloc, syntax, file == krate.root, krate, skipped)?;
+    let tree = lower_source(alloc, krate, skipped, source)?;
     Ok(Row {
         tree,
         changed: number,
     })
 }
 
-/// The present syntax of a file lowered for one crate, under its own options: the empty tree where there is none.
+/// What is set at a place, if anything is, lowered for one crate: the empty tree where nothing is.
 pub fn lower_present(
     alloc: Global,
     krate: &CrateData,
     skipped: &[Name],
-    file: HirFileId,
-    syntax: Option<&Syntax>,
+    source: Option<&Source>,
     number: u64,
 ) -> Result<Row, LowerError>
-    ensures row { let present = option_map syntax_view (option_copied syntax.entry) in
-        IfOk result (λ row. row ≡ fresh_row number skipped.now (File file) (Some (crate_view krate.now)) present) }
-    ensures fits { let present = option_map syntax_view (option_copied syntax.entry) in
-        OnOk result (TreeFits skipped.now (File file) (Some (crate_view krate.now)) present) }
-    ensures refused { let present = option_map syntax_view (option_copied syntax.entry) in
-        IfErr result (TreePasses skipped.now (File file) (Some (crate_view krate.now)) present) }
+    ensures row { let fresh = fresh_at number skipped.now (crate_view krate.now) (option_copied source.entry) in
+        IfOk result (λ row. row ≡ fresh) }
+    ensures fits { OnOk result (SourceFits skipped.now (crate_view krate.now) (option_copied source.entry)) }
+    ensures refused { IfErr result (SourcePasses skipped.now (crate_view krate.now) (option_copied source.entry)) }
 {
-    match syntax {
-        Some(syntax) => lower_row(alloc, krate, skipped, file, syntax, number),
+    match source {
+        Some(source) => lower_row(alloc, krate, skipped, source, number),
         None => Ok(Row {
             tree: ItemTree::empty(alloc),
             changed: number,
@@ -114,23 +129,22 @@ pub fn lower_present(
     }
 }
 
-/// The syntax of a file lowered for every crate, under its own options.
+/// What is set at a place, lowered for every crate.
 pub fn lower_all(
     alloc: Global,
     crates: &[CrateData],
     skipped: &[Name],
-    file: HirFileId,
-    syntax: &Syntax,
+    source: &Source,
     number: u64,
 ) -> Result<Vec<Row>, LowerError>
-    ensures rows { IfOk result (λ rows. rows.items ≡ map (brought_to number skipped.now file syntax.now) crates.now) }
-    ensures fits { IfOk result (λ rows. All (λ row. FitsWith (syntax_view syntax.now) row.tree) rows.items) }
-    ensures refused { let place = File file in
-        IfErr result (SyntaxPasses (map crate_view crates.now) skipped.now place (syntax_view syntax.now)) }
+    ensures rows { IfOk result (λ rows. rows.items ≡ map (brought_to number skipped.now source.now) crates.now) }
+    ensures fits { IfOk result (λ rows. All (λ row. FitsWith (source_view source.now) row.tree) rows.items) }
+    ensures refused { let passes = SyntaxPasses (map crate_view crates.now) skipped.now (source_place source.now) in
+        IfErr result (passes (source_view source.now)) }
 {
     let mut rows = Vec::with_capacity(alloc, crates.len())?;
     for krate in crates {
-        let row = lower_row(alloc, krate, skipped, file, syntax, number)?;
+        let row = lower_row(alloc, krate, skipped, source, number)?;
         rows.push(row)?;
     }
     Ok(rows)

@@ -1,17 +1,18 @@
-//! The entries of places of one kind, in the order of their numbers.
+//! The entries of places, in their order.
 ghost use Rattle.std.specs.Prelude.{◌≡◌, [], length, map, Some, None, option_copied, IfOk, IfErr, IfSome, OnOk, OnErr};
 ghost use Rattle.std.specs.List.{AllByRecursion};
 ghost use Rattle.item_tree.specs.CrateView.{crate_view};
 ghost use Rattle.item_tree_db.specs.State.{find};
 ghost use Rattle.item_tree_db.specs.Settled.{settled, cleared};
-ghost use Rattle.item_tree_db.specs.Slots.{IsRising, set_at, removed, row_in, recast, recast_found, recast_all};
+ghost use Rattle.item_tree_db.specs.Slots.{AreOwn, IsRising, set_at, removed, row_in, recast, recast_found, recast_all};
 ghost use Rattle.item_tree_db.specs.Lowering.{fresh_of, SlotFits, SlotsPass};
-ghost use Rattle.item_tree_db.specs.Walk.{HasFew, all_entries, late};
+ghost use Rattle.item_tree_db.specs.Walk.{HasFew, all_changes, late};
 
+use crate::place::Place;
 use crate::rows::{Row, clear, lower_present, settle, settle_first, settle_row};
-use crate::since::Walk;
-use hir_input::ast::Syntax;
-use hir_input::{HirFileId, Name};
+use crate::since::ChangedSince;
+use crate::source::Source;
+use hir_input::Name;
 use item_tree::{CrateData, LowerError};
 use std::alloc::Global;
 use std::collections::BTreeMap;
@@ -89,18 +90,19 @@ impl<S: Drop> Entry<S> {
     }
 }
 
-/// Entries by number.
+/// Entries by place.
 #[derive(Drop)]
 pub struct Shelf<S> {
-    slots: BTreeMap<u32, Entry<S>>,
+    slots: BTreeMap<Place, Entry<S>>,
 }
 
 impl<S> Model for Shelf<S> {
-    ghost use Rattle.std.specs.Prelude.{ℕ, List};
+    ghost use Rattle.std.specs.Prelude.{List};
+    ghost use Rattle.item_tree_db.specs.declared.place.Place.{Place};
     ghost use Rattle.item_tree_db.specs.Slots.{Placed, IsRising};
     ghost use Rattle.item_tree_db.specs.Codes.{slots_code};
 
-    ghost Value = { List (ℕ × Placed S) };
+    ghost Value = { List (Place × Placed S) };
 
     ghost coded = { slots_code S.code };
 
@@ -119,57 +121,46 @@ impl<S> Shelf<S> {
     }
 
     #[tactic(auto, using(crate::proofs::Mapped::found))]
-    pub fn get(&self, key: u32) -> Option<&Entry<S>>
-        ensures { option_copied result ≡ find self.now key }
+    pub fn get(&self, place: Place) -> Option<&Entry<S>>
+        ensures { option_copied result ≡ find self.now place }
     {
-        self.slots.get(&key)
+        self.slots.get(&place)
     }
 
-    pub fn row(&self, key: u32, index: usize) -> Option<&Row>
-        ensures { option_copied result ≡ row_in self.now key index }
+    pub fn row(&self, place: Place, index: usize) -> Option<&Row>
+        ensures { option_copied result ≡ row_in self.now place index }
     {
-        match self.get(key) {
+        match self.get(place) {
             Some(entry) => entry.rows().get(index),
             None => None,
         }
     }
 }
 
-impl<S> Shelf<S> {
-    /// The change numbers above a bound.
-    pub fn late(&self, above: u64) -> Walk<'_, S>
-        requires { HasFew self.now }
-        ensures value { result ≡ late above (all_entries self.now) }
-        ensures rises { IsRising self.now }
-    {
-        Walk::new(self.slots.iter(), above)
-    }
-}
-
 impl<S: Drop> Shelf<S> {
-    /// Sets the syntax of a number, with what it brings to each crate. All growth comes before the first change.
+    /// Sets the syntax of a place, with what it brings to each crate. All growth comes before the first change.
     pub fn set(
         &mut self,
         alloc: Global,
-        key: u32,
+        place: Place,
         syntax: S,
         mut fresh: Vec<Row>,
         start: u64,
         number: u64,
     ) -> Result<(), S>
-        requires { IfSome (find self.old key) (λ entry. length fresh.items ≡ length entry.rows) }
-        ensures ok { OnOk result (self.new ≡ set_at start number self.old key syntax fresh.items) }
+        requires { IfSome (find self.old place) (λ entry. length fresh.items ≡ length entry.rows) }
+        ensures ok { OnOk result (self.new ≡ set_at start number self.old place syntax fresh.items) }
         ensures err { OnErr result (self.new ≡ self.old) }
         ensures returned { IfErr result (λ back. back ≡ syntax) }
     {
-        match self.slots.get_mut(&key) {
+        match self.slots.get_mut(&place) {
             Some(entry) => {
                 entry.set(syntax, fresh, number);
                 Ok(())
             }
             None => {
                 settle_first(&mut fresh, alloc, start, number);
-                match self.slots.insert(key, Entry::new(syntax, fresh)) {
+                match self.slots.insert(place, Entry::new(syntax, fresh)) {
                     Ok(_) => Ok(()),
                     Err(failed) => {
                         let (_, entry) = failed.value;
@@ -180,45 +171,55 @@ impl<S: Drop> Shelf<S> {
         }
     }
 
-    /// Removes the syntax of a number. Takes no memory.
-    pub fn remove(&mut self, alloc: Global, key: u32, number: u64)
-        ensures { self.new ≡ removed number self.old key (find self.old key) }
+    /// Removes the syntax of a place. Takes no memory.
+    pub fn remove(&mut self, alloc: Global, place: Place, number: u64)
+        ensures { self.new ≡ removed number self.old place (find self.old place) }
     {
-        let Some(entry) = self.slots.get_mut(&key) else {
+        let Some(entry) = self.slots.get_mut(&place) else {
             return;
         };
         entry.remove(alloc, number);
     }
 
-    // Brings one crate another tree of a number, if it is there.
-    fn recast_at(&mut self, key: u32, index: usize, fresh: &mut Row, number: u64)
-        ensures { self.new ≡ recast_found number index self.old (key, fresh.old) (find self.old key) }
+    // Brings one crate another tree of a place, if it is there.
+    fn recast_at(&mut self, place: Place, index: usize, fresh: &mut Row, number: u64)
+        ensures { self.new ≡ recast_found number index self.old (place, fresh.old) (find self.old place) }
     {
-        let Some(entry) = self.slots.get_mut(&key) else {
+        let Some(entry) = self.slots.get_mut(&place) else {
             return;
         };
         entry.recast(index, fresh, number);
     }
 
     /// Brings one crate other trees. An equal tree stays, with its number. Takes no memory.
-    pub fn recast(&mut self, index: usize, fresh: Vec<(u32, Row)>, number: u64)
+    pub fn recast(&mut self, index: usize, fresh: Vec<(Place, Row)>, number: u64)
         ensures { self.new ≡ recast_all number index self.old fresh.items }
     {
-        for (key, mut row) in fresh {
-            self.recast_at(key, index, &mut row, number);
+        for (place, mut row) in fresh {
+            self.recast_at(place, index, &mut row, number);
         }
     }
 }
 
-impl Shelf<Syntax> {
-    /// The present syntax of each file lowered for one crate, under its own options.
+impl Shelf<Source> {
+    /// The change numbers above a bound.
+    pub fn late(&self, above: u64) -> ChangedSince<'_>
+        requires { HasFew self.now }
+        ensures value { result ≡ late above (all_changes self.now) }
+        ensures rises { IsRising self.now }
+    {
+        ChangedSince::new(self.slots.iter(), above)
+    }
+
+    /// The present syntax of each place lowered for one crate, under its own options.
     pub fn lower_for(
         &self,
         alloc: Global,
         krate: &CrateData,
         skipped: &[Name],
         number: u64,
-    ) -> Result<Vec<(u32, Row)>, LowerError>
+    ) -> Result<Vec<(Place, Row)>, LowerError>
+        requires { AreOwn self.now }
         ensures fresh { let rows = map (fresh_of number skipped.now (crate_view krate.now)) self.now in
             IfOk result (λ fresh. fresh.items ≡ rows) }
         ensures fits { OnOk result (AllByRecursion (SlotFits skipped.now (crate_view krate.now)) self.now) }
@@ -226,16 +227,9 @@ impl Shelf<Syntax> {
         ensures rises { IsRising self.now }
     {
         let mut fresh = Vec::with_capacity(alloc, self.slots.len())?;
-        for (key, entry) in &self.slots {
-            let row = lower_present(
-                alloc,
-                krate,
-                skipped,
-                HirFileId(*key),
-                entry.syntax(),
-                number,
-            )?;
-            fresh.push((*key, row))?;
+        for (place, entry) in &self.slots {
+            let row = lower_present(alloc, krate, skipped, entry.syntax(), number)?;
+            fresh.push((*place, row))?;
         }
         Ok(fresh)
     }

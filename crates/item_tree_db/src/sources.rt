@@ -1,7 +1,7 @@
 //! The table of trees.
 ghost use Rattle.std.specs.Prelude.{◌≡◌, ◌<◌, ◌↔◌, ◌∷◌, [], length, map, slice_get, option_map, option_copied, Some, IsTrue, IfOk, IfErr, OnOk, OnErr, IsErrAnd};
 ghost use Rattle.std.specs.List.{AllByRecursion};
-ghost use Rattle.hir_input.specs.Syntax.{syntax_view};
+ghost use Rattle.hir_input.specs.Syntax.{syntax_view, block_view};
 ghost use Rattle.item_tree.specs.declared.fault.EditFault.TheVariants.{TooManyEdits};
 ghost use Rattle.item_tree.specs.CrateView.{crate_view};
 ghost use Rattle.item_tree_db.specs.State.{new_table, IsKnown, options, present, unfolding_at, change_number};
@@ -14,8 +14,8 @@ use crate::edit::{AllRefused, Edit, EditRefused};
 use crate::place::Place;
 use crate::since::ChangedSince;
 use crate::store::Store;
-use hir_input::ast::Syntax;
-use hir_input::{CfgOptions, Crate, HirFileId, Name};
+use hir_input::ast::{BlockExpr, Syntax};
+use hir_input::{BlockId, CfgOptions, Crate, HirFileId, Name};
 use item_tree::{CrateData, ItemTree};
 use std::alloc::Global;
 use std::marker::Model;
@@ -143,7 +143,14 @@ impl Sources {
         self.store.file_syntax(file)
     }
 
-    fn tree(&self, place: Place, krate: Crate) -> &ItemTree
+    /// The present syntax of a block.
+    pub fn block_syntax(&self, block: BlockId) -> Option<&BlockExpr>
+        ensures { option_map block_view (option_copied result) ≡ present self.now (Place.Block block) }
+    {
+        self.store.block_syntax(block)
+    }
+
+    pub(crate) fn tree(&self, place: Place, krate: Crate) -> &ItemTree
         requires { IsKnown self.now krate }
         ensures { result.now ≡ unfolding_at self.now place krate.0 }
     {

@@ -1,24 +1,26 @@
 //! The table with its trees as its value.
-ghost use Rattle.std.specs.Prelude.{◌≡◌, ◌+◌, ◌<◌, ◌↔◌, ◌^◌, [], length, map, slice_get, option_map, option_copied, Some, IsTrue, IfOk, IfErr, OnOk, OnErr, IsErrAnd};
+ghost use Rattle.std.specs.Prelude.{◌≡◌, ◌+◌, ◌<◌, ◌↔◌, ◌^◌, [], length, map, slice_get, option_map, option_copied, Some, IsTrue, IfOk, IfErr, IfSome, OnOk, OnErr, IsErrAnd};
 ghost use Rattle.std.specs.List.{AllByRecursion};
-ghost use Rattle.hir_input.specs.Syntax.{syntax_view};
+ghost use Rattle.hir_input.specs.Syntax.{syntax_view, block_view};
 ghost use Rattle.item_tree.specs.declared.fault.EditFault.TheVariants.{TooManyEdits, Lower};
 ghost use Rattle.item_tree.specs.CrateView.{crate_view};
-ghost use Rattle.item_tree_db.specs.State.{given, options};
-ghost use Rattle.item_tree_db.specs.Edits.{edit_view, edits_before, set_file as sets, remove_file as removes, set_cfg as gives};
-ghost use Rattle.item_tree_db.specs.Refusal.{last_number, NamesKnown, FitsAfter, FirstFit, IsCause, IsRefusal};
-ghost use Rattle.item_tree_db.specs.Lowering.{PlacesFit, PlacesPass};
-ghost use Rattle.item_tree_db.specs.Slots.{change_at};
+ghost use Rattle.item_tree_db.specs.declared.edit.Edit.TheVariants.{SetCfg};
+ghost use Rattle.item_tree_db.specs.State.{options};
+ghost use Rattle.item_tree_db.specs.Edits.{edit_view, edits_before, set as sets, remove as removes, set_cfg as gives};
+ghost use Rattle.item_tree_db.specs.Refusal.{last_number, NamesKnown, FitsAfter, FirstFit, IsRefusal};
+ghost use Rattle.item_tree_db.specs.Lowering.{PlacesFit, PlacesPass, IsSizeCause};
 ghost use Rattle.item_tree_db.specs.Since.{IsSince};
-ghost use Rattle.item_tree_db.specs.Table.{with_crates, recast_table, empty_table, after, after_all, state_of, syntax_at, row_found, row_at};
+ghost use Rattle.item_tree_db.specs.Source.{source_place, source_view, edit_of};
+ghost use Rattle.item_tree_db.specs.Table.{with_options, recast_table, empty_table, after, after_all, state_of, syntax_at, row_found, row_at};
 
 use crate::edit::{AllRefused, Edit, EditRefused};
 use crate::place::Place;
 use crate::rows::{Row, lower_all};
 use crate::shelf::Shelf;
 use crate::since::ChangedSince;
-use hir_input::ast::Syntax;
-use hir_input::{CfgOptions, Crate, HirFileId, Name};
+use crate::source::Source;
+use hir_input::ast::{BlockExpr, Syntax};
+use hir_input::{BlockId, CfgOptions, Crate, HirFileId, Name};
 use item_tree::{CrateData, EditFault, ItemTree, LowerError};
 use std::alloc::Global;
 use std::marker::Model;
@@ -32,7 +34,7 @@ pub struct Store {
     skipped: Vec<Name>,
     start: u64,
     number: u64,
-    files: Shelf<Syntax>,
+    places: Shelf<Source>,
     empty: ItemTree,
 }
 
@@ -40,7 +42,7 @@ impl Model for Store {
     ghost use Rattle.std.specs.Prelude.{◌≡◌, ◌≤◌, length};
     ghost use Rattle.item_tree.specs.Node.{nothing};
     ghost use Rattle.item_tree_db.specs.State.{crate_limit};
-    ghost use Rattle.item_tree_db.specs.Slots.{HasRows};
+    ghost use Rattle.item_tree_db.specs.Slots.{AreOwn, HasRows};
     ghost use Rattle.item_tree_db.specs.Table.{Table, table_of};
     ghost use Rattle.item_tree_db.specs.Codes.{table_code};
 
@@ -48,23 +50,22 @@ impl Model for Store {
 
     ghost coded = { table_code };
 
-    ghost view = { λ a. table_of a.crates.items a.skipped.items a.start a.number a.files };
+    ghost view = { λ a. table_of a.crates.items a.skipped.items a.start a.number a.places };
 
-    ghost invariant = { λ a. record { few : length a.crates.items ≤ crate_limit; files : HasRows (length a.crates.items) a.files; empty : a.empty ≡ nothing } };
+    ghost invariant = { λ a. record {
+      few : length a.crates.items ≤ crate_limit;
+      rows : HasRows (length a.crates.items) a.places;
+      own : AreOwn a.places;
+      empty : a.empty ≡ nothing;
+    } };
 }
 
-// A refused syntax, handed back.
-#[derive(Drop)]
-struct SyntaxRefused {
-    syntax: Syntax,
-    cause: LowerError,
-}
-
-// Refused options, handed back.
-#[derive(Drop)]
-struct OptionsRefused {
-    options: CfgOptions,
-    cause: LowerError,
+// An edit whose lowering was refused, handed back.
+fn refused(edit: Edit, cause: LowerError) -> EditRefused
+    ensures { result ≡ record { edit = edit; cause = Lower cause } }
+{
+    let cause = EditFault::Lower(cause);
+    EditRefused { edit, cause }
 }
 
 impl Store {
@@ -79,56 +80,50 @@ impl Store {
             skipped,
             start,
             number: start,
-            files: Shelf::new(alloc),
+            places: Shelf::new(alloc),
             empty: ItemTree::empty(alloc),
         }
     }
 
-    fn set_file(&mut self, file: HirFileId, syntax: Syntax) -> Result<(), SyntaxRefused>
+    fn set(&mut self, source: Source) -> Result<(), EditRefused>
         requires { self.old.number + 1 < 2 ^ 64 }
-        ensures ok { OnOk result (self.new ≡ after self.old (sets file.0 (syntax_view syntax))) }
+        ensures ok { OnOk result (self.new ≡ after self.old (sets (source_place source) (source_view source))) }
         ensures err { OnErr result (self.new ≡ self.old) }
-        ensures returned { IfErr result (λ refused. refused.syntax ≡ syntax) }
-        ensures fits { OnOk result (FitsAfter (state_of self.old) [] (sets file.0 (syntax_view syntax))) }
-        ensures refused { let edit = sets file.0 (syntax_view syntax) in
-            IfErr result (λ refused. IsCause (state_of self.old) edit (Lower refused.cause)) }
+        ensures returned { IfErr result (λ refused. refused.edit ≡ edit_of source) }
+        ensures fits { OnOk result
+            (FitsAfter (state_of self.old) [] (sets (source_place source) (source_view source))) }
+        ensures cause { let edit = sets (source_place source) (source_view source) in
+            IfErr result (λ refused. IsSizeCause (state_of self.old) edit refused.cause) }
     {
         let number = self.number + 1;
-        let fresh = match lower_all(
-            self.alloc,
-            &self.crates,
-            &self.skipped,
-            file,
-            &syntax,
-            number,
-        ) {
+        let fresh = match lower_all(self.alloc, &self.crates, &self.skipped, &source, number) {
             Ok(fresh) => fresh,
-            Err(cause) => return Err(SyntaxRefused { syntax, cause }),
+            Err(cause) => return Err(refused(source.into_edit(), cause)),
         };
-        if let Err(syntax) = self
-            .files
-            .set(self.alloc, file.0, syntax, fresh, self.start, number)
+        let place = source.place();
+        if let Err(source) = self
+            .places
+            .set(self.alloc, place, source, fresh, self.start, number)
         {
-            let cause = LowerError::OutOfMemory;
-            return Err(SyntaxRefused { syntax, cause });
+            return Err(refused(source.into_edit(), LowerError::OutOfMemory));
         }
         self.number = number;
         Ok(())
     }
 
-    fn remove_file(&mut self, file: HirFileId)
+    fn remove(&mut self, place: Place)
         requires { self.old.number + 1 < 2 ^ 64 }
-        ensures { self.new ≡ after self.old (removes file.0) }
+        ensures { self.new ≡ after self.old (removes place) }
     {
         let number = self.number + 1;
-        self.files.remove(self.alloc, file.0, number);
+        self.places.remove(self.alloc, place, number);
         self.number = number;
     }
 
     // Exchanges the options of a crate and these.
     fn swap_options(&mut self, index: usize, options: &mut CfgOptions)
         requires { index < length self.old.crates }
-        ensures swapped { self.new ≡ with_crates self.old (change_at index (given options.old) self.old.crates) }
+        ensures swapped { self.new ≡ with_options self.old index options.old }
         ensures old { option_map (λ k. k.options) (slice_get self.old.crates index) ≡ Some options.new }
     {
         mem::swap(&mut self.crates[index].cfg, options);
@@ -145,29 +140,29 @@ impl Store {
     {
         let number = self.number + 1;
         let krate = &self.crates[index];
-        let files = self
-            .files
+        let fresh = self
+            .places
             .lower_for(self.alloc, krate, &self.skipped, number)?;
-        self.files.recast(index, files, number);
+        self.places.recast(index, fresh, number);
         self.number = number;
         Ok(())
     }
 
-    fn set_cfg(&mut self, krate: Crate, mut options: CfgOptions) -> Result<(), OptionsRefused>
+    fn set_cfg(&mut self, krate: Crate, mut options: CfgOptions) -> Result<(), EditRefused>
         requires room { self.old.number + 1 < 2 ^ 64 }
         requires known { krate.0 < length self.old.crates }
         ensures ok { OnOk result (self.new ≡ after self.old (gives krate.0 options)) }
         ensures err { OnErr result (self.new ≡ self.old) }
-        ensures returned { IfErr result (λ refused. refused.options ≡ options) }
+        ensures returned { IfErr result (λ refused. refused.edit ≡ SetCfg krate options) }
         ensures fits { OnOk result (FitsAfter (state_of self.old) [] (gives krate.0 options)) }
-        ensures refused { let edit = gives krate.0 options in
-            IfErr result (λ refused. IsCause (state_of self.old) edit (Lower refused.cause)) }
+        ensures cause { let edit = gives krate.0 options in
+            IfErr result (λ refused. IsSizeCause (state_of self.old) edit refused.cause) }
     {
         let index = krate.0 as usize;
         self.swap_options(index, &mut options);
         if let Err(cause) = self.recast(index) {
             self.swap_options(index, &mut options);
-            return Err(OptionsRefused { options, cause });
+            return Err(refused(Edit::SetCfg { krate, options }, cause));
         }
         Ok(())
     }
@@ -188,21 +183,11 @@ impl Store {
             return Err(EditRefused { edit, cause });
         }
         match edit {
-            Edit::SetFile { file, syntax } => {
-                if let Err(SyntaxRefused { syntax, cause }) = self.set_file(file, syntax) {
-                    let edit = Edit::SetFile { file, syntax };
-                    let cause = EditFault::Lower(cause);
-                    return Err(EditRefused { edit, cause });
-                }
-            }
-            Edit::RemoveFile { file } => self.remove_file(file),
-            Edit::SetCfg { krate, options } => {
-                if let Err(OptionsRefused { options, cause }) = self.set_cfg(krate, options) {
-                    let edit = Edit::SetCfg { krate, options };
-                    let cause = EditFault::Lower(cause);
-                    return Err(EditRefused { edit, cause });
-                }
-            }
+            Edit::SetFile { file, syntax } => self.set(Source::File { file, syntax })?,
+            Edit::RemoveFile { file } => self.remove(Place::File(file)),
+            Edit::SetBlock { block, syntax } => self.set(Source::Block { block, syntax })?,
+            Edit::RemoveBlock { block } => self.remove(Place::Block(block)),
+            Edit::SetCfg { krate, options } => self.set_cfg(krate, options)?,
         }
         Ok(self.number)
     }
@@ -246,23 +231,40 @@ impl Store {
         &self.crates[krate.0 as usize].cfg
     }
 
-    pub fn file_syntax(&self, file: HirFileId) -> Option<&Syntax>
-        ensures { option_map syntax_view (option_copied result) ≡ syntax_at self.now (Place.File file) }
+    // What is set at a place.
+    fn source(&self, place: Place) -> Option<&Source>
+        ensures own { IfSome (option_copied result) (λ source. source_place source ≡ place) }
+        ensures view { option_map source_view (option_copied result) ≡ syntax_at self.now place }
     {
-        match self.files.get(file.0) {
+        match self.places.get(place) {
             Some(entry) => entry.syntax(),
             None => None,
         }
     }
 
-    // Of a place that was ever set. No edit sets a block.
+    pub fn file_syntax(&self, file: HirFileId) -> Option<&Syntax>
+        ensures { option_map syntax_view (option_copied result) ≡ syntax_at self.now (Place.File file) }
+    {
+        match self.source(Place::File(file)) {
+            Some(Source::File { syntax, .. }) => Some(syntax),
+            _ => None,
+        }
+    }
+
+    pub fn block_syntax(&self, block: BlockId) -> Option<&BlockExpr>
+        ensures { option_map block_view (option_copied result) ≡ syntax_at self.now (Place.Block block) }
+    {
+        match self.source(Place::Block(block)) {
+            Some(Source::Block { syntax, .. }) => Some(syntax),
+            _ => None,
+        }
+    }
+
+    // Of a place that was ever set.
     fn row(&self, place: Place, krate: Crate) -> Option<&Row>
         ensures { option_copied result ≡ row_found self.now place krate.0 }
     {
-        match place {
-            Place::File(file) => self.files.row(file.0, krate.0 as usize),
-            Place::Block(_) => None,
-        }
+        self.places.row(place, krate.0 as usize)
     }
 
     pub fn changed(&self, place: Place, krate: Crate) -> u64
@@ -277,7 +279,7 @@ impl Store {
     pub fn changed_since(&self, n: u64) -> ChangedSince<'_>
         ensures { IsSince (state_of self.now) n result }
     {
-        ChangedSince::new(self.files.late(n.max(self.start)))
+        self.places.late(n.max(self.start))
     }
 
     pub fn tree(&self, place: Place, krate: Crate) -> &ItemTree

@@ -8,5 +8,5 @@ use Rattle.item_tree_db.proofs.store.Store.new.Goals as goal
 pub returns : goal.returns
 returns c =
     let crates = ap (map crate_view) c.truncate.ensures.items ∙ take_crates crate_limit c.args.crates.items in
-    let files = ap places_view c.new.ensures in
-    λ j. record { crates = crates j; skipped = c.args.skipped.items; start = c.args.start; number = c.args.start; files = files j }
+    let places = ap places_view c.new.ensures in
+    λ j. record { crates = crates j; skipped = c.args.skipped.items; start = c.args.start; number = c.args.start; places = places j }

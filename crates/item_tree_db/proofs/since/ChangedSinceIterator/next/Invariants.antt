@@ -2,16 +2,16 @@ use Rattle.std.proofs.Common.{◌≡◌, length, ◌+◌, ◌-◌, ◌≤◌}
 use Rattle.item_tree_db.specs.State.{crate_limit}
 use Rattle.item_tree_db.specs.Walk.{HasFew, left}
 use Rattle.item_tree_db.proofs.Walks.{steps}
-use Rattle.item_tree_db.proofs.since.WalkIterator.next.Given as goal
+use Rattle.item_tree_db.proofs.since.ChangedSinceIterator.next.Given as goal
 
 abbrev pub invariant-loop-self : goal.invariant-loop-self
-invariant-loop-self g l =
+invariant-loop-self l =
     let w = l.self-inside in
     let start = l.initial.self-inside in record {
-      left : left w.above w.key w.next w.rows.now w.slots ≡ left start.above start.key start.next start.rows.now start.slots;
+      left : left w.above w.place w.next w.rows.now w.slots ≡ left start.above start.place start.next start.rows.now start.slots;
       rows : length w.rows.now ≤ crate_limit;
       slots : HasFew w.slots;
     }
 
 abbrev pub decreases-loop-self : goal.decreases-loop-self
-decreases-loop-self g l = (length l.self-inside.rows.now - l.self-inside.next) + steps l.self-inside.slots
+decreases-loop-self l = (length l.self-inside.rows.now - l.self-inside.next) + steps l.self-inside.slots
