@@ -60,9 +60,11 @@ pub(crate) fn removed(members: &mut Map<String, Value>, key: &str) -> Option<Val
     }
 }
 
-// The member, unless it is null.
+/// The member, unless it is null.
+///
+/// A null counts as absent, as in every form but a condition's.
 #[tactic(auto, unfolding(crate::specs::Forms::field))]
-pub(crate) fn field<'v>(members: &'v Map<String, Value>, key: &str) -> Option<&'v Value>
+pub fn field<'v>(members: &'v Map<String, Value>, key: &str) -> Option<&'v Value>
     ensures { option_map (λ v. view v.now) result ≡ field_of key.now (held members.now) }
 {
     match found(members, key) {
@@ -72,8 +74,6 @@ pub(crate) fn field<'v>(members: &'v Map<String, Value>, key: &str) -> Option<&'
 }
 
 /// Takes the member out, unless it is null, and leaves a null.
-///
-/// A null counts as absent, as in every form but a condition's.
 #[inline(always)]
 #[tactic(auto, unfolding(crate::specs::Forms::field))]
 pub fn taken(members: &mut Map<String, Value>, key: &str) -> Option<Value>

@@ -1,13 +1,13 @@
 -- What the outcome of all edits says of the sizes of each.
-use Rattle.std.proofs.Common.{◌≡◌, ◌≢◌, ℕ, ◌+◌, ◌<◌, ◌≤◌, eq-or-lt_of_le, inl, inr, List, [], Some, refl, length, take, map, option_map, slice_get, sym, ap, ◌∙◌, subst, arith}
+use Rattle.std.proofs.Common.{◌≡◌, ◌≢◌, ℕ, ◌+◌, ◌<◌, ◌≤◌, eq-or-lt_of_le, inl, inr, List, [], Some, refl, length, take, map, option_map, slice_get, ap, ◌∙◌, subst, arith}
 use Rattle.std.proofs.lemmas.List.{length-take-le}
 use Rattle.std.proofs.lemmas.Option.{slice_get-map, slice_get_within}
 use Rattle.item_tree.specs.declared.fault.EditFault.{EditFault}
 use Rattle.item_tree.specs.declared.fault.EditFault.TheVariants.{TooManyEdits, Lower}
 use Rattle.item_tree.specs.declared.fault.LowerError.{LowerError}
 use Rattle.item_tree.specs.declared.fault.LowerError.TheVariants.{TooManyItems, TooManyVisibilities, TooManyUseTrees, TooManyAttributes, TooManySupers, OutOfMemory}
-use Rattle.item_tree_db.specs.State.{State, file_at, present}
-use Rattle.item_tree_db.specs.Edits.{EditView, set_file, remove_file, set_cfg}
+use Rattle.item_tree_db.specs.State.{State, present}
+use Rattle.item_tree_db.specs.Edits.{EditView, set, remove, set_cfg}
 use Rattle.item_tree_db.specs.History.{IsAfter, under, crate_after, present_after}
 use Rattle.item_tree_db.specs.Refusal.{last_number, FirstFit, PassesAfter, IsCause}
 use Rattle.item_tree_db.specs.Refusal as lowers
@@ -25,9 +25,9 @@ full_at s u edits place within after full = (within, omega (arith, full, after.n
 
 -- what an edit passes in the table after others, it passes after those
 passes_front : (s u : State) (before : List EditView) (edit : EditView) (error : LowerError) → IsAfter s before u → PassesAfter u [] edit error → PassesAfter s before edit error
-passes_front s u before (set_file k syntax) error after h =
-    (h.0, subst (λ names. lowers.TreePasses names (file_at k) (crate_after s before h.0) (Some syntax) error) after.skipped (subst (λ krate. lowers.TreePasses u.skipped (file_at k) krate (Some syntax) error) (after.crates h.0) h.1))
-passes_front s u before (remove_file k) error after h = absurd h
+passes_front s u before (set place syntax) error after h =
+    (h.0, subst (λ names. lowers.TreePasses names place (crate_after s before h.0) (Some syntax) error) after.skipped (subst (λ krate. lowers.TreePasses u.skipped place krate (Some syntax) error) (after.crates h.0) h.1))
+passes_front s u before (remove place) error after h = absurd h
 passes_front s u before (set_cfg i options) error after h =
     let krate = under (Some options) (crate_after s before i) in (
       h.0,
@@ -38,19 +38,19 @@ passes_front s u before (set_cfg i options) error after h =
 
 -- the cause of a refusal that is a size
 size_of : (u : State) (edit : EditView) (error : LowerError) → error ≢ OutOfMemory → IsCause u edit (Lower error) → PassesAfter u [] edit error
-size_of u (set_file k syntax) TooManyItems size cause = cause
-size_of u (set_file k syntax) TooManyVisibilities size cause = cause
-size_of u (set_file k syntax) TooManyUseTrees size cause = cause
-size_of u (set_file k syntax) TooManyAttributes size cause = cause
-size_of u (set_file k syntax) TooManySupers size cause = cause
-size_of u (set_file k syntax) OutOfMemory size cause = absurd (size refl)
+size_of u (set place syntax) TooManyItems size cause = cause
+size_of u (set place syntax) TooManyVisibilities size cause = cause
+size_of u (set place syntax) TooManyUseTrees size cause = cause
+size_of u (set place syntax) TooManyAttributes size cause = cause
+size_of u (set place syntax) TooManySupers size cause = cause
+size_of u (set place syntax) OutOfMemory size cause = absurd (size refl)
 size_of u (set_cfg i options) TooManyItems size cause = cause
 size_of u (set_cfg i options) TooManyVisibilities size cause = cause
 size_of u (set_cfg i options) TooManyUseTrees size cause = cause
 size_of u (set_cfg i options) TooManyAttributes size cause = cause
 size_of u (set_cfg i options) TooManySupers size cause = cause
 size_of u (set_cfg i options) OutOfMemory size cause = absurd (size refl)
-size_of u (remove_file k) error size cause = absurd cause
+size_of u (remove place) error size cause = absurd cause
 
 -- an edit refused in the table after others
 tree_passes : (s u : State) (edits : List EditView) (place : ℕ) (edit : EditView) (error : LowerError)

@@ -5,7 +5,7 @@ use Rattle.serde_json.specs.Data.{Data}
 use Rattle.item_tree.specs.declared.fault.EditFault.{EditFault}
 use Rattle.item_tree_request.specs.declared.error.RunError.{RunError}
 use Rattle.item_tree_request.specs.declared.error.RunError.TheVariants.{NotJson, NotRequest, Refused, OutOfMemory, Read, Write}
-use Rattle.item_tree_request.specs.Outputs.{table_of, output, NonePasses, PassesAt}
+use Rattle.item_tree_request.specs.Outputs.{table_of, IsOutput, NonePasses, PassesAt}
 use Rattle.item_tree_request.specs.Requests.{Request, request, IsJsonText, IsRequest}
 use Rattle.item_tree_request.specs.Streams.{IsReadToEnd, TakesBeginning}
 
@@ -14,7 +14,7 @@ pub record IsOutputOf (bytes text : List ℕ) : Type 0 where
   pub asked : Request
   pub is_request : IsRequest bytes asked
   pub none_passes : NonePasses (table_of asked) asked.edits (length asked.edits)
-  pub is_output : text ≡ output asked
+  pub is_output : IsOutput asked text
 
 -- the bytes are a request, whose edit at this place is the first that passes a size, and passes this one
 pub record IsRefusedAt (bytes : List ℕ) (place : ℕ) (cause : EditFault) : Type 0 where

@@ -1,27 +1,40 @@
 //! The texts of shows.
 ghost use Rattle.std.specs.Prelude.{◌≡◌, ◌++◌, [], All, IfOk, OnOk, string_bytes};
 ghost use Rattle.std.specs.List.{flat_map};
-ghost use Rattle.item_tree_db.specs.State.{IsKnown};
-ghost use Rattle.item_tree_request.specs.Outputs.{heading, page_text, imports_text, shown};
+ghost use Rattle.item_tree_db.specs.State.{IsKnown, unfolding_at};
+ghost use Rattle.item_tree_request.specs.Made.{Adds, IsTextOf, Knows};
+ghost use Rattle.item_tree_request.specs.Outputs.{AreJoined, change_line, page_text, imports_text, shown};
 
 use crate::imports::push_imports;
-use crate::request::show::{Show, ShowKind};
-use hir_input::Edition;
-use item_tree_db::{Place, Sources, file_item_tree};
+use crate::request::show::{Show, ShowKind, TreeShow};
+use hir_input::{Crate, Edition, HirFileId};
+use item_tree::ItemTree;
+use item_tree_db::{ChangedSince, Place, Sources, TreeId, file_item_tree};
 use std::alloc::{AllocError, Global};
+
+// A crate's tree of a place. The file of a block's id does not matter to its tree.
+fn tree_at(sources: &Sources, place: Place, krate: Crate) -> &ItemTree
+    requires { IsKnown sources.now krate }
+    ensures { result.now ≡ unfolding_at sources.now place krate.0 }
+{
+    match place {
+        Place::File(file) => file_item_tree(sources, file, krate),
+        Place::Block(block) => TreeId::new(HirFileId(0), Some(block)).item_tree(sources, krate),
+    }
+}
 
 #[tactic(auto, unfolding(crate::specs::Outputs::page_text))]
 fn push_page(
     alloc: Global,
     sources: &Sources,
     edition: &Edition,
-    show: Show,
+    show: TreeShow,
     text: &mut String,
 ) -> Result<(), AllocError>
     requires { IsKnown sources.now show.krate }
     ensures { OnOk result (string_bytes text.new ≡ string_bytes text.old ++ page_text edition.now.reserved.items sources.now [] show) }
 {
-    let tree = file_item_tree(sources, show.file, show.krate);
+    let tree = tree_at(sources, show.place, show.krate);
     let page = tree.pretty_print(alloc, edition)?;
     text.push_str(&page)?;
     Ok(())
@@ -32,24 +45,67 @@ fn push_tree_imports(
     alloc: Global,
     sources: &Sources,
     edition: &Edition,
-    show: Show,
+    show: TreeShow,
     text: &mut String,
 ) -> Result<(), AllocError>
     requires { IsKnown sources.now show.krate }
     ensures { OnOk result (string_bytes text.new ≡ string_bytes text.old ++ imports_text edition.now.reserved.items sources.now [] show) }
 {
-    let tree = file_item_tree(sources, show.file, show.krate);
+    let tree = tree_at(sources, show.place, show.krate);
     push_imports(alloc, tree, edition, text)
 }
 
-#[tactic(auto, unfolding(crate::specs::Outputs::heading))]
-fn push_heading(sources: &Sources, show: Show, text: &mut String) -> Result<(), AllocError>
-    requires { IsKnown sources.now show.krate }
-    ensures { OnOk result (string_bytes text.new ≡ string_bytes text.old ++ heading sources.now [] show) }
+// The line on a place and a crate.
+#[tactic(auto, unfolding(crate::specs::Outputs::change_line))]
+fn push_change(
+    place: Place,
+    krate: Crate,
+    changed: u64,
+    text: &mut String,
+) -> Result<(), AllocError>
+    ensures { OnOk result (string_bytes text.new ≡ string_bytes text.old ++ change_line (place, krate, changed)) }
 {
-    let changed = sources.changed(Place::File(show.file), show.krate);
-    let (krate, file) = (show.krate.0, show.file.0);
-    writeln!(text, "crate {krate} file {file} change {changed}")?;
+    let krate = krate.0;
+    match place {
+        Place::File(file) => {
+            let file = file.0;
+            writeln!(text, "crate {krate} file {file} change {changed}")
+        }
+        Place::Block(block) => {
+            let block = block.0;
+            writeln!(text, "crate {krate} block {block} change {changed}")
+        }
+    }
+}
+
+fn push_tree(
+    alloc: Global,
+    sources: &Sources,
+    edition: &Edition,
+    show: TreeShow,
+    text: &mut String,
+) -> Result<(), AllocError>
+    requires { IsKnown sources.now show.krate }
+    ensures { OnOk result (string_bytes text.new ≡ string_bytes text.old ++ shown edition.now.reserved.items sources.now [] show) }
+{
+    match show.kind {
+        ShowKind::Page => push_page(alloc, sources, edition, show, text),
+        ShowKind::Tree => {
+            let changed = sources.changed(show.place, show.krate);
+            push_change(show.place, show.krate, changed, text)?;
+            push_page(alloc, sources, edition, show, text)
+        }
+        ShowKind::Imports => push_tree_imports(alloc, sources, edition, show, text),
+    }
+}
+
+// A line for each change.
+fn push_changes(changes: ChangedSince<'_>, text: &mut String) -> Result<(), AllocError>
+    ensures { OnOk result (string_bytes text.new ≡ string_bytes text.old ++ flat_map change_line changes.entry) }
+{
+    for (place, krate, changed) in changes {
+        push_change(place, krate, changed, text)?;
+    }
     Ok(())
 }
 
@@ -60,16 +116,12 @@ fn push_show(
     show: Show,
     text: &mut String,
 ) -> Result<(), AllocError>
-    requires { IsKnown sources.now show.krate }
-    ensures { OnOk result (string_bytes text.new ≡ string_bytes text.old ++ shown edition.now.reserved.items sources.now [] show) }
+    requires { Knows sources.now show }
+    ensures { OnOk result (Adds edition.now.reserved.items sources.now show (string_bytes text.old) (string_bytes text.new)) }
 {
-    match show.kind {
-        ShowKind::Page => push_page(alloc, sources, edition, show, text),
-        ShowKind::Tree => {
-            push_heading(sources, show, text)?;
-            push_page(alloc, sources, edition, show, text)
-        }
-        ShowKind::Imports => push_tree_imports(alloc, sources, edition, show, text),
+    match show {
+        Show::OfTree(show) => push_tree(alloc, sources, edition, show, text),
+        Show::Changed { since } => push_changes(sources.changed_since(since), text),
     }
 }
 
@@ -80,8 +132,8 @@ pub(crate) fn output_of(
     edition: &Edition,
     shows: &[Show],
 ) -> Result<String, AllocError>
-    requires { All (λ show. IsKnown sources.now show.krate) shows.now }
-    ensures { IfOk result (λ text. string_bytes text ≡ flat_map (shown edition.now.reserved.items sources.now []) shows.now) }
+    requires { All (Knows sources.now) shows.now }
+    ensures { IfOk result (λ text. AreJoined (IsTextOf edition.now.reserved.items sources.now) shows.now (string_bytes text)) }
 {
     let mut text = String::new(alloc);
     for show in shows {

@@ -12,11 +12,11 @@ ghost use Rattle.hir_input_json.specs.Held.{held, without};
 ghost use Rattle.hir_input_json.specs.Reads.{Reads};
 
 use hir_input::ast::Syntax;
-use hir_input::{CfgOptions, Crate, HirFileId};
+use hir_input::{BlockId, CfgOptions, Crate, HirFileId};
 use hir_input_json::Fault;
 use hir_input_json::atom::atoms_at;
 use hir_input_json::member::{id_at, list_at, members_of, taken, word_at};
-use hir_input_json::syntax::syntax_of;
+use hir_input_json::syntax::{block_in, syntax_of};
 use item_tree::CrateData;
 use item_tree_db::Edit;
 use serde_json::{Map, Value};
@@ -61,6 +61,15 @@ fn edit_of(alloc: Global, value: Value, count: usize) -> Result<Edit, Fault>
         "remove_file" => {
             let file = HirFileId(id_at(&members, "file")?);
             Ok(Edit::RemoveFile { file })
+        }
+        "set_block" => {
+            let block = BlockId(id_at(&members, "block")?);
+            let syntax = block_in(alloc, &mut members)?;
+            Ok(Edit::SetBlock { block, syntax })
+        }
+        "remove_block" => {
+            let block = BlockId(id_at(&members, "block")?);
+            Ok(Edit::RemoveBlock { block })
         }
         "set_cfg" => set_cfg_of(alloc, &mut members, count),
         _ => Err(Fault::WrongForm),

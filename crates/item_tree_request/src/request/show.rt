@@ -1,18 +1,18 @@
 //! Shows, read from their forms.
-ghost use Rattle.std.specs.Prelude.{◌≡◌, All, IfOk, codes, length, map, option_and_then};
-ghost use Rattle.serde_json.specs.Find.{as_str};
+ghost use Rattle.std.specs.Prelude.{◌≡◌, ◌^◌, All, IfOk, codes, length, map};
 ghost use Rattle.serde_json.specs.View.{view, items_view};
 ghost use Rattle.item_tree.specs.CrateView.{crate_view};
-ghost use Rattle.hir_input_json.specs.Forms.{each, field as field_of, required, list_at as each_at};
+ghost use Rattle.hir_input_json.specs.Forms.{each, field as field_of, required, whole, list_at as each_at};
 ghost use Rattle.hir_input_json.specs.Held.{held};
 ghost use Rattle.hir_input_json.specs.Reads.{Reads};
 ghost use Rattle.item_tree_request.specs.Seen.{NamesCrate};
-ghost use Rattle.item_tree_request.specs.Shows.{show as show_form, show_kind};
+ghost use Rattle.item_tree_request.specs.Shows.{show as show_form, place_at as place_form, tree_show};
 
-use hir_input::{Crate, HirFileId};
+use hir_input::{BlockId, Crate, HirFileId};
 use hir_input_json::Fault;
-use hir_input_json::member::{id_at, list_at, members_of, word_at};
+use hir_input_json::member::{field, id_at, list_at, members_of, word_at};
 use item_tree::CrateData;
+use item_tree_db::Place;
 use serde_json::{Map, Value};
 use std::alloc::Global;
 
@@ -26,43 +26,72 @@ pub(crate) enum ShowKind {
     Imports,
 }
 
-// A crate's tree of a file that is to be shown.
+// A crate's tree of a place that is to be shown.
 #[derive(Clone, Copy)]
-pub(crate) struct Show {
+pub(crate) struct TreeShow {
     pub(crate) kind: ShowKind,
     pub(crate) krate: Crate,
-    pub(crate) file: HirFileId,
+    pub(crate) place: Place,
 }
 
-fn kind_at(members: &Map<String, Value>) -> Result<ShowKind, Fault>
-    ensures { Reads (λ kind. kind) result (option_and_then show_kind (required as_str (field_of (codes "show") (held members.now)))) }
+// What is to be shown.
+#[derive(Clone, Copy)]
+pub(crate) enum Show {
+    OfTree(TreeShow),
+    // What changed since a number.
+    Changed { since: u64 },
+}
+
+fn place_at(members: &Map<String, Value>) -> Result<Place, Fault>
+    ensures { Reads (λ place. place) result (place_form (held members.now)) }
 {
-    match word_at(members, "show")? {
-        "page" => Ok(ShowKind::Page),
-        "tree" => Ok(ShowKind::Tree),
-        "imports" => Ok(ShowKind::Imports),
-        _ => Err(Fault::WrongForm),
+    match field(members, "file") {
+        Some(_) => Ok(Place::File(HirFileId(id_at(members, "file")?))),
+        None => Ok(Place::Block(BlockId(id_at(members, "block")?))),
     }
 }
 
-// A show of one of this many crates.
+// A show of a tree of one of this many crates.
+fn tree_show_of(members: &Map<String, Value>, kind: ShowKind, count: usize) -> Result<Show, Fault>
+    ensures reads { Reads (λ show. show) result (tree_show count kind (held members.now)) }
+    ensures known { IfOk result (NamesCrate count) }
+{
+    let krate = id_at(members, "crate")?;
+    if krate as usize >= count {
+        return Err(Fault::WrongForm);
+    }
+    let place = place_at(members)?;
+    Ok(Show::OfTree(TreeShow {
+        kind,
+        krate: Crate(krate),
+        place,
+    }))
+}
+
+fn since_at(members: &Map<String, Value>) -> Result<u64, Fault>
+    ensures { Reads (λ since. since) result (required (whole (2 ^ 64)) (field_of (codes "since") (held members.now))) }
+{
+    let since = field(members, "since").ok_or(Fault::WrongForm)?;
+    since.as_u64().ok_or(Fault::WrongForm)
+}
+
+// A show after edits of a table of this many crates.
 #[tactic(auto, using(hir_input_json::proofs::Held::no_field))]
 fn show_of(value: Value, count: usize) -> Result<Show, Fault>
     ensures reads { Reads (λ show. show) result (show_form count (view value)) }
     ensures known { IfOk result (NamesCrate count) }
 {
     let members = members_of(value)?;
-    let kind = kind_at(&members)?;
-    let krate = id_at(&members, "crate")?;
-    if krate as usize >= count {
-        return Err(Fault::WrongForm);
+    match word_at(&members, "show")? {
+        "page" => tree_show_of(&members, ShowKind::Page, count),
+        "tree" => tree_show_of(&members, ShowKind::Tree, count),
+        "imports" => tree_show_of(&members, ShowKind::Imports, count),
+        "changed" => {
+            let since = since_at(&members)?;
+            Ok(Show::Changed { since })
+        }
+        _ => Err(Fault::WrongForm),
     }
-    let file = HirFileId(id_at(&members, "file")?);
-    Ok(Show {
-        kind,
-        krate: Crate(krate),
-        file,
-    })
 }
 
 fn shows_of(alloc: Global, items: Vec<Value>, count: usize) -> Result<Vec<Show>, Fault>
