@@ -2,7 +2,7 @@
 use crate::table::crate_with;
 use hir_input::{Crate, Edition, EditionYear, HirFileId};
 use item_tree::ModItemKind;
-use item_tree_db::{Edit, Place, Sources, file_item_tree};
+use item_tree_db::{Edit, Place, Sources, TreeId, file_item_tree};
 use item_tree_samples::items::one_function;
 use std::test::Fail;
 
@@ -31,5 +31,12 @@ fn a_file_is_set_and_its_tree_is_read(rt: HostRuntime) -> Result<(), Fail> {
     let page = tree.pretty_print(alloc, &edition)?;
     assert_eq!(rt; page.as_str(), "// AstId: Fn[BE8F, 0]\npub(self) fn f;\n");
     assert_eq!(rt; sources.changed(Place::File(file), krate), number);
+
+    let mut changed = sources.changed_since(0);
+    assert!(rt;
+        changed.next() == Some((Place::File(file), krate, number)) && changed.next().is_none()
+    );
+    let id = TreeId::new(file, None);
+    assert!(rt; id.file_id() == file && !id.is_block() && id.item_tree(&sources, krate) == tree);
     Ok(())
 }

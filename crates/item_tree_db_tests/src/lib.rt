@@ -10,6 +10,8 @@ mod edits;
 #[cfg(test)]
 mod example;
 #[cfg(test)]
+mod options;
+#[cfg(test)]
 mod refusals;
 #[cfg(test)]
 mod table;

@@ -5,6 +5,7 @@
 #![tactic(auto)]
 
 pub mod attributes;
+pub mod blocks;
 pub mod file;
 pub mod items;
 pub mod use_trees;

@@ -1,0 +1,91 @@
+//! Options given to a crate over two files and a block, where a request for memory is refused.
+use crate::table::{FILE, function, table};
+use hir_input::{BlockId, Crate, HirFileId};
+use item_tree::{EditFault, LowerError};
+use item_tree_db::{Edit, EditRefused, Place, Sources};
+use item_tree_samples::attributes::{flag, options};
+use item_tree_samples::blocks::block;
+use std::alloc::{AllocError, Global};
+
+const OTHER: HirFileId = HirFileId(6);
+
+const BLOCK: BlockId = BlockId(1);
+
+const CRATE: Crate = Crate(1);
+
+// Sets the two files and the block. Whether all were set.
+fn are_set(alloc: Global, sources: &mut Sources) -> Result<bool, AllocError> {
+    let first = Edit::SetFile {
+        file: FILE,
+        syntax: function(alloc, false)?,
+    };
+    let second = Edit::SetFile {
+        file: OTHER,
+        syntax: function(alloc, true)?,
+    };
+    let third = Edit::SetBlock {
+        block: BLOCK,
+        syntax: block(alloc)?,
+    };
+    Ok(
+        sources
+            .edit_all(vec![in alloc; first, second, third]?)
+            .is_ok(),
+    )
+}
+
+fn is_handed_back(refused: &EditRefused) -> bool {
+    refused.cause == EditFault::Lower(LowerError::OutOfMemory)
+        && matches!(refused.edit, Edit::SetCfg { krate: CRATE, .. })
+}
+
+// Gives the crate the flag `test`. Whether that is the fourth edit, or handed back.
+fn is_given_or_refused(alloc: Global, sources: &mut Sources) -> Result<bool, AllocError> {
+    if !sources.knows(CRATE) {
+        return Ok(false);
+    }
+    let edit = Edit::SetCfg {
+        krate: CRATE,
+        options: options(alloc, "test")?,
+    };
+    match sources.edit(edit) {
+        Ok(number) => Ok(number == 4),
+        Err(refused) => Ok(is_handed_back(&refused)),
+    }
+}
+
+// Whether the crate has the option exactly where the fourth edit was made.
+fn has_option(alloc: Global, sources: &Sources) -> Result<bool, AllocError> {
+    let test = flag(alloc, "test")?;
+    let is_given = sources.number() == 4;
+    Ok(sources.knows(CRATE) && sources.cfg_options(CRATE).check(&test) == Some(is_given))
+}
+
+// Whether the files' trees of the crate became others exactly where it was made. Nothing in the block is under a cfg.
+fn stands(sources: &Sources) -> bool {
+    let [first, second] = match sources.number() {
+        4 => [4, 4],
+        _ => [1, 2],
+    };
+    sources.knows(CRATE)
+        && sources.file_syntax(FILE).is_some()
+        && sources.file_syntax(OTHER).is_some()
+        && sources.block_syntax(BLOCK).is_some()
+        && sources.changed(Place::File(FILE), CRATE) == first
+        && sources.changed(Place::File(OTHER), CRATE) == second
+        && sources.changed(Place::Block(BLOCK), CRATE) == 3
+}
+
+fn are_options_given(alloc: Global) -> Result<bool, AllocError> {
+    let mut sources = table(alloc, 0)?;
+    if !are_set(alloc, &mut sources)? {
+        return Ok(sources.number() < 3);
+    }
+    let is_answered = is_given_or_refused(alloc, &mut sources)?;
+    Ok(is_answered && has_option(alloc, &sources)? && stands(&sources))
+}
+
+#[test]
+fn options_are_given_or_handed_back_when_memory_is_refused(rt: HostRuntime) {
+    assert!(rt; are_options_given(rt.alloc()).unwrap_or(true));
+}
