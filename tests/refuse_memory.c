@@ -1,4 +1,5 @@
-// Preloaded before a program, counts its requests for memory and refuses one of them.
+// Preloaded before a program, counts its requests for memory and refuses one of them. To give back a part of a block is no
+// request for memory.
 //
 // REFUSE_REQUEST   the request to refuse, counted from 1; none if it is absent
 // COUNT_REQUESTS   a file of at least 8 bytes, in whose first 8 the number of requests is kept
@@ -6,6 +7,7 @@
 #include <dlfcn.h>
 #include <errno.h>
 #include <fcntl.h>
+#include <malloc.h>
 #include <stdint.h>
 #include <stdlib.h>
 #include <sys/mman.h>
@@ -43,5 +45,6 @@ void *malloc(size_t size) {
 void *realloc(void *old, size_t size) {
     static void *(*next)(void *, size_t);
     if (!next) next = dlsym(RTLD_NEXT, "realloc");
+    if (old && size <= malloc_usable_size(old)) return next(old, size);
     return is_refused() ? NULL : next(old, size);
 }

@@ -1,5 +1,6 @@
 #!/usr/bin/env bash
-# Refuses each request for memory in turn, one a run, until a run makes no further request.
+# Refuses each request for memory in turn, one a run, until a run makes no further request. As many subjects are tried at
+# once as there are processors.
 #
 #   refused_memory.sh PROGRAM TESTS ..
 #
@@ -12,47 +13,73 @@ mapfile -t binaries < <(realpath "$@")
 here=$(cd "$(dirname "${BASH_SOURCE[0]}")" && pwd)
 work=$(mktemp -d)
 trap 'rm -rf "$work"' EXIT
-shim=$work/refuse_memory.so
-cc -shared -fPIC -O1 -o "$shim" "$here/refuse_memory.c" -ldl || exit 2
-head -c 8 /dev/zero > "$work/count"
-passed=0 failed=0
+cc -shared -fPIC -O1 -o "$work/refuse_memory.so" "$here/refuse_memory.c" -ldl || exit 2
+printf 'out of memory\n' > "$work/line"
+export program here work
 
 # Runs a command with one request refused; leaves its status, and the number of requests that it made.
 refuse() {
     local request=$1
     shift
-    COUNT_REQUESTS=$work/count REFUSE_REQUEST=$request LD_PRELOAD=$shim "$@" > "$work/out" 2> "$work/err"
+    COUNT_REQUESTS=$own/count REFUSE_REQUEST=$request LD_PRELOAD=$work/refuse_memory.so "$@" > "$own/out" 2> "$own/err"
     status=$?
-    made=$(od -An -t u8 "$work/count" | tr -d ' ')
+    made=$(od -An -t u8 "$own/count" | tr -d ' ')
 }
 
 judge() {
     if [ "$1" = 0 ]; then passed=$((passed + 1)); else failed=$((failed + 1)); echo "$2"; fi
 }
 
-printf 'out of memory\n' > "$work/line"
-for wanted in "$here"/requests/*/*.out; do
-    name=${wanted#"$here/requests/"}
-    name=${name%.out}
+# A request of tests/requests, by its path without an ending.
+try_request() {
+    local request
     for ((request = 1; ; request++)); do
-        refuse "$request" "$program" < "$here/requests/$name.json"
+        refuse "$request" "$program" < "$here/requests/$1.json"
         [ "$made" -ge "$request" ] || break
-        [ "$status" = 5 ] && [ ! -s "$work/out" ] && cmp -s "$work/err" "$work/line"
-        judge $? "request $name: status $status with request $request for memory refused"
+        [ "$status" = 5 ] && [ ! -s "$own/out" ] && cmp -s "$own/err" "$work/line"
+        judge $? "request $1: status $status with request $request for memory refused"
     done
-    [ "$status" = 0 ] && cmp -s "$work/out" "$wanted"
-    judge $? "request $name: status $status with no request for memory refused"
-done
+    [ "$status" = 0 ] && cmp -s "$own/out" "$here/requests/$1.out"
+    judge $? "request $1: status $status with no request for memory refused"
+}
 
-for tests in "${binaries[@]}"; do
-    for name in $("$tests" --list | sed -n 's/: test$//p' | grep when_memory_is_refused); do
-        for ((request = 1; ; request++)); do
-            refuse "$request" "$tests" "$name"
-            judge "$status" "test $name: failed with request $request for memory refused"
-            [ "$made" -ge "$request" ] || break
-        done
+# A test of a binary.
+try_test() {
+    local request
+    for ((request = 1; ; request++)); do
+        refuse "$request" "$1" "$2"
+        judge "$status" "test $2: failed with request $request for memory refused"
+        [ "$made" -ge "$request" ] || break
     done
-done
+}
 
-echo "refused_memory: $passed passed, $failed failed"
-[ "$failed" = 0 ] && [ "$passed" -gt 0 ]
+# Tries one subject in a folder of its own, and ends with its counts.
+try() {
+    own=$(mktemp -d -p "$work") passed=0 failed=0
+    head -c 8 /dev/zero > "$own/count"
+    "$@"
+    echo "counts: $1 $passed $failed"
+}
+export -f refuse judge try_request try_test try
+
+subjects() {
+    local wanted name binary
+    for wanted in "$here"/requests/*/*.out; do
+        name=${wanted#"$here/requests/"}
+        echo "try_request ${name%.out}"
+    done
+    for binary in "${binaries[@]}"; do
+        "$binary" --list | sed -n 's/: test$//p' | grep when_memory_is_refused | sed "s|^|try_test $binary |"
+    done
+}
+
+subjects | xargs -P "$(nproc)" -I{} bash -c 'try {}' > "$work/told"
+grep -v '^counts: ' "$work/told"
+# The last run of each subject is one in which nothing was refused.
+awk '/^counts: / { passed += $3; failed += $4; subjects[$2]++; refused[$2] += $3 + $4 - 1 }
+     END {
+         printf "%d requests of the program: %d times memory was refused\n", subjects["try_request"], refused["try_request"]
+         printf "%d tests: %d times memory was refused\n", subjects["try_test"], refused["try_test"]
+         printf "refused_memory: %d passed, %d failed\n", passed, failed
+         exit failed > 0 || passed == 0
+     }' "$work/told"
