@@ -4,7 +4,7 @@
 set -uo pipefail
 cd "$(dirname "${BASH_SOURCE[0]}")" || exit 2
 program=crates/item_tree_tool/out/item_tree_tool
-tests="crates/item_tree_tests/out/item_tree_tests_tests crates/item_tree_db_tests/out/item_tree_db_tests_tests"
+tests="crates/hir_input_tests/out/hir_input_tests_tests crates/item_tree_tests/out/item_tree_tests_tests crates/item_tree_db_tests/out/item_tree_db_tests_tests"
 log=$(mktemp)
 trap 'rm -f "$log"' EXIT
 
@@ -28,8 +28,12 @@ part() {
     part 'the requests' tests/requests.sh $program
     part 'refused memory' tests/refused_memory.sh $program $tests
     part 'what must not compile' tests/must_not_compile.sh
+    part 'damaged requests' tests/hostile_bytes.py $program --seconds 60 --count 8000
+    part 'streams' tests/streams.sh $program
+    part 'deep and wide requests' tests/deep_and_wide.py $program
 } 2>&1 | tee "$log"
 sed -n '/^time: /p' "$log"
 echo "time: all took $SECONDS s"
+sed -nE '/^[a-z_]+: [0-9]+ passed, [0-9]+ failed$/p' "$log"
 sed -nE 's/^([a-z_]+: )?([0-9]+) passed, ([0-9]+) failed$/\2 \3/p' "$log" |
-    awk '{ passed += $1; failed += $2; parts++ } END { if (parts < 4) failed += 4 - parts; printf "%d passed, %d failed\n", passed, failed; exit failed > 0 }'
+    awk '{ passed += $1; failed += $2; parts++ } END { if (parts < 7) failed += 7 - parts; printf "%d passed, %d failed\n", passed, failed; exit failed > 0 }'
