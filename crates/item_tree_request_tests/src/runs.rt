@@ -3,7 +3,7 @@ use hir_input_json::Fault;
 use item_tree::{EditFault, LowerError};
 use item_tree_request::RunError;
 use item_tree_request::run::run;
-use std::alloc::Global;
+use std::alloc::{AllocError, Global};
 use std::io::{Error, ErrorKind, Read, Write};
 use std::test::Fail;
 
@@ -45,6 +45,22 @@ impl Read for Reader<'_> {
             }
             _ => Ok(0),
         }
+    }
+}
+
+// Gives its bytes in pieces of a size.
+#[derive(Drop)]
+struct Pieces<'a> {
+    rest: &'a [u8],
+    size: usize,
+}
+
+impl Read for Pieces<'_> {
+    fn read(&mut self, buf: &mut [u8]) -> std::io::Result<usize> {
+        let (mut piece, _) = self.rest.split_at(self.size.min(self.rest.len()));
+        let count = piece.read(buf)?;
+        self.rest = &self.rest[count..];
+        Ok(count)
     }
 }
 
@@ -177,6 +193,31 @@ fn no_read_is_tried_again(rt: HostRuntime) -> Result<(), Fail> {
             assert!(rt; output.is_empty());
             assert!(rt; input.least_room >= ROOM);
         }
+    }
+    Ok(())
+}
+
+// The request with spaces behind it.
+fn padded(alloc: Global) -> Result<Vec<u8>, AllocError> {
+    let mut bytes = Vec::new(alloc);
+    bytes.extend_from_slice(SMALL.as_bytes())?;
+    for _ in 0..10_000 {
+        bytes.push(b' ')?;
+    }
+    Ok(bytes)
+}
+
+#[test]
+fn pieces_of_any_size_are_read(rt: HostRuntime) -> Result<(), Fail> {
+    let bytes = padded(rt.alloc())?;
+    for size in [1, ROOM - 1, ROOM, ROOM + 1, 20_000] {
+        let mut input = Pieces {
+            rest: bytes.as_slice(),
+            size,
+        };
+        let mut output = Vec::new(rt.alloc());
+        assert_eq!(rt; run(rt.alloc(), &mut input, &mut output), Ok(()));
+        assert_eq!(rt; output.as_slice(), TREES.as_bytes());
     }
     Ok(())
 }
