@@ -1,9 +1,12 @@
-//! The imports of `use a::{*, self as b, {c, {d::*}}};`, called for and listed.
-use crate::lowered::{first_use, is_right, tree_of_all_kinds};
-use hir_input::ModPath;
+//! The imports of `use a::{*, self as b, {c, {d::*}}};`, called for and listed, and those of as many supers as fit.
+use crate::lowered::{first_use, is_right, tree_of, tree_of_all_kinds};
+use hir_input::ast::Syntax;
+use hir_input::{ModPath, PathKind};
 use import_lister::{Listed, count_imports, list_imports};
 use item_tree::{ImportAlias, ImportKind, LowerError, Use, UseTreeIdx};
-use std::alloc::Global;
+use item_tree_samples::items::{file_of, use_of};
+use item_tree_samples::use_trees::{below, leaf};
+use std::alloc::{AllocError, Global};
 use std::test::Fail;
 
 const CALLS: &str = "\
@@ -94,5 +97,24 @@ fn imports_are_counted_and_listed(rt: HostRuntime) -> Result<(), Fail> {
     let item = first_use(&tree).ok_or("no use")?;
     assert_eq!(rt; count_imports(rt.alloc(), item)?, 4);
     assert_eq!(rt; shown_imports(rt.alloc(), item)?.as_str(), CALLS);
+    Ok(())
+}
+
+// `use super::..::super::{self};`, with as many supers as a path may have.
+fn most_supers(alloc: Global) -> Result<Syntax, AllocError> {
+    let prefix = leaf(alloc, PathKind::Super(u32::MAX), "")?;
+    let child = leaf(alloc, PathKind::Super(0), "")?;
+    let tree = below(prefix, vec![in alloc; child]?);
+    file_of(alloc, use_of(alloc, 1, tree))
+}
+
+#[test]
+fn as_many_supers_as_fit_are_imported(rt: HostRuntime) -> Result<(), Fail> {
+    let tree = tree_of(rt.alloc(), &most_supers(rt.alloc())?)?;
+    let item = first_use(&tree).ok_or("no use")?;
+    assert_eq!(rt;
+        shown_imports(rt.alloc(), item)?.as_str(),
+        "UseTreeIdx(1) ModPath { kind: Super(4294967295), segments: [] } TypeOnly None\n"
+    );
     Ok(())
 }
