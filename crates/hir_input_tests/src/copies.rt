@@ -1,5 +1,5 @@
 //! A copy is equal to its source, or refused, and of two requests never both are refused; the source is as it was.
-use hir_input::{Attr, AttrInput, Edition, EditionYear, PathKind, SyntaxContext};
+use hir_input::{Attr, AttrInput, CfgAtom, Edition, EditionYear, PathKind, SyntaxContext};
 use item_tree_samples::attributes::{flag, literal, nested, options, tokens};
 use item_tree_samples::words;
 use std::alloc::{AllocError, Global};
@@ -66,6 +66,12 @@ fn is_literal_copied(alloc: Global) -> Result<bool, AllocError> {
     Ok(is_copied(&source, &twin))
 }
 
+fn is_token_tree_copied(alloc: Global) -> Result<bool, AllocError> {
+    let source = tokens(alloc)?;
+    let twin = tokens(alloc)?;
+    Ok(is_copied(&source, &twin))
+}
+
 fn are_tokens_copied(alloc: Global) -> Result<bool, AllocError> {
     let source = AttrInput::TokenTree(tokens(alloc)?);
     let twin = AttrInput::TokenTree(tokens(alloc)?);
@@ -76,6 +82,7 @@ fn are_tokens_copied(alloc: Global) -> Result<bool, AllocError> {
 fn copies_of_attributes_are_whole_or_refused_when_memory_is_refused(rt: HostRuntime) {
     assert!(rt; is_attr_copied(rt.alloc()).unwrap_or(true));
     assert!(rt; is_literal_copied(rt.alloc()).unwrap_or(true));
+    assert!(rt; is_token_tree_copied(rt.alloc()).unwrap_or(true));
     assert!(rt; are_tokens_copied(rt.alloc()).unwrap_or(true));
 }
 
@@ -88,6 +95,16 @@ fn is_meta_copied(alloc: Global) -> Result<bool, AllocError> {
 #[test]
 fn copies_of_metas_are_whole_or_refused_when_memory_is_refused(rt: HostRuntime) {
     assert!(rt; is_meta_copied(rt.alloc()).unwrap_or(true));
+}
+
+fn is_atom_copied(alloc: Global) -> Result<bool, AllocError> {
+    match (words::name(alloc, "test")?, words::name(alloc, "test")?) {
+        (Some(source), Some(twin)) => {
+            let (source, twin) = (CfgAtom::Flag(source), CfgAtom::Flag(twin));
+            Ok(is_copied(&source, &twin))
+        }
+        _ => Ok(false),
+    }
 }
 
 fn is_condition_copied(alloc: Global) -> Result<bool, AllocError> {
@@ -104,6 +121,7 @@ fn are_options_copied(alloc: Global) -> Result<bool, AllocError> {
 
 #[test]
 fn copies_of_options_are_whole_or_refused_when_memory_is_refused(rt: HostRuntime) {
+    assert!(rt; is_atom_copied(rt.alloc()).unwrap_or(true));
     assert!(rt; is_condition_copied(rt.alloc()).unwrap_or(true));
     assert!(rt; are_options_copied(rt.alloc()).unwrap_or(true));
 }

@@ -1,4 +1,4 @@
-//! A copy of each item is its source, or refused, and of two requests never both are refused.
+//! A copy of each item, of a module's kind and of a constructor is its source, or refused, and of two requests never both are refused.
 use crate::lowered::{is_right, tree_of_all_kinds};
 use item_tree::{ItemTree, LowerError, ModItemId, ModItemKind};
 use std::alloc::{AllocError, Global};
@@ -32,9 +32,9 @@ fn is_item_copied(tree: &ItemTree, id: ModItemId) -> bool {
         ModItemKind::Macro2(_, item) => is_copied(item),
         ModItemKind::MacroCall(_, item) => is_copied(item),
         ModItemKind::MacroRules(_, item) => is_copied(item),
-        ModItemKind::Mod(_, item) => is_copied(item),
+        ModItemKind::Mod(_, item) => is_copied(item) && is_copied(&item.kind),
         ModItemKind::Static(_, item) => is_copied(item),
-        ModItemKind::Struct(_, item) => is_copied(item),
+        ModItemKind::Struct(_, item) => is_copied(item) && is_copied(&item.value_ns_ctor),
         ModItemKind::Trait(_, item) => is_copied(item),
         ModItemKind::TypeAlias(_, item) => is_copied(item),
         ModItemKind::Union(_, item) => is_copied(item),
