@@ -1,1 +1,4 @@
+pub mod Duplicates
+pub mod Inner
 pub mod Listed
+pub mod Written

@@ -1,14 +1,20 @@
-//! Lists the imports of a use by the public calls of `item_tree` alone: an example to copy from.
+//! Lists the imports of a use by the public calls of `item_tree` alone, also with the use trees that they are written as,
+//! and finds those that repeat an earlier one.
 #![tactic(auto)]
+
+mod duplicate;
+mod written;
 
 ghost use Rattle.std.specs.Prelude.{◌≡◌, ◌+◌, ◌<◌, ◌^◌, ◌++◌, [], ◌∷◌, false, length, map, IfOk};
 ghost use Rattle.item_tree.specs.Imports.{imports};
 ghost use Rattle.item_tree.specs.Calls.{import};
 ghost use Rattle.import_lister.specs.Listed.{import_of};
 
+pub use duplicate::{Duplicate, duplicates};
 use hir_input::ModPath;
 use item_tree::{ImportAlias, ImportKind, Use, UseTreeIdx};
 use std::alloc::{AllocError, Global};
+pub use written::{WrittenImport, written_imports};
 
 /// An import, as `Use::expand` calls for it.
 #[derive(Debug, Drop, PartialEq, Eq)]
