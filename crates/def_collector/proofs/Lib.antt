@@ -1,0 +1,3 @@
+pub mod Lents
+pub mod Below
+pub mod Finding

@@ -1,0 +1,4 @@
+pub mod Declarations
+pub mod Seen
+pub mod Found
+pub mod Inner

@@ -1,0 +1,39 @@
+-- What is collected, as plain data.
+use Rattle.std.specs.Prelude.{ℕ, Bool, false, List, map, Option, Some, is_some, option_copied}
+use Rattle.hir_input.specs.declared.ids.AstIdKind.{AstIdKind}
+use Rattle.import_lister.specs.Listed.{import_of}
+use Rattle.item_tree.specs.declared.visibility.RawVisibility.{RawVisibility}
+use Rattle.item_tree.specs.Layout.{node_at}
+use Rattle.item_tree.specs.Node.{Node, node_kind, Unfolding}
+use Rattle.item_tree.specs.Walk.{of_id}
+use Rattle.def_collector.specs.declared.names.Declares.{Declares}
+use Rattle.def_collector.specs.declared.names.Declares.TheVariants.{Name, Imports}
+use Rattle.def_collector.specs.declared.collector.Declaration as code
+use Rattle.def_collector.specs.Declarations.{Declared, name_of, imports_of, node_declares, node_visibility, Declaration}
+
+-- a declaration with what is said of its item
+pub record Seen : Type 0 where
+  pub path : List (List ℕ)
+  pub node : Option Node
+  pub kind : AstIdKind
+  pub visibility : Option RawVisibility
+  pub declared : Declared
+
+-- by the definition
+abbrev pub defined : Declaration → Seen
+defined d = record { path = d.path; node = Some d.node; kind = node_kind d.node; visibility = node_visibility d.node; declared = d.declared }
+
+-- by the code, with the node that the id stands for
+abbrev pub declared_by : Declares → Declared
+declared_by (Name name) = name_of name.now
+declared_by (Imports imports) = imports_of (map import_of imports.items)
+
+abbrev pub seen : Unfolding → code.Declaration → Seen
+seen u d = record { path = map (λ name. name.now) d.path.items; node = node_at u.forest d.id; kind = d.kind; visibility = option_copied d.visibility; declared = declared_by d.declares }
+
+abbrev pub id_of : code.Declaration → ℕ
+id_of d = d.id
+
+-- whether the item of an id declares something
+abbrev pub is_declaring : Unfolding → ℕ → Bool
+is_declaring u i = of_id u false (λ n. is_some (node_declares n)) i

@@ -1,0 +1,127 @@
+//! What an item declares.
+ghost use Rattle.std.specs.Prelude.{◌≡◌, IfOk, None, option_copied, option_map};
+ghost use Rattle.item_tree.specs.Shown.{IsContained, IsShown, lent};
+ghost use Rattle.item_tree.specs.Walk.{of_id};
+ghost use Rattle.def_collector.specs.Declarations.{crate_name, node_name, node_visibility};
+ghost use Rattle.def_collector.specs.Seen.{declared_by};
+ghost use Rattle.def_collector.specs.Inner.{lent_declares, lent_name, lent_visibility};
+
+use hir_input::Name;
+use import_lister::{Listed, list_imports};
+use item_tree::{
+    ExternCrate, ImportAlias, ItemTree, ModItemId, ModItemKind, RawVisibility, RawVisibilityId,
+};
+use std::alloc::{AllocError, Global};
+
+/// What an item declares: a name, or the imports of a use, of which there may be none.
+#[derive(Debug, Drop)]
+pub enum Declares<'tree> {
+    Name(&'tree Name),
+    Imports(Vec<Listed>),
+}
+
+// The name by which an extern crate is known, unless that is `_`.
+fn crate_name(item: &ExternCrate) -> Option<&Name>
+    ensures { option_copied result ≡ crate_name item.now.name item.now.alias }
+{
+    match &item.alias {
+        None => Some(&item.name),
+        Some(ImportAlias::Underscore) => None,
+        Some(ImportAlias::Alias(name)) => Some(name),
+    }
+}
+
+// The name of an item, if it has one.
+#[tactic(auto, using(crate::proofs::Lents::module_name))]
+pub(crate) fn name_of<'tree>(item: ModItemKind<'tree>) -> Option<&'tree Name>
+    ensures { option_copied result ≡ lent_name (lent item.entry) }
+{
+    match item {
+        ModItemKind::Const(_, item) => item.name.as_ref(),
+        ModItemKind::Enum(_, item) => Some(&item.name),
+        ModItemKind::ExternCrate(_, item) => crate_name(item),
+        ModItemKind::Function(_, item) => Some(&item.name),
+        ModItemKind::Macro2(_, item) => Some(&item.name),
+        ModItemKind::MacroRules(_, item) => Some(&item.name),
+        ModItemKind::Mod(_, item) => Some(&item.name),
+        ModItemKind::Static(_, item) => Some(&item.name),
+        ModItemKind::Struct(_, item) => Some(&item.name),
+        ModItemKind::Trait(_, item) => Some(&item.name),
+        ModItemKind::TypeAlias(_, item) => Some(&item.name),
+        ModItemKind::Union(_, item) => Some(&item.name),
+        ModItemKind::ExternBlock(_, _)
+        | ModItemKind::Impl(_, _)
+        | ModItemKind::MacroCall(_, _)
+        | ModItemKind::Use(_, _) => None,
+    }
+}
+
+/// The name of an item, if it has one: of an extern crate what it is renamed to, unless that is `_`. Takes no memory.
+#[tactic(auto, using(crate::proofs::Lents::names_at))]
+pub fn name_at(tree: &ItemTree, id: ModItemId) -> Option<&Name>
+    requires { IsContained tree.now id }
+    ensures { option_copied result ≡ of_id tree.now None node_name id }
+{
+    name_of(tree.index(id))
+}
+
+// What an item declares, if anything.
+#[tactic(auto, using(crate::proofs::Lents::module_declares))]
+pub(crate) fn declares_of<'tree>(
+    alloc: Global,
+    item: ModItemKind<'tree>,
+) -> Result<Option<Declares<'tree>>, AllocError>
+    ensures { IfOk result (λ declares. option_map declared_by declares ≡ lent_declares (lent item.entry)) }
+{
+    match item {
+        ModItemKind::Use(_, item) => {
+            let imports = list_imports(alloc, item)?;
+            Ok(Some(Declares::Imports(imports)))
+        }
+        _ => match name_of(item) {
+            Some(name) => Ok(Some(Declares::Name(name))),
+            None => Ok(None),
+        },
+    }
+}
+
+// The id of an item's visibility, if it has one.
+#[tactic(auto, using(crate::proofs::Lents::module_visibility))]
+fn visibility_id(item: ModItemKind<'_>) -> Option<RawVisibilityId>
+    ensures { result ≡ lent_visibility (lent item.entry) }
+{
+    match item {
+        ModItemKind::Const(_, item) => Some(item.visibility),
+        ModItemKind::Enum(_, item) => Some(item.visibility),
+        ModItemKind::ExternCrate(_, item) => Some(item.visibility),
+        ModItemKind::Function(_, item) => Some(item.visibility),
+        ModItemKind::Macro2(_, item) => Some(item.visibility),
+        ModItemKind::Mod(_, item) => Some(item.visibility),
+        ModItemKind::Static(_, item) => Some(item.visibility),
+        ModItemKind::Struct(_, item) => Some(item.visibility),
+        ModItemKind::Trait(_, item) => Some(item.visibility),
+        ModItemKind::TypeAlias(_, item) => Some(item.visibility),
+        ModItemKind::Union(_, item) => Some(item.visibility),
+        ModItemKind::Use(_, item) => Some(item.visibility()),
+        ModItemKind::ExternBlock(_, _)
+        | ModItemKind::Impl(_, _)
+        | ModItemKind::MacroCall(_, _)
+        | ModItemKind::MacroRules(_, _) => None,
+    }
+}
+
+// The visibility of an item, if it has one.
+#[tactic(auto, using(crate::proofs::Lents::visibility_at, crate::proofs::Lents::visibility_lent, crate::proofs::Lents::no_visibility))]
+pub(crate) fn visibility_of<'tree>(
+    tree: &'tree ItemTree,
+    id: ModItemId,
+    item: ModItemKind<'tree>,
+) -> Option<&'tree RawVisibility>
+    requires { IsShown tree.now id item }
+    ensures { option_copied result ≡ of_id tree.now None node_visibility id }
+{
+    match visibility_id(item) {
+        Some(visibility) => Some(&tree[visibility]),
+        None => None,
+    }
+}

@@ -1,0 +1,29 @@
+-- The lines of an outline.
+use Rattle.std.specs.Prelude.{ℕ, List, [], ◌++◌, codes, Option, Some, None}
+use Rattle.hir_input.specs.declared.ids.FileAstId.{FileAstId}
+use Rattle.hir_input.specs.Id.{shown_id}
+use Rattle.item_tree.specs.Node.{Node, leaf, parent, Forest, empty, more, node_ast}
+use Rattle.def_collector.specs.Declarations.{node_name}
+
+-- the name of an item, behind a space
+abbrev pub spaced : Option (List ℕ) → List ℕ
+spaced None = []
+spaced (Some name) = codes " " ++ name
+
+-- the line of an item
+unfoldable pub line : List ℕ → FileAstId → Option (List ℕ) → List ℕ
+line indent id name = indent ++ shown_id id ++ spaced name ++ codes "\n"
+
+-- what stands in an item is indented by four spaces more
+abbrev pub deeper : List ℕ → List ℕ
+deeper indent = indent ++ codes "    "
+
+-- the line of each item, before those of the items in it
+abbrev mutual
+  pub node_lines : List ℕ → Node → List ℕ
+  node_lines indent (leaf h l) = line indent (node_ast (leaf h l)) (node_name (leaf h l))
+  node_lines indent (parent h t f) = line indent (node_ast (parent h t f)) (node_name (parent h t f)) ++ forest_lines (deeper indent) f
+
+  pub forest_lines : List ℕ → Forest → List ℕ
+  forest_lines indent empty = []
+  forest_lines indent (more n f) = node_lines indent n ++ forest_lines indent f
