@@ -1,8 +1,10 @@
-// Preloaded before a program, counts its requests for memory and refuses one of them. To give back a part of a block is no
-// request for memory.
+// Preloaded before a program, counts its requests for memory and refuses one of them, or each between two marks. To give back
+// a part of a block is no request for memory.
 //
 // REFUSE_REQUEST   the request to refuse, counted from 1; none if it is absent
-// COUNT_REQUESTS   a file of at least 8 bytes, in whose first 8 the number of requests is kept
+// REFUSE_MARKED    if it is there, each request between two marks is refused, and only these are counted. A mark is a request
+//                  for as many bytes as one of the two constants below, and is answered
+// COUNT_REQUESTS   a file of at least 16 bytes: its first 8 keep the number of requests, the next that of pairs of marks
 #define _GNU_SOURCE
 #include <dlfcn.h>
 #include <errno.h>
@@ -13,38 +15,61 @@
 #include <sys/mman.h>
 #include <unistd.h>
 
-static uint64_t counted;
-static uint64_t *count = &counted;
+enum { NONE_LEFT = 99991, LEFT_AGAIN = 99989 };
+
+static uint64_t counted[2];
+static uint64_t *count = counted;
 static uint64_t refused;
+static int by_marks;
+static int is_none_left;
 
 __attribute__((constructor)) static void start(void) {
     const char *which = getenv("REFUSE_REQUEST");
     const char *path = getenv("COUNT_REQUESTS");
     int file = path ? open(path, O_RDWR) : -1;
     if (file >= 0) {
-        void *page = mmap(NULL, 8, PROT_READ | PROT_WRITE, MAP_SHARED, file, 0);
+        void *page = mmap(NULL, 16, PROT_READ | PROT_WRITE, MAP_SHARED, file, 0);
         if (page != MAP_FAILED) count = page;
         close(file);
     }
-    *count = 0;
+    count[0] = count[1] = 0;
+    by_marks = getenv("REFUSE_MARKED") != NULL;
     refused = which ? strtoull(which, NULL, 10) : 0;
 }
 
-static int is_refused(void) {
-    if (++*count != refused) return 0;
+static int refuse(void) {
     errno = ENOMEM;
     return 1;
+}
+
+static int is_refused_by_marks(size_t size) {
+    if (size == NONE_LEFT) {
+        is_none_left = 1;
+        return 0;
+    }
+    if (size == LEFT_AGAIN && is_none_left) {
+        is_none_left = 0;
+        count[1]++;
+    }
+    if (!is_none_left) return 0;
+    count[0]++;
+    return refuse();
+}
+
+static int is_refused(size_t size) {
+    if (by_marks) return is_refused_by_marks(size);
+    return ++count[0] == refused ? refuse() : 0;
 }
 
 void *malloc(size_t size) {
     static void *(*next)(size_t);
     if (!next) next = dlsym(RTLD_NEXT, "malloc");
-    return is_refused() ? NULL : next(size);
+    return is_refused(size) ? NULL : next(size);
 }
 
 void *realloc(void *old, size_t size) {
     static void *(*next)(void *, size_t);
     if (!next) next = dlsym(RTLD_NEXT, "realloc");
     if (old && size <= malloc_usable_size(old)) return next(old, size);
-    return is_refused() ? NULL : next(old, size);
+    return is_refused(size) ? NULL : next(old, size);
 }

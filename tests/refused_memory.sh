@@ -1,11 +1,13 @@
 #!/usr/bin/env bash
-# Refuses each request for memory in turn, one a run, until a run makes no further request. As many subjects are tried at
-# once as there are processors.
+# Refuses each request for memory in turn, one a run, until a run makes no further request; and from a mark on all of them, in
+# tests of what takes no memory. As many subjects are tried at once as there are processors.
 #
 #   refused_memory.sh PROGRAM TESTS ..
 #
 # The program, on each request that it answers, has to end with status 5, the line `out of memory` and nothing written.
-# Each test of the binaries TESTS whose name holds `when_memory_is_refused` has to pass in every run.
+# Each test of the binaries TESTS whose name holds `when_memory_is_refused` has to pass in every run. Each whose name holds
+# `where_no_memory_is_left` has to pass where all requests between its marks are refused, and to make only the one there by
+# which it sees that.
 set -uo pipefail
 program=$(realpath "$1")
 shift
@@ -23,7 +25,7 @@ refuse() {
     shift
     COUNT_REQUESTS=$own/count REFUSE_REQUEST=$request LD_PRELOAD=$work/refuse_memory.so "$@" > "$own/out" 2> "$own/err"
     status=$?
-    made=$(od -An -t u8 "$own/count" | tr -d ' ')
+    read -r made pairs <<< "$(od -An -t u8 "$own/count" | tr -s ' \n' ' ')"
 }
 
 judge() {
@@ -53,14 +55,21 @@ try_test() {
     done
 }
 
+# A test of a binary with marks.
+try_marked() {
+    REFUSE_MARKED=1 refuse 0 "$1" "$2"
+    [ "$status" = 0 ] && [ "$pairs" = 1 ] && [ "$made" = 1 ]
+    judge $? "test $2: status $status, $pairs pairs of marks and $made requests between them"
+}
+
 # Tries one subject in a folder of its own, and ends with its counts.
 try() {
     own=$(mktemp -d -p "$work") passed=0 failed=0
-    head -c 8 /dev/zero > "$own/count"
+    head -c 16 /dev/zero > "$own/count"
     "$@"
     echo "counts: $1 $passed $failed"
 }
-export -f refuse judge try_request try_test try
+export -f refuse judge try_request try_test try_marked try
 
 subjects() {
     local wanted name binary
@@ -69,17 +78,20 @@ subjects() {
         echo "try_request ${name%.out}"
     done
     for binary in "${binaries[@]}"; do
-        "$binary" --list | sed -n 's/: test$//p' | grep when_memory_is_refused | sed "s|^|try_test $binary |"
+        "$binary" --list | sed -n 's/: test$//p' > "$work/names"
+        grep when_memory_is_refused "$work/names" | sed "s|^|try_test $binary |"
+        grep where_no_memory_is_left "$work/names" | sed "s|^|try_marked $binary |"
     done
 }
 
 subjects | xargs -P "$(nproc)" -I{} bash -c 'try {}' > "$work/told"
 grep -v '^counts: ' "$work/told"
-# The last run of each subject is one in which nothing was refused.
+# The last run of a subject whose requests are refused in turn is one in which nothing was.
 awk '/^counts: / { passed += $3; failed += $4; subjects[$2]++; refused[$2] += $3 + $4 - 1 }
      END {
          printf "%d requests of the program: %d times memory was refused\n", subjects["try_request"], refused["try_request"]
          printf "%d tests: %d times memory was refused\n", subjects["try_test"], refused["try_test"]
+         printf "%d tests: no memory was left\n", subjects["try_marked"]
          printf "refused_memory: %d passed, %d failed\n", passed, failed
          exit failed > 0 || passed == 0
      }' "$work/told"

@@ -1,38 +1,9 @@
-//! Two files and a block read, and options given to a crate over them, where a request for memory is refused.
-use crate::table::{FILE, function, table};
-use hir_input::{BlockId, Crate, HirFileId};
+//! Options given to a crate over two files and a block, where a request for memory is refused.
+use crate::table::{BLOCK, CRATE, FILE, OTHER, are_set, table};
 use item_tree::{EditFault, LowerError};
-use item_tree_db::{Edit, EditRefused, Place, Sources, TreeId, file_item_tree};
+use item_tree_db::{Edit, EditRefused, Place, Sources};
 use item_tree_samples::attributes::{flag, options};
-use item_tree_samples::blocks::block;
 use std::alloc::{AllocError, Global};
-
-const OTHER: HirFileId = HirFileId(6);
-
-const BLOCK: BlockId = BlockId(1);
-
-const CRATE: Crate = Crate(1);
-
-// Sets the two files and the block. Whether all were set.
-fn are_set(alloc: Global, sources: &mut Sources) -> Result<bool, AllocError> {
-    let first = Edit::SetFile {
-        file: FILE,
-        syntax: function(alloc, false)?,
-    };
-    let second = Edit::SetFile {
-        file: OTHER,
-        syntax: function(alloc, true)?,
-    };
-    let third = Edit::SetBlock {
-        block: BLOCK,
-        syntax: block(alloc)?,
-    };
-    Ok(
-        sources
-            .edit_all(vec![in alloc; first, second, third]?)
-            .is_ok(),
-    )
-}
 
 fn is_handed_back(refused: &EditRefused) -> bool {
     refused.cause == EditFault::Lower(LowerError::OutOfMemory)
@@ -88,38 +59,4 @@ fn are_options_given(alloc: Global) -> Result<bool, AllocError> {
 #[test]
 fn options_are_given_or_handed_back_when_memory_is_refused(rt: HostRuntime) {
     assert!(rt; are_options_given(rt.alloc()).unwrap_or(true));
-}
-
-fn count_changes(sources: &Sources) -> usize {
-    let mut count = 0usize;
-    for _ in sources.changed_since(0) {
-        count = count.saturating_add(1);
-    }
-    count
-}
-
-// Whether the table is read as it is, each place in both crates. None of these calls takes memory.
-fn is_read(sources: &Sources) -> bool {
-    let block = TreeId::new(FILE, Some(BLOCK));
-    sources.knows(CRATE)
-        && block.is_block()
-        && block.file_id() == FILE
-        && block.item_tree(sources, CRATE).top_level_items().len() == 3
-        && file_item_tree(sources, OTHER, CRATE)
-            .top_level_items()
-            .len()
-            == 1
-        && sources.changed(Place::Block(BLOCK), CRATE) == 3
-        && count_changes(sources) == 6
-}
-
-fn is_table_read(alloc: Global) -> Result<bool, AllocError> {
-    let mut sources = table(alloc, 0)?;
-    let is_set = are_set(alloc, &mut sources)?;
-    Ok(!is_set || is_read(&sources))
-}
-
-#[test]
-fn a_table_is_read_all_the_same_when_memory_is_refused(rt: HostRuntime) {
-    assert!(rt; is_table_read(rt.alloc()).unwrap_or(true));
 }

@@ -1,13 +1,20 @@
 //! Tables and syntaxes that the tests use.
-use hir_input::HirFileId;
 use hir_input::ast::Syntax;
+use hir_input::{BlockId, Crate, HirFileId};
 use item_tree::CrateData;
-use item_tree_db::Sources;
+use item_tree_db::{Edit, Sources};
 use item_tree_samples::attributes::{condition, options, word};
+use item_tree_samples::blocks::block;
 use item_tree_samples::items::one_function;
 use std::alloc::{AllocError, Global};
 
 pub const FILE: HirFileId = HirFileId(5);
+
+pub const OTHER: HirFileId = HirFileId(6);
+
+pub const BLOCK: BlockId = BlockId(1);
+
+pub const CRATE: Crate = Crate(1);
 
 // A crate with the option of this flag, or of none where the text is no name.
 pub fn crate_with(alloc: Global, flag: &str) -> Result<CrateData, AllocError> {
@@ -36,4 +43,25 @@ pub fn function(alloc: Global, is_marked: bool) -> Result<Syntax, AllocError> {
         attrs.push(word(alloc, "a")?)?;
     }
     one_function(alloc, attrs)
+}
+
+// Sets the two files and the block. Whether all were set.
+pub fn are_set(alloc: Global, sources: &mut Sources) -> Result<bool, AllocError> {
+    let first = Edit::SetFile {
+        file: FILE,
+        syntax: function(alloc, false)?,
+    };
+    let second = Edit::SetFile {
+        file: OTHER,
+        syntax: function(alloc, true)?,
+    };
+    let third = Edit::SetBlock {
+        block: BLOCK,
+        syntax: block(alloc)?,
+    };
+    Ok(
+        sources
+            .edit_all(vec![in alloc; first, second, third]?)
+            .is_ok(),
+    )
 }

@@ -8,5 +8,6 @@ pub mod attributes;
 pub mod blocks;
 pub mod file;
 pub mod items;
+pub mod memory;
 pub mod use_trees;
 pub mod words;

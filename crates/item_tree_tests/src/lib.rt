@@ -1,16 +1,19 @@
-//! Tests of what only a call can show, of `item_tree` and of the two examples over it: pages, copies, uses, what stands where
+//! Tests of what only a call can show, of `item_tree` and of what stands on it alone: pages, copies, uses, what stands where
 //! a request for memory is refused, ids of other trees, and tables as `Debug` shows them.
 //!
 //! A crate with tests is proved twice; these call what is public, so no library has any.
 //!
 //! A plain run refuses no memory, and compares each answer. `tests/refused_memory.sh` runs the tests whose names hold
-//! `when_memory_is_refused` once for each request that they make, with that one refused.
+//! `when_memory_is_refused` once for each request that they make, with that one refused, and those whose names hold
+//! `where_no_memory_is_left` with all refused from a mark on.
 #![tactic(auto)]
 
 #[cfg(test)]
 mod blocks;
 #[cfg(test)]
 mod copies;
+#[cfg(test)]
+mod declarations;
 #[cfg(test)]
 mod ids;
 #[cfg(test)]
@@ -20,8 +23,14 @@ mod items;
 #[cfg(test)]
 mod lowered;
 #[cfg(test)]
+mod no_memory;
+#[cfg(test)]
+mod outlines;
+#[cfg(test)]
 mod refusals;
 #[cfg(test)]
 mod trees;
 #[cfg(test)]
 mod use_trees;
+#[cfg(test)]
+mod written_imports;

@@ -1,11 +1,9 @@
-//! Lowering and reading where a request for memory is refused: a whole tree or a refusal, where of two requests never both are
-//! refused, and reading that takes no memory.
+//! Lowering where a request for memory is refused: a whole tree or a refusal, where of two requests never both are refused.
 use crate::lowered::{is_right, tree_of, tree_of_all_kinds};
 use hir_input::ast::Syntax;
 use item_tree::{ItemTree, LowerError};
 use item_tree_samples::file::file;
 use std::alloc::Global;
-use tree_walk::count_items;
 
 // Whether a syntax has this tree, of two requests at least once.
 fn is_lowered(alloc: Global, syntax: &Syntax, wanted: &ItemTree) -> bool {
@@ -37,34 +35,4 @@ fn is_file_lowered(alloc: Global) -> Result<bool, LowerError> {
 #[test]
 fn a_tree_is_whole_or_refused_when_memory_is_refused(rt: HostRuntime) {
     assert!(rt; is_right(is_file_lowered(rt.alloc())));
-}
-
-// Whether each item at the top is lent, with its hash.
-fn are_lent(tree: &ItemTree) -> bool {
-    for id in tree.top_level_items() {
-        if !tree.contains(*id) || id.ast_id(tree).hash == 0 {
-            return false;
-        }
-    }
-    true
-}
-
-// Whether a tree is read as it is. None of these calls takes memory.
-fn is_read(tree: &ItemTree, twin: &ItemTree) -> bool {
-    count_items(tree) == 18
-        && are_lent(tree)
-        && tree.top_level_attrs().is_some()
-        && tree.item_tree_stats().mods == 3
-        && *tree == *twin
-}
-
-fn is_file_read(alloc: Global) -> Result<bool, LowerError> {
-    let tree = tree_of_all_kinds(alloc)?;
-    let twin = tree_of_all_kinds(alloc)?;
-    Ok(is_read(&tree, &twin) && ItemTree::empty(alloc) != *tree)
-}
-
-#[test]
-fn a_tree_is_read_all_the_same_when_memory_is_refused(rt: HostRuntime) {
-    assert!(rt; is_right(is_file_read(rt.alloc())));
 }
