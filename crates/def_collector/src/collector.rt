@@ -39,8 +39,10 @@ pub struct Collected<'tree> {
 /// What rust-analyzer's `ModCollector::collect` passes over, without what it resolves. The only error is want of memory.
 #[tactic(auto, using(item_tree::proofs::Walking::ids_contained, crate::proofs::Below::top_seen, crate::proofs::Below::top_declaring, crate::proofs::Below::declaring_once, crate::proofs::Below::declaring_contained))]
 pub fn collect(alloc: Global, tree: &ItemTree) -> Result<Collected<'_>, AllocError>
-    ensures declared { IfOk result (λ c. map (seen tree.now) c.declarations.items ≡ map defined (declarations tree.now.forest)) }
-    ensures ids { IfOk result (λ c. map id_of c.declarations.items ≡ filter (is_declaring tree.now) (all_ids tree.now)) }
+    ensures declared { let all = map defined (declarations tree.now.forest) in
+        IfOk result (λ c. map (seen tree.now) c.declarations.items ≡ all) }
+    ensures ids { let ids = filter (is_declaring tree.now) (all_ids tree.now) in
+        IfOk result (λ c. map id_of c.declarations.items ≡ ids) }
     ensures once { IfOk result (λ c. AllPairs (λ i j. i ≢ j) (map id_of c.declarations.items)) }
     ensures contained { IfOk result (λ c. AreContained tree.now (map id_of c.declarations.items)) }
 {

@@ -31,29 +31,37 @@ fn crate_name(item: &ExternCrate) -> Option<&Name>
     }
 }
 
+// The name of an item and the id of its visibility, as far as it has them.
+#[tactic(auto, using(crate::proofs::Lents::module_name, crate::proofs::Lents::module_visibility))]
+fn parts<'tree>(item: ModItemKind<'tree>) -> (Option<&'tree Name>, Option<RawVisibilityId>)
+    ensures name { option_copied result.0 ≡ lent_name (lent item.entry) }
+    ensures visibility { result.1 ≡ lent_visibility (lent item.entry) }
+{
+    match item {
+        ModItemKind::Const(_, item) => (item.name.as_ref(), Some(item.visibility)),
+        ModItemKind::Enum(_, item) => (Some(&item.name), Some(item.visibility)),
+        ModItemKind::ExternCrate(_, item) => (crate_name(item), Some(item.visibility)),
+        ModItemKind::Function(_, item) => (Some(&item.name), Some(item.visibility)),
+        ModItemKind::Macro2(_, item) => (Some(&item.name), Some(item.visibility)),
+        ModItemKind::MacroRules(_, item) => (Some(&item.name), None),
+        ModItemKind::Mod(_, item) => (Some(&item.name), Some(item.visibility)),
+        ModItemKind::Static(_, item) => (Some(&item.name), Some(item.visibility)),
+        ModItemKind::Struct(_, item) => (Some(&item.name), Some(item.visibility)),
+        ModItemKind::Trait(_, item) => (Some(&item.name), Some(item.visibility)),
+        ModItemKind::TypeAlias(_, item) => (Some(&item.name), Some(item.visibility)),
+        ModItemKind::Union(_, item) => (Some(&item.name), Some(item.visibility)),
+        ModItemKind::Use(_, item) => (None, Some(item.visibility())),
+        ModItemKind::ExternBlock(_, _) | ModItemKind::Impl(_, _) | ModItemKind::MacroCall(_, _) => {
+            (None, None)
+        }
+    }
+}
+
 // The name of an item, if it has one.
-#[tactic(auto, using(crate::proofs::Lents::module_name))]
 pub(crate) fn name_of<'tree>(item: ModItemKind<'tree>) -> Option<&'tree Name>
     ensures { option_copied result ≡ lent_name (lent item.entry) }
 {
-    match item {
-        ModItemKind::Const(_, item) => item.name.as_ref(),
-        ModItemKind::Enum(_, item) => Some(&item.name),
-        ModItemKind::ExternCrate(_, item) => crate_name(item),
-        ModItemKind::Function(_, item) => Some(&item.name),
-        ModItemKind::Macro2(_, item) => Some(&item.name),
-        ModItemKind::MacroRules(_, item) => Some(&item.name),
-        ModItemKind::Mod(_, item) => Some(&item.name),
-        ModItemKind::Static(_, item) => Some(&item.name),
-        ModItemKind::Struct(_, item) => Some(&item.name),
-        ModItemKind::Trait(_, item) => Some(&item.name),
-        ModItemKind::TypeAlias(_, item) => Some(&item.name),
-        ModItemKind::Union(_, item) => Some(&item.name),
-        ModItemKind::ExternBlock(_, _)
-        | ModItemKind::Impl(_, _)
-        | ModItemKind::MacroCall(_, _)
-        | ModItemKind::Use(_, _) => None,
-    }
+    parts(item).0
 }
 
 /// The name of an item, if it has one: of an extern crate what it is renamed to, unless that is `_`. Takes no memory.
@@ -85,31 +93,6 @@ pub(crate) fn declares_of<'tree>(
     }
 }
 
-// The id of an item's visibility, if it has one.
-#[tactic(auto, using(crate::proofs::Lents::module_visibility))]
-fn visibility_id(item: ModItemKind<'_>) -> Option<RawVisibilityId>
-    ensures { result ≡ lent_visibility (lent item.entry) }
-{
-    match item {
-        ModItemKind::Const(_, item) => Some(item.visibility),
-        ModItemKind::Enum(_, item) => Some(item.visibility),
-        ModItemKind::ExternCrate(_, item) => Some(item.visibility),
-        ModItemKind::Function(_, item) => Some(item.visibility),
-        ModItemKind::Macro2(_, item) => Some(item.visibility),
-        ModItemKind::Mod(_, item) => Some(item.visibility),
-        ModItemKind::Static(_, item) => Some(item.visibility),
-        ModItemKind::Struct(_, item) => Some(item.visibility),
-        ModItemKind::Trait(_, item) => Some(item.visibility),
-        ModItemKind::TypeAlias(_, item) => Some(item.visibility),
-        ModItemKind::Union(_, item) => Some(item.visibility),
-        ModItemKind::Use(_, item) => Some(item.visibility()),
-        ModItemKind::ExternBlock(_, _)
-        | ModItemKind::Impl(_, _)
-        | ModItemKind::MacroCall(_, _)
-        | ModItemKind::MacroRules(_, _) => None,
-    }
-}
-
 // The visibility of an item, if it has one.
 #[tactic(auto, using(crate::proofs::Lents::visibility_at, crate::proofs::Lents::visibility_lent, crate::proofs::Lents::no_visibility))]
 pub(crate) fn visibility_of<'tree>(
@@ -120,7 +103,7 @@ pub(crate) fn visibility_of<'tree>(
     requires { IsShown tree.now id item }
     ensures { option_copied result ≡ of_id tree.now None node_visibility id }
 {
-    match visibility_id(item) {
+    match parts(item).1 {
         Some(visibility) => Some(&tree[visibility]),
         None => None,
     }
