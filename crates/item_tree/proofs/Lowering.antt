@@ -22,9 +22,9 @@ use Rattle.item_tree.specs.Layout.{vis_id, leaf_map, trunk_map, leaf_vis, trunk_
 use Rattle.item_tree.specs.Column.{is_empty, unless, some_unless, column_of, places_from, plain_place}
 use Rattle.item_tree.specs.Imports.{super_limit}
 use Rattle.item_tree.specs.KeptUse.{use_tree_limit}
-use Rattle.item_tree.specs.Size.{most_attrs, leaf_supers, forest_supers, item_written, items_written, Sizes, IsPassed, only_items, only_visibilities, most_written, sizes_of, Fits, IsTooLarge}
+use Rattle.item_tree.specs.Size.{most_attrs, leaf_supers, forest_supers, item_written, items_written, Sizes, IsPassed, only_visibilities, most_written, sizes_of, Fits, IsTooLarge}
 use Rattle.item_tree.specs.Stored.{item_row, key_in, keys_in, items_in, places_in, column_in, tables_of, AreSound}
-use Rattle.item_tree.specs.Inner.Growth.{items_below, attrs_in, kept_in, all_kept_in, row_count, Adds, Lowers, sizes_with, Meets, sizes_meeting, Puts, Pushes}
+use Rattle.item_tree.specs.Inner.Growth.{items_below, attrs_in, kept_in, all_kept_in, row_count, Adds, Lowers, sizes_with, Meets, sizes_meeting, sizes_pushing, Puts, Pushes}
 use Rattle.item_tree.proofs.Arena.{V, Extends, length-Extends, Extends-meet_all, meet_all-append, arena_met, KnowsAll, KnowsAll-parts, KnowsAll-meet_all, leaf-stable, trunk-stable}
 use Rattle.item_tree.proofs.Column.{column-append, places-append}
 use Rattle.item_tree.proofs.Canon.{length-rows_of, unfold-layout}
@@ -213,9 +213,9 @@ passes-visibilities n b e h = passes (only_visibilities n) b e (record { items =
 
 pub full-parent :
     {o a b : Rows} {v : ℕ} {f : Forest} {is : List ℕ} (w : ℕ) (h : Head) (t : Trunk V) (e : LowerError) → Adds o a [] →
-    Lowers a b v f is → IsPassed (only_items (row_count b + 1)) e → IsPassed (sizes_with o w (more (parent h t f) empty)) e
+    Lowers a b v f is → IsPassed (sizes_pushing b h.attrs) e → IsPassed (sizes_with o w (more (parent h t f) empty)) e
 full-parent {o} {a} {b} {v} {f} w h t e s l =
-    passes (only_items (row_count b + 1)) (sizes_with o w (more (parent h t f) empty)) e
+    passes (sizes_pushing b h.attrs) (sizes_with o w (more (parent h t f) empty)) e
     (record { items = omega (arith, Adds-count s, Lowers-count l); visibilities = omega arith; use_trees = omega arith; attributes = omega arith; supers = omega arith })
 
 pub below-block : (o : Rows) (w : ℕ) (h : Head) (f : Forest) (e : LowerError) → IsPassed (sizes_with o w f) e → IsPassed (sizes_with o w (more (parent h extern_block f) empty)) e
@@ -294,7 +294,7 @@ module _ (ctx : Ctx) (m : ast_module.Module) where
 
   pub full-inline :
       {o a b : Rows} {is : List ℕ} {u : ℕ} (n : List ℕ) (e : LowerError) → m.name ≡ Some n → m.semicolon ≡ false → Meets o a (value m) u →
-      Lowers a b inside below is → IsPassed (only_items (row_count b + 1)) e → IsPassed (sizes_with o module_written kept_module) e
+      Lowers a b inside below is → IsPassed (sizes_pushing b head.attrs) e → IsPassed (sizes_with o module_written kept_module) e
   full-inline {o} {a} {b} n e q s v h f = rw (kept-inline n q s) (full-parent module_written head (inline n (value m)) e (kept-adds o a v.kept) h f)
 
 -- ---- extern blocks

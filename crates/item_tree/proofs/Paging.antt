@@ -1,10 +1,11 @@
 -- The lines of a page by ids are those of the nodes.
 use Rattle.std.proofs.Common.{◌≡◌, ℕ, Bool, true, Option, None, suc, zero, ◌+◌, ◌<◌, ◌≤◌, List, [], ◌∷◌, ◌++◌, length, map, take, get_or, codes, Some, refl, ap, sym, ◌∙◌, false, string_bytes, replicate, ◌*◌, append_assoc, arith, inl, inr}
-use Rattle.std.specs.Prelude.{◌==◌, ◌⊎◌, not, is_some, option_map, String}
+use Rattle.std.specs.Prelude.{◌==◌, ◌⊎◌, not, is_some, option_map, String, Result, OnOk}
 use Rattle.std.specs.Option.{option_map_or}
 use Rattle.std.specs.declared.alloc.Global.{Global}
 use Rattle.std.proofs.lemmas.Bool.{cases_Bool, ne_eqb}
 use Rattle.std.proofs.lemmas.Grind.{common_steps, flat_map-append}
+use Rattle.std.proofs.lemmas.Result.{on_ok_weaker}
 use Rattle.std.proofs.lemmas.List.{take_more, map-append, append-nil}
 use Rattle.hir_input.specs.declared.ids.FileAstId.{FileAstId}
 use Rattle.item_tree_attrs.specs.Collected.{Collected}
@@ -16,7 +17,7 @@ use Rattle.item_tree.specs.Layout.{trunk_map, vis_at, node_at}
 use Rattle.item_tree.specs.Shown.{IsParent, StandFor, lent_attrs, attrs_at}
 use Rattle.item_tree.specs.Line.{Line, text, blank, line_text}
 use Rattle.item_tree.specs.Page.{item_opening, top_opening, with_blanks, id_text, attrs_lines, trunk_header, own_lines, parts, page_parts, page_lines}
-use Rattle.item_tree.specs.Inner.PageByIds.{Gains, gap, item_lines, lent_lines, node_lines, own_lines_at, lines_at, list_lines}
+use Rattle.item_tree.specs.Inner.PageByIds.{Gains, Starts, gap, item_lines, lent_lines, node_lines, own_lines_at, lines_at, list_lines}
 use Rattle.item_tree.proofs.Walking.{map_of_id, parent_of_id}
 
 -- ---- one more part behind others
@@ -53,9 +54,9 @@ gains_both old a new first second p q = grind (arith, common_steps, flat_map-app
 
 -- the line of an id, and that of a header
 pub gains_item :
-    (old a b new : String Global) (k : ℕ) (id header written : List ℕ) → Gains old a (text k id ∷ []) → string_bytes b ≡ string_bytes a ++ replicate (4 * k) 32 → string_bytes new ≡ string_bytes b ++ written → written ≡ header ++ 10 ∷ [] →
-    Gains old new (text k id ∷ text k header ∷ [])
-gains_item old a b new k id header written p q r e = gains_both old a new (text k id ∷ []) (text k header ∷ []) p (gains_line a b new k header written q r e)
+    {T E : Type 0} (r : Result T E) (old mid new : String Global) (k : ℕ) (a : FileAstId) (header written : List ℕ) → Starts old mid k a → OnOk r (string_bytes new ≡ string_bytes mid ++ written) → written ≡ header ++ 10 ∷ [] →
+    OnOk r (Gains old new (item_lines k a header))
+gains_item r old mid new k a header written p q e = on_ok_weaker r (λ w. w ∙ ap (λ bytes. string_bytes mid ++ bytes) e ∙ ap (λ bytes. bytes ++ (header ++ 10 ∷ [])) p ∙ simp append_assoc) q
 
 -- ---- ids, and the nodes that they stand for
 

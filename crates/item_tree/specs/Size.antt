@@ -106,9 +106,6 @@ IsPassed s OutOfMemory = Unit {0}
 abbrev pub no_sizes : Sizes
 no_sizes = record { items = 0; visibilities = 0; use_trees = 0; attributes = 0; supers = 0 }
 
-abbrev pub only_items : ℕ → Sizes
-only_items n = record no_sizes { items = n }
-
 abbrev pub only_visibilities : ℕ → Sizes
 only_visibilities n = record no_sizes { visibilities = n }
 

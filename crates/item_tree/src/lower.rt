@@ -2,11 +2,13 @@
 ghost use Rattle.std.specs.Prelude.{◌≡◌, ◌≤◌, IfOk, IfErr, OnOk, [], ◌∷◌, false, length, option_copied};
 ghost use Rattle.hir_input.specs.Syntax.{impl_item, impl_view, use_item, use_view, macro_items, module_view, item_view, items_view, syntax_view, block_view};
 ghost use Rattle.item_tree_attrs.specs.Collected.{attr_limit, collected};
+ghost use Rattle.item_tree.specs.Layout.{head_of_key};
 ghost use Rattle.item_tree.specs.Lowered.{kept_in, kept_without_bodies, FitsIn, IsTooLargeIn};
 ghost use Rattle.item_tree.specs.Sees.{CtorsAreSeen};
 ghost use Rattle.item_tree.specs.KeptUse.{use_tree_limit};
 ghost use Rattle.item_tree.specs.Size.{Fits, IsTooLarge, IsPassed, only_attributes, items_written};
-ghost use Rattle.item_tree.specs.Inner.Growth.{IsWithinLimits, IsLowered, AreLowered, Meets, sizes_meeting, attrs_in, top_attrs_in, tree_in, items_below};
+ghost use Rattle.item_tree.specs.Stored.{key_in, item_row};
+ghost use Rattle.item_tree.specs.Inner.Growth.{IsWithinLimits, IsLowered, AreLowered, Meets, Pushes, sizes_meeting, sizes_pushing, attrs_in, top_attrs_in, tree_in, items_below};
 ghost use Rattle.item_tree.specs.Inner.Statements.{body_items};
 ghost use Rattle.item_tree.specs.Visibility.{read_visibility};
 
@@ -25,13 +27,16 @@ use crate::lower::extern_block::lower_extern_block;
 use crate::lower::macros::{lower_macro_call, lower_macro_rules};
 use crate::lower::named::{NamedNode, lower_const, lower_extern_crate, lower_named, named};
 use crate::lower::stmts::lower_stmts;
-use crate::rows::{Rows, ast_key, push_attrs};
+use crate::rows::{AstKey, Rows, ast_key, push_attrs};
 use crate::tree::ItemTree;
 use crate::visibility::{RawVisibilityId, visibility_from_ast};
 use hir_input::{AstIdKind, Meta, Name, ast};
 use item_tree_attrs::AttrsOrCfg;
 use std::alloc::Global;
 pub use use_tree::lower_use_tree;
+
+// The most rows.
+const ROW_LIMIT: usize = 2_147_483_647;
 
 /// What lowering has at hand everywhere: the allocator, the crate, and the skipped names.
 #[derive(Clone, Copy)]
@@ -76,18 +81,27 @@ pub fn lower_syntax(
         krate,
         skipped,
     };
+    lower_whole(ctx, syntax, is_root)
+}
+
+// The tree of a syntax.
+fn lower_whole(ctx: Ctx, syntax: &ast::Syntax, is_root: bool) -> Result<ItemTree, LowerError>
+    ensures kept { IfOk result (λ tree. tree ≡ kept_in ctx.entry.krate.now is_root ctx.entry.skipped.now (syntax_view syntax.now)) }
+    ensures fits { OnOk result (FitsIn ctx.entry.krate.now is_root ctx.entry.skipped.now (syntax_view syntax.now)) }
+    ensures too_large { IfErr result (IsTooLargeIn ctx.entry.krate.now is_root ctx.entry.skipped.now (syntax_view syntax.now)) }
+{
     match syntax {
         ast::Syntax::SourceFile { attrs, items } => {
             let top_attrs = lower_top_attrs(ctx, attrs, is_root)?;
             lower_body(ctx, top_attrs, Body::Items(items))
         }
         ast::Syntax::MacroItems { items } => {
-            lower_body(ctx, AttrsOrCfg::empty(alloc), Body::Items(items))
+            lower_body(ctx, AttrsOrCfg::empty(ctx.alloc), Body::Items(items))
         }
         ast::Syntax::MacroStmts { stmts, tail } => {
-            lower_body(ctx, AttrsOrCfg::empty(alloc), Body::Stmts(stmts, tail))
+            lower_body(ctx, AttrsOrCfg::empty(ctx.alloc), Body::Stmts(stmts, tail))
         }
-        ast::Syntax::Error => Ok(ItemTree::empty(alloc)),
+        ast::Syntax::Error => Ok(ItemTree::empty(ctx.alloc)),
     }
 }
 
@@ -146,6 +160,32 @@ fn lower_top_attrs(ctx: Ctx, attrs: &[Meta], is_root: bool) -> Result<AttrsOrCfg
         }
         AttrsOrCfg::CfgDisabled(both) => Ok(AttrsOrCfg::CfgDisabled(both)),
     }
+}
+
+// The id of a new row at the end, with the attributes that metas collect.
+fn push_row(
+    ctx: Ctx,
+    rows: &mut Rows,
+    key: AstKey,
+    attrs: &[Meta],
+    item: ModItem,
+) -> Result<ModItemId, LowerError>
+    requires { IsWithinLimits rows.old }
+    ensures fits { OnOk result (length (attrs_in ctx.entry attrs.now).attrs ≤ attr_limit) }
+    ensures pushed { IfOk result (Pushes rows.old rows.new (head_of_key (key_in key) (attrs_in ctx.entry attrs.now), item_row item)) }
+    ensures fault { IfErr result (IsPassed (sizes_pushing rows.old (attrs_in ctx.entry attrs.now))) }
+{
+    let row = rows.items.len();
+    let kind = item.kind();
+    rows.items.push(item)?;
+    if row >= ROW_LIMIT {
+        return Err(LowerError::TooManyItems);
+    }
+    let place = push_attrs(&mut rows.column, lower_attrs(ctx, attrs)?)?;
+    rows.tags.push(kind)?;
+    rows.keys.push(key)?;
+    rows.places.push(place)?;
+    Ok(ModItemId::from_row(row as u32, kind))
 }
 
 // The tree of a body under these top attributes.
@@ -225,26 +265,24 @@ fn lower_module(
     let Some(name) = &mod_node.name else {
         return Ok(None);
     };
-    let name = name.clone()?;
-    let attrs = lower_attrs(ctx, &mod_node.attrs)?;
     let visibility = lower_visibility(ctx.alloc, rows, mod_node.visibility.as_ref())?;
     if mod_node.semicolon {
-        let item = Mod {
+        let name = name.clone()?;
+        let item = ModItem::Mod(Mod {
             name,
             visibility,
             kind: ModKind::Outline,
-        };
-        let id = rows.push(ast_key!(mod_node), attrs, ModItem::Mod(item))?;
-        return Ok(Some(id));
+        });
+        return Ok(Some(push_row(ctx, rows, ast_key!(mod_node), &mod_node.attrs, item)?));
     }
     let items = lower_module_items(ctx, rows, mod_node)?;
-    let item = Mod {
+    let name = name.clone()?;
+    let item = ModItem::Mod(Mod {
         name,
         visibility,
         kind: ModKind::Inline { items },
-    };
-    let id = rows.push(ast_key!(mod_node), attrs, ModItem::Mod(item))?;
-    Ok(Some(id))
+    });
+    Ok(Some(push_row(ctx, rows, ast_key!(mod_node), &mod_node.attrs, item)?))
 }
 
 #[cycle(lower)]
@@ -271,12 +309,10 @@ fn lower_impl(
     ensures { IsLowered ctx.entry rows.old rows.new
         (impl_item (impl_view impl_node.now) impl_node.now.is_trait_impl) result }
 {
-    let attrs = lower_attrs(ctx, &impl_node.attrs)?;
-    let item = Impl {
+    let item = ModItem::Impl(Impl {
         is_trait_impl: impl_node.is_trait_impl,
-    };
-    let id = rows.push(ast_key!(impl_node), attrs, ModItem::Impl(item))?;
-    Ok(Some(id))
+    });
+    Ok(Some(push_row(ctx, rows, ast_key!(impl_node), &impl_node.attrs, item)?))
 }
 
 // A use is dropped before its visibility is met.
@@ -294,14 +330,9 @@ fn lower_use(
     let Some((tree, _)) = lower_use_tree(ctx.alloc, tree)? else {
         return Ok(None);
     };
-    let attrs = lower_attrs(ctx, &use_node.attrs)?;
     let visibility = lower_visibility(ctx.alloc, rows, use_node.visibility.as_ref())?;
-    let id = rows.push(
-        ast_key!(use_node),
-        attrs,
-        ModItem::Use(Use::new(visibility, tree)),
-    )?;
-    Ok(Some(id))
+    let item = ModItem::Use(Use::new(visibility, tree));
+    Ok(Some(push_row(ctx, rows, ast_key!(use_node), &use_node.attrs, item)?))
 }
 
 // The id of a written visibility.

@@ -3,7 +3,7 @@ ghost use Rattle.std.specs.Prelude.{◌≡◌, ◌+◌, ◌<◌, ◌^◌, ◌∷
 ghost use Rattle.std.specs.List.{sum_by};
 ghost use Rattle.item_tree.specs.Line.{text};
 ghost use Rattle.item_tree.specs.Page.{shown_visibility, id_text, call_id_text, named_header, constant_header, use_header, extern_crate_header, macro_call_header, macro_rules_header, page};
-ghost use Rattle.item_tree.specs.Inner.PageByIds.{Gains, gap, item_lines, own_lines_at, lines_at, list_lines};
+ghost use Rattle.item_tree.specs.Inner.PageByIds.{Gains, Starts, gap, item_lines, own_lines_at, lines_at, list_lines};
 ghost use Rattle.item_tree.specs.Shown.{IsContained};
 ghost use Rattle.item_tree.specs.Walk.{AreContained, count_at};
 
@@ -82,6 +82,14 @@ impl Printer<'_> {
         writeln!(out, "// AstId: {ast_id}")
     }
 
+    // The line of an id, and the indent of the header behind it.
+    fn start_header(self, out: &mut String, ast_id: FileAstId) -> Result<(), AllocError>
+        ensures { OnOk result (Starts out.old out.new self.entry.level ast_id) }
+    {
+        self.push_id(out, ast_id)?;
+        push_indent(out, self.level)
+    }
+
     // The line of an id that tells the context of a macro call, and what it expands to.
     fn push_call_id(
         self,
@@ -100,7 +108,6 @@ impl Printer<'_> {
     }
 
     // An item that is written as its visibility, a word, its name, and what stands behind it.
-    #[tactic(auto, unfolding(crate::specs::Page::named_header))]
     fn push_named(
         self,
         out: &mut String,
@@ -116,14 +123,12 @@ impl Printer<'_> {
     {
         let visibility = visibility.display(self.edition);
         let name = name.display(self.edition);
-        self.push_id(out, ast_id)?;
-        push_indent(out, self.level)?;
+        self.start_header(out, ast_id)?;
         writeln!(out, "{visibility}{word} {name}{end}")
     }
 }
 
 impl Printer<'_> {
-    #[tactic(auto, unfolding(crate::specs::Page::constant_header))]
     fn push_const(
         self,
         out: &mut String,
@@ -136,8 +141,7 @@ impl Printer<'_> {
             OnOk result (Gains out.old out.new (item_lines self.entry.level ast_id header)) }
     {
         let visibility = visibility.display(self.edition);
-        self.push_id(out, ast_id)?;
-        push_indent(out, self.level)?;
+        self.start_header(out, ast_id)?;
         match &item.name {
             Some(name) => {
                 let name = name.display(self.edition);
@@ -147,7 +151,6 @@ impl Printer<'_> {
         }
     }
 
-    #[tactic(auto, unfolding(crate::specs::Page::use_header))]
     fn push_use(
         self,
         out: &mut String,
@@ -161,8 +164,7 @@ impl Printer<'_> {
     {
         let visibility = visibility.display(self.edition);
         let tree = item.use_tree().display(self.edition);
-        self.push_id(out, ast_id)?;
-        push_indent(out, self.level)?;
+        self.start_header(out, ast_id)?;
         writeln!(out, "{visibility}use {tree};")
     }
 
@@ -179,8 +181,7 @@ impl Printer<'_> {
     {
         let visibility = visibility.display(self.edition);
         let name = item.name.display(self.edition);
-        self.push_id(out, ast_id)?;
-        push_indent(out, self.level)?;
+        self.start_header(out, ast_id)?;
         match &item.alias {
             Some(alias) => {
                 let alias = alias.display(self.edition);
@@ -218,8 +219,7 @@ impl Printer<'_> {
             OnOk result (Gains out.old out.new (item_lines self.entry.level ast_id header)) }
     {
         let name = item.name.display(self.edition);
-        self.push_id(out, ast_id)?;
-        push_indent(out, self.level)?;
+        self.start_header(out, ast_id)?;
         writeln!(out, "macro_rules! {name} {{ ... }}")
     }
 

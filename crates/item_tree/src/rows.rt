@@ -2,13 +2,12 @@
 ghost use Rattle.std.specs.Prelude.{◌≡◌, ◌+◌, ◌<◌, ◌-◌, ◌^◌, IfOk, IfErr, [], ◌∷◌, length, option_map};
 ghost use Rattle.item_tree_attrs.specs.Collected.{collected};
 ghost use Rattle.item_tree.specs.Column.{plain_place, stored_at};
-ghost use Rattle.item_tree.specs.Layout.{head_of_key};
-ghost use Rattle.item_tree.specs.Stored.{key_in, item_row, column_in};
-ghost use Rattle.item_tree.specs.Size.{IsPassed, only_items};
-ghost use Rattle.item_tree.specs.Inner.Growth.{IsWithinLimits, Keeps, Meets, Puts, Pushes, row_count, sizes_meeting};
+ghost use Rattle.item_tree.specs.Stored.{column_in};
+ghost use Rattle.item_tree.specs.Size.{IsPassed};
+ghost use Rattle.item_tree.specs.Inner.Growth.{IsWithinLimits, Keeps, Meets, Puts, sizes_meeting};
 
 use crate::fault::LowerError;
-use crate::items::{ModItem, ModItemId};
+use crate::items::ModItem;
 use crate::visibility::{
     PRIVATE_EXPLICIT, PRIVATE_IMPLICIT, PUB_CRATE, PUBLIC, RawVisibility, RawVisibilityId,
     VisibilityExplicitness,
@@ -17,9 +16,6 @@ use crate::visibility_set::VisibilitySet;
 use hir_input::AstIdKind;
 use item_tree_attrs::AttrsOrCfg;
 use std::alloc::{AllocError, Global};
-
-// The most rows.
-const ROW_LIMIT: usize = 2_147_483_647;
 
 /// The place of attributes that are enabled and empty, which are not kept.
 pub(crate) const NO_ATTRS: u32 = u32::MAX;
@@ -106,30 +102,6 @@ impl Rows {
                 Ok(RawVisibilityId::from_number(place as u32))
             }
         }
-    }
-
-    // The id of a new row at the end.
-    pub(crate) fn push(
-        &mut self,
-        key: AstKey,
-        attrs: AttrsOrCfg,
-        item: ModItem,
-    ) -> Result<ModItemId, LowerError>
-        requires { IsWithinLimits self.old }
-        ensures pushed { IfOk result (λ id. Pushes self.old self.new (head_of_key (key_in key) (collected attrs), item_row item) id) }
-        ensures fault { IfErr result (IsPassed (only_items (row_count self.old + 1))) }
-    {
-        let row = self.items.len();
-        if row >= ROW_LIMIT {
-            return Err(LowerError::TooManyItems);
-        }
-        let kind = item.kind();
-        let place = push_attrs(&mut self.column, attrs)?;
-        self.tags.push(kind)?;
-        self.keys.push(key)?;
-        self.items.push(item)?;
-        self.places.push(place)?;
-        Ok(ModItemId::from_row(row as u32, kind))
     }
 
     // Gives back the room that no row takes.

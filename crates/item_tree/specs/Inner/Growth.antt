@@ -1,5 +1,5 @@
 -- What lowering adds to the rows.
-use Rattle.std.specs.Prelude.{◌≡◌, ℕ, ◌+◌, ◌*◌, ◌≤◌, Bool, List, [], ◌∷◌, ◌++◌, length, map, Option, Some, None, Result, MatchResult, option_copied}
+use Rattle.std.specs.Prelude.{◌≡◌, ℕ, ◌+◌, ◌*◌, ◌≤◌, Bool, List, [], ◌∷◌, ◌++◌, length, map, Option, Some, None, Result, MatchResult}
 use Rattle.std.specs.declared.vec.Vec.{Vec}
 use Rattle.std.specs.declared.alloc.Global.{Global}
 use Rattle.hir_input.specs.declared.attr.Meta.{Meta}
@@ -21,13 +21,13 @@ use Rattle.item_tree.specs.Inner.Meeting.{meet, meet_all}
 use Rattle.item_tree.specs.Layout.{vis_id, ctor_map, ctor_vis, forest_vis, kind_bit, ids, Row, row_tag, row_key, row_attrs, row_item, rows_of}
 use Rattle.item_tree.specs.Imports.{super_limit}
 use Rattle.item_tree.specs.KeptUse.{use_tree_limit}
-use Rattle.item_tree.specs.Size.{item_limit, visibility_limit, most_attrs, forest_supers, item_written, items_written, Sizes, IsPassed, only_visibilities}
+use Rattle.item_tree.specs.Size.{item_limit, visibility_limit, most_attrs, forest_supers, item_written, items_written, Sizes, IsPassed, no_sizes, only_visibilities}
 use Rattle.item_tree.specs.Shown.{ctor_ids}
 use Rattle.item_tree.specs.Stored.{keys_in, items_in, places_in, column_in}
 
 -- a node with a name and a visibility, but for its body
 abbrev pub seen_node : NamedNode → NamedView
-seen_node n = record { node = record { hash = n.key.hash; number = n.key.number; attrs = map meta_view n.attrs.now; body = [] }; name = option_copied n.name; visibility = option_copied n.visibility }
+seen_node n = record { node = record { hash = n.key.hash; number = n.key.number; attrs = map meta_view n.attrs.now.items; body = [] }; name = n.name.now; visibility = n.visibility.now }
 
 -- the items of a module or of an extern block
 abbrev pub items_below : ItemView → ItemViews
@@ -140,6 +140,10 @@ pub record MeetsUpTo (old new : Rows) (vs rest : List RawVisibility) (is : List 
 -- what these visibilities pass once they are met
 abbrev pub sizes_meeting : Rows → List RawVisibility → Sizes
 sizes_meeting old vs = only_visibilities (length (meet_all old.arena vs))
+
+-- what one more row with these attributes passes
+abbrev pub sizes_pushing : Rows → Collected → Sizes
+sizes_pushing old c = record no_sizes { items = row_count old + 1; attributes = length c.attrs }
 
 -- the visibilities of a constructor were met, and this is the constructor of their ids
 pub record MeetsCtor (old new : Rows) (c : Ctor RawVisibility) (ctor : StructValueNsCtor) : Type 0 where

@@ -37,12 +37,10 @@ impl Clone for Mod {
     ghost is_clone = { λ item copy. mod_value copy ≡ mod_value item };
 
     fn clone(&self) -> Result<Mod, AllocError> {
-        let name = self.name.clone()?;
-        let kind = self.kind.clone()?;
         Ok(Mod {
-            name,
+            name: self.name.clone()?,
             visibility: self.visibility,
-            kind,
+            kind: self.kind.clone()?,
         })
     }
 }
@@ -71,13 +69,11 @@ impl Clone for Struct {
     ghost is_clone = { λ item copy. struct_value copy ≡ struct_value item };
 
     fn clone(&self) -> Result<Struct, AllocError> {
-        let name = self.name.clone()?;
-        let value_ns_ctor = self.value_ns_ctor.clone()?;
         Ok(Struct {
-            name,
+            name: self.name.clone()?,
             visibility: self.visibility,
             shape: self.shape,
-            value_ns_ctor,
+            value_ns_ctor: self.value_ns_ctor.clone()?,
         })
     }
 }

@@ -11,7 +11,7 @@ ghost use Rattle.item_tree.specs.Visibility.{read_visibility};
 
 use crate::fault::LowerError;
 use crate::items::{FieldsShape, ModItem, ModItemId, Struct, StructValueNsCtor};
-use crate::lower::{Ctx, lower_attrs, lower_visibility};
+use crate::lower::{Ctx, lower_visibility, push_row};
 use crate::rows::{Rows, ast_key};
 use crate::visibility::{RawVisibility, RawVisibilityId, visibility_from_ast};
 use hir_input::ast;
@@ -31,18 +31,16 @@ pub(super) fn lower_struct(
     let Some(name) = &struct_node.name else {
         return Ok(None);
     };
-    let name = name.clone()?;
-    let attrs = lower_attrs(ctx, &struct_node.attrs)?;
     let visibility = lower_visibility(ctx.alloc, rows, struct_node.visibility.as_ref())?;
     let value_ns_ctor = lower_ctor(ctx.alloc, rows, struct_node, visibility)?;
-    let item = Struct {
+    let name = name.clone()?;
+    let item = ModItem::Struct(Struct {
         name,
         visibility,
         shape: shape_of(&struct_node.kind),
         value_ns_ctor,
-    };
-    let id = rows.push(ast_key!(struct_node), attrs, ModItem::Struct(item))?;
-    Ok(Some(id))
+    });
+    Ok(Some(push_row(ctx, rows, ast_key!(struct_node), &struct_node.attrs, item)?))
 }
 
 fn shape_of(kind: &ast::StructKind) -> FieldsShape

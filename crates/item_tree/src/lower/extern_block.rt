@@ -7,7 +7,7 @@ use crate::fault::LowerError;
 use crate::items::{ExternBlock, ModItem, ModItemId};
 use crate::lower::macros::lower_macro_call;
 use crate::lower::named::{NamedNode, lower_named, named};
-use crate::lower::{Ctx, lower_attrs};
+use crate::lower::{Ctx, push_row};
 use crate::rows::{Rows, ast_key};
 use hir_input::{AstIdKind, ast};
 use std::alloc::Global;
@@ -21,14 +21,9 @@ pub(super) fn lower_extern_block(
     requires { IsWithinLimits rows.old }
     ensures { IsLowered ctx.entry rows.old rows.new (extern_block_view block_node.now) result }
 {
-    let attrs = lower_attrs(ctx, &block_node.attrs)?;
     let children = lower_block_items(ctx, rows, block_node)?;
-    let id = rows.push(
-        ast_key!(block_node),
-        attrs,
-        ModItem::ExternBlock(ExternBlock { children }),
-    )?;
-    Ok(Some(id))
+    let item = ModItem::ExternBlock(ExternBlock { children });
+    Ok(Some(push_row(ctx, rows, ast_key!(block_node), &block_node.attrs, item)?))
 }
 
 fn lower_block_items(

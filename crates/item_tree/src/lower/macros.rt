@@ -4,7 +4,7 @@ ghost use Rattle.item_tree.specs.Inner.Growth.{IsWithinLimits, IsLowered};
 
 use crate::fault::LowerError;
 use crate::items::{MacroCall, MacroRules, ModItem, ModItemId};
-use crate::lower::{Ctx, lower_attrs};
+use crate::lower::{Ctx, push_row};
 use crate::rows::{Rows, ast_key};
 use hir_input::ast;
 use std::alloc::Global;
@@ -21,15 +21,12 @@ pub(super) fn lower_macro_call(
     let Some(ast::PathNode::Readable(path)) = &call_node.path else {
         return Ok(None);
     };
-    let path = path.clone()?;
-    let attrs = lower_attrs(ctx, &call_node.attrs)?;
-    let item = MacroCall {
-        path,
+    let item = ModItem::MacroCall(MacroCall {
+        path: path.clone()?,
         expand_to: call_node.expand_to,
         ctxt: call_node.ctxt,
-    };
-    let id = rows.push(ast_key!(call_node), attrs, ModItem::MacroCall(item))?;
-    Ok(Some(id))
+    });
+    Ok(Some(push_row(ctx, rows, ast_key!(call_node), &call_node.attrs, item)?))
 }
 
 pub(super) fn lower_macro_rules(
@@ -45,11 +42,6 @@ pub(super) fn lower_macro_rules(
         return Ok(None);
     };
     let name = name.clone()?;
-    let attrs = lower_attrs(ctx, &macro_node.attrs)?;
-    let id = rows.push(
-        ast_key!(macro_node),
-        attrs,
-        ModItem::MacroRules(MacroRules { name }),
-    )?;
-    Ok(Some(id))
+    let item = ModItem::MacroRules(MacroRules { name });
+    Ok(Some(push_row(ctx, rows, ast_key!(macro_node), &macro_node.attrs, item)?))
 }

@@ -12,7 +12,7 @@ use crate::items::{
     Const, Enum, ExternCrate, Function, Macro2, ModItem, ModItemId, Static, Trait, TypeAlias, Union,
 };
 use crate::lower::use_tree::lower_alias;
-use crate::lower::{Ctx, lower_attrs, lower_visibility};
+use crate::lower::{Ctx, lower_visibility, push_row};
 use crate::rows::{AstKey, Rows, ast_key};
 use crate::visibility::RawVisibilityId;
 use hir_input::{AstIdKind, Meta, Name, ast};
@@ -23,9 +23,9 @@ use std::alloc::Global;
 pub(super) struct NamedNode<'a> {
     pub(super) kind: AstIdKind,
     pub(super) key: AstKey,
-    pub(super) attrs: &'a [Meta],
-    pub(super) name: Option<&'a Name>,
-    pub(super) visibility: Option<&'a ast::Visibility>,
+    pub(super) attrs: &'a Vec<Meta>,
+    pub(super) name: &'a Option<Name>,
+    pub(super) visibility: &'a Option<ast::Visibility>,
 }
 
 // What lowering reads of a node of a kind, whatever its type.
@@ -35,8 +35,8 @@ macro_rules! named {
             kind: AstIdKind::$kind,
             key: ast_key!($node),
             attrs: &$node.attrs,
-            name: $node.name.as_ref(),
-            visibility: $node.visibility.as_ref(),
+            name: &$node.name,
+            visibility: &$node.visibility,
         }
     };
 }
@@ -70,11 +70,9 @@ pub(super) fn lower_named(
     let Some(name) = node.name else {
         return Ok(None);
     };
-    let name = name.clone()?;
-    let attrs = lower_attrs(ctx, node.attrs)?;
-    let visibility = lower_visibility(ctx.alloc, rows, node.visibility)?;
-    let id = rows.push(node.key, attrs, plain_item(node.kind, name, visibility))?;
-    Ok(Some(id))
+    let visibility = lower_visibility(ctx.alloc, rows, node.visibility.as_ref())?;
+    let item = plain_item(node.kind, name.clone()?, visibility);
+    Ok(Some(push_row(ctx, rows, node.key, node.attrs, item)?))
 }
 
 // A constant is kept without a name too.
@@ -86,15 +84,10 @@ pub(super) fn lower_const(
     requires { IsWithinLimits rows.old }
     ensures { IsLowered ctx.entry rows.old rows.new (const_item (const_view const_node.now)) result }
 {
-    let name = const_node.name.clone()?;
-    let attrs = lower_attrs(ctx, &const_node.attrs)?;
     let visibility = lower_visibility(ctx.alloc, rows, const_node.visibility.as_ref())?;
-    let id = rows.push(
-        ast_key!(const_node),
-        attrs,
-        ModItem::Const(Const { name, visibility }),
-    )?;
-    Ok(Some(id))
+    let name = const_node.name.clone()?;
+    let item = ModItem::Const(Const { name, visibility });
+    Ok(Some(push_row(ctx, rows, ast_key!(const_node), &const_node.attrs, item)?))
 }
 
 pub(super) fn lower_extern_crate(
@@ -109,15 +102,11 @@ pub(super) fn lower_extern_crate(
     let Some(name) = &crate_node.name else {
         return Ok(None);
     };
-    let name = name.clone()?;
-    let alias = lower_alias(crate_node.rename.as_ref())?;
-    let attrs = lower_attrs(ctx, &crate_node.attrs)?;
     let visibility = lower_visibility(ctx.alloc, rows, crate_node.visibility.as_ref())?;
-    let item = ExternCrate {
-        name,
+    let item = ModItem::ExternCrate(ExternCrate {
+        name: name.clone()?,
         visibility,
-        alias,
-    };
-    let id = rows.push(ast_key!(crate_node), attrs, ModItem::ExternCrate(item))?;
-    Ok(Some(id))
+        alias: lower_alias(crate_node.rename.as_ref())?,
+    });
+    Ok(Some(push_row(ctx, rows, ast_key!(crate_node), &crate_node.attrs, item)?))
 }

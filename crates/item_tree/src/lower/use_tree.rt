@@ -161,9 +161,8 @@ fn lower_bare(node: &ast::UseTree) -> Result<Option<UseTree>, AllocError>
         Some(ast::PathNode::Unreadable) => Ok(None),
         Some(ast::PathNode::Readable(path)) => {
             if !node.star {
-                let path = path.clone()?;
                 let alias = lower_alias(node.rename.as_ref())?;
-                return Ok(Some(UseTree::single(path, alias)));
+                return Ok(Some(UseTree::single(path.clone()?, alias)));
             }
             if node.rename.is_some() {
                 return Ok(None);

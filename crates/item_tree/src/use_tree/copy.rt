@@ -34,20 +34,17 @@ fn clone_kind(kind: &UseTreeKind) -> Result<UseTreeKind, AllocError>
     ensures { IfOk result (λ copy. tree_of_kind copy ≡ tree_of_kind kind.now) }
 {
     match kind {
-        UseTreeKind::Single { path, alias } => {
-            let path = path.clone()?;
-            let alias = alias.clone()?;
-            Ok(UseTreeKind::Single { path, alias })
-        }
-        UseTreeKind::Glob { path } => {
-            let path = path.clone()?;
-            Ok(UseTreeKind::Glob { path })
-        }
-        UseTreeKind::Prefixed { prefix, list } => {
-            let prefix = prefix.clone()?;
-            let list = clone_trees(list)?;
-            Ok(UseTreeKind::Prefixed { prefix, list })
-        }
+        UseTreeKind::Single { path, alias } => Ok(UseTreeKind::Single {
+            path: path.clone()?,
+            alias: alias.clone()?,
+        }),
+        UseTreeKind::Glob { path } => Ok(UseTreeKind::Glob {
+            path: path.clone()?,
+        }),
+        UseTreeKind::Prefixed { prefix, list } => Ok(UseTreeKind::Prefixed {
+            prefix: prefix.clone()?,
+            list: clone_trees(list)?,
+        }),
     }
 }
 

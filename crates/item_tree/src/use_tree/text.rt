@@ -120,7 +120,6 @@ fn write_single<W: fmt::Write>(
 
 // A use tree by its case.
 #[cycle(write_tree)]
-#[tactic(auto, using(crate::proofs::UseTexts::tree_texts, std::proofs::lemmas::Grind::common_steps))]
 fn write_kind<W: fmt::Write>(
     kind: &UseTreeKind,
     edition: &Edition,

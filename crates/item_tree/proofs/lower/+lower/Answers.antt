@@ -3,7 +3,7 @@ use Rattle.std.proofs.lemmas.Result.{err_from_is_err_and}
 use Rattle.hir_input.specs.Syntax.{item_view}
 use Rattle.item_tree_attrs.specs.Collected.{attr_limit}
 use Rattle.item_tree.specs.Visibility.{read_visibility}
-use Rattle.item_tree.specs.Inner.Growth.{attrs_in, Meets, sizes_meeting, to_list}
+use Rattle.item_tree.specs.Inner.Growth.{attrs_in, Meets, sizes_meeting, sizes_pushing, to_list}
 use Rattle.item_tree.specs.Size.{IsPassed}
 use Rattle.item_tree.proofs.Lowering.{unmet-module, Lowers-step, passed-step, Lowers-inline, full-inline}
 use Rattle.item_tree.proofs.lower.+lower.Goals as goal
@@ -26,23 +26,22 @@ lower_items-loop-item-preserved t c =
 
 pub lower_module-returns-in_err-visibility : goal.lower_module-returns-in_err-visibility
 lower_module-returns-in_err-visibility t c =
-    let p = err_from_is_err_and c.from_residual-in_err-visibility.result c.from_residual-in_err-visibility.ensures.1 in
+    let p = err_from_is_err_and c.from_residual.result c.from_residual.ensures.1 in
     let e = c.in_err-visibility.field-0.0 in
     rw (p.1, p.2)
     (unmet-module c.args.ctx c.args.mod_node.now c.args.rows.now c.in-Some.name e c.in-Some.is (subst (λ z. IsPassed (sizes_meeting c.args.rows.now (read_visibility z ∷ [])) e) c.as_ref.ensures.value c.in_err-visibility.ensures.fault))
 
-pub lower_module-returns-in_err-id-2 : goal.lower_module-returns-in_err-id-2
-lower_module-returns-in_err-id-2 t c =
-    let p = err_from_is_err_and c.from_residual-in_err-id-2.result c.from_residual-in_err-id-2.ensures.1 in
+pub lower_module-returns-in_err-push_row-2 : goal.lower_module-returns-in_err-push_row-2
+lower_module-returns-in_err-push_row-2 t c =
+    let p = err_from_is_err_and c.from_residual-in_err-push_row-2.result c.from_residual-in_err-push_row-2.ensures.1 in
     let m = subst (λ z. Meets c.args.rows.now c.lower_visibility.new.rows (read_visibility z) c.in_ok-visibility.visibility) c.as_ref.ensures.value c.in_ok-visibility.ensures.met in
     rw (p.1, p.2)
-    (full-inline c.args.ctx c.args.mod_node.now c.in-Some.name c.in_err-id-2.field-0.0 c.in-Some.is c.if-mod_node.false m c.in_ok-items.ensures c.in_err-id-2.ensures.fault)
+    (full-inline c.args.ctx c.args.mod_node.now c.in-Some.name c.in_err-push_row-2.field-0.0 c.in-Some.is c.if-mod_node.false m c.in_ok-items.ensures (subst (λ z. IsPassed (sizes_pushing c.lower_module_items.new.rows (attrs_in c.args.ctx z)) c.in_err-push_row-2.field-0.0) c.deref-2.ensures.value c.in_err-push_row-2.ensures.fault))
 
 pub lower_module-returns : goal.lower_module-returns
 lower_module-returns t c =
     let node = c.args.mod_node.now in
     let ctx = c.args.ctx in
     let m = subst (λ z. Meets c.args.rows.now c.lower_visibility.new.rows (read_visibility z) c.in_ok-visibility.visibility) c.as_ref.ensures.value c.in_ok-visibility.ensures.met in
-    let collects = c.in_ok-attrs.ensures.value ∙ ap (attrs_in ctx) c.deref.ensures.value in
-    let few = subst (λ z. length (attrs_in ctx z).attrs ≤ attr_limit) c.deref.ensures.value c.in_ok-attrs.ensures.fits in
-    Lowers-inline ctx node _ c.in-Some.name c.in_ok-name.name c.in-Some.is c.if-mod_node.false c.in_ok-name.ensures.cases (λ i. record { hash = node.hash; number = node.number; attrs = collects i }) few m c.in_ok-items.ensures c.in_ok-id-2.ensures.pushed
+    let few = subst (λ z. length (attrs_in ctx z).attrs ≤ attr_limit) c.deref-2.ensures.value c.in_ok-push_row-2.ensures.fits in
+    Lowers-inline ctx node _ c.in-Some.name c.in_ok-name-2.name c.in-Some.is c.if-mod_node.false c.in_ok-name-2.ensures.cases (λ i. record { hash = node.hash; number = node.number; attrs = attrs_in ctx (c.deref-2.ensures.value i) }) few m c.in_ok-items.ensures c.in_ok-push_row-2.ensures.pushed

@@ -1,4 +1,4 @@
-use Rattle.std.proofs.Common.{◌≤◌, [], ◌∷◌, length, subst, ◌∙◌, ap}
+use Rattle.std.proofs.Common.{◌≤◌, [], ◌∷◌, length, subst}
 use Rattle.std.proofs.lemmas.Result.{err_from_is_err_and}
 use Rattle.hir_input.specs.Syntax.{fields_view}
 use Rattle.item_tree_attrs.specs.Collected.{attr_limit}
@@ -15,7 +15,7 @@ returns-in_err-visibility c =
     let node = c.args.struct_node.now in
     let fields = fields_view node.kind in
     let v = read_visibility node.visibility in
-    let p = err_from_is_err_and c.from_residual-in_err-visibility.result c.from_residual-in_err-visibility.ensures.1 in
+    let p = err_from_is_err_and c.from_residual.result c.from_residual.ensures.1 in
     let e = c.in_err-visibility.field-0.0 in
     rw (p.1, p.2, c.in-Some.is)
     (own-unmet c.args.rows.now (record { hash = node.hash; number = node.number; attrs = attrs_in c.args.ctx node.attrs.items }) c.in-Some.name v (shape_of fields) (ctor_of fields v) e (subst (λ z. IsPassed (sizes_meeting c.args.rows.now (read_visibility z ∷ [])) e) c.as_ref.ensures.value c.in_err-visibility.ensures.fault))
@@ -26,8 +26,7 @@ returns c =
     let v = read_visibility node.visibility in
     let fields = fields_view node.kind in
     let m = subst (λ z. Meets c.args.rows.now c.lower_visibility.new.rows (read_visibility z) c.in_ok-visibility.visibility) c.as_ref.ensures.value c.in_ok-visibility.ensures.met in
-    let collects = c.in_ok-attrs.ensures.value ∙ ap (attrs_in c.args.ctx) c.deref.ensures.value in
-    let few = subst (λ z. length (attrs_in c.args.ctx z).attrs ≤ attr_limit) c.deref.ensures.value c.in_ok-attrs.ensures.fits in
+    let few = subst (λ z. length (attrs_in c.args.ctx z).attrs ≤ attr_limit) c.deref.ensures.value c.in_ok-push_row.ensures.fits in
     rw c.in-Some.is
     (Lowers-struct _ _ c.in-Some.name c.in_ok-name.name v (shape_of fields) _ (ctor_of fields v) _ m c.in_ok-value_ns_ctor.ensures.met c.in_ok-value_ns_ctor.ensures.given
-    c.in_ok-name.ensures.cases c.shape_of.ensures (λ i. record { hash = node.hash; number = node.number; attrs = collects i }) few c.in_ok-id.ensures.pushed)
+    c.in_ok-name.ensures.cases c.shape_of.ensures (λ i. record { hash = node.hash; number = node.number; attrs = attrs_in c.args.ctx (c.deref.ensures.value i) }) few c.in_ok-push_row.ensures.pushed)

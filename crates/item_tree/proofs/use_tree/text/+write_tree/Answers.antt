@@ -1,7 +1,16 @@
 use Rattle.std.proofs.Common.{refl}
-use Rattle.std.proofs.lemmas.Grind.{put_four}
-use Rattle.item_tree.proofs.UseTexts.{shown_tree-found}
+use Rattle.std.proofs.lemmas.Grind.{put_two, put_four}
+use Rattle.item_tree.proofs.UseTexts.{shown_tree-single, shown_tree-glob, shown_tree-found}
 use Rattle.item_tree.proofs.use_tree.text.+write_tree.Goals as goal
+
+pub write_kind-returns-in-Single : goal.write_kind-returns-in-Single
+write_kind-returns-in-Single g t c = let i = c.in-Single in rw (i.is, shown_tree-single c.args.edition.now.reserved.items i.path i.alias) c.write_single.ensures
+
+pub write_kind-returns-in_ok-write_prefix-in-Glob : goal.write_kind-returns-in_ok-write_prefix-in-Glob
+write_kind-returns-in_ok-write_prefix-in-Glob g t c = λ plain ok.
+    let front = c.in_ok-write_prefix-in-Glob.ensures plain refl in
+    let star = c.write_str.ensures.writes front.plain ok in
+    put_two _ _ _ _ _ _ _ front star (rw (c.in-Glob.is, shown_tree-glob c.args.edition.now.reserved.items c.in-Glob.path) refl)
 
 pub write_kind-returns-in_ok-write_list-in-Prefixed : goal.write_kind-returns-in_ok-write_list-in-Prefixed
 write_kind-returns-in_ok-write_list-in-Prefixed g t c = λ plain ok.
