@@ -2,7 +2,7 @@
 use Rattle.std.specs.Prelude.{ℕ, ◌/◌, ◌%◌, List, [], ◌∷◌, ◌++◌, codes, decimal, true}
 use Rattle.std.specs.Fmt.{digit_glyph}
 use Rattle.hir_input.specs.declared.ids.AstIdKind.{AstIdKind}
-use Rattle.hir_input.specs.declared.ids.AstIdKind.TheVariants.{Const, Enum, ExternBlock, ExternCrate, Fn, Impl, MacroDef, MacroCall, MacroRules, Module, Static, Struct, Trait, TypeAlias, Union, Use}
+use Rattle.hir_input.specs.declared.ids.AstIdKind.TheVariants as kind
 use Rattle.hir_input.specs.declared.ids.FileAstId.{FileAstId}
 use Rattle.hir_input.specs.declared.ids.SyntaxContext.{SyntaxContext}
 use Rattle.hir_input.specs.declared.ids.SyntaxContext.TheVariants.{Root, Expanded}
@@ -12,22 +12,22 @@ use Rattle.hir_input.specs.declared.expand_to.ExpandTo.TheVariants as expand_to
 
 -- a kind's word
 abbrev pub shown_kind : AstIdKind → List ℕ
-shown_kind Const = codes "Const"
-shown_kind Enum = codes "Enum"
-shown_kind ExternBlock = codes "ExternBlock"
-shown_kind ExternCrate = codes "ExternCrate"
-shown_kind Fn = codes "Fn"
-shown_kind Impl = codes "Impl"
-shown_kind MacroDef = codes "MacroDef"
-shown_kind MacroCall = codes "MacroCall"
-shown_kind MacroRules = codes "MacroRules"
-shown_kind Module = codes "Module"
-shown_kind Static = codes "Static"
-shown_kind Struct = codes "Struct"
-shown_kind Trait = codes "Trait"
-shown_kind TypeAlias = codes "TypeAlias"
-shown_kind Union = codes "Union"
-shown_kind Use = codes "Use"
+shown_kind kind.Const = codes "Const"
+shown_kind kind.Enum = codes "Enum"
+shown_kind kind.ExternBlock = codes "ExternBlock"
+shown_kind kind.ExternCrate = codes "ExternCrate"
+shown_kind kind.Fn = codes "Fn"
+shown_kind kind.Impl = codes "Impl"
+shown_kind kind.MacroDef = codes "MacroDef"
+shown_kind kind.MacroCall = codes "MacroCall"
+shown_kind kind.MacroRules = codes "MacroRules"
+shown_kind kind.Module = codes "Module"
+shown_kind kind.Static = codes "Static"
+shown_kind kind.Struct = codes "Struct"
+shown_kind kind.Trait = codes "Trait"
+shown_kind kind.TypeAlias = codes "TypeAlias"
+shown_kind kind.Union = codes "Union"
+shown_kind kind.Use = codes "Use"
 
 -- an upper-case hexadecimal digit
 abbrev pub hex_digit : ℕ → ℕ
