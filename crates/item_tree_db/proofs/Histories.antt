@@ -14,6 +14,7 @@ use Rattle.item_tree_db.specs.State.{State, present, unfolding_of, unfolding_at,
 use Rattle.item_tree_db.specs.Edits.{EditView, set, remove, set_cfg}
 use Rattle.item_tree_db.specs.Refusal.{TreeFits, FitsAfter, FirstFit}
 use Rattle.item_tree_db.specs.History.{sets, gives, under, crate_after, last_some, last_below, present_after, unfolding_after, moves, changed_after, IsChangeNumber, IsAfter, IsFooting}
+use Rattle.item_tree_db.specs.Since.{IsGrounded}
 use Rattle.item_tree_db.specs.Table.{Table, after, after_all, state_of, IsSound}
 use Rattle.item_tree_db.proofs.Runs.{same_count, same_skipped, same_skipped_all}
 use Rattle.item_tree_db.proofs.Steps.{present_step, crate_step, change_number_is, change_step, sound_step, start_step, number_step}
@@ -210,6 +211,9 @@ kept_low s u es place i after p low = elim (after.last_changes place i p) as (λ
 
 bound_is : (t : Table) → IsSound t → (place : Place) (i : ℕ) → i < length t.crates → change_number (state_of t) place i ≤ t.number
 bound_is t h place i p = rw (change_number_is t place i) (h.bounded place i p)
+
+pub grounded : (t : Table) → IsSound t → IsGrounded (state_of t)
+grounded t h = record { started = h.started; empty = λ place i p low. sym (h.trees place i p) ∙ h.grounded place i p (rw (← change_number_is t place i) low) }
 
 pub footing : (t u : Table) (es : List EditView) → IsSound u → IsAfter (state_of t) es (state_of u) → IsFooting (state_of t) (state_of u)
 footing t u es h after = record {

@@ -9,7 +9,7 @@ use Rattle.std.proofs.lemmas.Option.{slice_get-map}
 use Rattle.hir_input.specs.Cfg.{AtomView}
 use Rattle.hir_input.specs.Syntax.{SyntaxView}
 use Rattle.item_tree.specs.CrateView.{CrateView}
-use Rattle.item_tree.specs.Node.{Unfolding}
+use Rattle.item_tree.specs.Node.{Unfolding, nothing}
 use Rattle.item_tree.specs.Code.Node.{unfolding_code}
 use Rattle.item_tree.specs.Same.{same, same_itself, equal_of_same}
 use Rattle.item_tree_db.specs.declared.rows.Row.{Row}
@@ -251,6 +251,10 @@ settled_changed n r x = elim (same unfolding_code r.tree x) as (λ b. (cond b r 
 settled_bound : (m : ℕ) (r : Row) (x : Unfolding) → r.changed ≤ m → (settled_row (m + 1) r (record { tree = x; changed = m + 1 })).changed ≤ m + 1
 settled_bound m r x h = elim (same unfolding_code r.tree x) as (λ b. (cond b r (record { tree = x; changed = m + 1 })).changed ≤ m + 1) [ true ↦ omega arith | false ↦ omega arith ]
 
+-- a number that is not above the start is an old one
+settled_low : (m start : ℕ) (r : Row) (x : Unfolding) → start ≤ m → (r.changed ≤ start → r.tree ≡ nothing) → (settled_row (m + 1) r (record { tree = x; changed = m + 1 })).changed ≤ start → (settled_row (m + 1) r (record { tree = x; changed = m + 1 })).tree ≡ nothing
+settled_low m start r x s h = elim (same unfolding_code r.tree x) as (λ b. (cond b r (record { tree = x; changed = m + 1 })).changed ≤ start → (cond b r (record { tree = x; changed = m + 1 })).tree ≡ nothing) [ true ↦ h | false ↦ λ low. absurd (omega arith) ]
+
 pub change_step : (t : Table) (e : EditView) (place : Place) (i : ℕ) → IsSound t → i < length t.crates
     → change_number (state_of (after t e)) place i ≡ cond (same unfolding_code (unfolding_at (state_of t) place i) (unfolding_at (state_of (after t e)) place i)) (change_number (state_of t) place i) (t.number + 1)
 change_step t e place i h p =
@@ -287,4 +291,9 @@ sound_step t e h =
       bounded = λ place i p.
           let q : i < length t.crates = rw (← many) p in
           rw (row_step t e place i h q, number_step t e) (settled_bound t.number (row_at t place i) _ (h.bounded place i q));
+      grounded = λ place i p low.
+          let q : i < length t.crates = rw (← many) p in
+          let is = row_step t e place i h q in
+          let low_then = subst (λ (r : Row). r.changed ≤ t.start) is (subst (λ (m : ℕ). (row_at (after t e) place i).changed ≤ m) (start_step t e) low) in
+          ap (λ (r : Row). r.tree) is ∙ settled_low t.number t.start (row_at t place i) _ h.started (h.grounded place i q) low_then;
     }

@@ -1,13 +1,14 @@
 -- What changed since a number.
-use Rattle.std.specs.Prelude.{◌≡◌, ℕ, ◌<◌, List, All}
+use Rattle.std.specs.Prelude.{◌≡◌, ℕ, ◌<◌, ◌≤◌, List, length, All}
 use Rattle.std.specs.List.{AllPairs, Contains}
 use Rattle.std.specs.declared.cmp.Ordering.{Ordering}
 use Rattle.std.specs.declared.cmp.Ordering.TheVariants.{Less}
 use Rattle.std.specs.Ordering.{nat_cmp, on, then_cmp}
 use Rattle.hir_input.specs.declared.ids.Crate.{Crate}
+use Rattle.item_tree.specs.Node.{nothing}
 use Rattle.item_tree_db.specs.declared.place.Place.{Place}
 use Rattle.item_tree_db.specs.PlaceOrder.{place_cmp}
-use Rattle.item_tree_db.specs.State.{State, IsKnown, change_number}
+use Rattle.item_tree_db.specs.State.{State, IsKnown, unfolding_at, change_number}
 
 -- a place and a crate, with a change number
 abbrev pub Change : Type 0
@@ -23,6 +24,11 @@ pub record IsLate (s : State) (n : ℕ) (c : Change) : Type 0 where
   pub number : c.2 ≡ change_number s c.0 c.1.0
   pub above : n < c.2
   pub above_start : s.start < c.2
+
+-- what an index starts from: a tree whose change number is not above the start is empty
+pub record IsGrounded (s : State) : Type 0 where
+  pub started : s.start ≤ s.number
+  pub empty : (place : Place) (i : ℕ) → i < length s.crates → change_number s place i ≤ s.start → unfolding_at s place i ≡ nothing
 
 -- exactly those, each once and in order
 pub record IsSince (s : State) (n : ℕ) (changes : List Change) : Type 0 where

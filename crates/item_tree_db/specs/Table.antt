@@ -5,6 +5,7 @@ use Rattle.hir_input.specs.Cfg.{AtomView}
 use Rattle.hir_input.specs.Syntax.{SyntaxView}
 use Rattle.item_tree.specs.declared.crate_data.CrateData.{CrateData}
 use Rattle.item_tree.specs.CrateView.{CrateView, crate_view}
+use Rattle.item_tree.specs.Node.{nothing}
 use Rattle.item_tree_db.specs.declared.place.Place.{Place}
 use Rattle.item_tree_db.specs.declared.rows.Row.{Row}
 use Rattle.item_tree_db.specs.declared.source.Source.{Source}
@@ -104,9 +105,10 @@ bare = map (λ slot. (slot.0, held_of slot.1))
 abbrev pub state_of : Table → State
 state_of t = record { crates = t.crates; skipped = t.skipped; start = t.start; number = t.number; places = bare t.places }
 
--- each tree is what its syntax fixes, and no change number is above the number
+-- each tree is what its syntax fixes; no change number is above the number, and where one is not above the start, the tree is empty
 pub record IsSound (t : Table) : Type 0 where
   pub rows : HasRows (length t.crates) t.places
   pub started : t.start ≤ t.number
   pub trees : (place : Place) (i : ℕ) → i < length t.crates → (row_at t place i).tree ≡ unfolding_at (state_of t) place i
   pub bounded : (place : Place) (i : ℕ) → i < length t.crates → (row_at t place i).changed ≤ t.number
+  pub grounded : (place : Place) (i : ℕ) → i < length t.crates → (row_at t place i).changed ≤ t.start → (row_at t place i).tree ≡ nothing

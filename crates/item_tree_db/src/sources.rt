@@ -1,5 +1,5 @@
 //! The table of trees.
-ghost use Rattle.std.specs.Prelude.{◌≡◌, ◌<◌, ◌↔◌, ◌∷◌, [], length, map, slice_get, option_map, option_copied, Some, IsTrue, IfOk, IfErr, OnOk, OnErr, IsErrAnd};
+ghost use Rattle.std.specs.Prelude.{◌≡◌, ◌<◌, ◌≤◌, ◌↔◌, ◌∷◌, [], length, map, slice_get, option_map, option_copied, Some, IsTrue, IfOk, IfErr, OnOk, OnErr, IsErrAnd};
 ghost use Rattle.std.specs.List.{AllByRecursion};
 ghost use Rattle.hir_input.specs.Syntax.{syntax_view, block_view};
 ghost use Rattle.item_tree.specs.declared.fault.EditFault.TheVariants.{TooManyEdits};
@@ -7,7 +7,7 @@ ghost use Rattle.item_tree.specs.CrateView.{crate_view};
 ghost use Rattle.item_tree_db.specs.State.{new_table, IsKnown, options, present, unfolding_at, change_number};
 ghost use Rattle.item_tree_db.specs.Edits.{edit_view, edits_before};
 ghost use Rattle.item_tree_db.specs.History.{IsAfter, IsFooting, IgnoresBodies};
-ghost use Rattle.item_tree_db.specs.Since.{IsSince};
+ghost use Rattle.item_tree_db.specs.Since.{IsGrounded, IsSince};
 ghost use Rattle.item_tree_db.specs.Refusal.{last_number, NamesKnown, FitsAfter, FirstFit, IsRefusal};
 
 use crate::edit::{AllRefused, Edit, EditRefused};
@@ -93,6 +93,7 @@ impl Sources {
         ensures fits_before { IfErr result (λ all. FirstFit self.old (map edit_view edits.items) all.place) }
         ensures cause { IfErr result (λ all. IsRefusal self.new all.refused) }
         ensures full { IfErr result (λ all. self.new.number ≡ last_number → all.refused.cause ≡ TooManyEdits) }
+        ensures in_range { IfErr result (λ all. self.new.number ≤ last_number) }
     {
         self.store.edit_all(edits)
     }
@@ -130,8 +131,10 @@ impl Sources {
     /// The change numbers above `n` and above `start`, of known crates at all places, in the order of places and
     /// then of crates: what an index that was made at number `n` has to read again. A tree that became another and
     /// then what it was is given too. Takes no memory, and passes over the table once.
+    /// A tree that is not given at 0 is empty.
     pub fn changed_since(&self, n: u64) -> ChangedSince<'_>
-        ensures { IsSince self.now n result }
+        ensures since { IsSince self.now n result }
+        ensures grounded { IsGrounded self.now }
     {
         self.store.changed_since(n)
     }
@@ -150,7 +153,9 @@ impl Sources {
         self.store.block_syntax(block)
     }
 
-    pub(crate) fn tree(&self, place: Place, krate: Crate) -> &ItemTree
+    /// A crate's tree of a place: the empty one where nothing is set or the syntax is `Error`. What rust-analyzer's
+    /// queries `file_item_tree` and `block_item_tree` give.
+    pub fn tree(&self, place: Place, krate: Crate) -> &ItemTree
         requires { IsKnown self.now krate }
         ensures { result.now ≡ unfolding_at self.now place krate.0 }
     {

@@ -1,5 +1,5 @@
 //! The table with its trees as its value.
-ghost use Rattle.std.specs.Prelude.{◌≡◌, ◌+◌, ◌<◌, ◌↔◌, ◌^◌, [], length, map, slice_get, option_map, option_copied, Some, IsTrue, IfOk, IfErr, IfSome, OnOk, OnErr, IsErrAnd};
+ghost use Rattle.std.specs.Prelude.{◌≡◌, ◌+◌, ◌<◌, ◌≤◌, ◌↔◌, ◌^◌, [], length, map, slice_get, option_map, option_copied, Some, IsTrue, IfOk, IfErr, IfSome, OnOk, OnErr, IsErrAnd};
 ghost use Rattle.std.specs.List.{AllByRecursion};
 ghost use Rattle.hir_input.specs.Syntax.{syntax_view, block_view};
 ghost use Rattle.item_tree.specs.declared.fault.EditFault.TheVariants.{TooManyEdits, Lower};
@@ -170,6 +170,7 @@ impl Store {
     /// Makes an edit, and gives its number. A refusal changes nothing, and hands the edit back.
     pub fn edit(&mut self, edit: Edit) -> Result<u64, EditRefused>
         requires { NamesKnown (state_of self.old) (edit_view edit) }
+        ensures in_range { self.old.number ≤ last_number }
         ensures ok { OnOk result (self.new ≡ after self.old (edit_view edit)) }
         ensures number { IfOk result (λ number. number ≡ self.new.number) }
         ensures fits { OnOk result (FitsAfter (state_of self.old) [] (edit_view edit)) }
@@ -203,6 +204,7 @@ impl Store {
         ensures place { IfErr result (λ all. slice_get edits.items all.place ≡ Some all.refused.edit) }
         ensures cause { IfErr result (λ all. IsRefusal (state_of self.new) all.refused) }
         ensures full { IfErr result (λ all. self.new.number ≡ last_number → all.refused.cause ≡ TooManyEdits) }
+        ensures in_range { IfErr result (λ all. self.new.number ≤ last_number) }
     {
         for (place, edit) in edits.into_iter().enumerate() {
             if let Err(refused) = self.edit(edit) {
