@@ -11,6 +11,8 @@ mod edits;
 #[cfg(test)]
 mod example;
 #[cfg(test)]
+mod indexes;
+#[cfg(test)]
 mod no_memory;
 #[cfg(test)]
 mod options;

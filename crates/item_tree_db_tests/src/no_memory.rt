@@ -1,5 +1,5 @@
 //! A table over two files and a block, read where no memory is left, and a file removed.
-use crate::table::{BLOCK, CRATE, FILE, OTHER, are_set, table};
+use crate::table::{Answer, BLOCK, CRATE, FILE, OTHER, are_set, make, table};
 use hir_input::CfgExpr;
 use item_tree::CrateData;
 use item_tree_db::{Edit, Place, Sources, TreeId, file_item_tree};
@@ -43,10 +43,8 @@ fn is_read(sources: &Sources) -> bool {
 }
 
 fn is_removed(sources: &mut Sources) -> bool {
-    match sources.edit(Edit::RemoveFile { file: FILE }) {
-        Ok(number) => number == 4,
-        Err(_) => false,
-    }
+    let answer = make(sources, Edit::RemoveFile { file: FILE });
+    matches!(answer, Answer::Made(4))
 }
 
 fn is_made(alloc: Global, crates: Vec<CrateData>) -> bool {

@@ -1,28 +1,17 @@
 //! Options given to a crate over two files and a block, where a request for memory is refused.
-use crate::table::{BLOCK, CRATE, FILE, OTHER, are_set, table};
-use item_tree::{EditFault, LowerError};
-use item_tree_db::{Edit, EditRefused, Place, Sources};
+use crate::table::{Answer, BLOCK, CRATE, FILE, OTHER, are_set, make, table};
+use item_tree_db::{Edit, Place, Sources};
 use item_tree_samples::attributes::{flag, options};
 use std::alloc::{AllocError, Global};
-
-fn is_handed_back(refused: &EditRefused) -> bool {
-    refused.cause == EditFault::Lower(LowerError::OutOfMemory)
-        && matches!(refused.edit, Edit::SetCfg { krate: CRATE, .. })
-}
 
 // Gives the crate the flag `test`. Whether that is the fourth edit, or handed back.
 fn is_given_or_refused(alloc: Global, sources: &mut Sources) -> Result<bool, AllocError> {
     if !sources.knows(CRATE) {
         return Ok(false);
     }
-    let edit = Edit::SetCfg {
-        krate: CRATE,
-        options: options(alloc, "test")?,
-    };
-    match sources.edit(edit) {
-        Ok(number) => Ok(number == 4),
-        Err(refused) => Ok(is_handed_back(&refused)),
-    }
+    let (krate, options) = (CRATE, options(alloc, "test")?);
+    let answer = make(sources, Edit::SetCfg { krate, options });
+    Ok(matches!(answer, Answer::Made(4) | Answer::HandedBack))
 }
 
 // Whether the crate has the option exactly where the fourth edit was made.

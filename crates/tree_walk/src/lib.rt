@@ -8,7 +8,7 @@ ghost use Rattle.item_tree.specs.CrateView.{crate_view};
 ghost use Rattle.item_tree.specs.Kept.{kept_syntax};
 ghost use Rattle.item_tree.specs.Layout.{node_at, vis_at};
 ghost use Rattle.item_tree.specs.Node.{node_ast, count};
-ghost use Rattle.item_tree.specs.Reach.{child_ids, ids_from};
+ghost use Rattle.item_tree.specs.Reach.{all_ids, child_ids, ids_from};
 ghost use Rattle.item_tree.specs.Shown.{HasVisibility, IsContained, StandFor, lent};
 ghost use Rattle.item_tree.specs.Size.{FitsWith, IsTooLarge};
 ghost use Rattle.item_tree.specs.Walk.{AreContained, children_at, IsWalkedOnce, count_at};
@@ -78,6 +78,7 @@ fn count_one(tree: &ItemTree, id: ModItemId) -> usize
 #[tactic(auto, using(item_tree::proofs::Walking::ids_contained, crate::proofs::Below::preorder_ids))]
 pub fn preorder(alloc: Global, tree: &ItemTree) -> Result<Vec<ModItemId>, AllocError>
     ensures stand { IfOk result (λ ids. map (node_at tree.now.forest) ids.items ≡ map Some (preorder tree.now.forest)) }
+    ensures ids { IfOk result (λ ids. ids.items ≡ all_ids tree.now) }
     ensures once { IfOk result (λ ids. AllPairs (λ i j. i ≢ j) ids.items) }
     ensures all { IfOk result (λ ids. (id : ℕ) → IsContained tree.now id ↔ Contains ids.items id) }
     ensures contained { IfOk result (λ ids. AreContained tree.now ids.items) }

@@ -1,0 +1,6 @@
+pub mod Lists
+pub mod Order
+pub mod Trees
+pub mod Refreshed
+pub mod Looked
+pub mod Laws

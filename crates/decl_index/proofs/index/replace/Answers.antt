@@ -1,0 +1,14 @@
+use Rattle.std.proofs.Common.{rules, ◌≡◌, ◌++◌, List, filter, ap, subst, ◌∙◌}
+use Rattle.std.specs.List.Sorted.{IsPermutation}
+use Rattle.std.proofs.lemmas.Fn.{filter_same}
+use Rattle.decl_index.specs.declared.entry.Entry.{Entry}
+use Rattle.decl_index.specs.Inner.{is_current}
+use Rattle.decl_index.proofs.index.replace.Goals as goal
+
+pub returns-clause-moved : goal.returns-clause-moved
+returns-clause-moved c =
+    let test = is_current c.args.sources.now c.args.since in
+    let fresh = c.args.fresh.now.items in
+    let kept = filter_same _ test _ (λ x b f k. search rules) _ _ c.retain.ensures.filtered in
+    let is : c.append.new.self.items ≡ filter test c.args.entries.now.items ++ fresh = c.in_ok-append.ensures.items ∙ ap (λ (xs : List Entry). xs ++ fresh) (kept ∙ ap (filter test) c.reserve.ensures.items) in
+    subst (λ (xs : List Entry). IsPermutation xs c.sort.new.entries.items) is c.sort.ensures.moved

@@ -1,0 +1,4 @@
+pub mod EntryOrder
+pub mod Entries
+pub mod Lookup
+pub mod Inner

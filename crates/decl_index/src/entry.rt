@@ -1,0 +1,51 @@
+//! Entries of an index.
+use hir_input::{Crate, Name};
+use item_tree::ModItemId;
+use item_tree_db::Place;
+use std::cmp::Ordering;
+
+/// An item that has a name: in which tree of the table it stands, and under which id.
+///
+/// In the order of the names by their bytes, then of places, of crates and of ids.
+#[derive(Debug, PartialEq, Eq, Drop)]
+pub struct Entry {
+    pub name: Name,
+    pub place: Place,
+    pub krate: Crate,
+    /// The item's id in the crate's tree of the place.
+    pub id: ModItemId,
+}
+
+impl PartialOrd for Entry {
+    ghost use Rattle.std.specs.Ordering.{as_partial_cmp};
+    ghost use Rattle.decl_index.specs.EntryOrder.{entry_cmp, entry_cmp_partial};
+
+    ghost partial_cmp = { as_partial_cmp entry_cmp };
+
+    ghost laws = { entry_cmp_partial };
+
+    fn partial_cmp(&self, other: &Entry) -> Option<Ordering> {
+        Some(self.cmp(other))
+    }
+}
+
+impl Ord for Entry {
+    ghost use Rattle.std.specs.Prelude.{refl};
+    ghost use Rattle.decl_index.specs.EntryOrder.{entry_cmp, entry_cmp_total, entry_cmp_ties};
+
+    ghost cmp = { entry_cmp };
+
+    ghost total = { entry_cmp_total };
+
+    ghost matches_partial_cmp = { λ a b. refl };
+
+    ghost matches_eq = { entry_cmp_ties };
+
+    fn cmp(&self, other: &Entry) -> Ordering {
+        let names = self.name.text().cmp(other.name.text());
+        names
+            .then(self.place.cmp(&other.place))
+            .then(self.krate.0.cmp(&other.krate.0))
+            .then(self.id.cmp(&other.id))
+    }
+}
