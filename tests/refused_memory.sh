@@ -2,22 +2,24 @@
 # Refuses each request for memory in turn, one a run, until a run makes no further request; and from a mark on all of them, in
 # tests of what takes no memory. As many subjects are tried at once as there are processors.
 #
-#   refused_memory.sh PROGRAM TESTS ..
+#   refused_memory.sh PROGRAM OUTLINES TESTS ..
 #
-# The program, on each request that it answers, has to end with status 5, the line `out of memory` and nothing written.
+# The program on each request of tests/requests that it answers, and OUTLINES on each of tests/outlines, has to end with status 5,
+# the line `out of memory` and nothing written.
 # Each test of the binaries TESTS whose name holds `when_memory_is_refused` has to pass in every run. Each whose name holds
 # `where_no_memory_is_left` has to pass where all requests between its marks are refused, and to make only the one there by
 # which it sees that.
 set -uo pipefail
 program=$(realpath "$1")
-shift
+outlines=$(realpath "$2")
+shift 2
 mapfile -t binaries < <(realpath "$@")
 here=$(cd "$(dirname "${BASH_SOURCE[0]}")" && pwd)
 work=$(mktemp -d)
 trap 'rm -rf "$work"' EXIT
 cc -shared -fPIC -O1 -o "$work/refuse_memory.so" "$here/refuse_memory.c" -ldl || exit 2
 printf 'out of memory\n' > "$work/line"
-export program here work
+export here work
 
 # Runs a command with one request refused; leaves its status, and the number of requests that it made.
 refuse() {
@@ -32,17 +34,17 @@ judge() {
     if [ "$1" = 0 ]; then passed=$((passed + 1)); else failed=$((failed + 1)); echo "$2"; fi
 }
 
-# A request of tests/requests, by its path without an ending.
+# A program and a request, by its path in tests without an ending.
 try_request() {
     local request
     for ((request = 1; ; request++)); do
-        refuse "$request" "$program" < "$here/requests/$1.json"
+        refuse "$request" "$1" < "$here/$2.json"
         [ "$made" -ge "$request" ] || break
         [ "$status" = 5 ] && [ ! -s "$own/out" ] && cmp -s "$own/err" "$work/line"
-        judge $? "request $1: status $status with request $request for memory refused"
+        judge $? "$2: status $status with request $request for memory refused"
     done
-    [ "$status" = 0 ] && cmp -s "$own/out" "$here/requests/$1.out"
-    judge $? "request $1: status $status with no request for memory refused"
+    [ "$status" = 0 ] && cmp -s "$own/out" "$here/$2.out"
+    judge $? "$2: status $status with no request for memory refused"
 }
 
 # A test of a binary.
@@ -72,11 +74,9 @@ try() {
 export -f refuse judge try_request try_test try_marked try
 
 subjects() {
-    local wanted name binary
-    for wanted in "$here"/requests/*/*.out; do
-        name=${wanted#"$here/requests/"}
-        echo "try_request ${name%.out}"
-    done
+    local binary
+    (cd "$here" && printf '%s\n' requests/*/*.out) | sed "s|^|try_request $program |; s|\.out\$||"
+    (cd "$here" && printf '%s\n' outlines/*/*.out) | sed "s|^|try_request $outlines |; s|\.out\$||"
     for binary in "${binaries[@]}"; do
         "$binary" --list | sed -n 's/: test$//p' > "$work/names"
         grep when_memory_is_refused "$work/names" | sed "s|^|try_test $binary |"
@@ -89,7 +89,7 @@ grep -v '^counts: ' "$work/told"
 # The last run of a subject whose requests are refused in turn is one in which nothing was.
 awk '/^counts: / { passed += $3; failed += $4; subjects[$2]++; refused[$2] += $3 + $4 - 1 }
      END {
-         printf "%d requests of the program: %d times memory was refused\n", subjects["try_request"], refused["try_request"]
+         printf "%d requests of the programs: %d times memory was refused\n", subjects["try_request"], refused["try_request"]
          printf "%d tests: %d times memory was refused\n", subjects["try_test"], refused["try_test"]
          printf "%d tests: no memory was left\n", subjects["try_marked"]
          printf "refused_memory: %d passed, %d failed\n", passed, failed

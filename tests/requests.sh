@@ -1,13 +1,15 @@
 #!/usr/bin/env bash
-# Runs a program on each request of the folders of tests/requests and compares what it writes and how it ends.
+# Runs a program on each request of the folders of tests/requests, or of another folder of tests, and compares what it writes
+# and how it ends.
 #
-#   requests.sh PROGRAM
+#   requests.sh PROGRAM [FOLDER]
 #
 # NAME.json is standard input. NAME.out is the standard output that is wanted (no file: none). NAME.refused is the exit
 # status and the line on standard error that are wanted (no file: status 0 and no line).
 set -uo pipefail
 program=$(realpath "$1")
-cd "$(dirname "${BASH_SOURCE[0]}")/requests" || exit 2
+folder=${2:-requests}
+cd "$(dirname "${BASH_SOURCE[0]}")/$folder" || exit 2
 work=$(mktemp -d)
 trap 'rm -rf "$work"' EXIT
 passed=0 failed=0
@@ -27,10 +29,10 @@ for request in */*.json; do
         passed=$((passed + 1))
     else
         failed=$((failed + 1))
-        echo "request $name: wanted status $status, found $found"
+        echo "$folder, $name: wanted status $status, found $found"
         diff "$work/out" "$work/found-out"
         diff "$work/err" "$work/found-err"
     fi
 done
-echo "requests: $passed passed, $failed failed"
+echo "$folder: $passed passed, $failed failed"
 [ "$failed" = 0 ] && [ "$passed" -gt 0 ]

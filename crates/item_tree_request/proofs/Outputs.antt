@@ -11,16 +11,26 @@ use Rattle.item_tree_db.specs.declared.edit.Edit.TheVariants.{SetFile, RemoveFil
 use Rattle.item_tree_db.specs.Edits.{EditView, edit_view}
 use Rattle.item_tree_db.specs.Refusal.{NamesKnown}
 use Rattle.item_tree_db.specs.History.{IsAfter}
-use Rattle.item_tree_db.specs.Since.{Change, IsLate, IsSince}
+use Rattle.item_tree_db.specs.Since.{Change, IsSince}
 use Rattle.item_tree_request.specs.declared.request.show.Show.{Show}
 use Rattle.item_tree_request.specs.declared.request.show.Show.TheVariants.{OfTree, Changed}
 use Rattle.item_tree_request.specs.declared.request.show.TreeShow.{TreeShow}
 use Rattle.item_tree_request.specs.declared.request.show.ShowKind.{ShowKind}
 use Rattle.item_tree_request.specs.declared.request.show.ShowKind.TheVariants.{Page, Tree, Imports}
 use Rattle.item_tree_request.specs.ImportLines.{import_lines}
-use Rattle.item_tree_request.specs.Made.{Knows, IsTextOf, Adds}
-use Rattle.item_tree_request.specs.Outputs.{change_line, heading, page_text, imports_text, shown_as, IsLateAfter, IsSinceAfter, IsShown, AreJoined}
+use Rattle.item_tree_request.specs.Made.{Knows, IsAdded}
+use Rattle.item_tree_request.specs.Outputs.{change_line, heading, page_text, imports_text, shown_as, IsLateAfter, IsSinceAfter, AreChanges, IsShown, AreJoined}
 use Rattle.item_tree_request.specs.Seen.{NamesCrate, EditNamesCrate}
+
+-- what changed since a number, by no further edits
+pub since-now : (u : State) (n : ℕ) (changes : List Change) → IsSince u n changes → IsSinceAfter u [] n changes
+since-now u n changes since = record {
+  late = λ k d within.
+      let late = since.late k d within in
+      record { known = late.known; number = late.number; above = late.above; above_start = late.above_start };
+  whole = λ c late. since.whole c (record { known = late.known; number = late.number; above = late.above; above_start = late.above_start });
+  in_order = since.in_order;
+}
 
 -- ---- the edits lead from s to u
 
@@ -33,7 +43,7 @@ module _ (s u : State) (edits : List EditView) (after : IsAfter s edits u) where
   unfolding imports_text
   imports_text-after reserved show known = ap (λ v. import_lines reserved v.forest) (after.unfoldings show.place show.krate.0 known)
 
-  heading-after : (show : TreeShow) → show.krate.0 < length s.crates → heading u [] show ≡ heading s edits show
+  pub heading-after : (show : TreeShow) → show.krate.0 < length s.crates → heading u [] show ≡ heading s edits show
   heading-after show known = ap (λ n. change_line (show.place, show.krate, n)) (after.changes show.place show.krate.0 known)
 
   shown_as-after : (kind : ShowKind) (reserved : List (List ℕ)) (show : TreeShow) → show.krate.0 < length s.crates → shown_as kind reserved u [] show ≡ shown_as kind reserved s edits show
@@ -43,35 +53,28 @@ module _ (s u : State) (edits : List EditView) (after : IsAfter s edits u) where
   shown_as-after Imports reserved show known = imports_text-after reserved show known
 
   -- what changed since a number in the table did so by the edits
-  late-after : (n : ℕ) (c : Change) → IsLate u n c → IsLateAfter s edits n c
+  late-after : (n : ℕ) (c : Change) → IsLateAfter u [] n c → IsLateAfter s edits n c
   late-after n c late =
       let known : c.1.0 < length s.crates = omega (arith, late.known, after.count) in
       record { known = known; number = late.number ∙ after.changes c.0 c.1.0 known; above = late.above; above_start = omega (arith, late.above_start, after.start) }
 
-  late-before : (n : ℕ) (c : Change) → IsLateAfter s edits n c → IsLate u n c
+  late-before : (n : ℕ) (c : Change) → IsLateAfter s edits n c → IsLateAfter u [] n c
   late-before n c late =
       record { known = omega (arith, late.known, after.count); number = late.number ∙ sym (after.changes c.0 c.1.0 late.known); above = late.above; above_start = omega (arith, late.above_start, after.start) }
 
-  pub since-after : (n : ℕ) (changes : List Change) → IsSince u n changes → IsSinceAfter s edits n changes
+  since-after : (n : ℕ) (changes : List Change) → IsSinceAfter u [] n changes → IsSinceAfter s edits n changes
   since-after n changes since = record {
     late = λ k d within. late-after n (get_or changes k d) (since.late k d within);
     whole = λ c late. since.whole c (late-before n c late);
     in_order = since.in_order;
   }
 
-  is_shown : (reserved : List (List ℕ)) (show : Show) (text : List ℕ) → Knows s show → IsTextOf reserved u show text → IsShown reserved s edits show text
+  pub changes-after : (n : ℕ) (text : List ℕ) → AreChanges u [] n text → AreChanges s edits n text
+  changes-after n text are = (are.0, since-after n are.0 are.1, are.2)
+
+  pub is_shown : (reserved : List (List ℕ)) (show : Show) (text : List ℕ) → Knows s show → IsShown reserved u [] show text → IsShown reserved s edits show text
   is_shown reserved (OfTree show) text known is = is ∙ shown_as-after show.kind reserved show known
-  is_shown reserved (Changed since) text known is = (is.0, since-after since is.0 is.1, is.2)
-
-  are_shown : (reserved : List (List ℕ)) (shows : List Show) (texts : List (List ℕ)) → All (Knows s) shows → AllZip (IsTextOf reserved u) shows texts → AllZip (IsShown reserved s edits) shows texts
-  are_shown reserved [] [] known are = tt
-  are_shown reserved [] (text ∷ texts) known are = absurd are
-  are_shown reserved (show ∷ shows) [] known are = absurd are
-  are_shown reserved (show ∷ shows) (text ∷ texts) known are =
-      (is_shown reserved show text (known 0 show (omega arith)) are.0, are_shown reserved shows texts (λ k d within. known (suc k) d (omega (arith, within))) are.1)
-
-  pub output-after : (reserved : List (List ℕ)) (shows : List Show) (whole : List ℕ) → All (Knows s) shows → AreJoined (IsTextOf reserved u) shows whole → AreJoined (IsShown reserved s edits) shows whole
-  output-after reserved shows whole known are = (are.0, are_shown reserved shows are.0 known are.1, are.2)
+  is_shown reserved (Changed since) text known is = changes-after since text is
 
   -- after edits the crates are the same
   known_after : (show : Show) → Knows s show → Knows u show
@@ -94,15 +97,27 @@ concat-push [] text = append-nil text
 concat-push (first ∷ texts) text = ap (λ rest. first ++ rest) (concat-push texts text) ∙ sym (append_assoc first (concat texts) text)
 
 -- the text of the next one
-pub joined-more : (reserved : List (List ℕ)) (u : State) (shows : List Show) (i : ℕ) (d : Show) (old new : List ℕ) → i < length shows
-    → AreJoined (IsTextOf reserved u) (take i shows) old → Adds reserved u (get_or shows i d) old new → AreJoined (IsTextOf reserved u) (take (i + 1) shows) new
-joined-more reserved u shows i d old new within are adds =
+pub joined-more : (IsText : Show → List ℕ → Type 0) (shows : List Show) (i : ℕ) (d : Show) (old new : List ℕ) → i < length shows
+    → AreJoined IsText (take i shows) old → IsAdded (IsText (get_or shows i d)) old new → AreJoined IsText (take (i + 1) shows) new
+joined-more IsText shows i d old new within are adds =
     let next = get_or shows i d in
-    subst (λ front. AreJoined (IsTextOf reserved u) front new) (sym (take_more shows i d within)) (
+    subst (λ front. AreJoined IsText front new) (sym (take_more shows i d within)) (
       are.0 ++ adds.0 ∷ [],
-      AllZip-push (IsTextOf reserved u) (take i shows) are.0 next adds.0 are.1 adds.1,
+      AllZip-push IsText (take i shows) are.0 next adds.0 are.1 adds.1,
       adds.2 ∙ ap (λ text. text ++ adds.0) are.2 ∙ sym (concat-push are.0 adds.0),
     )
+
+-- texts in one sense are texts in another
+module _ (s : State) (P Q : Show → List ℕ → Type 0) (carry : (show : Show) (text : List ℕ) → Knows s show → P show text → Q show text) where
+  carried : (shows : List Show) (texts : List (List ℕ)) → All (Knows s) shows → AllZip P shows texts → AllZip Q shows texts
+  carried [] [] known are = tt
+  carried [] (text ∷ texts) known are = absurd are
+  carried (show ∷ shows) [] known are = absurd are
+  carried (show ∷ shows) (text ∷ texts) known are =
+      (carry show text (known 0 show (omega arith)) are.0, carried shows texts (λ k d within. known (suc k) d (omega (arith, within))) are.1)
+
+  pub joined-carried : (shows : List Show) (whole : List ℕ) → All (Knows s) shows → AreJoined P shows whole → AreJoined Q shows whole
+  joined-carried shows whole known are = (are.0, carried shows are.0 known are.1, are.2)
 
 -- ---- crates of a new table
 

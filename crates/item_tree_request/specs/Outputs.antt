@@ -76,18 +76,26 @@ pub record IsSinceAfter (s : State) (edits : List EditView) (n : ℕ) (changes :
 
 -- ---- the output
 
+-- the lines of all changes since a number
+abbrev pub AreChanges : State → List EditView → ℕ → List ℕ → Type 0
+AreChanges s edits since text = (changes : List Change) × IsSinceAfter s edits since changes × (text ≡ flat_map change_line changes)
+
+-- what a program writes of shows: under these reserved words, after the edits of a table, this text of a show
+abbrev pub ShowText : Type 1
+ShowText = List (List ℕ) → State → List EditView → Show → List ℕ → Type 0
+
 -- the text of a show after the edits: that of a tree, or the lines of all changes since a number
-abbrev pub IsShown : List (List ℕ) → State → List EditView → Show → List ℕ → Type 0
+abbrev pub IsShown : ShowText
 IsShown reserved s edits (OfTree show) text = text ≡ shown reserved s edits show
-IsShown reserved s edits (Changed since) text = (changes : List Change) × IsSinceAfter s edits since changes × (text ≡ flat_map change_line changes)
+IsShown reserved s edits (Changed since) text = AreChanges s edits since text
 
 -- the whole is a text of each, one after another
 abbrev pub AreJoined : {A : Type 0} → (A → List ℕ → Type 0) → List A → List ℕ → Type 0
 AreJoined IsText xs whole = (texts : List (List ℕ)) × AllZip IsText xs texts × (whole ≡ concat texts)
 
 -- the texts of the shows of a request, one after another
-abbrev pub IsOutput : Request → List ℕ → Type 0
-IsOutput q text = AreJoined (IsShown q.edition.reserved (table_of q) q.edits) q.shows text
+abbrev pub IsOutput : ShowText → Request → List ℕ → Type 0
+IsOutput IsText q whole = AreJoined (IsText q.edition.reserved (table_of q) q.edits) q.shows whole
 
 -- ---- sizes
 

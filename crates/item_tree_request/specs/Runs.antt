@@ -1,20 +1,20 @@
--- What a run has read and written when it answers.
+-- What a run has read and written when it answers, over what its program writes of shows.
 use Rattle.std.specs.Prelude.{◌≡◌, ℕ, List, length, None, Option}
 use Rattle.std.specs.Io.KnownBytes.{Keeps, Appends}
 use Rattle.serde_json.specs.Data.{Data}
 use Rattle.item_tree.specs.declared.fault.EditFault.{EditFault}
 use Rattle.item_tree_request.specs.declared.error.RunError.{RunError}
 use Rattle.item_tree_request.specs.declared.error.RunError.TheVariants.{NotJson, NotRequest, Refused, OutOfMemory, Read, Write}
-use Rattle.item_tree_request.specs.Outputs.{table_of, IsOutput, NonePasses, PassesAt}
+use Rattle.item_tree_request.specs.Outputs.{ShowText, table_of, IsOutput, NonePasses, PassesAt}
 use Rattle.item_tree_request.specs.Requests.{Request, request, IsJsonText, IsRequest}
 use Rattle.item_tree_request.specs.Streams.{IsReadToEnd, TakesBeginning}
 
 -- the bytes are a request, no edit of it passes a size, and the text is its output
-pub record IsOutputOf (bytes text : List ℕ) : Type 0 where
+pub record IsOutputOf (IsText : ShowText) (bytes text : List ℕ) : Type 0 where
   pub asked : Request
   pub is_request : IsRequest bytes asked
   pub none_passes : NonePasses (table_of asked) asked.edits (length asked.edits)
-  pub is_output : IsOutput asked text
+  pub is_output : IsOutput IsText asked text
 
 -- the bytes are a request, whose edit at this place is the first that passes a size, and passes this one
 pub record IsRefusedAt (bytes : List ℕ) (place : ℕ) (cause : EditFault) : Type 0 where
@@ -33,18 +33,18 @@ IsRefusedFor bytes Read = ⊥
 IsRefusedFor bytes Write = ⊥
 
 -- all that the reader gave is a request, and the writer took its output
-abbrev pub IsDone : (had left : Option (List ℕ)) (held holds : Option (List ℕ)) → Type 0
-IsDone had left held holds = (bytes : List ℕ) × (text : List ℕ) × IsReadToEnd had left bytes × IsOutputOf bytes text × Appends held holds text
+abbrev pub IsDone : ShowText → (had left : Option (List ℕ)) (held holds : Option (List ℕ)) → Type 0
+IsDone IsText had left held holds = (bytes : List ℕ) × (text : List ℕ) × IsReadToEnd had left bytes × IsOutputOf IsText bytes text × Appends held holds text
 
 -- all that the reader gave is refused for this cause, and nothing was written
 abbrev pub IsRefused : (had left : Option (List ℕ)) (held holds : Option (List ℕ)) → RunError → Type 0
 IsRefused had left held holds e = ((bytes : List ℕ) × IsReadToEnd had left bytes × IsRefusedFor bytes e) × Keeps held holds
 
 -- what stands after an error: only where a write failed was anything written, and then a beginning of the output
-abbrev pub IsFailure : (had left : Option (List ℕ)) (held holds : Option (List ℕ)) → RunError → Type 0
-IsFailure had left held holds NotJson = IsRefused had left held holds NotJson
-IsFailure had left held holds NotRequest = IsRefused had left held holds NotRequest
-IsFailure had left held holds (Refused place cause) = IsRefused had left held holds (Refused place cause)
-IsFailure had left held holds OutOfMemory = Keeps held holds
-IsFailure had left held holds Read = Keeps held holds
-IsFailure had left held holds Write = (bytes : List ℕ) × (text : List ℕ) × IsReadToEnd had left bytes × IsOutputOf bytes text × TakesBeginning held holds text
+abbrev pub IsFailure : ShowText → (had left : Option (List ℕ)) (held holds : Option (List ℕ)) → RunError → Type 0
+IsFailure IsText had left held holds NotJson = IsRefused had left held holds NotJson
+IsFailure IsText had left held holds NotRequest = IsRefused had left held holds NotRequest
+IsFailure IsText had left held holds (Refused place cause) = IsRefused had left held holds (Refused place cause)
+IsFailure IsText had left held holds OutOfMemory = Keeps held holds
+IsFailure IsText had left held holds Read = Keeps held holds
+IsFailure IsText had left held holds Write = (bytes : List ℕ) × (text : List ℕ) × IsReadToEnd had left bytes × IsOutputOf IsText bytes text × TakesBeginning held holds text

@@ -1,4 +1,4 @@
--- What a read request is seen as, for the crate's own functions.
+-- What a read request is seen as, and the crates that it names.
 use Rattle.std.specs.Prelude.{ℕ, ◌^◌, ◌<◌, length, map, All}
 use Rattle.hir_input_json.specs.Editions.{edition_view}
 use Rattle.item_tree.specs.CrateView.{crate_view}

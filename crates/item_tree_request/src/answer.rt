@@ -5,7 +5,7 @@ ghost use Rattle.item_tree.specs.CrateView.{crate_view};
 ghost use Rattle.item_tree_db.specs.State.{new_table};
 ghost use Rattle.item_tree_db.specs.Edits.{edit_view};
 ghost use Rattle.item_tree_request.specs.Made.{IsMade, IsServed, IsUnmade, refusal_of};
-ghost use Rattle.item_tree_request.specs.Outputs.{table_of};
+ghost use Rattle.item_tree_request.specs.Outputs.{IsShown, table_of};
 ghost use Rattle.item_tree_request.specs.Seen.{request_view, EditNamesCrate, NamesOwnCrates};
 ghost use Rattle.item_tree_request.specs.Requests.{IsJsonText, IsRequest};
 ghost use Rattle.item_tree_request.specs.Runs.{IsOutputOf, IsRefusedFor};
@@ -33,9 +33,13 @@ fn value_of(alloc: Global, bytes: &[u8]) -> Result<Value, RunError>
     }
 }
 
-// The request that the bytes are a JSON text of.
-fn read_request(alloc: Global, bytes: &[u8]) -> Result<Request, RunError>
-    ensures reads { MatchResult result (λ request. IsRequest bytes.now (request_view request)) (IsRefusedFor bytes.now) }
+/// The request that the bytes are a JSON text of.
+///
+/// Errors: `NotJson` where they are no JSON text, or one that nests deeper than 127; `NotRequest` where its value asks
+/// for nothing; `OutOfMemory`.
+pub fn read_request(alloc: Global, bytes: &[u8]) -> Result<Request, RunError>
+    ensures reads { MatchResult result
+        (λ request. IsRequest bytes.now (request_view request)) (IsRefusedFor bytes.now) }
     ensures known { IfOk result NamesOwnCrates }
 {
     let value = value_of(alloc, bytes)?;
@@ -56,8 +60,10 @@ fn refusal(place: usize, cause: EditFault) -> RunError
     }
 }
 
-// The table after the edits.
-fn sources_of(
+/// The table of a request after its edits.
+///
+/// Errors: `Refused` with the first edit that passes a size; `OutOfMemory`.
+pub fn sources_of(
     alloc: Global,
     crates: Vec<CrateData>,
     skipped: Vec<Name>,
@@ -72,11 +78,7 @@ fn sources_of(
     let mut sources = Sources::new(alloc, crates, skipped, start);
     match sources.edit_all(edits) {
         Ok(_) => Ok(sources),
-        Err(AllRefused { place, refused }) => {
-            // Read, so that it is known to fit its type: no edit before has passed the last number.
-            let _number = sources.number();
-            Err(refusal(place, refused.cause))
-        }
+        Err(AllRefused { place, refused }) => Err(refusal(place, refused.cause)),
     }
 }
 
@@ -84,7 +86,7 @@ fn sources_of(
 fn serve(alloc: Global, request: Request) -> Result<String, RunError>
     requires { NamesOwnCrates request }
     ensures { MatchResult result
-        (λ text. IsServed (request_view request) (string_bytes text))
+        (λ text. IsServed IsShown (request_view request) (string_bytes text))
         (IsUnmade (table_of (request_view request)) (request_view request).edits) }
 {
     let Request {
@@ -104,7 +106,7 @@ fn serve(alloc: Global, request: Request) -> Result<String, RunError>
 
 // The output of the request that the bytes are, or why there is none.
 pub(crate) fn answer(alloc: Global, bytes: &[u8]) -> Result<String, RunError>
-    ensures { MatchResult result (λ text. IsOutputOf bytes.now (string_bytes text)) (IsRefusedFor bytes.now) }
+    ensures { MatchResult result (λ text. IsOutputOf IsShown bytes.now (string_bytes text)) (IsRefusedFor bytes.now) }
 {
     let request = read_request(alloc, bytes)?;
     serve(alloc, request)

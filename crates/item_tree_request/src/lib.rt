@@ -1,13 +1,14 @@
 //! A request over files, read as JSON from a reader: its edits are made in a table of item trees, and the pages and imports that it
-//! asks for are written to a writer.
+//! asks for are written to a writer. Its parts are public, for programs that write other texts of its shows.
 #![tactic(auto)]
 
-mod answer;
+pub mod answer;
 pub mod error;
 mod imports;
-mod request;
+pub mod request;
 pub mod run;
-mod show;
-mod stream;
+pub mod show;
+pub mod stream;
 
 pub use error::RunError;
+pub use request::Request;

@@ -1,5 +1,6 @@
 //! A run over a reader and a writer.
 ghost use Rattle.std.specs.Prelude.{MatchResult};
+ghost use Rattle.item_tree_request.specs.Outputs.{IsShown};
 ghost use Rattle.item_tree_request.specs.Runs.{IsDone, IsFailure};
 
 use crate::answer::answer;
@@ -15,8 +16,10 @@ use std::io::{Read, Write};
 /// a reader that is not at its end then has failed too.
 pub fn run<R: Read, W: Write>(alloc: Global, input: &mut R, output: &mut W) -> Result<(), RunError>
     ensures { MatchResult result
-        (λ _. IsDone (R.remaining input.old) (R.remaining input.new) (W.contents output.old) (W.contents output.new))
-        (IsFailure (R.remaining input.old) (R.remaining input.new) (W.contents output.old) (W.contents output.new)) }
+        (λ _. IsDone IsShown (R.remaining input.old) (R.remaining input.new)
+        (W.contents output.old) (W.contents output.new))
+        (IsFailure IsShown (R.remaining input.old) (R.remaining input.new)
+        (W.contents output.old) (W.contents output.new)) }
 {
     let bytes = read_to_end(alloc, input)?;
     let text = answer(alloc, &bytes)?;

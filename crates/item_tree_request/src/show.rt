@@ -1,27 +1,15 @@
 //! The texts of shows.
 ghost use Rattle.std.specs.Prelude.{◌≡◌, ◌++◌, [], All, IfOk, OnOk, string_bytes};
 ghost use Rattle.std.specs.List.{flat_map};
-ghost use Rattle.item_tree_db.specs.State.{IsKnown, unfolding_at};
-ghost use Rattle.item_tree_request.specs.Made.{Adds, IsTextOf, Knows};
-ghost use Rattle.item_tree_request.specs.Outputs.{AreJoined, change_line, page_text, imports_text, shown};
+ghost use Rattle.item_tree_db.specs.State.{IsKnown};
+ghost use Rattle.item_tree_request.specs.Made.{IsAdded, Knows};
+ghost use Rattle.item_tree_request.specs.Outputs.{AreChanges, AreJoined, change_line, page_text, imports_text, shown, IsShown};
 
 use crate::imports::push_imports;
 use crate::request::show::{Show, ShowKind, TreeShow};
-use hir_input::{Crate, Edition, HirFileId};
-use item_tree::ItemTree;
-use item_tree_db::{ChangedSince, Place, Sources, TreeId, file_item_tree};
+use hir_input::{Crate, Edition};
+use item_tree_db::{ChangedSince, Place, Sources};
 use std::alloc::{AllocError, Global};
-
-// A crate's tree of a place. The file of a block's id does not matter to its tree.
-fn tree_at(sources: &Sources, place: Place, krate: Crate) -> &ItemTree
-    requires { IsKnown sources.now krate }
-    ensures { result.now ≡ unfolding_at sources.now place krate.0 }
-{
-    match place {
-        Place::File(file) => file_item_tree(sources, file, krate),
-        Place::Block(block) => TreeId::new(HirFileId(0), Some(block)).item_tree(sources, krate),
-    }
-}
 
 #[tactic(auto, unfolding(crate::specs::Outputs::page_text))]
 fn push_page(
@@ -34,7 +22,7 @@ fn push_page(
     requires { IsKnown sources.now show.krate }
     ensures { OnOk result (string_bytes text.new ≡ string_bytes text.old ++ page_text edition.now.reserved.items sources.now [] show) }
 {
-    let tree = tree_at(sources, show.place, show.krate);
+    let tree = sources.tree(show.place, show.krate);
     let page = tree.pretty_print(alloc, edition)?;
     text.push_str(&page)?;
     Ok(())
@@ -51,13 +39,15 @@ fn push_tree_imports(
     requires { IsKnown sources.now show.krate }
     ensures { OnOk result (string_bytes text.new ≡ string_bytes text.old ++ imports_text edition.now.reserved.items sources.now [] show) }
 {
-    let tree = tree_at(sources, show.place, show.krate);
+    let tree = sources.tree(show.place, show.krate);
     push_imports(alloc, tree, edition, text)
 }
 
-// The line on a place and a crate.
+/// Adds the line on a place and a crate, with a change number.
+///
+/// The only error is want of memory.
 #[tactic(auto, unfolding(crate::specs::Outputs::change_line))]
-fn push_change(
+pub fn push_change(
     place: Place,
     krate: Crate,
     changed: u64,
@@ -100,13 +90,22 @@ fn push_tree(
 }
 
 // A line for each change.
-fn push_changes(changes: ChangedSince<'_>, text: &mut String) -> Result<(), AllocError>
+fn push_lines(changes: ChangedSince<'_>, text: &mut String) -> Result<(), AllocError>
     ensures { OnOk result (string_bytes text.new ≡ string_bytes text.old ++ flat_map change_line changes.entry) }
 {
     for (place, krate, changed) in changes {
         push_change(place, krate, changed, text)?;
     }
     Ok(())
+}
+
+/// Adds the lines of what changed since a number.
+///
+/// The only error is want of memory.
+pub fn push_changes(sources: &Sources, since: u64, text: &mut String) -> Result<(), AllocError>
+    ensures { OnOk result (IsAdded (AreChanges sources.now [] since) (string_bytes text.old) (string_bytes text.new)) }
+{
+    push_lines(sources.changed_since(since), text)
 }
 
 fn push_show(
@@ -117,11 +116,12 @@ fn push_show(
     text: &mut String,
 ) -> Result<(), AllocError>
     requires { Knows sources.now show }
-    ensures { OnOk result (Adds edition.now.reserved.items sources.now show (string_bytes text.old) (string_bytes text.new)) }
+    ensures { let IsText = IsShown edition.now.reserved.items sources.now [] show in
+        OnOk result (IsAdded IsText (string_bytes text.old) (string_bytes text.new)) }
 {
     match show {
         Show::OfTree(show) => push_tree(alloc, sources, edition, show, text),
-        Show::Changed { since } => push_changes(sources.changed_since(since), text),
+        Show::Changed { since } => push_changes(sources, since, text),
     }
 }
 
@@ -133,7 +133,7 @@ pub(crate) fn output_of(
     shows: &[Show],
 ) -> Result<String, AllocError>
     requires { All (Knows sources.now) shows.now }
-    ensures { IfOk result (λ text. AreJoined (IsTextOf edition.now.reserved.items sources.now) shows.now (string_bytes text)) }
+    ensures { IfOk result (λ text. AreJoined (IsShown edition.now.reserved.items sources.now []) shows.now (string_bytes text)) }
 {
     let mut text = String::new(alloc);
     for show in shows {

@@ -16,29 +16,30 @@ use item_tree_db::Place;
 use serde_json::{Map, Value};
 use std::alloc::Global;
 
-// What is shown of a tree.
+/// What is shown of a tree.
 #[derive(Clone, Copy)]
-pub(crate) enum ShowKind {
+pub enum ShowKind {
+    /// Its page.
     Page,
-    // A line on the tree, and its page.
+    /// A line on the tree, and its page.
     Tree,
-    // The imports of its uses.
+    /// The imports of its uses.
     Imports,
 }
 
-// A crate's tree of a place that is to be shown.
+/// A crate's tree of a place that is to be shown.
 #[derive(Clone, Copy)]
-pub(crate) struct TreeShow {
-    pub(crate) kind: ShowKind,
-    pub(crate) krate: Crate,
-    pub(crate) place: Place,
+pub struct TreeShow {
+    pub kind: ShowKind,
+    pub krate: Crate,
+    pub place: Place,
 }
 
-// What is to be shown.
+/// What is to be shown.
 #[derive(Clone, Copy)]
-pub(crate) enum Show {
+pub enum Show {
     OfTree(TreeShow),
-    // What changed since a number.
+    /// What changed since a number.
     Changed { since: u64 },
 }
 

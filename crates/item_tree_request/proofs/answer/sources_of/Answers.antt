@@ -20,12 +20,10 @@ returns-in-Ok c =
 pub returns-in-Err : goal.returns-in-Err
 returns-in-Err c =
     let edits = map edit_view c.args.edits.items in
-    let number = c.number-number.ensures in
-    let small : c.number-number.result ≤ last_number = search rules in
     let refused = c.in-Err.ensures in
     let all = c.in-Err.field-0 in
     let found = found_in_map edit_view c.args.edits.items all.place all.refused.edit refused.place in
-    let unmade = is_unmade c.new-sources.result c.edit_all.new.self edits all.place (edit_view all.refused.edit) all.refused.cause found refused.refused (omega (arith, small, number)) refused.fits_before refused.cause refused.full in
+    let unmade = is_unmade c.new-sources.result c.edit_all.new.self edits all.place (edit_view all.refused.edit) all.refused.cause found refused.refused refused.in_range refused.fits_before refused.cause refused.full in
     let told = subst (λ s. IsUnmade s edits (refusal_of all.place all.refused.cause)) c.new-sources.ensures unmade in
     rw c.refusal.ensures told
 

@@ -1,5 +1,6 @@
 use Rattle.std.proofs.Common.{sym, subst, string_bytes}
 use Rattle.std.proofs.lemmas.Result.{err_from_is_err_and}
+use Rattle.item_tree_request.specs.Outputs.{IsShown}
 use Rattle.item_tree_request.specs.Runs.{IsOutputOf}
 use Rattle.item_tree_request.proofs.run.run.Goals as goal
 
@@ -9,6 +10,6 @@ returns-in_err-write_whole g c =
     let failed = c.in_err-write_whole.ensures.err in
     let bytes = c.in_ok-bytes.bytes.items in
     let text = c.as_bytes.result.now in
-    let told : IsOutputOf bytes (string_bytes c.in_ok-text.text) = subst (λ b. IsOutputOf b (string_bytes c.in_ok-text.text)) c.deref.ensures.value c.in_ok-text.ensures in
-    let output : IsOutputOf bytes text = subst (IsOutputOf bytes) (sym c.as_bytes.ensures.value) told in
+    let told : IsOutputOf IsShown bytes (string_bytes c.in_ok-text.text) = subst (λ b. IsOutputOf IsShown b (string_bytes c.in_ok-text.text)) c.deref.ensures.value c.in_ok-text.ensures in
+    let output : IsOutputOf IsShown bytes text = subst (IsOutputOf IsShown bytes) (sym c.as_bytes.ensures.value) told in
     rw (p.1, p.2, failed.0) (bytes, text, c.in_ok-bytes.ensures.ok, output, failed.1)

@@ -1,6 +1,6 @@
-use Rattle.std.proofs.Common.{[], refl, flat_map}
+use Rattle.std.proofs.Common.{[], refl}
 use Rattle.std.proofs.lemmas.Result.{on_ok_weaker}
-use Rattle.item_tree_request.specs.Outputs.{change_line, shown}
+use Rattle.item_tree_request.specs.Outputs.{shown}
 use Rattle.item_tree_request.proofs.show.push_show.Goals as goal
 
 pub returns-in-OfTree : goal.returns-in-OfTree
@@ -9,6 +9,4 @@ returns-in-OfTree c =
     rw c.in-OfTree.is (on_ok_weaker c.push_tree.result (λ e. (text, refl, e)) c.push_tree.ensures)
 
 pub returns-in-Changed : goal.returns-in-Changed
-returns-in-Changed c =
-    let changes = c.changed_since.result in
-    rw c.in-Changed.is (on_ok_weaker c.push_changes.result (λ e. (flat_map change_line changes, (changes, c.changed_since.ensures, refl), e)) c.push_changes.ensures)
+returns-in-Changed c = rw c.in-Changed.is c.push_changes.ensures

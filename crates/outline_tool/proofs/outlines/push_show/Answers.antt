@@ -1,0 +1,12 @@
+use Rattle.std.proofs.Common.{[], refl}
+use Rattle.std.proofs.lemmas.Result.{on_ok_weaker}
+use Rattle.outline_tool.specs.Outlines.{outlined}
+use Rattle.outline_tool.proofs.outlines.push_show.Goals as goal
+
+pub returns-in-OfTree : goal.returns-in-OfTree
+returns-in-OfTree c =
+    let text = outlined c.args.sources.now [] c.in-OfTree.show in
+    rw c.in-OfTree.is (on_ok_weaker c.push_tree.result (λ e. (text, refl, e)) c.push_tree.ensures)
+
+pub returns-in-Changed : goal.returns-in-Changed
+returns-in-Changed c = rw c.in-Changed.is c.push_changes.ensures
