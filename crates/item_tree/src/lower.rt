@@ -177,6 +177,7 @@ fn push_row(
 {
     let row = rows.items.len();
     let kind = item.kind();
+    // The item goes in first, so that no way out below has it to drop.
     rows.items.push(item)?;
     if row >= ROW_LIMIT {
         return Err(LowerError::TooManyItems);
