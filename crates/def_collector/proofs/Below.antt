@@ -1,14 +1,14 @@
 -- The declarations of the ids that a walk meets.
-use Rattle.std.proofs.Common.{◌≡◌, ◌≢◌, ℕ, Bool, List, [], ◌∷◌, ◌++◌, map, length, get_or, Some, refl, ap, sym, ◌∙◌, subst, append-nil, append_assoc}
-use Rattle.std.specs.Prelude.{is_some, filter, All}
+use Rattle.std.proofs.Common.{◌≡◌, ◌≢◌, ℕ, Bool, List, [], ◌∷◌, ◌++◌, map, get_or, Some, refl, ap, sym, ◌∙◌, subst, append-nil, append_assoc}
+use Rattle.std.specs.Prelude.{is_some, filter}
 use Rattle.std.specs.List.{flat_map, AllPairs}
 use Rattle.std.proofs.lemmas.List.{map-append}
 use Rattle.std.proofs.lemmas.List.Elements.{All-contains_itself, All-filter, filter-append}
 use Rattle.std.proofs.lemmas.List.Kept.{AllPairs-filter}
 use Rattle.hir_input.specs.declared.ids.FileAstId.{FileAstId}
 use Rattle.item_tree.specs.declared.visibility.RawVisibility.{RawVisibility}
-use Rattle.item_tree.specs.Layout.{trunk_map, node_at, vis_at}
-use Rattle.item_tree.specs.Node.{Leaf, Trunk, inline, extern_block, Node, Forest, empty, more, nodes, leaf, parent, Unfolding}
+use Rattle.item_tree.specs.Layout.{trunk_map, vis_at}
+use Rattle.item_tree.specs.Node.{Leaf, Trunk, inline, extern_block, Node, Forest, empty, more, nodes, parent, Unfolding}
 use Rattle.item_tree.specs.Reach.{top_ids, child_ids, ids_from, all_ids}
 use Rattle.item_tree.specs.Shown.{IsContained, IsLeaf, IsParent, StandFor}
 use Rattle.item_tree.specs.Walk.{AreContained, IsWalkedOnce}

@@ -1,18 +1,17 @@
 -- What a lent item declares is what its node declares.
-use Rattle.std.proofs.Common.{◌≡◌, ℕ, Bool, true, false, List, [], ◌∷◌, map, Option, Some, None, refl, ap, sym, ◌∙◌}
+use Rattle.std.proofs.Common.{◌≡◌, ℕ, true, false, List, [], ◌∷◌, map, Option, Some, None, refl, ap, sym, ◌∙◌}
 use Rattle.std.specs.Prelude.{option_map, slice_get, is_some}
 use Rattle.std.specs.Option.{option_map_or}
 use Rattle.hir_input.specs.declared.ids.FileAstId.{FileAstId}
 use Rattle.item_tree.specs.declared.items.ModKind.{ModKind}
 use Rattle.item_tree.specs.declared.items.ModKind.TheVariants.{Inline, Outline}
-use Rattle.item_tree.specs.declared.visibility.RawVisibility.{RawVisibility}
 use Rattle.item_tree.specs.Layout.{leaf_map, trunk_map, leaf_vis, trunk_vis, node_at, vis_at}
-use Rattle.item_tree.specs.Node.{Leaf, plain, constant, struct_item, outline, use_item, extern_crate, impl_item, macro_call, macro_rules, Trunk, inline, extern_block, Node, leaf, parent, node_ast, node_kind, Unfolding}
-use Rattle.item_tree.specs.Shown.{Lent, lent_leaf, lent_parent, IsLent, IsLeaf, IsParent, lent_module, HasVisibility}
+use Rattle.item_tree.specs.Node.{Leaf, plain, constant, struct_item, outline, use_item, extern_crate, impl_item, macro_call, macro_rules, Trunk, inline, extern_block, Node, node_ast, Unfolding}
+use Rattle.item_tree.specs.Shown.{Lent, lent_leaf, lent_parent, IsLent, lent_module, HasVisibility}
 use Rattle.item_tree.specs.Walk.{of_id}
 use Rattle.item_tree.proofs.Walking.{leaf_of_id, parent_of_id}
 use Rattle.def_collector.specs.Declarations.{Declared, name_of, leaf_name, trunk_name, node_name, leaf_declares, node_declares, node_visibility, declaration_of}
-use Rattle.def_collector.specs.Seen.{Seen, defined, is_declaring}
+use Rattle.def_collector.specs.Seen.{defined, is_declaring}
 use Rattle.def_collector.specs.Inner.{own_at, lent_name, lent_declares, lent_visibility}
 
 -- ---- modules, whose items stand in them or not

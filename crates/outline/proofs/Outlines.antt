@@ -1,14 +1,14 @@
 -- Outlines by the ids of items.
-use Rattle.std.proofs.Common.{◌≡◌, ℕ, List, [], ◌∷◌, ◌++◌, map, Option, Some, None, refl, ap, sym, ◌∙◌, append_assoc, append-nil}
-use Rattle.std.specs.Prelude.{is_some, option_map}
+use Rattle.std.proofs.Common.{◌≡◌, ℕ, List, [], ◌++◌, map, Option, Some, None, refl, ap, sym, ◌∙◌, append_assoc, append-nil}
+use Rattle.std.specs.Prelude.{option_map}
 use Rattle.std.specs.Option.{option_map_or}
 use Rattle.std.specs.List.{flat_map}
-use Rattle.serde_json.specs.Data.{Data, null, Items, item}
+use Rattle.serde_json.specs.Data.{null, item}
 use Rattle.serde_json.specs.View.{items_of}
 use Rattle.hir_input.specs.declared.ids.FileAstId.{FileAstId}
 use Rattle.item_tree.specs.Layout.{node_at}
 use Rattle.item_tree.specs.Node.{Node, leaf, parent, Forest, empty, more, nodes, node_ast, Unfolding}
-use Rattle.item_tree.specs.Shown.{IsContained, StandFor}
+use Rattle.item_tree.specs.Shown.{StandFor}
 use Rattle.item_tree.specs.Walk.{of_id, children, children_at}
 use Rattle.item_tree.proofs.Walking.{flat_map_of_id, map_of_id}
 use Rattle.def_collector.specs.Declarations.{node_name}

@@ -1,9 +1,9 @@
-use Rattle.std.proofs.Common.{rules, ◌≡◌, ℕ, List, [], ◌∷◌, ◌++◌, map, refl, ap, sym, ◌∙◌, Some}
+use Rattle.std.proofs.Common.{◌≡◌, map, refl, ap, sym, ◌∙◌, Some}
 use Rattle.std.specs.Prelude.{option_map, is_some}
 use Rattle.std.proofs.lemmas.List.{map-append}
 use Rattle.item_tree.specs.Shown.{lent}
-use Rattle.def_collector.specs.Seen.{seen, id_of, is_declaring, declared_by}
-use Rattle.def_collector.specs.Inner.{own_at, lent_declares}
+use Rattle.def_collector.specs.Seen.{is_declaring, declared_by}
+use Rattle.def_collector.specs.Inner.{lent_declares}
 use Rattle.def_collector.proofs.Lents.{own_seen, declaring_is}
 use Rattle.def_collector.proofs.collector.add_own.Goals as goal
 

@@ -1,4 +1,4 @@
-use Rattle.std.proofs.Common.{map, ap, ◌∙◌}
+use Rattle.std.proofs.Common.{ap, ◌∙◌}
 use Rattle.serde_json.specs.Data.{array}
 use Rattle.serde_json.specs.View.{items_of}
 use Rattle.serde_json.proofs.Views.{view-Array}

@@ -1,4 +1,4 @@
-use Rattle.std.proofs.Common.{◌≡◌, ◌++◌, ◌∙◌, ap, rules, string_bytes}
+use Rattle.std.proofs.Common.{◌++◌, ◌∙◌, ap, rules, string_bytes}
 use Rattle.std.proofs.lemmas.Result.{on_ok_weaker}
 use Rattle.outline.specs.Lines.{line}
 use Rattle.outline.proofs.Outlines.{line_adds}
