@@ -6,6 +6,7 @@ use Rattle.std.specs.List.Sorted.{IsPermutation, IsSorted}
 use Rattle.std.specs.Ordering.{nat_cmp, ordering_then}
 use Rattle.std.specs.declared.cmp.Ordering.{Ordering}
 use Rattle.std.specs.declared.cmp.Ordering.TheVariants.{Less, Equal}
+use Rattle.std.proofs.lemmas.Bool.{cases_lt}
 use Rattle.std.proofs.lemmas.Bool.Decides.{nat_tests}
 use Rattle.std.proofs.lemmas.List.Elements.{All-contains}
 use Rattle.std.proofs.lemmas.List.Sorted.{All-permutation, Contains-permutation}
@@ -115,13 +116,10 @@ module _ (s : State) (old : List Entry) where
         let inside : In e (entries_by (change_of e)) = in_contained e (entries_by (change_of e)) (((read_of (change_of e) here).declared e refl refl).1 d) in
         in_right e kept news (flat_map_in entries_by e (change_of e) read.changes here inside)
 
-    above_or_not : (a b : ℕ) → (a ≤ b) ⊎ (b < a)
-    above_or_not a b = elim (nat_lt b a) as (λ t. nat_lt b a ≡ t → (a ≤ b) ⊎ (b < a)) [ true ↦ λ h. inr (grind (arith, nat_tests)) | false ↦ λ h. inl (grind (arith, nat_tests)) ] refl
-
     all_whole : (e : Entry) → IsDeclared s e → In e (kept ++ news)
-    all_whole e d = elim (above_or_not (number_of s e) n) as (λ _. In e (kept ++ news)) [
-      | inl p ↦ whole_old e d (inl p)
-      | inr p ↦ elim (above_or_not (number_of s e) s.start) as (λ _. In e (kept ++ news)) [ inl q ↦ whole_old e d (inr q) | inr q ↦ whole_new e d p q ]
+    all_whole e d = elim (cases_lt n (number_of s e)) as (λ _. In e (kept ++ news)) [
+      | inl p ↦ elim (cases_lt s.start (number_of s e)) as (λ _. In e (kept ++ news)) [ inl q ↦ whole_new e d p q | inr q ↦ whole_old e d (inr q) ]
+      | inr p ↦ whole_old e d (inl p)
     ]
 
     -- ---- each once

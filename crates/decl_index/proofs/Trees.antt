@@ -1,9 +1,10 @@
 -- The entries of a tree are those that the table declares there.
-use Rattle.std.proofs.Common.{◌≡◌, ◌≢◌, ◌↔◌, inl, ℕ, true, List, [], ◌∷◌, ◌++◌, Option, Some, None, refl, sym, ap, subst, ◌∙◌, Contains, AllPairs, All, append-nil, append_assoc}
+use Rattle.std.proofs.Common.{◌≡◌, ◌≢◌, ◌↔◌, ℕ, true, List, [], ◌∷◌, ◌++◌, Option, Some, None, refl, sym, ap, subst, ◌∙◌, Contains, AllPairs, All, append-nil, append_assoc}
 use Rattle.std.specs.Prelude.{is_some, option_map}
 use Rattle.std.specs.List.{cons_option, filter_map}
 use Rattle.std.specs.Option.{option_map_or}
-use Rattle.std.proofs.lemmas.List.Elements.{All-contains, All-nil, All-push}
+use Rattle.std.proofs.lemmas.List.Elements.{All-push}
+use Rattle.std.proofs.lemmas.Grind.{flat_map-append}
 use Rattle.std.proofs.lemmas.Option.{same_Some, none-some}
 use Rattle.hir_input.specs.declared.ids.Crate.{Crate}
 use Rattle.item_tree.specs.Node.{Node, Unfolding}
@@ -12,8 +13,8 @@ use Rattle.item_tree.specs.Shown.{IsContained}
 use Rattle.item_tree.specs.Walk.{of_id}
 use Rattle.item_tree_db.specs.declared.place.Place.{Place}
 use Rattle.item_tree_db.specs.State.{State, IsKnown, unfolding_at}
-use Rattle.item_tree_db.specs.Since.{Change, IsGrounded, IsLate, IsSince}
-use Rattle.item_tree_db.proofs.Listed.{In, in_right, contained, all_in, all_pairs}
+use Rattle.item_tree_db.specs.Since.{Change, IsGrounded, IsSince}
+use Rattle.item_tree_db.proofs.Listed.{contained, all_in, all_pairs}
 use Rattle.def_collector.specs.Declarations.{node_name}
 use Rattle.decl_index.specs.declared.entry.Entry.{Entry}
 use Rattle.decl_index.specs.Entries.{name_of, entry_of, entry_at, entries_at, entries_of}
@@ -95,19 +96,12 @@ module _ (u : Unfolding) (place : Place) (krate : Crate) where
 
 -- ---- one tree after another
 
-flat_map-push : (s : State) (cs : List Change) (c : Change) → entries_of s (cs ++ c ∷ []) ≡ entries_of s cs ++ entries_at s c.0 c.1
-flat_map-push s [] c = append-nil (entries_at s c.0 c.1)
-flat_map-push s (d ∷ cs) c = ap (λ (xs : List Entry). entries_at s d.0 d.1 ++ xs) (flat_map-push s cs c) ∙ sym (append_assoc (entries_at s d.0 d.1) (entries_of s cs) (entries_at s c.0 c.1))
-
 -- those before the rest of all changes have been read
 pub record ReadUpTo (s : State) (all rest : List Change) (old new : List Entry) : Type 0 where
   pub before : List Change
   pub parts : all ≡ before ++ rest
   pub each : All (λ c. IsRead s c.0 c.1) before
   pub items : new ≡ old ++ entries_of s before
-
-pub none_yet : (s : State) (all : List Change) (old : List Entry) → ReadUpTo s all all old old
-none_yet s all old = record { before = []; parts = refl; each = All-nil (λ c. IsRead s c.0 c.1); items = sym (append-nil old) }
 
 pub one_more : (s : State) (c : Change) (all rest left : List Change) (old mid new : List Entry) → rest ≡ c ∷ left → IsRead s c.0 c.1 → new ≡ mid ++ entries_at s c.0 c.1 → ReadUpTo s all rest old mid → ReadUpTo s all left old new
 one_more s c all rest left old mid new e read p h = record {
@@ -118,16 +112,11 @@ one_more s c all rest left old mid new e read p h = record {
       p
       ∙ ap (λ (xs : List Entry). xs ++ entries_at s c.0 c.1) h.items
       ∙ append_assoc old (entries_of s h.before) (entries_at s c.0 c.1)
-      ∙ ap (λ (xs : List Entry). old ++ xs) (sym (flat_map-push s h.before c));
+      ∙ ap (λ (xs : List Entry). old ++ (entries_of s h.before ++ xs)) (sym (append-nil (entries_at s c.0 c.1)))
+      ∙ ap (λ (xs : List Entry). old ++ xs) (sym (flat_map-append (λ d. entries_at s d.0 d.1) h.before (c ∷ [])));
 }
 
 pub all_read : (s : State) (n : ℕ) (all : List Change) (old new : List Entry) → IsSince s n all → IsGrounded s → ReadUpTo s all [] old new → AreRead s n old new
 all_read s n all old new since grounded h =
     let is : all ≡ h.before = h.parts ∙ append-nil h.before in
     record { changes = h.before; since = subst (IsSince s n) is since; grounded = grounded; each = h.each; items = h.items }
-
--- the next one is of a known crate
-pub next_known : (s : State) (n : ℕ) (c : Change) (all rest left : List Change) (old new : List Entry) → IsSince s n all → ReadUpTo s all rest old new → rest ≡ c ∷ left → IsKnown s c.1
-next_known s n c all rest left old new since h e =
-    let here : In c all = subst (In c) (sym (h.parts ∙ ap (λ (cs : List Change). h.before ++ cs) e)) (in_right c h.before (c ∷ left) (inl refl)) in
-    (All-contains (IsLate s n) all c since.late (contained c all here)).known
