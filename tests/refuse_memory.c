@@ -4,7 +4,7 @@
 // REFUSE_REQUEST   the request to refuse, counted from 1; none if it is absent
 // REFUSE_MARKED    if it is there, each request between two marks is refused, and only these are counted. A mark is a request
 //                  for as many bytes as one of the two constants below, and is answered
-// COUNT_REQUESTS   a file of at least 16 bytes: its first 8 keep the number of requests, the next that of pairs of marks
+// COUNT_REQUESTS   a file of at least 42 bytes: its first line keeps the number of requests and that of pairs of marks
 #define _GNU_SOURCE
 #include <dlfcn.h>
 #include <errno.h>
@@ -12,27 +12,44 @@
 #include <malloc.h>
 #include <stdint.h>
 #include <stdlib.h>
+#include <string.h>
 #include <sys/mman.h>
 #include <unistd.h>
 
 enum { NONE_LEFT = 99991, LEFT_AGAIN = 99989 };
 
-static uint64_t counted[2];
-static uint64_t *count = counted;
+// Two numbers of 20 places each, which a shell reads at once and without another program.
+static const char NO_COUNTS[] = "                   0                    0\n";
+static char counted[sizeof NO_COUNTS];
+static char *counts = counted;
+static uint64_t requests;
 static uint64_t refused;
 static int by_marks;
 static int is_none_left;
+
+static void count_one(char *last_place) {
+    while (*last_place == '9') *last_place-- = '0';
+    *last_place = *last_place == ' ' ? '1' : *last_place + 1;
+}
+
+static void count_request(void) {
+    requests++;
+    count_one(counts + 19);
+}
+
+static void count_pair(void) { count_one(counts + 40); }
 
 __attribute__((constructor)) static void start(void) {
     const char *which = getenv("REFUSE_REQUEST");
     const char *path = getenv("COUNT_REQUESTS");
     int file = path ? open(path, O_RDWR) : -1;
     if (file >= 0) {
-        void *page = mmap(NULL, 16, PROT_READ | PROT_WRITE, MAP_SHARED, file, 0);
-        if (page != MAP_FAILED) count = page;
+        void *page = mmap(NULL, sizeof NO_COUNTS - 1, PROT_READ | PROT_WRITE, MAP_SHARED, file, 0);
+        if (page != MAP_FAILED) counts = page;
         close(file);
     }
-    count[0] = count[1] = 0;
+    memcpy(counts, NO_COUNTS, sizeof NO_COUNTS - 1);
+    requests = 0;
     by_marks = getenv("REFUSE_MARKED") != NULL;
     refused = which ? strtoull(which, NULL, 10) : 0;
 }
@@ -49,16 +66,17 @@ static int is_refused_by_marks(size_t size) {
     }
     if (size == LEFT_AGAIN && is_none_left) {
         is_none_left = 0;
-        count[1]++;
+        count_pair();
     }
     if (!is_none_left) return 0;
-    count[0]++;
+    count_request();
     return refuse();
 }
 
 static int is_refused(size_t size) {
     if (by_marks) return is_refused_by_marks(size);
-    return ++count[0] == refused ? refuse() : 0;
+    count_request();
+    return requests == refused ? refuse() : 0;
 }
 
 void *malloc(size_t size) {

@@ -18,7 +18,6 @@ here=$(cd "$(dirname "${BASH_SOURCE[0]}")" && pwd)
 work=$(mktemp -d)
 trap 'rm -rf "$work"' EXIT
 cc -shared -fPIC -O1 -o "$work/refuse_memory.so" "$here/refuse_memory.c" -ldl || exit 2
-printf 'out of memory\n' > "$work/line"
 export here work
 
 # Runs a command with one request refused; leaves its status, and the number of requests that it made.
@@ -27,7 +26,13 @@ refuse() {
     shift
     COUNT_REQUESTS=$own/count REFUSE_REQUEST=$request LD_PRELOAD=$work/refuse_memory.so "$@" > "$own/out" 2> "$own/err"
     status=$?
-    read -r made pairs <<< "$(od -An -t u8 "$own/count" | tr -s ' \n' ' ')"
+    read -r made pairs < "$own/count"
+}
+
+# Whether the command of that run said that memory was out, wrote nothing, and ended with the status for it.
+ended_out_of_memory() {
+    local said
+    [ "$status" = 5 ] && [ ! -s "$own/out" ] && ! IFS= read -r -d '' said < "$own/err" && [ "$said" = $'out of memory\n' ]
 }
 
 judge() {
@@ -40,7 +45,7 @@ try_request() {
     for ((request = 1; ; request++)); do
         refuse "$request" "$1" < "$here/$2.json"
         [ "$made" -ge "$request" ] || break
-        [ "$status" = 5 ] && [ ! -s "$own/out" ] && cmp -s "$own/err" "$work/line"
+        ended_out_of_memory
         judge $? "$2: status $status with request $request for memory refused"
     done
     [ "$status" = 0 ] && cmp -s "$own/out" "$here/$2.out"
@@ -67,11 +72,11 @@ try_marked() {
 # Tries one subject in a folder of its own, and ends with its counts.
 try() {
     own=$(mktemp -d -p "$work") passed=0 failed=0
-    head -c 16 /dev/zero > "$own/count"
+    printf '%42s' '' > "$own/count"
     "$@"
     echo "counts: $1 $passed $failed"
 }
-export -f refuse judge try_request try_test try_marked try
+export -f refuse ended_out_of_memory judge try_request try_test try_marked try
 
 subjects() {
     local binary
