@@ -4,8 +4,7 @@ use Rattle.item_tree_db.specs.State.{State}
 use Rattle.item_tree_request.specs.declared.error.RunError.{RunError}
 use Rattle.item_tree_request.specs.declared.error.RunError.TheVariants.{NotJson, NotRequest, Refused, OutOfMemory, Read, Write}
 use Rattle.item_tree_request.specs.declared.request.Request as read
-use Rattle.item_tree_request.specs.declared.request.show.Show.{Show}
-use Rattle.item_tree_request.specs.Made.{Knows, IsMade, IsServed, IsUnmade}
+use Rattle.item_tree_request.specs.Made.{IsTextOver, Knows, IsMade, IsServed, IsUnmade}
 use Rattle.item_tree_request.specs.Outputs.{ShowText, AreJoined, table_of}
 use Rattle.item_tree_request.specs.Requests.{Request, IsRequest}
 use Rattle.item_tree_request.specs.Runs.{IsOutputOf, IsRefusedFor}
@@ -21,13 +20,14 @@ module _ (r : read.Request) (u : State) (names : NamesOwnCrates r) (made : IsMad
   knows_shows = knows_after (table_of (request_view r)) u (request_view r).edits made.after r.shows.items knows_own
 
   -- they are the texts after its edits
-  pub is_served : (IsText : ShowText) (P : Show → List ℕ → Type 0) (text : List ℕ)
-      → ((show : Show) (shown : List ℕ) → Knows (table_of (request_view r)) show → P show shown → IsText (request_view r).edition.reserved (table_of (request_view r)) (request_view r).edits show shown)
-      → AreJoined P r.shows.items text → IsServed IsText (request_view r) text
-  is_served IsText P text carry joined = record {
-    none_passes = made.none_passes;
-    is_output = joined-carried (table_of (request_view r)) P _ carry r.shows.items text knows_own joined;
-  }
+  pub is_served : (IsText : ShowText) (text : List ℕ) → AreJoined (IsTextOver IsText r.edition.reserved.items u) r.shows.items text → IsServed IsText (request_view r) text
+  is_served IsText text joined =
+      let s = table_of (request_view r) in
+      let edits = (request_view r).edits in
+      record {
+        none_passes = made.none_passes;
+        is_output = joined-carried s (IsTextOver IsText r.edition.reserved.items u) _ (λ show shown known over. over s edits made.after known) r.shows.items text knows_own joined;
+      }
 
 refused_for : (bytes : List ℕ) (q : Request) (e : RunError) → IsRequest bytes q → IsUnmade (table_of q) q.edits e → IsRefusedFor bytes e
 refused_for bytes q (Refused place cause) request unmade = record { asked = q; is_request = request; none_before = unmade.0; passes = unmade.1 }

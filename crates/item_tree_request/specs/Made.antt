@@ -44,6 +44,10 @@ abbrev pub Knows : State → Show → Type 0
 Knows s (OfTree show) = IsKnown s show.krate
 Knows s (Changed since) = Unit {0}
 
+-- the text is that of the show after whatever edits led to the table, from one that has its crate
+abbrev pub IsTextOver : ShowText → List (List ℕ) → State → Show → List ℕ → Type 0
+IsTextOver IsText reserved u show text = (s : State) (edits : List EditView) → IsAfter s edits u → Knows s show → IsText reserved s edits show text
+
 -- such a text was added
 abbrev pub IsAdded : (List ℕ → Type 0) → (old new : List ℕ) → Type 0
 IsAdded IsText old new = (text : List ℕ) × IsText text × (new ≡ old ++ text)

@@ -5,14 +5,14 @@ ghost use Rattle.item_tree.specs.CrateView.{crate_view};
 ghost use Rattle.item_tree_db.specs.State.{new_table};
 ghost use Rattle.item_tree_db.specs.Edits.{edit_view};
 ghost use Rattle.item_tree_request.specs.Made.{IsMade, IsServed, IsUnmade, refusal_of};
-ghost use Rattle.item_tree_request.specs.Outputs.{IsShown, table_of};
+ghost use Rattle.item_tree_request.specs.Outputs.{table_of};
 ghost use Rattle.item_tree_request.specs.Seen.{request_view, EditNamesCrate, NamesOwnCrates};
 ghost use Rattle.item_tree_request.specs.Requests.{IsJsonText, IsRequest};
 ghost use Rattle.item_tree_request.specs.Runs.{IsOutputOf, IsRefusedFor};
 
 use crate::error::RunError;
 use crate::request::{Request, request_of};
-use crate::show::output_of;
+use crate::show_writer::{ShowWriter, output_of};
 use hir_input::Name;
 use hir_input_json::Fault;
 use item_tree::{CrateData, EditFault, LowerError};
@@ -33,13 +33,9 @@ fn value_of(alloc: Global, bytes: &[u8]) -> Result<Value, RunError>
     }
 }
 
-/// The request that the bytes are a JSON text of.
-///
-/// Errors: `NotJson` where they are no JSON text, or one that nests deeper than 127; `NotRequest` where its value asks
-/// for nothing; `OutOfMemory`.
-pub fn read_request(alloc: Global, bytes: &[u8]) -> Result<Request, RunError>
-    ensures reads { MatchResult result
-        (λ request. IsRequest bytes.now (request_view request)) (IsRefusedFor bytes.now) }
+// The request that the bytes are a JSON text of.
+fn read_request(alloc: Global, bytes: &[u8]) -> Result<Request, RunError>
+    ensures reads { MatchResult result (λ request. IsRequest bytes.now (request_view request)) (IsRefusedFor bytes.now) }
     ensures known { IfOk result NamesOwnCrates }
 {
     let value = value_of(alloc, bytes)?;
@@ -60,10 +56,8 @@ fn refusal(place: usize, cause: EditFault) -> RunError
     }
 }
 
-/// The table of a request after its edits.
-///
-/// Errors: `Refused` with the first edit that passes a size; `OutOfMemory`.
-pub fn sources_of(
+// The table of a request after its edits.
+fn sources_of(
     alloc: Global,
     crates: Vec<CrateData>,
     skipped: Vec<Name>,
@@ -83,10 +77,10 @@ pub fn sources_of(
 }
 
 // The texts of a request's shows after its edits.
-fn serve(alloc: Global, request: Request) -> Result<String, RunError>
+fn serve<T: ShowWriter>(alloc: Global, writer: &T, request: Request) -> Result<String, RunError>
     requires { NamesOwnCrates request }
     ensures { MatchResult result
-        (λ text. IsServed IsShown (request_view request) (string_bytes text))
+        (λ text. IsServed T.is_text (request_view request) (string_bytes text))
         (IsUnmade (table_of (request_view request)) (request_view request).edits) }
 {
     let Request {
@@ -98,16 +92,20 @@ fn serve(alloc: Global, request: Request) -> Result<String, RunError>
         shows,
     } = request;
     let sources = sources_of(alloc, crates, skipped, start, edits)?;
-    match output_of(alloc, &sources, &edition, &shows) {
+    match output_of(alloc, writer, &sources, &edition, &shows) {
         Ok(text) => Ok(text),
         Err(_) => Err(RunError::OutOfMemory),
     }
 }
 
 // The output of the request that the bytes are, or why there is none.
-pub(crate) fn answer(alloc: Global, bytes: &[u8]) -> Result<String, RunError>
-    ensures { MatchResult result (λ text. IsOutputOf IsShown bytes.now (string_bytes text)) (IsRefusedFor bytes.now) }
+pub(crate) fn answer<T: ShowWriter>(
+    alloc: Global,
+    writer: &T,
+    bytes: &[u8],
+) -> Result<String, RunError>
+    ensures { MatchResult result (λ text. IsOutputOf T.is_text bytes.now (string_bytes text)) (IsRefusedFor bytes.now) }
 {
     let request = read_request(alloc, bytes)?;
-    serve(alloc, request)
+    serve(alloc, writer, request)
 }

@@ -1,14 +1,14 @@
 //! A request over files, read as JSON from a reader: its edits are made in a table of item trees, and the pages and imports that it
-//! asks for are written to a writer. Its parts are public, for programs that write other texts of its shows.
+//! asks for are written to a writer. A program that writes other texts of its shows is a `ShowWriter`.
 #![tactic(auto)]
 
-pub mod answer;
+mod answer;
 pub mod error;
 mod imports;
 pub mod request;
 pub mod run;
 pub mod show;
-pub mod stream;
+pub mod show_writer;
+mod stream;
 
 pub use error::RunError;
-pub use request::Request;

@@ -27,19 +27,15 @@ use item_tree_db::Edit;
 use serde_json::{Map, Value};
 use std::alloc::Global;
 
-/// The edits of a new table, and what is to be shown after them.
+// The edits of a new table, and what is to be shown after them.
 #[derive(Drop)]
-pub struct Request {
-    /// The number before the first edit.
-    pub start: u64,
-    /// The names of attributes that no tree has.
-    pub skipped: Vec<Name>,
-    pub edition: Edition,
-    pub crates: Vec<CrateData>,
-    /// In the order in which they are made.
-    pub edits: Vec<Edit>,
-    /// In the order in which they are written.
-    pub shows: Vec<Show>,
+pub(crate) struct Request {
+    pub(crate) start: u64,
+    pub(crate) skipped: Vec<Name>,
+    pub(crate) edition: Edition,
+    pub(crate) crates: Vec<CrateData>,
+    pub(crate) edits: Vec<Edit>,
+    pub(crate) shows: Vec<Show>,
 }
 
 // What does not hold of one crate or file alone.

@@ -1,12 +1,13 @@
-//! The texts of shows.
-ghost use Rattle.std.specs.Prelude.{◌≡◌, ◌++◌, [], All, IfOk, OnOk, string_bytes};
+//! The texts of shows: pages and imports, and the lines of what changed.
+ghost use Rattle.std.specs.Prelude.{◌≡◌, ◌++◌, [], OnOk, string_bytes};
 ghost use Rattle.std.specs.List.{flat_map};
 ghost use Rattle.item_tree_db.specs.State.{IsKnown};
-ghost use Rattle.item_tree_request.specs.Made.{IsAdded, Knows};
-ghost use Rattle.item_tree_request.specs.Outputs.{AreChanges, AreJoined, change_line, page_text, imports_text, shown, IsShown};
+ghost use Rattle.item_tree_request.specs.Made.{IsAdded};
+ghost use Rattle.item_tree_request.specs.Outputs.{AreChanges, change_line, page_text, imports_text, shown, IsShown};
 
 use crate::imports::push_imports;
 use crate::request::show::{Show, ShowKind, TreeShow};
+use crate::show_writer::ShowWriter;
 use hir_input::{Crate, Edition};
 use item_tree_db::{ChangedSince, Place, Sources};
 use std::alloc::{AllocError, Global};
@@ -108,36 +109,23 @@ pub fn push_changes(sources: &Sources, since: u64, text: &mut String) -> Result<
     push_lines(sources.changed_since(since), text)
 }
 
-fn push_show(
-    alloc: Global,
-    sources: &Sources,
-    edition: &Edition,
-    show: Show,
-    text: &mut String,
-) -> Result<(), AllocError>
-    requires { Knows sources.now show }
-    ensures { let IsText = IsShown edition.now.reserved.items sources.now [] show in
-        OnOk result (IsAdded IsText (string_bytes text.old) (string_bytes text.new)) }
-{
-    match show {
-        Show::OfTree(show) => push_tree(alloc, sources, edition, show, text),
-        Show::Changed { since } => push_changes(sources, since, text),
-    }
-}
+/// The page of a tree, or the imports of its uses.
+pub struct Pages;
 
-// The texts of the shows over a table, one after another.
-pub(crate) fn output_of(
-    alloc: Global,
-    sources: &Sources,
-    edition: &Edition,
-    shows: &[Show],
-) -> Result<String, AllocError>
-    requires { All (Knows sources.now) shows.now }
-    ensures { IfOk result (λ text. AreJoined (IsShown edition.now.reserved.items sources.now []) shows.now (string_bytes text)) }
-{
-    let mut text = String::new(alloc);
-    for show in shows {
-        push_show(alloc, sources, edition, *show, &mut text)?;
+impl ShowWriter for Pages {
+    ghost is_text = { IsShown };
+
+    fn push_show(
+        &self,
+        alloc: Global,
+        sources: &Sources,
+        edition: &Edition,
+        show: Show,
+        text: &mut String,
+    ) -> Result<(), AllocError> {
+        match show {
+            Show::OfTree(show) => push_tree(alloc, sources, edition, show, text),
+            Show::Changed { since } => push_changes(sources, since, text),
+        }
     }
-    Ok(text)
 }

@@ -12,10 +12,8 @@ const ROOM: usize = 4096;
 
 const MOST_READS: u32 = 16_777_216;
 
-/// All that the reader gives up to its end.
-///
-/// Errors: `Read` where a read failed, or after 16,777,216 reads, each with room for 4,096 bytes; `OutOfMemory`.
-pub fn read_to_end<R: Read>(alloc: Global, input: &mut R) -> Result<Vec<u8>, RunError>
+// All that the reader gives up to its end.
+pub(crate) fn read_to_end<R: Read>(alloc: Global, input: &mut R) -> Result<Vec<u8>, RunError>
     ensures ok { IfOk result (λ bytes. IsReadToEnd (R.remaining input.old) (R.remaining input.new) bytes.items) }
     ensures err { IfErr result (λ e. (e ≡ RunError.Read) ⊎ (e ≡ RunError.OutOfMemory)) }
 {
@@ -35,11 +33,8 @@ pub fn read_to_end<R: Read>(alloc: Global, input: &mut R) -> Result<Vec<u8>, Run
     Err(RunError::Read)
 }
 
-/// Writes the whole text.
-///
-/// The only error is `Write`, where a write failed or took nothing: then a beginning of the text was taken, but not
-/// all of it.
-pub fn write_whole<W: Write>(output: &mut W, text: &[u8]) -> Result<(), RunError>
+// The whole text, or after a failed write a beginning of it.
+pub(crate) fn write_whole<W: Write>(output: &mut W, text: &[u8]) -> Result<(), RunError>
     ensures ok { IfOk result (λ _. Appends (W.contents output.old) (W.contents output.new) text.now) }
     ensures err { let IsBegun = TakesBeginning (W.contents output.old) (W.contents output.new) text.now in
         IfErr result (λ e. (e ≡ RunError.Write) × IsBegun) }

@@ -1,13 +1,13 @@
-//! The texts of shows.
-ghost use Rattle.std.specs.Prelude.{◌≡◌, ◌++◌, [], All, IfOk, OnOk, string_bytes};
+//! The texts of shows: outlines, and the lines of what changed.
+ghost use Rattle.std.specs.Prelude.{◌≡◌, ◌++◌, [], OnOk, string_bytes};
 ghost use Rattle.item_tree_db.specs.State.{IsKnown};
-ghost use Rattle.item_tree_request.specs.Made.{IsAdded, Knows};
-ghost use Rattle.item_tree_request.specs.Outputs.{AreJoined};
 ghost use Rattle.outline_tool.specs.Outlines.{outline_of, outlined, IsOutlined};
 
+use hir_input::Edition;
 use item_tree_db::Sources;
 use item_tree_request::request::show::{Show, ShowKind, TreeShow};
 use item_tree_request::show::{push_change, push_changes};
+use item_tree_request::show_writer::ShowWriter;
 use outline::outline_text;
 use std::alloc::{AllocError, Global};
 
@@ -46,33 +46,23 @@ fn push_tree(
     }
 }
 
-fn push_show(
-    alloc: Global,
-    sources: &Sources,
-    show: Show,
-    text: &mut String,
-) -> Result<(), AllocError>
-    requires { Knows sources.now show }
-    ensures { OnOk result (IsAdded (IsOutlined [] sources.now [] show) (string_bytes text.old) (string_bytes text.new)) }
-{
-    match show {
-        Show::OfTree(show) => push_tree(alloc, sources, show, text),
-        Show::Changed { since } => push_changes(sources, since, text),
-    }
-}
+/// The outline of a tree, and the lines of what changed as in `Pages`.
+pub(crate) struct Outlines;
 
-// The texts of the shows over a table, one after another.
-pub(crate) fn output_of(
-    alloc: Global,
-    sources: &Sources,
-    shows: &[Show],
-) -> Result<String, AllocError>
-    requires { All (Knows sources.now) shows.now }
-    ensures { IfOk result (λ text. AreJoined (IsOutlined [] sources.now []) shows.now (string_bytes text)) }
-{
-    let mut text = String::new(alloc);
-    for show in shows {
-        push_show(alloc, sources, *show, &mut text)?;
+impl ShowWriter for Outlines {
+    ghost is_text = { IsOutlined };
+
+    fn push_show(
+        &self,
+        alloc: Global,
+        sources: &Sources,
+        _edition: &Edition,
+        show: Show,
+        text: &mut String,
+    ) -> Result<(), AllocError> {
+        match show {
+            Show::OfTree(show) => push_tree(alloc, sources, show, text),
+            Show::Changed { since } => push_changes(sources, since, text),
+        }
     }
-    Ok(text)
 }

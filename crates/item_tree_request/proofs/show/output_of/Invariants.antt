@@ -1,7 +1,0 @@
--- what is written is the texts of the shows so far
-use Rattle.std.proofs.Common.{[], string_bytes, take}
-use Rattle.item_tree_request.specs.Outputs.{AreJoined, IsShown}
-use Rattle.item_tree_request.proofs.show.output_of.Given as goal
-
-abbrev pub invariant-loop-show : goal.invariant-loop-show
-invariant-loop-show l = AreJoined (IsShown l.edition.reserved.items l.sources []) (take l.show-index l.shows) (string_bytes l.text)

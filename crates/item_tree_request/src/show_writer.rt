@@ -1,0 +1,52 @@
+//! What a program writes of the shows of a request.
+ghost use Rattle.std.specs.Prelude.{All, IfOk, string_bytes};
+ghost use Rattle.item_tree_request.specs.Made.{IsTextOver, Knows};
+ghost use Rattle.item_tree_request.specs.Outputs.{AreJoined};
+
+use crate::request::show::Show;
+use hir_input::Edition;
+use item_tree_db::Sources;
+use std::alloc::{AllocError, Global};
+
+/// What a program writes of shows.
+pub trait ShowWriter {
+    ghost use Rattle.std.specs.Prelude.{OnOk};
+    ghost use Rattle.item_tree_request.specs.Made.{IsAdded};
+    ghost use Rattle.item_tree_request.specs.Outputs.{ShowText};
+
+    // Under reserved words, after the edits of a table, this text of a show.
+    ghost is_text: { ShowText };
+
+    /// Adds the text of a show over a table.
+    ///
+    /// The only error is want of memory.
+    fn push_show(
+        &self,
+        alloc: Global,
+        sources: &Sources,
+        edition: &Edition,
+        show: Show,
+        text: &mut String,
+    ) -> Result<(), AllocError>
+        requires { Knows sources.now show }
+        ensures { let IsText = IsTextOver is_text edition.now.reserved.items sources.now show in
+            OnOk result (IsAdded IsText (string_bytes text.old) (string_bytes text.new)) };
+}
+
+// The texts of the shows over a table, one after another.
+pub(crate) fn output_of<T: ShowWriter>(
+    alloc: Global,
+    writer: &T,
+    sources: &Sources,
+    edition: &Edition,
+    shows: &[Show],
+) -> Result<String, AllocError>
+    requires { All (Knows sources.now) shows.now }
+    ensures { IfOk result (λ text. AreJoined (IsTextOver T.is_text edition.now.reserved.items sources.now) shows.now (string_bytes text)) }
+{
+    let mut text = String::new(alloc);
+    for show in shows {
+        writer.push_show(alloc, sources, edition, *show, &mut text)?;
+    }
+    Ok(text)
+}

@@ -1,7 +1,0 @@
-use Rattle.outline_tool.specs.Outlines.{IsOutlined}
-use Rattle.item_tree_request.specs.Seen.{request_view}
-use Rattle.item_tree_request.proofs.Served.{answered}
-use Rattle.outline_tool.proofs.run.answer.Goals as goal
-
-pub returns : goal.returns
-returns c = answered IsOutlined c.args.bytes.now (request_view c.in_ok-request.request) c.serve.result c.in_ok-request.ensures.reads c.serve.ensures
