@@ -138,9 +138,9 @@ extern_block_form d = do
   items ← maybe (list_of extern_item) (field (codes "items") d)
   Some (extern_block_from n items)
 
--- by the word of an item's kind
-abbrev pub item_by : List ℕ → (Data → Option ItemView) → Data → Option ItemView
-item_by word item d =
+-- by the word of the kind of an item that has a name and a visibility, and no keys of its own
+abbrev pub named_by : List ℕ → Data → Option ItemView
+named_by word d =
     on_word word (codes "fn") (plain_form fn_kind d)
     (on_word word (codes "union") (plain_form union_kind d)
     (on_word word (codes "enum") (plain_form enum_kind d)
@@ -149,7 +149,18 @@ item_by word item d =
     (on_word word (codes "type_alias") (plain_form type_alias_kind d)
     (on_word word (codes "macro_def") (plain_form macro_def_kind d)
     (on_word word (codes "const") (option_map const_item (named d))
-    (on_word word (codes "struct") (struct_form d)
+    None)))))))
+
+-- an item of such a kind
+unfoldable pub named_item : Data → Option ItemView
+named_item d = do
+  word ← required as_str (field (codes "is") d)
+  named_by word d
+
+-- by the word of an item's kind
+abbrev pub item_by : List ℕ → (Data → Option ItemView) → Data → Option ItemView
+item_by word item d =
+    on_word word (codes "struct") (struct_form d)
     (on_word word (codes "module") (module_form item d)
     (on_word word (codes "use") (use_form d)
     (on_word word (codes "extern_crate") (extern_crate_form d)
@@ -158,7 +169,7 @@ item_by word item d =
     (on_word word (codes "macro_call") (macro_call_form d)
     (on_word word (codes "macro_rules") (macro_rules_form d)
     (on_word word (codes "asm") (option_map asm_item (node d))
-    None))))))))))))))))
+    (named_item d)))))))))
 
 -- an item, over the reading of those inside
 abbrev pub item_with : (Data → Option ItemView) → Data → Option ItemView

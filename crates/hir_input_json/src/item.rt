@@ -4,7 +4,7 @@ ghost use Rattle.serde_json.specs.View.{view, items_view};
 ghost use Rattle.hir_input.specs.Syntax.{item_view};
 ghost use Rattle.hir_input_json.specs.Forms.{each, maybe, list_of};
 ghost use Rattle.hir_input_json.specs.Held.{held};
-ghost use Rattle.hir_input_json.specs.Items.{struct_form, use_form, extern_crate_form, impl_form, module_form, item as item_form, item_with};
+ghost use Rattle.hir_input_json.specs.Items.{struct_form, use_form, extern_crate_form, impl_form, module_form, item as item_form, item_with, named_item as named_item_form};
 ghost use Rattle.hir_input_json.specs.Reads.{Reads};
 
 mod extern_block;
@@ -64,6 +64,24 @@ fn impl_of(alloc: Global, members: &mut Map<String, Value>) -> Result<Item, Faul
     Ok(Item::Impl(with_node!(Impl, node, is_trait_impl)))
 }
 
+// An item of a kind that has a name and a visibility, and no keys of its own.
+#[tactic(auto, unfolding(crate::specs::Items::named_item), using(hir_input::proofs::SyntaxViews::item_views))]
+fn named_item_of(alloc: Global, members: &mut Map<String, Value>) -> Result<Item, Fault>
+    ensures { Reads item_view result (named_item_form (held members.old)) }
+{
+    match word_at(members, "is")? {
+        "fn" => Ok(Item::Fn(with_name!(Fn, named_at(alloc, members)?))),
+        "union" => Ok(Item::Union(with_name!(Union, named_at(alloc, members)?))),
+        "enum" => Ok(Item::Enum(with_name!(Enum, named_at(alloc, members)?))),
+        "static" => Ok(Item::Static(with_name!(Static, named_at(alloc, members)?))),
+        "trait" => Ok(Item::Trait(with_name!(Trait, named_at(alloc, members)?))),
+        "type_alias" => Ok(Item::TypeAlias(with_name!(TypeAlias, named_at(alloc, members)?))),
+        "macro_def" => Ok(Item::MacroDef(with_name!(MacroDef, named_at(alloc, members)?))),
+        "const" => Ok(Item::Const(with_name!(Const, named_at(alloc, members)?))),
+        _ => Err(Fault::WrongForm),
+    }
+}
+
 #[cycle(items)]
 #[tactic(auto, using(crate::proofs::Items::item_reads_itself, crate::proofs::Held::no_field))]
 pub(crate) fn item_of(alloc: Global, value: Value) -> Result<Item, Fault>
@@ -79,14 +97,6 @@ fn item_in(alloc: Global, members: &mut Map<String, Value>) -> Result<Item, Faul
     ensures { Reads item_view result (item_with item_form (held members.old)) }
 {
     match word_at(members, "is")? {
-        "fn" => Ok(Item::Fn(with_name!(Fn, named_at(alloc, members)?))),
-        "union" => Ok(Item::Union(with_name!(Union, named_at(alloc, members)?))),
-        "enum" => Ok(Item::Enum(with_name!(Enum, named_at(alloc, members)?))),
-        "static" => Ok(Item::Static(with_name!(Static, named_at(alloc, members)?))),
-        "trait" => Ok(Item::Trait(with_name!(Trait, named_at(alloc, members)?))),
-        "type_alias" => Ok(Item::TypeAlias(with_name!(TypeAlias, named_at(alloc, members)?))),
-        "macro_def" => Ok(Item::MacroDef(with_name!(MacroDef, named_at(alloc, members)?))),
-        "const" => Ok(Item::Const(with_name!(Const, named_at(alloc, members)?))),
         "struct" => struct_of(alloc, members),
         "module" => module_of(alloc, members),
         "use" => use_of(alloc, members),
@@ -96,7 +106,7 @@ fn item_in(alloc: Global, members: &mut Map<String, Value>) -> Result<Item, Faul
         "macro_call" => Ok(Item::MacroCall(macro_call_of(alloc, members)?)),
         "macro_rules" => macro_rules_of(alloc, members),
         "asm" => Ok(Item::AsmExpr(with_node!(AsmExpr, node_at(alloc, members)?))),
-        _ => Err(Fault::WrongForm),
+        _ => named_item_of(alloc, members),
     }
 }
 
