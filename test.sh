@@ -1,17 +1,50 @@
 #!/usr/bin/env bash
-# Passes every test: the merge gate (proofs from nothing, wrong bodies, tests, the stored run), and what the gate does not run.
-# It tells the seconds of each part as it ends. The last line is `N passed, M failed`.
+# Passes every test: the merge gate (proofs, wrong bodies, tests, the stored runs), and what the gate does not run. It tells the
+# seconds of each part as it ends, and its last line is `N passed, M failed`, whatever happens.
+#
+# The status is 0 where nothing failed, 69 where something that the tests need is missing, and else 1.
 set -uo pipefail
-cd "$(dirname "${BASH_SOURCE[0]}")" || exit 2
+cd "$(dirname "$(realpath "${BASH_SOURCE[0]}")")" || exit 1
 program=crates/item_tree_tool/out/item_tree_tool
 outlines=crates/outline_tool/out/outline_tool
-tests="crates/hir_input_tests/out/hir_input_tests_tests crates/item_tree_tests/out/item_tree_tests_tests crates/item_tree_db_tests/out/item_tree_db_tests_tests"
+tests=(crates/hir_input_tests/out/hir_input_tests_tests crates/item_tree_tests/out/item_tree_tests_tests crates/item_tree_db_tests/out/item_tree_db_tests_tests)
 log=$(mktemp)
-trap 'rm -f "$log"' EXIT
+planned=0 is_missing=
+
+# Adds up the counts of all parts. A part that ended without them, or was never begun, is a failure.
+close() {
+    local parts
+    sed -n '/^time: /p' "$log"
+    echo "time: all took $SECONDS s"
+    sed -nE '/^[a-z_]+: [0-9]+ passed, [0-9]+ failed$/p' "$log"
+    sed -nE 's/^([a-z_]+: )?([0-9]+) passed, ([0-9]+) failed$/\2 \3/p' "$log" |
+        awk -v planned="$planned" '
+            { passed += $1; failed += $2; parts++ }
+            END {
+                if (parts < planned) failed += planned - parts
+                if (!passed && !failed) failed = 1
+                printf "%d passed, %d failed\n", passed, failed
+                exit failed > 0
+            }'
+    parts=$?
+    rm -f "$log"
+    exit "${is_missing:-$parts}"
+}
+trap close EXIT
+trap 'exit 130' INT
+trap 'exit 143' TERM HUP
+
+for needed in rt python3 cc realpath; do
+    if ! command -v "$needed" > /dev/null; then
+        echo "test.sh: $needed is not on the path, and the tests need it" | tee -a "$log" >&2
+        planned=1 is_missing=69
+        exit
+    fi
+done
 
 # Runs a part, and tells at which second each of its crates was done with, and how long it took.
 part() {
-    local name=$1 start=$SECONDS line
+    local name=$1 start=$SECONDS line status
     shift
     "$@" 2>&1 | while IFS= read -r line; do
         printf '%s\n' "$line"
@@ -19,23 +52,22 @@ part() {
             'rt: '*' proved' | 'rt: '*' NOT PROVED' | 'rt: '*'trying its must-fail edits'*)
                 echo "   ($((SECONDS - start)) s)" ;;
         esac
-    done
-    echo "time: $name took $((SECONDS - start)) s"
+    done | tee -a "$log"
+    status=${PIPESTATUS[0]}
+    echo "time: $name took $((SECONDS - start)) s" | tee -a "$log"
+    return "$status"
 }
 
-{
-    part 'the merge gate' rt ci
-    # The gate leaves the programs and the tests as it built them.
-    part 'the requests' tests/requests.sh $program
-    part 'the outlines' tests/requests.sh $outlines outlines
-    part 'refused memory' tests/refused_memory.sh $program $outlines $tests
+planned=8
+# The gate leaves the programs and the tests as it built them; after one that failed they would be those of an earlier text.
+if part 'the merge gate' rt ci; then
+    part 'the requests' tests/requests.sh "$program"
+    part 'the outlines' tests/requests.sh "$outlines" outlines
+    part 'refused memory' tests/refused_memory.sh "$program" "$outlines" "${tests[@]}"
     part 'what must not compile' tests/must_not_compile.sh
-    part 'damaged requests' tests/hostile_bytes.py $program --seconds 60 --count 8000
-    part 'streams' tests/streams.sh $program
-    part 'deep and wide requests' tests/deep_and_wide.py $program
-} 2>&1 | tee "$log"
-sed -n '/^time: /p' "$log"
-echo "time: all took $SECONDS s"
-sed -nE '/^[a-z_]+: [0-9]+ passed, [0-9]+ failed$/p' "$log"
-sed -nE 's/^([a-z_]+: )?([0-9]+) passed, ([0-9]+) failed$/\2 \3/p' "$log" |
-    awk '{ passed += $1; failed += $2; parts++ } END { if (parts < 8) failed += 8 - parts; printf "%d passed, %d failed\n", passed, failed; exit failed > 0 }'
+    part 'damaged requests' tests/hostile_bytes.py "$program" --seconds 60 --count 8000
+    part 'streams' tests/streams.sh "$program"
+    part 'deep and wide requests' tests/deep_and_wide.py "$program"
+else
+    echo 'test.sh: the gate failed, so the programs were not tried'
+fi

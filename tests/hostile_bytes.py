@@ -328,15 +328,19 @@ def work(program, requests, options, first, step, results):
     """Looks at every `step`-th case from the first on, until the count is reached or the time is over."""
     statuses, faults, number = {}, [], first
     end = time.monotonic() + options.seconds
-    while number < options.count if options.count else time.monotonic() < end:
-        name, data, chance = case_of(requests, options.seed, number)
-        try:
-            status = check(program, data, chance)
-            statuses[status] = statuses.get(status, 0) + 1
-        except Faulty as fault:
-            faults.append(f"case {number}, of {name}: {fault}\n    {shown(data)}")
-        number += step
-    results.put((statuses, faults))
+    try:
+        while number < options.count if options.count else time.monotonic() < end:
+            name, data, chance = case_of(requests, options.seed, number)
+            try:
+                status = check(program, data, chance)
+                statuses[status] = statuses.get(status, 0) + 1
+            except Faulty as fault:
+                faults.append(f"case {number}, of {name}: {fault}\n    {shown(data)}")
+            number += step
+    except Exception as error:
+        faults.append(f"case {number}: {error!r}")
+    finally:
+        results.put((statuses, faults))
 
 
 def all_requests():
@@ -370,6 +374,10 @@ def main():
     parser.add_argument("--only", type=int, metavar="CASE")
     options = parser.parse_args()
     program, requests = os.path.abspath(options.program), all_requests()
+    if not os.access(program, os.X_OK):
+        print(f"no program is at {options.program}")
+        print("hostile_bytes: 0 passed, 1 failed")
+        return 1
     # A run that takes more than two gigabytes is out of memory, and so a failure.
     resource.setrlimit(resource.RLIMIT_AS, (2 << 30, 2 << 30))
     if options.only is not None:

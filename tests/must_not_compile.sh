@@ -6,6 +6,11 @@
 # It reads the libraries as earlier checks left them, and proves nothing.
 set -uo pipefail
 cd "$(dirname "${BASH_SOURCE[0]}")/.." || exit 2
+if ! command -v rt > /dev/null; then
+    echo 'rt is not on the path'
+    echo 'must_not_compile: 0 passed, 1 failed'
+    exit 1
+fi
 work=$(mktemp -d)
 trap 'rm -rf "$work"' EXIT
 cp HANDLES "$work"

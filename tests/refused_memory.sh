@@ -78,18 +78,23 @@ try() {
 }
 export -f refuse ended_out_of_memory judge try_request try_test try_marked try
 
+# Each subject is three words, ended by a null byte each, since a path may hold any other.
 subjects() {
-    local binary
-    (cd "$here" && printf '%s\n' requests/*/*.out) | sed "s|^|try_request $program |; s|\.out\$||"
-    (cd "$here" && printf '%s\n' outlines/*/*.out) | sed "s|^|try_request $outlines |; s|\.out\$||"
+    local binary name
+    cd "$here" || exit 2
+    for name in requests/*/*.out; do printf '%s\0' try_request "$program" "${name%.out}"; done
+    for name in outlines/*/*.out; do printf '%s\0' try_request "$outlines" "${name%.out}"; done
     for binary in "${binaries[@]}"; do
-        "$binary" --list | sed -n 's/: test$//p' > "$work/names"
-        grep when_memory_is_refused "$work/names" | sed "s|^|try_test $binary |"
-        grep where_no_memory_is_left "$work/names" | sed "s|^|try_marked $binary |"
+        while IFS= read -r name; do
+            case $name in
+                *when_memory_is_refused*) printf '%s\0' try_test "$binary" "$name" ;;
+                *where_no_memory_is_left*) printf '%s\0' try_marked "$binary" "$name" ;;
+            esac
+        done < <("$binary" --list | sed -n 's/: test$//p')
     done
 }
 
-subjects | xargs -P "$(nproc)" -I{} bash -c 'try {}' > "$work/told"
+subjects | xargs -0 -n 3 -P "$(nproc)" bash -c 'try "$@"' try > "$work/told"
 grep -v '^counts: ' "$work/told"
 # The last run of a subject whose requests are refused in turn is one in which nothing was.
 awk '/^counts: / { passed += $3; failed += $4; subjects[$2]++; refused[$2] += $3 + $4 - 1 }
