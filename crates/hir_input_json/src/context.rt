@@ -2,7 +2,7 @@
 ghost use Rattle.std.specs.Prelude.{◌≡◌};
 ghost use Rattle.serde_json.specs.View.{view};
 ghost use Rattle.hir_input_json.specs.Held.{held};
-ghost use Rattle.hir_input_json.specs.Literals.{context as context_form, context_at as context_at_form};
+ghost use Rattle.hir_input_json.specs.Literals.{context as context_form, context_at as context_at_form, root_word};
 ghost use Rattle.hir_input_json.specs.Reads.{Reads};
 
 use crate::fault::Fault;
@@ -10,15 +10,24 @@ use crate::member::{field, u32_of};
 use hir_input::{EditionYear, SyntaxContext};
 use serde_json::{Map, Value};
 
+// A root by its word.
+fn root_by(word: &str) -> Result<SyntaxContext, Fault>
+    ensures { Reads (λ ctxt. ctxt) result (root_word word.now) }
+{
+    match word {
+        "ROOT2015" => Ok(SyntaxContext::Root(EditionYear::E2015)),
+        "ROOT2018" => Ok(SyntaxContext::Root(EditionYear::E2018)),
+        "ROOT2021" => Ok(SyntaxContext::Root(EditionYear::E2021)),
+        "ROOT2024" => Ok(SyntaxContext::Root(EditionYear::E2024)),
+        _ => Err(Fault::WrongForm),
+    }
+}
+
 fn context_of(value: &Value) -> Result<SyntaxContext, Fault>
     ensures { Reads (λ ctxt. ctxt) result (context_form (view value.now)) }
 {
     match value.as_str() {
-        Some("ROOT2015") => Ok(SyntaxContext::Root(EditionYear::E2015)),
-        Some("ROOT2018") => Ok(SyntaxContext::Root(EditionYear::E2018)),
-        Some("ROOT2021") => Ok(SyntaxContext::Root(EditionYear::E2021)),
-        Some("ROOT2024") => Ok(SyntaxContext::Root(EditionYear::E2024)),
-        Some(_) => Err(Fault::WrongForm),
+        Some(word) => root_by(word),
         None => Ok(SyntaxContext::Expanded(u32_of(value)?)),
     }
 }

@@ -1,10 +1,10 @@
 //! Items, read from their forms.
 ghost use Rattle.std.specs.Prelude.{◌≡◌, map, option_map};
 ghost use Rattle.serde_json.specs.View.{view, items_view};
-ghost use Rattle.hir_input.specs.Syntax.{item_view};
+ghost use Rattle.hir_input.specs.Syntax.{asm_item, item_view};
 ghost use Rattle.hir_input_json.specs.Forms.{each, maybe, list_of};
 ghost use Rattle.hir_input_json.specs.Held.{held};
-ghost use Rattle.hir_input_json.specs.Items.{struct_form, use_form, extern_crate_form, impl_form, module_form, item as item_form, item_with, named_item as named_item_form};
+ghost use Rattle.hir_input_json.specs.Items.{struct_form, use_form, extern_crate_form, impl_form, macro_call_form, module_form, item as item_form, item_with, named_item as named_item_form, node as node_form};
 ghost use Rattle.hir_input_json.specs.Reads.{Reads};
 
 mod extern_block;
@@ -16,7 +16,7 @@ use crate::fault::Fault;
 use crate::item::extern_block::extern_block_of;
 use crate::item::fields::struct_kind_at;
 use crate::item::macros::{macro_call_of, macro_rules_of};
-use crate::item::node::{Named, Node, named_at, node_at, with_name, with_node};
+use crate::item::node::{named_at, node_at, with_name, with_node};
 use crate::member::{array_of, flag_at, members_of, taken, word_at};
 use crate::use_tree::{rename_at, use_tree_at};
 use crate::visibility::visibility_at;
@@ -64,6 +64,21 @@ fn impl_of(alloc: Global, members: &mut Map<String, Value>) -> Result<Item, Faul
     Ok(Item::Impl(with_node!(Impl, node, is_trait_impl)))
 }
 
+#[tactic(auto, using(hir_input::proofs::SyntaxViews::item_views))]
+fn macro_item_of(alloc: Global, members: &mut Map<String, Value>) -> Result<Item, Fault>
+    ensures { Reads item_view result (macro_call_form (held members.old)) }
+{
+    Ok(Item::MacroCall(macro_call_of(alloc, members)?))
+}
+
+#[tactic(auto, using(hir_input::proofs::SyntaxViews::item_views))]
+fn asm_of(alloc: Global, members: &mut Map<String, Value>) -> Result<Item, Fault>
+    ensures { Reads item_view result (option_map asm_item (node_form (held members.old))) }
+{
+    let node = node_at(alloc, members)?;
+    Ok(Item::AsmExpr(with_node!(AsmExpr, node)))
+}
+
 // An item of a kind that has a name and a visibility, and no keys of its own.
 #[tactic(auto, unfolding(crate::specs::Items::named_item), using(hir_input::proofs::SyntaxViews::item_views))]
 fn named_item_of(alloc: Global, members: &mut Map<String, Value>) -> Result<Item, Fault>
@@ -103,9 +118,9 @@ fn item_in(alloc: Global, members: &mut Map<String, Value>) -> Result<Item, Faul
         "extern_crate" => extern_crate_of(alloc, members),
         "extern_block" => extern_block_of(alloc, members),
         "impl" => impl_of(alloc, members),
-        "macro_call" => Ok(Item::MacroCall(macro_call_of(alloc, members)?)),
+        "macro_call" => macro_item_of(alloc, members),
         "macro_rules" => macro_rules_of(alloc, members),
-        "asm" => Ok(Item::AsmExpr(with_node!(AsmExpr, node_at(alloc, members)?))),
+        "asm" => asm_of(alloc, members),
         _ => named_item_of(alloc, members),
     }
 }

@@ -3,7 +3,7 @@ ghost use Rattle.std.specs.Prelude.{◌≡◌, OnOk, codes};
 ghost use Rattle.std.specs.Vec.Iter.{into_iter_items};
 ghost use Rattle.serde_json.specs.View.{view, items_view};
 ghost use Rattle.hir_input_json.specs.Held.{held, without};
-ghost use Rattle.hir_input_json.specs.Paths.{path as path_form, path_at as path_at_form, listed_path as listed_form, names_behind, super_path as super_form, dollar_path as dollar_form};
+ghost use Rattle.hir_input_json.specs.Paths.{path as path_form, path_at as path_at_form, listed_path as listed_form, names_behind, super_path as super_form, dollar_path as dollar_form, path_by as by_word};
 ghost use Rattle.hir_input_json.specs.Reads.{Reads};
 
 use crate::fault::Fault;
@@ -45,12 +45,10 @@ fn dollar_path(alloc: Global, mut items: IntoIter<Value>) -> Result<PathNode, Fa
 }
 
 // A path by the word of its kind.
-fn listed_path(alloc: Global, mut items: IntoIter<Value>) -> Result<PathNode, Fault>
-    ensures { Reads (λ path. path) result (listed_form (items_view (into_iter_items items))) }
+fn path_by(alloc: Global, word: &str, items: IntoIter<Value>) -> Result<PathNode, Fault>
+    ensures { Reads (λ path. path) result (by_word word.now (items_view (into_iter_items items))) }
 {
-    let word = items.next().ok_or(Fault::WrongForm)?;
-    let word = text_of(word)?;
-    match word.as_str() {
+    match word {
         "plain" => path_with(alloc, PathKind::Plain, items),
         "super" => super_path(alloc, items),
         "crate" => path_with(alloc, PathKind::Crate, items),
@@ -58,6 +56,15 @@ fn listed_path(alloc: Global, mut items: IntoIter<Value>) -> Result<PathNode, Fa
         "dollar" => dollar_path(alloc, items),
         _ => Err(Fault::WrongForm),
     }
+}
+
+// A path by its first item, which is the word of its kind.
+fn listed_path(alloc: Global, mut items: IntoIter<Value>) -> Result<PathNode, Fault>
+    ensures { Reads (λ path. path) result (listed_form (items_view (into_iter_items items))) }
+{
+    let word = items.next().ok_or(Fault::WrongForm)?;
+    let word = text_of(word)?;
+    path_by(alloc, word.as_str(), items)
 }
 
 pub(crate) fn path_of(alloc: Global, value: Value) -> Result<PathNode, Fault>

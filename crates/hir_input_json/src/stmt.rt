@@ -37,7 +37,7 @@ fn call_of(alloc: Global, value: Value) -> Result<MacroCall, Fault>
     }
 }
 
-#[tactic(auto, using(crate::proofs::Held::field_without, crate::proofs::Held::no_field))]
+#[tactic(auto, using(crate::proofs::Held::no_field))]
 fn stmt_of(alloc: Global, value: Value) -> Result<Stmt, Fault>
     ensures { Reads stmt_view result (stmt_form (view value)) }
 {
@@ -48,10 +48,18 @@ fn stmt_of(alloc: Global, value: Value) -> Result<Stmt, Fault>
         };
     }
     let mut members = members_of(value)?;
-    if let Some(item) = taken(&mut members, "item") {
+    stmt_in(alloc, &mut members)
+}
+
+// An item, or else a call.
+#[tactic(auto, using(crate::proofs::Held::field_without))]
+fn stmt_in(alloc: Global, members: &mut Map<String, Value>) -> Result<Stmt, Fault>
+    ensures { Reads stmt_view result (stmt_form (held members.old)) }
+{
+    if let Some(item) = taken(members, "item") {
         return Ok(Stmt::Item(item_of(alloc, item)?));
     }
-    let call = taken(&mut members, "call").ok_or(Fault::WrongForm)?;
+    let call = taken(members, "call").ok_or(Fault::WrongForm)?;
     Ok(Stmt::MacroCall(call_of(alloc, call)?))
 }
 

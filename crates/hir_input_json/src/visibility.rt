@@ -3,7 +3,7 @@ ghost use Rattle.std.specs.Prelude.{◌≡◌, OnOk, codes};
 ghost use Rattle.serde_json.specs.View.{view};
 ghost use Rattle.hir_input_json.specs.Forms.{field as field_of, maybe};
 ghost use Rattle.hir_input_json.specs.Held.{held, without};
-ghost use Rattle.hir_input_json.specs.Paths.{visibility as visibility_form};
+ghost use Rattle.hir_input_json.specs.Paths.{visibility as visibility_form, visibility_word};
 ghost use Rattle.hir_input_json.specs.Reads.{Reads};
 
 use crate::fault::Fault;
@@ -13,22 +13,29 @@ use hir_input::ast::Visibility;
 use serde_json::{Map, Value};
 use std::alloc::Global;
 
+// A visibility by its word.
+fn visibility_by(word: &str) -> Result<Visibility, Fault>
+    ensures { Reads (λ visibility. visibility) result (visibility_word word.now) }
+{
+    match word {
+        "pub" => Ok(Visibility::Pub),
+        "crate" => Ok(Visibility::PubCrate),
+        "super" => Ok(Visibility::PubSuper),
+        "self" => Ok(Visibility::PubSelf),
+        _ => Err(Fault::WrongForm),
+    }
+}
+
 #[tactic(auto, using(crate::proofs::Held::no_field))]
 pub(crate) fn visibility_of(alloc: Global, value: Value) -> Result<Visibility, Fault>
     ensures { Reads (λ visibility. visibility) result (visibility_form (view value)) }
 {
-    match value.as_str() {
-        Some("pub") => Ok(Visibility::Pub),
-        Some("crate") => Ok(Visibility::PubCrate),
-        Some("super") => Ok(Visibility::PubSuper),
-        Some("self") => Ok(Visibility::PubSelf),
-        Some(_) => Err(Fault::WrongForm),
-        None => {
-            let mut members = members_of(value)?;
-            let path = taken(&mut members, "in").ok_or(Fault::WrongForm)?;
-            Ok(Visibility::InPath(path_of(alloc, path)?))
-        }
+    if let Some(word) = value.as_str() {
+        return visibility_by(word);
     }
+    let mut members = members_of(value)?;
+    let path = taken(&mut members, "in").ok_or(Fault::WrongForm)?;
+    Ok(Visibility::InPath(path_of(alloc, path)?))
 }
 
 // Takes a visibility out.

@@ -9,7 +9,7 @@ ghost use Rattle.hir_input_json.specs.Reads.{Reads};
 
 use crate::fault::Fault;
 use crate::item::macros::macro_call_of;
-use crate::item::node::{Named, Node, named_at, node_at, with_name, with_node};
+use crate::item::node::{named_at, node_at, with_name, with_node};
 use crate::member::{array_of, members_of, taken, word_at};
 use hir_input::ast::{ExternBlock, ExternItem, Fn, Item, Static, TypeAlias};
 use serde_json::{Map, Value};
@@ -20,14 +20,18 @@ fn extern_item_of(alloc: Global, value: Value) -> Result<ExternItem, Fault>
     ensures { Reads extern_item_view result (extern_item_form (view value)) }
 {
     let mut members = members_of(value)?;
-    match word_at(&members, "is")? {
-        "fn" => Ok(ExternItem::Fn(with_name!(Fn, named_at(alloc, &mut members)?))),
-        "static" => Ok(ExternItem::Static(with_name!(Static, named_at(alloc, &mut members)?))),
-        "type_alias" => Ok(ExternItem::TypeAlias(with_name!(
-            TypeAlias,
-            named_at(alloc, &mut members)?
-        ))),
-        "macro_call" => Ok(ExternItem::MacroCall(macro_call_of(alloc, &mut members)?)),
+    extern_item_in(alloc, &mut members)
+}
+
+#[tactic(auto, unfolding(crate::specs::Items::extern_item))]
+fn extern_item_in(alloc: Global, members: &mut Map<String, Value>) -> Result<ExternItem, Fault>
+    ensures { Reads extern_item_view result (extern_item_form (held members.old)) }
+{
+    match word_at(members, "is")? {
+        "fn" => Ok(ExternItem::Fn(with_name!(Fn, named_at(alloc, members)?))),
+        "static" => Ok(ExternItem::Static(with_name!(Static, named_at(alloc, members)?))),
+        "type_alias" => Ok(ExternItem::TypeAlias(with_name!(TypeAlias, named_at(alloc, members)?))),
+        "macro_call" => Ok(ExternItem::MacroCall(macro_call_of(alloc, members)?)),
         _ => Err(Fault::WrongForm),
     }
 }

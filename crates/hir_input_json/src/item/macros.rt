@@ -7,7 +7,7 @@ ghost use Rattle.hir_input_json.specs.Reads.{Reads};
 
 use crate::context::context_at;
 use crate::fault::Fault;
-use crate::item::node::{Node, node_at, with_node};
+use crate::item::node::{node_at, with_node};
 use crate::member::field;
 use crate::name::name_at;
 use crate::path::path_at;

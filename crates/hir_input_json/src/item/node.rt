@@ -32,19 +32,33 @@ pub(crate) struct Named {
     pub(crate) visibility: Option<Visibility>,
 }
 
-// The item of this type with what every item has, and with these fields. A caller imports `Node`, for `with_name` `Named` too.
+// The item of this type with what every item has, and with these fields.
 macro_rules! with_node {
     ($kind:ident, $node:expr $(, $field:ident)*) => {{
-        let Node { hash, number, attrs, body } = $node;
-        $kind { hash, number, attrs, body $(, $field)* }
+        let node = $node;
+        $kind {
+            hash: node.hash,
+            number: node.number,
+            attrs: node.attrs,
+            body: node.body
+            $(, $field)*
+        }
     }};
 }
 
 // The same with a name and a visibility.
 macro_rules! with_name {
     ($kind:ident, $named:expr $(, $field:ident)*) => {{
-        let Named { node, name, visibility } = $named;
-        with_node!($kind, node, name, visibility $(, $field)*)
+        let named = $named;
+        $kind {
+            hash: named.node.hash,
+            number: named.node.number,
+            attrs: named.node.attrs,
+            body: named.node.body,
+            name: named.name,
+            visibility: named.visibility
+            $(, $field)*
+        }
     }};
 }
 

@@ -3,6 +3,9 @@ use Rattle.std.proofs.Common.{arith, codes, refl, sym}
 use Rattle.serde_json.specs.View.{view}
 use Rattle.hir_input_json.specs.Held.{held}
 use Rattle.hir_input_json.proofs.Inside.{depth_field, depth_get, field_before}
+use Rattle.hir_input_json.proofs.Held.{field_without, no_field, no_get}
+use Rattle.hir_input_json.proofs.Attrs.{cfg_reads_itself}
+use Rattle.hir_input.proofs.CfgLemmas.{cfg_views}
 use Rattle.hir_input_json.proofs.cfg.+cfgs.Goals as goal
 
 pub cfg_by-cfgs_in-requires : goal.cfg_by-cfgs_in-requires
@@ -29,3 +32,42 @@ pub cfg_by-cfg_of-requires : goal.cfg_by-cfg_of-requires
 cfg_by-cfg_of-requires t c =
     let less = depth_get (codes "not") (held c.args.members.now) (view c.in-Some-inner.inner) (sym c.in-Some-inner.ensures.taken) in
     (omega (arith, less), tt)
+
+pub cfg_of-returns : goal.cfg_of-returns
+cfg_of-returns t c = grind (arith, cfg_reads_itself)
+
+pub cfg_in-returns-in_err-members : goal.cfg_in-returns-in_err-members
+cfg_in-returns-in_err-members t c = grind (arith, no_field, no_get, cfg_views)
+
+pub cfg_in-returns-then-is_string : goal.cfg_in-returns-then-is_string
+cfg_in-returns-then-is_string t c = grind (arith, no_field, no_get, cfg_views)
+
+pub cfg_in-returns-in_err-atom_of : goal.cfg_in-returns-in_err-atom_of
+cfg_in-returns-in_err-atom_of t c = grind (arith, no_field, no_get, cfg_views)
+
+pub cfg_by-returns-in_err-keyed_atom_of : goal.cfg_by-returns-in_err-keyed_atom_of
+cfg_by-returns-in_err-keyed_atom_of t c = grind (arith, field_without, cfg_views)
+
+pub cfg_by-returns-in-Some : goal.cfg_by-returns-in-Some
+cfg_by-returns-in-Some t c = grind (arith, field_without, cfg_views)
+
+pub cfg_by-returns-in_err-cfgs_in : goal.cfg_by-returns-in_err-cfgs_in
+cfg_by-returns-in_err-cfgs_in t c = grind (arith, field_without, cfg_views)
+
+pub cfg_by-returns-in-Some-taken : goal.cfg_by-returns-in-Some-taken
+cfg_by-returns-in-Some-taken t c = grind (arith, field_without, cfg_views)
+
+pub cfg_by-returns-in_err-cfgs_in-2 : goal.cfg_by-returns-in_err-cfgs_in-2
+cfg_by-returns-in_err-cfgs_in-2 t c = grind (arith, field_without, cfg_views)
+
+pub cfg_by-returns-in-Some-taken-2 : goal.cfg_by-returns-in-Some-taken-2
+cfg_by-returns-in-Some-taken-2 t c = grind (arith, field_without, cfg_views)
+
+pub cfg_by-returns-in_err-inner-in-Some-inner : goal.cfg_by-returns-in_err-inner-in-Some-inner
+cfg_by-returns-in_err-inner-in-Some-inner t c = grind (arith, field_without, cfg_views)
+
+pub cfg_by-returns-in_ok-new-in-Some-inner : goal.cfg_by-returns-in_ok-new-in-Some-inner
+cfg_by-returns-in_ok-new-in-Some-inner t c = grind (arith, field_without, cfg_views)
+
+pub cfg_by-returns-in-None : goal.cfg_by-returns-in-None
+cfg_by-returns-in-None t c = grind (arith, field_without, cfg_views)
