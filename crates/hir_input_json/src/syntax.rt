@@ -50,10 +50,16 @@ pub fn syntax_of(alloc: Global, value: Value) -> Result<Syntax, Fault>
     ensures { Reads syntax_view result (syntax_form (view value)) }
 {
     let mut members = members_of(value)?;
-    match word_at(&members, "root")? {
-        "source_file" => source_file_of(alloc, &mut members),
-        "macro_items" => macro_items_of(alloc, &mut members),
-        "macro_stmts" => macro_stmts_of(alloc, &mut members),
+    syntax_in(alloc, &mut members)
+}
+
+fn syntax_in(alloc: Global, members: &mut Map<String, Value>) -> Result<Syntax, Fault>
+    ensures { Reads syntax_view result (syntax_form (held members.old)) }
+{
+    match word_at(members, "root")? {
+        "source_file" => source_file_of(alloc, members),
+        "macro_items" => macro_items_of(alloc, members),
+        "macro_stmts" => macro_stmts_of(alloc, members),
         "error" => Ok(Syntax::Error),
         _ => Err(Fault::WrongForm),
     }

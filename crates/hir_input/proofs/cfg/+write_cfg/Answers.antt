@@ -44,3 +44,11 @@ write_cfg-returns-in_err-write_cfg-in-Not g t c = grind (arith, cfg_texts, commo
 pub write_cfg-returns-in_ok-write_cfg-in-Not : goal.write_cfg-returns-in_ok-write_cfg-in-Not
 unfolding shown_cfg shown_cfgs
 write_cfg-returns-in_ok-write_cfg-in-Not g t c = grind (arith, cfg_texts, common_steps)
+
+pub write_members-loop-i-preserved : goal.write_members-loop-i-preserved
+unfolding shown_cfg shown_cfgs
+write_members-loop-i-preserved g t c = grind (arith, cfg_texts, common_steps)
+
+pub write_members-returns : goal.write_members-returns
+unfolding shown_cfg shown_cfgs
+write_members-returns g t c = grind (arith, cfg_texts, common_steps)
