@@ -82,7 +82,7 @@ fn lower_source(
 {
     match source {
         Source::File { file, syntax } => {
-            lower_syntax(alloc, syntax, *file == krate.root, krate, skipped)
+            lower_syntax(alloc, syntax, file.0 == krate.root.0, krate, skipped)
         }
         Source::Block { syntax, .. } => lower_block(alloc, syntax, krate, skipped),
     }

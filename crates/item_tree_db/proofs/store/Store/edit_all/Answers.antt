@@ -3,7 +3,7 @@ use Rattle.std.specs.Option.{option_map}
 use Rattle.std.proofs.lemmas.Option.{slice_get-map}
 use Rattle.item_tree_db.specs.declared.edit.Edit.{Edit}
 use Rattle.item_tree_db.specs.Edits.{edit_view}
-use Rattle.item_tree_db.specs.Refusal.{FirstFit}
+use Rattle.item_tree_db.specs.Refusal.{FirstFit, IsRefusal}
 use Rattle.item_tree_db.specs.Table.{Table, after, after_all, state_of}
 use Rattle.item_tree_db.proofs.Histories.{fits_more}
 use Rattle.item_tree_db.proofs.Runs.{popped, known_now}
@@ -35,3 +35,14 @@ returns-in-Err-clause-place c =
     let s = c.in-Some.ensures.steps in
     let p = popped c.loop-place.place-iterator.count c.args.edits.items c.in-Some.edit c.next.new.self.iter.rest.items (c.loop-place.invariant.rest ∙ s.0.0) in
     ap (λ (k : ℕ). slice_get c.args.edits.items k) s.1 ∙ p.at ∙ ap (λ (x : Edit). Some x) (sym c.in-Err.ensures.returned)
+
+pub returns-in-Err-clause-refused : goal.returns-in-Err-clause-refused
+returns-in-Err-clause-refused c =
+    let views = map edit_view c.args.edits.items in
+    c.in-Err.ensures.err ∙ c.loop-place.invariant.done ∙ sym (ap (λ (k : ℕ). after_all c.args.self.now (take k views)) c.in-Some.ensures.steps.1)
+
+pub returns-in-Err-clause-fits_before : goal.returns-in-Err-clause-fits_before
+returns-in-Err-clause-fits_before c = subst (FirstFit (state_of c.args.self.now) (map edit_view c.args.edits.items)) (sym c.in-Some.ensures.steps.1) c.loop-place.invariant.fits
+
+pub returns-in-Err-clause-cause : goal.returns-in-Err-clause-cause
+returns-in-Err-clause-cause c = subst (λ (t : Table). IsRefusal (state_of t) c.in-Err.refused) (sym c.in-Err.ensures.err) c.in-Err.ensures.cause
