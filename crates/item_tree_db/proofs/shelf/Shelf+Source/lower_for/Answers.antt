@@ -51,3 +51,27 @@ returns-in_err-row-clause-refused c =
     let here = passes_own names place krate source error own.0 (subst (λ (o : Option Source). SourcePasses names krate o error) c.syntax.ensures c.in_err-row.ensures.refused) in
     let left = subst (λ (l : List (Place × Placed Source)). SomePasses names krate l error) (sym c.in-Some.ensures.steps) (inl here) in
     rw (p.1, p.2) (slots_pass names krate c.args.self.now error (c.loop-place.invariant.passed error left))
+
+pub returns-in_err-fresh-clause-fresh : goal.returns-in_err-fresh-clause-fresh
+returns-in_err-fresh-clause-fresh c = let p = err_from_is_err_and c.from_residual.result c.from_residual.ensures.1 in rw p.1 tt
+
+pub returns-in_err-fresh-clause-fits : goal.returns-in_err-fresh-clause-fits
+returns-in_err-fresh-clause-fits c = let p = err_from_is_err_and c.from_residual.result c.from_residual.ensures.1 in rw p.1 tt
+
+pub returns-in_err-fresh-clause-refused : goal.returns-in_err-fresh-clause-refused
+returns-in_err-fresh-clause-refused c = let p = err_from_is_err_and c.from_residual.result c.from_residual.ensures.1 in rw (p.1, p.2) tt
+
+pub returns-in_err-row-clause-fresh : goal.returns-in_err-row-clause-fresh
+returns-in_err-row-clause-fresh c = let p = err_from_is_err_and c.from_residual-in_err-row.result c.from_residual-in_err-row.ensures.1 in rw p.1 tt
+
+pub returns-in_err-row-clause-fits : goal.returns-in_err-row-clause-fits
+returns-in_err-row-clause-fits c = let p = err_from_is_err_and c.from_residual-in_err-row.result c.from_residual-in_err-row.ensures.1 in rw p.1 tt
+
+pub returns-in_err-push-clause-fresh : goal.returns-in_err-push-clause-fresh
+returns-in_err-push-clause-fresh c = let p = err_from_is_err_and c.from_residual-in_err-push.result c.from_residual-in_err-push.ensures.1 in rw p.1 tt
+
+pub returns-in_err-push-clause-fits : goal.returns-in_err-push-clause-fits
+returns-in_err-push-clause-fits c = let p = err_from_is_err_and c.from_residual-in_err-push.result c.from_residual-in_err-push.ensures.1 in rw p.1 tt
+
+pub returns-in_err-push-clause-refused : goal.returns-in_err-push-clause-refused
+returns-in_err-push-clause-refused c = let p = err_from_is_err_and c.from_residual-in_err-push.result c.from_residual-in_err-push.ensures.1 in rw (p.1, p.2) tt
