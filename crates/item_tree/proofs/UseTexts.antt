@@ -1,5 +1,6 @@
 -- The texts of use trees, case by case.
-use Rattle.std.proofs.Common.{◌≡◌, ℕ, List, [], ◌∷◌, ◌++◌, map, codes, Option, Vec, Global, ap, ◌∙◌, refl, append_assoc}
+use Rattle.std.proofs.Common.{◌≡◌, ◌<◌, ◌+◌, ℕ, List, [], ◌∷◌, ◌++◌, length, map, take, get_or, codes, Option, Vec, Global, ap, sym, ◌∙◌, refl, append_assoc, append-nil, arith}
+use Rattle.std.proofs.lemmas.List.{take_more, map-append, length-map, length-take}
 use Rattle.hir_input.specs.Cfg.{by_commas}
 use Rattle.hir_input.specs.Path.{Path, shown_path}
 use Rattle.hir_input.proofs.CfgLemmas.{by_commas-push}
@@ -33,5 +34,24 @@ pub shown_tree-found : (r : List (List ℕ)) (k : UseTreeKind) (p : Option Path)
     shown_prefix r p ++ (codes "{" ++ (by_commas (map (λ t. shown_tree r (tree_of t)) ts) ++ codes "}")) ≡ shown_tree r (tree_of_kind k)
 shown_tree-found r k p list ts e f =
     rw (e, f, shown_tree-prefixed r p list) (simp append_assoc)
+
+-- a list, as the code writes it: the first of it, and one more behind others
+module _ (r : List (List ℕ)) where
+  abbrev text_of : UseTree → List ℕ
+  text_of t = shown_tree r (tree_of t)
+
+  text_of-kind : (t : UseTree) → shown_tree r (tree_of_kind t.kind) ≡ text_of t
+  text_of-kind t = ap (shown_tree r) (sym (tree_of-kind t))
+
+  one_more : (ts : List UseTree) (i : ℕ) (d : UseTree) → i < length ts → map text_of (take (i + 1) ts) ≡ map text_of (take i ts) ++ text_of (get_or ts i d) ∷ []
+  one_more ts i d h = ap (map text_of) (take_more ts i d h) ∙ map-append text_of (take i ts) (get_or ts i d ∷ [])
+
+  pub first_shown : (ts : List UseTree) (d : UseTree) → 0 < length ts → shown_tree r (tree_of_kind (get_or ts 0 d).kind) ≡ by_commas (map text_of (take 1 ts))
+  first_shown ts d h = text_of-kind (get_or ts 0 d) ∙ sym (append-nil (text_of (get_or ts 0 d))) ∙ sym (ap by_commas (one_more ts 0 d h))
+
+  pub next_shown : (ts : List UseTree) (i : ℕ) (d : UseTree) → 0 < i → i < length ts → by_commas (map text_of (take i ts)) ++ (codes ", " ++ shown_tree r (tree_of_kind (get_or ts i d).kind)) ≡ by_commas (map text_of (take (i + 1) ts))
+  next_shown ts i d p h =
+      let some : 0 < length (map text_of (take i ts)) = omega (arith, length-map (take i ts) text_of, length-take i ts) in
+      ap (λ z. by_commas (map text_of (take i ts)) ++ (codes ", " ++ z)) (text_of-kind (get_or ts i d)) ∙ sym (by_commas-push (map text_of (take i ts)) (text_of (get_or ts i d)) some) ∙ sym (ap by_commas (one_more ts i d h))
 
 pub ruleset tree_texts = (shown_tree-single, shown_tree-glob, shown_tree-prefixed, tree_of-kind, by_commas-push)

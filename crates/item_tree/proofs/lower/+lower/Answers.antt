@@ -1,4 +1,4 @@
-use Rattle.std.proofs.Common.{◌≤◌, length, [], ◌∷◌, ◌++◌, subst, ap, sym, ◌∙◌, append-nil}
+use Rattle.std.proofs.Common.{◌≤◌, length, [], ◌∷◌, ◌++◌, subst, ap, sym, ◌∙◌, append-nil, arith}
 use Rattle.std.proofs.lemmas.Result.{err_from_is_err_and}
 use Rattle.hir_input.specs.Syntax.{item_view}
 use Rattle.item_tree_attrs.specs.Collected.{attr_limit}
@@ -7,6 +7,8 @@ use Rattle.item_tree.specs.Inner.Growth.{attrs_in, Meets, sizes_meeting, sizes_p
 use Rattle.item_tree.specs.Size.{IsPassed}
 use Rattle.item_tree.proofs.Lowering.{unmet-module, Lowers-step, passed-step, Lowers-inline, full-inline}
 use Rattle.item_tree.proofs.lower.+lower.Goals as goal
+use Rattle.std.proofs.lemmas.Grind.{common_steps}
+use Rattle.hir_input.proofs.SyntaxViews.{item_views}
 use Rattle.item_tree.proofs.lower.+lower.Goals.{lower_items-in-Some+in_ok-push, lower_items-in_default}
 
 pub lower_items-returns-in_err-id : goal.lower_items-returns-in_err-id
@@ -45,3 +47,66 @@ lower_module-returns t c =
     let m = subst (λ z. Meets c.args.rows.now c.lower_visibility.new.rows (read_visibility z) c.in_ok-visibility.visibility) c.as_ref.ensures.value c.in_ok-visibility.ensures.met in
     let few = subst (λ z. length (attrs_in ctx z).attrs ≤ attr_limit) c.deref-2.ensures.value c.in_ok-push_row-2.ensures.fits in
     Lowers-inline ctx node _ c.in-Some.name c.in_ok-name-2.name c.in-Some.is c.if-mod_node.false c.in_ok-name-2.ensures.cases (λ i. record { hash = node.hash; number = node.number; attrs = attrs_in ctx (c.deref-2.ensures.value i) }) few m c.in_ok-items.ensures c.in_ok-push_row-2.ensures.pushed
+
+pub lower_items-loop-item-init : goal.lower_items-loop-item-init
+lower_items-loop-item-init t c = grind (arith, common_steps)
+
+pub lower_items-returns : goal.lower_items-returns
+lower_items-returns t c = grind (arith, common_steps)
+
+pub lower_module-returns-in_err-push_row : goal.lower_module-returns-in_err-push_row
+lower_module-returns-in_err-push_row t c = grind (arith, item_views)
+
+pub lower_module-returns-then-mod_node : goal.lower_module-returns-then-mod_node
+lower_module-returns-then-mod_node t c = grind (arith, item_views)
+
+pub lower_module_items-returns-in-Some : goal.lower_module_items-returns-in-Some
+lower_module_items-returns-in-Some t c = grind (arith, item_views)
+
+pub lower_item-returns-in-Const : goal.lower_item-returns-in-Const
+lower_item-returns-in-Const t c = grind (arith, item_views)
+
+pub lower_item-returns-in-Enum : goal.lower_item-returns-in-Enum
+lower_item-returns-in-Enum t c = grind (arith, item_views)
+
+pub lower_item-returns-in-ExternBlock : goal.lower_item-returns-in-ExternBlock
+lower_item-returns-in-ExternBlock t c = grind (arith, item_views)
+
+pub lower_item-returns-in-ExternCrate : goal.lower_item-returns-in-ExternCrate
+lower_item-returns-in-ExternCrate t c = grind (arith, item_views)
+
+pub lower_item-returns-in-Fn : goal.lower_item-returns-in-Fn
+lower_item-returns-in-Fn t c = grind (arith, item_views)
+
+pub lower_item-returns-in-Impl : goal.lower_item-returns-in-Impl
+lower_item-returns-in-Impl t c = grind (arith, item_views)
+
+pub lower_item-returns-in-MacroCall : goal.lower_item-returns-in-MacroCall
+lower_item-returns-in-MacroCall t c = grind (arith, item_views)
+
+pub lower_item-returns-in-MacroDef : goal.lower_item-returns-in-MacroDef
+lower_item-returns-in-MacroDef t c = grind (arith, item_views)
+
+pub lower_item-returns-in-MacroRules : goal.lower_item-returns-in-MacroRules
+lower_item-returns-in-MacroRules t c = grind (arith, item_views)
+
+pub lower_item-returns-in-Module : goal.lower_item-returns-in-Module
+lower_item-returns-in-Module t c = grind (arith, item_views)
+
+pub lower_item-returns-in-Static : goal.lower_item-returns-in-Static
+lower_item-returns-in-Static t c = grind (arith, item_views)
+
+pub lower_item-returns-in-Struct : goal.lower_item-returns-in-Struct
+lower_item-returns-in-Struct t c = grind (arith, item_views)
+
+pub lower_item-returns-in-Trait : goal.lower_item-returns-in-Trait
+lower_item-returns-in-Trait t c = grind (arith, item_views)
+
+pub lower_item-returns-in-TypeAlias : goal.lower_item-returns-in-TypeAlias
+lower_item-returns-in-TypeAlias t c = grind (arith, item_views)
+
+pub lower_item-returns-in-Union : goal.lower_item-returns-in-Union
+lower_item-returns-in-Union t c = grind (arith, item_views)
+
+pub lower_item-returns-in-Use : goal.lower_item-returns-in-Use
+lower_item-returns-in-Use t c = grind (arith, item_views)

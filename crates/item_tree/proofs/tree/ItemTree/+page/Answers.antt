@@ -1,4 +1,4 @@
-use Rattle.std.proofs.Common.{◌∙◌, ap, refl, sym, subst, inl, inr, string_bytes}
+use Rattle.std.proofs.Common.{◌∙◌, ap, refl, sym, subst, inl, inr, string_bytes, arith}
 use Rattle.std.proofs.lemmas.Result.{on_ok_weaker}
 use Rattle.item_tree.specs.Node.{inline, extern_block}
 use Rattle.item_tree.specs.Page.{item_opening}
@@ -6,6 +6,7 @@ use Rattle.item_tree.specs.Inner.PageByIds.{Gains, lent_lines}
 use Rattle.item_tree.specs.Shown.{IsModule, IsParent}
 use Rattle.item_tree.proofs.Paging.{gains_more, item_gains, parent_gains}
 use Rattle.item_tree.proofs.tree.ItemTree.+page.Goals as goal
+use Rattle.std.proofs.lemmas.Grind.{common_steps}
 use Rattle.item_tree.proofs.tree.ItemTree.+page.Goals.{push_items-then-place-gt0+in_ok-push_blank, push_items-else-place-gt0}
 
 pub push_item-returns : goal.push_item-returns
@@ -46,3 +47,96 @@ push_items-loop-place-preserved t c =
       | push_items-then-place-gt0+in_ok-push_blank w ↦ inl (w.if-place-gt0.true, ap string_bytes w.out-is ∙ w.in_ok-push_blank.ensures)
       | push_items-else-place-gt0 w ↦ inr (w.if-place-gt0.false, w.out-is)
     ])
+
+pub push_own-returns-in-Const : goal.push_own-returns-in-Const
+push_own-returns-in-Const t c = grind arith
+
+pub push_own-returns-in-Enum : goal.push_own-returns-in-Enum
+push_own-returns-in-Enum t c = grind arith
+
+pub push_own-returns-in-ExternCrate : goal.push_own-returns-in-ExternCrate
+push_own-returns-in-ExternCrate t c = grind arith
+
+pub push_own-returns-in-Function : goal.push_own-returns-in-Function
+push_own-returns-in-Function t c = grind arith
+
+pub push_own-returns-in-Impl : goal.push_own-returns-in-Impl
+push_own-returns-in-Impl t c = grind arith
+
+pub push_own-returns-in-Macro2 : goal.push_own-returns-in-Macro2
+push_own-returns-in-Macro2 t c = grind arith
+
+pub push_own-returns-in-MacroCall : goal.push_own-returns-in-MacroCall
+push_own-returns-in-MacroCall t c = grind arith
+
+pub push_own-returns-in-MacroRules : goal.push_own-returns-in-MacroRules
+push_own-returns-in-MacroRules t c = grind arith
+
+pub push_own-returns-in-Outline : goal.push_own-returns-in-Outline
+push_own-returns-in-Outline t c = grind arith
+
+pub push_own-returns-in-Static : goal.push_own-returns-in-Static
+push_own-returns-in-Static t c = grind arith
+
+pub push_own-returns-in-Struct : goal.push_own-returns-in-Struct
+push_own-returns-in-Struct t c = grind arith
+
+pub push_own-returns-in-Trait : goal.push_own-returns-in-Trait
+push_own-returns-in-Trait t c = grind arith
+
+pub push_own-returns-in-TypeAlias : goal.push_own-returns-in-TypeAlias
+push_own-returns-in-TypeAlias t c = grind arith
+
+pub push_own-returns-in-Union : goal.push_own-returns-in-Union
+push_own-returns-in-Union t c = grind arith
+
+pub push_own-returns-in-Use : goal.push_own-returns-in-Use
+push_own-returns-in-Use t c = grind arith
+
+pub push_own-index-requires-in-Const : goal.push_own-index-requires-in-Const
+push_own-index-requires-in-Const t c = grind arith
+
+pub push_own-index-requires-in-ExternCrate : goal.push_own-index-requires-in-ExternCrate
+push_own-index-requires-in-ExternCrate t c = grind arith
+
+pub push_own-index-requires-in-Use : goal.push_own-index-requires-in-Use
+push_own-index-requires-in-Use t c = grind arith
+
+pub push_own-index-visibility-requires : goal.push_own-index-visibility-requires
+push_own-index-visibility-requires t c = grind arith
+
+pub push_own-index-visibility-requires-in-Function : goal.push_own-index-visibility-requires-in-Function
+push_own-index-visibility-requires-in-Function t c = grind arith
+
+pub push_own-index-visibility-requires-in-Inline : goal.push_own-index-visibility-requires-in-Inline
+push_own-index-visibility-requires-in-Inline t c = grind arith
+
+pub push_own-index-visibility-requires-in-Macro2 : goal.push_own-index-visibility-requires-in-Macro2
+push_own-index-visibility-requires-in-Macro2 t c = grind arith
+
+pub push_own-index-visibility-requires-in-Outline : goal.push_own-index-visibility-requires-in-Outline
+push_own-index-visibility-requires-in-Outline t c = grind arith
+
+pub push_own-index-visibility-requires-in-Static : goal.push_own-index-visibility-requires-in-Static
+push_own-index-visibility-requires-in-Static t c = grind arith
+
+pub push_own-index-visibility-requires-in-Struct : goal.push_own-index-visibility-requires-in-Struct
+push_own-index-visibility-requires-in-Struct t c = grind arith
+
+pub push_own-index-visibility-requires-in-Trait : goal.push_own-index-visibility-requires-in-Trait
+push_own-index-visibility-requires-in-Trait t c = grind arith
+
+pub push_own-index-visibility-requires-in-TypeAlias : goal.push_own-index-visibility-requires-in-TypeAlias
+push_own-index-visibility-requires-in-TypeAlias t c = grind arith
+
+pub push_own-index-visibility-requires-in-Union : goal.push_own-index-visibility-requires-in-Union
+push_own-index-visibility-requires-in-Union t c = grind arith
+
+pub push_items-loop-place-init : goal.push_items-loop-place-init
+push_items-loop-place-init t c = grind (arith, common_steps)
+
+pub push_items-returns : goal.push_items-returns
+push_items-returns t c = grind (arith, common_steps)
+
+pub push_below-returns : goal.push_below-returns
+push_below-returns t c = grind (arith, common_steps)

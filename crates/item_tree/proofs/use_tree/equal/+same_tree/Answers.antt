@@ -1,8 +1,9 @@
 use Rattle.std.proofs.lemmas.Bool.Decides.{Decides-at}
 use Rattle.hir_input.proofs.PathEq.{path_decides}
-use Rattle.std.proofs.Common.{length}
+use Rattle.std.proofs.Common.{length, arith}
 use Rattle.std.proofs.lemmas.Slice.Zip.{zip_turn}
 use Rattle.item_tree.proofs.UseEq.{paths_decide, aliases_decide, first_fails, second_tells, singles_tell, globs_tell, lists_tell, lengths_differ, one_differs}
+use Rattle.item_tree.proofs.TreeLemmas.{tree_forms}
 use Rattle.item_tree.proofs.use_tree.equal.+same_tree.Goals as goal
 
 pub same_kind-returns-then-eq : goal.same_kind-returns-then-eq
@@ -44,3 +45,9 @@ same_trees-returns-then-not-same_tree t c =
     zip_turn c.args.trees.now c.args.others.now l.yielded c.into_iter-tree-iterator.result l.tree-iterator c.next.new.self c.next.result
     (rw (start, c.zip-tree-items.ensures.first) c.iter.ensures.rest) (rw start c.zip-tree-items.ensures.second.0) l.yielded_by (s.tree, s.other) s.is c.next.ensures.steps in
     one_differs _ _ (length l.yielded) s.tree.now s.other.now pair.0 c.if-trees-others.false (pair.2 s.tree.now) (pair.3 s.other.now) c.if-not-same_tree.ensures
+
+pub same_trees-loop-tree-init : goal.same_trees-loop-tree-init
+same_trees-loop-tree-init t c = grind (arith, tree_forms)
+
+pub same_tree-returns : goal.same_tree-returns
+same_tree-returns t c = grind (arith, tree_forms)

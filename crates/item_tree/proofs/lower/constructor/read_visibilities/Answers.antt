@@ -1,0 +1,12 @@
+use Rattle.std.proofs.Common.{arith}
+use Rattle.std.proofs.lemmas.Grind.{common_steps}
+use Rattle.item_tree.proofs.lower.constructor.read_visibilities.Goals as goal
+
+pub loop-field-init : goal.loop-field-init
+loop-field-init c = grind (arith, common_steps)
+
+pub loop-field-preserved : goal.loop-field-preserved
+loop-field-preserved c = grind (arith, common_steps)
+
+pub returns : goal.returns
+returns c = grind (arith, common_steps)
