@@ -14,18 +14,6 @@ returns-in_err-lower_attrs-clause-fault c = grind (arith, common_steps)
 pub returns-in_err-place-clause-fault : goal.returns-in_err-place-clause-fault
 returns-in_err-place-clause-fault c = grind (arith, common_steps)
 
-pub returns-in_err-push-clause-fault : goal.returns-in_err-push-clause-fault
-returns-in_err-push-clause-fault c = grind (arith, common_steps)
-
-pub returns-in_err-push-2-clause-fault : goal.returns-in_err-push-2-clause-fault
-returns-in_err-push-2-clause-fault c = grind (arith, common_steps)
-
-pub returns-in_err-push-3-clause-fault : goal.returns-in_err-push-3-clause-fault
-returns-in_err-push-3-clause-fault c = grind (arith, common_steps)
-
-pub returns-in_err-push-4-clause-fault : goal.returns-in_err-push-4-clause-fault
-returns-in_err-push-4-clause-fault c = grind (arith, common_steps)
-
 pub returns-then-row-ge-ROW_LIMIT-clause-fault : goal.returns-then-row-ge-ROW_LIMIT-clause-fault
 returns-then-row-ge-ROW_LIMIT-clause-fault c = grind (arith, common_steps)
 
