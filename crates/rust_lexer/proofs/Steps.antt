@@ -1,0 +1,52 @@
+-- The tokens of a text, step by step.
+use Rattle.std.proofs.Common.{◌≡◌, ℕ, zero, suc, ◌+◌, ◌≤◌, List, [], ◌∷◌, take, drop, get_or, refl, ap, ◌∙◌, arith, length, Some, subst}
+use Rattle.std.proofs.lemmas.List.{take_rest}
+use Rattle.std.specs.Prelude.{◌-◌}
+use Rattle.rust_lexer.specs.declared.bytes.Class.TheVariants as class
+use Rattle.rust_lexer.specs.declared.cut.Cut.{Cut}
+use Rattle.rust_lexer.specs.declared.kind.TokenKind.TheVariants as kind
+use Rattle.rust_lexer.specs.Bytes.{run}
+use Rattle.rust_lexer.specs.Cut.{cut, first_cut}
+use Rattle.rust_lexer.specs.Inner.{split_of}
+use Rattle.rust_lexer.specs.Piece.{Piece}
+use Rattle.rust_lexer.specs.Tokens.{lines_from, mark_from, piece, shebang_from, tokens_from, whole}
+
+-- what is left of one token is left out
+pub tokens_from_drop : (n at : ℕ) (z : List ℕ) → tokens_from n at z ≡ tokens_from 0 (at + length (take n z)) (drop n z)
+tokens_from_drop zero at z = let e : at ≡ at + 0 = omega arith in ap (λ k. tokens_from 0 k z) e
+tokens_from_drop (suc n) at [] = refl
+tokens_from_drop (suc n) at (b ∷ z) =
+    let e : suc at + length (take n z) ≡ at + suc (length (take n z)) = omega arith in
+    tokens_from_drop n (suc at) z ∙ ap (λ k. tokens_from 0 k (drop n z)) e
+
+-- the token that is split off, and those behind it
+split_next : (c : Cut) (at b : ℕ) (z : List ℕ) (t : Piece) (rest : List ℕ) → split_of c at (b ∷ z) ≡ Some (t, rest) → piece c at b z ∷ tokens_from (whole c z) (suc at) z ≡ t ∷ tokens_from 0 (at + length t.text) rest
+split_next c at b z t rest h =
+    let n = whole c z in
+    let e : (piece c at b z, drop n z) ≡ (t, rest) = cc in
+    subst (λ (q : Piece × List ℕ). piece c at b z ∷ tokens_from n (suc at) z ≡ q.0 ∷ tokens_from 0 (at + length q.0.text) q.1) e
+    (let f : suc at + length (take n z) ≡ at + suc (length (take n z)) = omega arith in
+    ap (λ l. piece c at b z ∷ l) (tokens_from_drop n (suc at) z ∙ ap (λ k. tokens_from 0 k (drop n z)) f))
+
+-- the same, where the cut was made on a slice of the text
+pub first_next : (at : ℕ) (text w : List ℕ) (c : Cut) (t : Piece) (rest : List ℕ) → w ≡ text → 1 ≤ length w → c ≡ first_cut (get_or w 0 0) (take (length w - 1) (drop 1 w)) → split_of c at text ≡ Some (t, rest) → tokens_from 0 at text ≡ t ∷ tokens_from 0 (at + length t.text) rest
+first_next at [] w c t rest same some is h = absurd (omega (arith, ap length same))
+first_next at (b ∷ z) w c t rest same some is h =
+    let cut_is : c ≡ first_cut b z = is ∙ ap (first_cut (get_or w 0 0)) (take_rest w 1) ∙ ap (λ l. first_cut (get_or l 0 0) (drop 1 l)) same in
+    split_next (first_cut b z) at b z t rest (subst (λ (d : Cut). split_of d at (b ∷ z) ≡ Some (t, rest)) cut_is h)
+
+pub shebang_next : (at : ℕ) (text w : List ℕ) (n : ℕ) (t : Piece) (rest : List ℕ) → w ≡ text → 1 ≤ length w → n ≡ run class.Line (take (length w - 1) (drop 1 w)) → split_of (cut kind.Shebang n) at text ≡ Some (t, rest) → shebang_from at text ≡ t ∷ tokens_from 0 (at + length t.text) rest
+shebang_next at [] w n t rest same some is h = absurd (omega (arith, ap length same))
+shebang_next at (b ∷ z) w n t rest same some is h =
+    let n_is : n ≡ run class.Line z = is ∙ ap (run class.Line) (take_rest w 1) ∙ ap (λ l. run class.Line (drop 1 l)) same in
+    split_next (cut kind.Shebang (run class.Line z)) at b z t rest
+    (subst (λ (k : ℕ). split_of (cut kind.Shebang k) at (b ∷ z) ≡ Some (t, rest)) n_is h)
+
+-- and behind a byte order mark
+pub mark_next : (at : ℕ) (text : List ℕ) (t : Piece) (rest : List ℕ) → split_of (cut kind.ByteOrderMark 2) at text ≡ Some (t, rest) → mark_from at text ≡ t ∷ lines_from (at + length t.text) rest
+mark_next at [] t rest h = cc
+mark_next at (b ∷ z) t rest h =
+    let c = cut kind.ByteOrderMark 2 in
+    let u = piece c at b z in
+    let e : (u, drop (whole c z) z) ≡ (t, rest) = cc in
+    subst (λ (q : Piece × List ℕ). u ∷ lines_from (at + length u.text) (drop (whole c z) z) ≡ q.0 ∷ lines_from (at + length q.0.text) q.1) e refl

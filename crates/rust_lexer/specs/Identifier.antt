@@ -1,0 +1,14 @@
+-- Which words are identifiers.
+use Rattle.std.specs.Prelude.{ℕ, Bool, false, ◌&&◌, ◌||◌, ◌==◌, List, slice_get, Option, Some, None}
+use Rattle.std.specs.List.{list_all}
+use Rattle.std.specs.Str.{chars}
+use Rattle.unicode_ident.specs.Ident.{is_xid_start, is_xid_continue}
+
+-- whether there is a character, and an identifier may begin with it
+abbrev pub is_start : Option ℕ → Bool
+is_start None = false
+is_start (Some c) = is_xid_start c || c == 95
+
+-- IDENTIFIER_OR_KEYWORD: one of XID_Start or `_`, and all of XID_Continue
+abbrev pub is_identifier : List ℕ → Bool
+is_identifier word = is_start (slice_get (chars word) 0) && list_all is_xid_continue (chars word)

@@ -1,0 +1,11 @@
+pub mod Bytes
+pub mod Quoted
+pub mod Comment
+pub mod Number
+pub mod Cut
+pub mod Identifier
+pub mod Piece
+pub mod Symbol
+pub mod Tokens
+pub mod Terminated
+pub mod Inner

@@ -1,0 +1,288 @@
+//! The tokens of a text.
+
+ghost use Rattle.std.specs.Prelude.{◌≡◌, ◌<◌, ◌≤◌, ◌+◌, ◌^◌, All, IsTrue, IfOk, Some, IfSome, MatchOption, [], ◌∷◌, length};
+ghost use Rattle.std.specs.Str.{IsUtf8};
+ghost use Rattle.rust_lexer.specs.Tokens.{AreInPlace, text_of};
+ghost use Rattle.rust_lexer.specs.Tokens as spec;
+ghost use Rattle.rust_lexer.specs.Inner as inner;
+
+use crate::bytes::{Class, byte, run};
+use crate::cut::{Cut, first_cut};
+use crate::kind::TokenKind;
+use crate::token::Token;
+use std::alloc::{AllocError, Global};
+use std::marker::Model;
+
+/// What may stand in front of the text that is left.
+#[derive(Clone, Copy, Debug)]
+pub(crate) enum Front {
+    /// A byte order mark.
+    Mark,
+    /// A line `#!..`.
+    Line,
+    /// A token alone.
+    Token,
+}
+
+/// The tokens of a text that are left, one behind the other. It takes no memory.
+///
+/// rustc's `tokenize`, with the byte order mark and the line `#!..` in front as tokens.
+#[derive(Debug, Drop)]
+pub struct Lexer<'a> {
+    rest: &'a str,
+    at: usize,
+    front: Front,
+}
+
+impl<'a> Model for Lexer<'a> {
+    ghost use Rattle.std.specs.Prelude.{List, ◌+◌, ◌<◌, ◌^◌, length};
+    ghost use Rattle.std.specs.Coded.{coded_list};
+    ghost use Rattle.std.specs.Str.{IsUtf8};
+    ghost use Rattle.rust_lexer.specs.Piece.{Piece, coded_piece};
+
+    ghost Value = { List Piece };
+
+    ghost coded = { coded_list coded_piece };
+
+    ghost use Rattle.rust_lexer.specs.Tokens.{pieces};
+
+    ghost view = { λ l. pieces l.front l.at l.rest.now };
+
+    ghost invariant = { λ l. IsUtf8 l.rest.now × (l.at + length l.rest.now < 2 ^ 64) };
+}
+
+impl Clone for Lexer<'_> {
+    ghost use Rattle.std.specs.Prelude.{◌≡◌, ⊤};
+
+    ghost is_clone = { λ lexer copy. copy ≡ lexer };
+
+    ghost is_infallible = { λ _. ⊤ };
+
+    fn clone(&self) -> Result<Self, AllocError> {
+        Ok(self.copy())
+    }
+}
+
+impl<'a> Lexer<'a> {
+    /// The tokens of a text.
+    #[tactic(auto, unfolding(crate::specs::Tokens::tokens))]
+    pub fn new(text: &'a str) -> Self
+        ensures value { result ≡ spec.tokens text.now }
+        ensures lossless { text_of result ≡ text.now }
+        ensures in_place { AreInPlace 0 result }
+        ensures not_empty { All (λ t. 0 < length t.text) result }
+        ensures few { length result ≤ length text.now }
+    {
+        Lexer {
+            rest: text,
+            at: 0,
+            front: Front::Mark,
+        }
+    }
+
+    /// The same tokens, to look ahead. (`Copy` is not to be had for a type that is seen by a model and borrows.)
+    pub fn copy(&self) -> Self
+        ensures { result ≡ self.now }
+    {
+        Lexer {
+            rest: self.rest,
+            at: self.at,
+            front: self.front,
+        }
+    }
+}
+
+impl<'a> Iterator for Lexer<'a> {
+    type Item = Token<'a>;
+
+    ghost use Rattle.std.specs.Iterator.{YieldsFirst, item_count};
+
+    ghost next_gives = { YieldsFirst (λ s. s) };
+
+    ghost remaining = { item_count (λ s. s) };
+
+    fn next(&mut self) -> Option<Token<'a>> {
+        let (token, left) = step(self.front, self.at, self.rest)?;
+        *self = left;
+        Some(token)
+    }
+}
+
+/// Splits off the token that is cut so, with the bytes that continue its last character.
+fn split(cut: Cut, at: usize, text: &str) -> (Token<'_>, &str)
+    requires within { cut.len < length text.now }
+    requires fits { at + length text.now < 2 ^ 64 }
+    ensures value { inner.split_of cut at text.now ≡ Some (result.0, result.1.now) }
+    ensures utf8 { IsUtf8 result.1.now }
+    ensures takes { length result.0.text + length result.1.now ≡ length text.now }
+{
+    let behind = &text.as_bytes()[cut.len + 1..];
+    let (text, rest) = text.split_at(cut.len + 1 + run(Class::Continuation, behind));
+    (Token::new(cut.kind, text, at), rest)
+}
+
+/// The first token of a text that begins at this place, and the text behind it.
+fn first(at: usize, text: &str) -> Option<(Token<'_>, &str)>
+    requires { at + length text.now < 2 ^ 64 }
+    ensures value { MatchOption result (spec.tokens_from 0 at text.now ≡ [])
+        (λ p. spec.tokens_from 0 at text.now ≡ p.0 ∷ spec.tokens_from 0 (at + length p.0.text) p.1.now) }
+    ensures utf8 { IfSome result (λ p. IsUtf8 p.1.now) }
+    ensures takes { IfSome result (λ p. (0 < length p.0.text) × (length p.0.text + length p.1.now ≡ length text.now)) }
+{
+    match text.as_bytes() {
+        [b, behind @ ..] => Some(split(first_cut(*b, behind), at, text)),
+        [] => None,
+    }
+}
+
+/// Whether a `[` is the first token of a text that is neither white space nor a comment.
+fn is_bracket_next(at: usize, text: &str) -> bool
+    requires { at + length text.now < 2 ^ 64 }
+    ensures { result ≡ spec.is_bracket_next (spec.tokens_from 0 at text.now) }
+{
+    let mut at = at;
+    let mut rest = text;
+    while let Some((token, behind)) = first(at, rest) {
+        if !token.is_blank() {
+            return token.symbol() == b'[';
+        }
+        at += token.text().len();
+        rest = behind;
+    }
+    false
+}
+
+/// Whether a line `#!..` stands in front of a text, and no inner attribute.
+fn is_shebang(at: usize, text: &str) -> bool
+    requires { at + length text.now < 2 ^ 64 }
+    ensures { result ≡ spec.is_shebang (spec.tokens_from 0 at text.now) }
+{
+    let Some((hash, rest)) = first(at, text) else {
+        return false;
+    };
+    if hash.symbol() != b'#' {
+        return false;
+    }
+    is_shebang_next(at + hash.text().len(), rest)
+}
+
+/// The same behind its `#`.
+fn is_shebang_next(at: usize, text: &str) -> bool
+    requires { at + length text.now < 2 ^ 64 }
+    ensures { result ≡ spec.is_shebang_next (spec.tokens_from 0 at text.now) }
+{
+    let Some((bang, rest)) = first(at, text) else {
+        return false;
+    };
+    bang.symbol() == b'!' && !is_bracket_next(at + bang.text().len(), rest)
+}
+
+/// The line `#!..` in front of a text, and the text behind it.
+fn shebang(at: usize, text: &str) -> Option<(Token<'_>, &str)>
+    requires { at + length text.now < 2 ^ 64 }
+    ensures value { MatchOption result (spec.shebang_from at text.now ≡ [])
+        (λ p. spec.shebang_from at text.now ≡ p.0 ∷ spec.tokens_from 0 (at + length p.0.text) p.1.now) }
+    ensures utf8 { IfSome result (λ p. IsUtf8 p.1.now) }
+    ensures takes { IfSome result (λ p. length p.0.text + length p.1.now ≡ length text.now) }
+{
+    match text.as_bytes() {
+        [_, behind @ ..] => {
+            let cut = Cut {
+                kind: TokenKind::Shebang,
+                len: run(Class::Line, behind),
+            };
+            Some(split(cut, at, text))
+        }
+        [] => None,
+    }
+}
+
+/// Whether a byte order mark stands in front.
+fn has_mark(text: &str) -> bool
+    ensures value { result ≡ spec.has_mark text.now }
+{
+    let bytes = text.as_bytes();
+    byte(bytes, 0) == 0xEF && byte(bytes, 1) == 0xBB && byte(bytes, 2) == 0xBF
+}
+
+/// The byte order mark in front of a text, and the text behind it.
+fn mark(at: usize, text: &str) -> (Token<'_>, &str)
+    requires mark { IsTrue (spec.has_mark text.now) }
+    requires fits { at + length text.now < 2 ^ 64 }
+    ensures value { spec.mark_from at text.now ≡ result.0 ∷ spec.lines_from (at + length result.0.text) result.1.now }
+    ensures utf8 { IsUtf8 result.1.now }
+    ensures takes { length result.0.text + length result.1.now ≡ length text.now }
+{
+    let cut = Cut {
+        kind: TokenKind::ByteOrderMark,
+        len: 2,
+    };
+    split(cut, at, text)
+}
+
+/// The first token, where nothing else may stand in front, and those behind it.
+fn step_token(at: usize, text: &str) -> Option<(Token<'_>, Lexer<'_>)>
+    requires { at + length text.now < 2 ^ 64 }
+    ensures { MatchOption result (spec.tokens_from 0 at text.now ≡ []) (λ p. spec.tokens_from 0 at text.now ≡ p.0 ∷ p.1) }
+{
+    let (token, rest) = first(at, text)?;
+    let at = at + token.text().len();
+    let front = Front::Token;
+    Some((token, Lexer { rest, at, front }))
+}
+
+/// The same where a line `#!..` may stand in front.
+fn step_line(at: usize, text: &str) -> Option<(Token<'_>, Lexer<'_>)>
+    requires { at + length text.now < 2 ^ 64 }
+    ensures { MatchOption result (spec.lines_from at text.now ≡ []) (λ p. spec.lines_from at text.now ≡ p.0 ∷ p.1) }
+{
+    if !is_shebang(at, text) {
+        return step_token(at, text);
+    }
+    let (token, rest) = shebang(at, text)?;
+    let at = at + token.text().len();
+    let front = Front::Token;
+    Some((token, Lexer { rest, at, front }))
+}
+
+/// The same where a byte order mark may stand in front.
+fn step_mark(at: usize, text: &str) -> Option<(Token<'_>, Lexer<'_>)>
+    requires { at + length text.now < 2 ^ 64 }
+    ensures { MatchOption result (spec.pieces Front.Mark at text.now ≡ [])
+        (λ p. spec.pieces Front.Mark at text.now ≡ p.0 ∷ p.1) }
+{
+    if !has_mark(text) {
+        return step_line(at, text);
+    }
+    let (token, rest) = mark(at, text);
+    let at = at + token.text().len();
+    let front = Front::Line;
+    Some((token, Lexer { rest, at, front }))
+}
+
+/// The first token of a text that begins at this place, and those behind it.
+fn step(front: Front, at: usize, text: &str) -> Option<(Token<'_>, Lexer<'_>)>
+    requires { at + length text.now < 2 ^ 64 }
+    ensures { MatchOption result (spec.pieces front at text.now ≡ []) (λ p. spec.pieces front at text.now ≡ p.0 ∷ p.1) }
+{
+    match front {
+        Front::Token => step_token(at, text),
+        Front::Line => step_line(at, text),
+        Front::Mark => step_mark(at, text),
+    }
+}
+
+/// All the tokens of a text, in one vector.
+pub fn tokenize(alloc: Global, text: &str) -> Result<Vec<Token<'_>>, AllocError>
+    ensures value { IfOk result (λ v. v.items ≡ spec.tokens text.now) }
+    ensures lossless { IfOk result (λ v. text_of v.items ≡ text.now) }
+    ensures in_place { IfOk result (λ v. AreInPlace 0 v.items) }
+    ensures not_empty { IfOk result (λ v. All (λ t. 0 < length t.text) v.items) }
+{
+    let mut tokens = Vec::new(alloc);
+    let mut lexer = Lexer::new(text);
+    while let Some(token) = lexer.next() {
+        tokens.push(token)?;
+    }
+    Ok(tokens)
+}

@@ -1,0 +1,17 @@
+//! Cuts Rust source text into its tokens, and loses none of it.
+#![tactic(auto)]
+
+mod bytes;
+mod comment;
+mod cut;
+mod identifier;
+mod kind;
+mod lexer;
+mod number;
+mod quoted;
+mod token;
+
+pub use identifier::is_identifier;
+pub use kind::{DocStyle, LiteralKind, TokenKind};
+pub use lexer::{Lexer, tokenize};
+pub use token::Token;
