@@ -1,0 +1,5 @@
+pub mod Below
+pub mod Blocks
+pub mod Consequences
+pub mod Order
+pub mod Steps

@@ -1,0 +1,5 @@
+use Rattle.rust_ids.specs.Inner.Numbering.{IsNextBefore}
+use Rattle.rust_ids.proofs.numbering.next_depth.Given as goal
+
+abbrev pub invariant-loop-node : goal.invariant-loop-node
+invariant-loop-node l = IsNextBefore l.nodes l.node-index l.depth l.next

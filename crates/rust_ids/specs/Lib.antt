@@ -1,0 +1,4 @@
+pub mod Hash
+pub mod Row
+pub mod Ids
+pub mod Inner

@@ -1,0 +1,9 @@
+//! What follows from what ids are; the function does nothing.
+
+ghost use Rattle.rust_ids.specs.Ids.{AreDetermined};
+
+// The items determine the ids.
+#[tactic(auto, using(crate::proofs::Consequences::determined))]
+fn determined()
+    ensures { AreDetermined }
+{}
