@@ -1,5 +1,5 @@
 -- The tokens of a text.
-use Rattle.std.specs.Prelude.{ℕ, zero, suc, ◌≡◌, ◌+◌, ◌==◌, Bool, true, false, not, ◌&&◌, if◌then◌else◌, List, [], ◌∷◌, take, drop, length, slice_index, Option, Some, None, flat_map}
+use Rattle.std.specs.Prelude.{ℕ, zero, suc, ◌≡◌, ◌+◌, ◌==◌, Bool, true, false, not, ◌&&◌, if◌then◌else◌, List, [], ◌∷◌, take, drop, length, slice_index, None, flat_map}
 use Rattle.rust_lexer.specs.declared.bytes.Class.TheVariants as class
 use Rattle.rust_lexer.specs.declared.cut.Cut.{Cut}
 use Rattle.rust_lexer.specs.declared.kind.TokenKind.{TokenKind}

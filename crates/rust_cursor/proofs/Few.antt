@@ -1,0 +1,24 @@
+-- How many tokens there are at most.
+use Rattle.std.proofs.Common.{◌≡◌, ◌<◌, ◌≤◌, ◌+◌, ℕ, List, [], ◌∷◌, ◌++◌, length, All, ap, arith, length-append}
+use Rattle.std.specs.List.{filter}
+use Rattle.std.proofs.lemmas.List.Elements.{All-head, All-tail}
+use Rattle.std.proofs.lemmas.List.Sums.{length-filter, count_by-le-length}
+use Rattle.rust_lexer.specs.Piece.{Piece}
+use Rattle.rust_lexer.specs.Tokens.{is_significant, text_of}
+
+few_of : (ts : List Piece) → All (λ t. 0 < length t.text) ts → length ts ≤ length (text_of ts)
+few_of [] h = omega arith
+few_of (t ∷ ts) h =
+    let first : 0 < length t.text = All-head (λ t. 0 < length t.text) t ts h in
+    let rest : length ts ≤ length (text_of ts) = few_of ts (All-tail (λ t. 0 < length t.text) t ts h) in
+    let both : length (t.text ++ text_of ts) ≡ length t.text + length (text_of ts) = length-append t.text (text_of ts) in
+    omega arith
+
+-- tokens that are not empty are no more than their text has bytes
+pub few : (ts : List Piece) (text : List ℕ) → All (λ t. 0 < length t.text) ts → text_of ts ≡ text → length (filter is_significant ts) ≤ length text
+few ts text h e =
+    let all : length ts ≤ length (text_of ts) = few_of ts h in
+    let counted = length-filter is_significant ts in
+    let fewer = count_by-le-length is_significant ts in
+    let same : length (text_of ts) ≡ length text = ap length e in
+    omega arith

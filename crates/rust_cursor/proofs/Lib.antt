@@ -1,0 +1,6 @@
+pub mod Few
+pub mod Steps
+pub mod Turns
+pub mod Depth
+pub mod Scans
+pub mod Reaches

@@ -1,0 +1,13 @@
+use Rattle.std.proofs.Common.{◌≡◌, ◌<◌, ◌+◌, ◌^◌, length}
+use Rattle.rust_cursor.specs.Angles.{reaching, reached}
+use Rattle.rust_cursor.proofs.cursor.Cursor.pass_reach.Given as goal
+
+abbrev pub invariant-tokens : goal.invariant-tokens
+invariant-tokens l = record {
+  same : reaching l.reach l.nest l.self ≡ reached l.reach l.initial.self;
+  few : l.nest.depth + length l.self.left < 2 ^ 64;
+  narrow : l.nest.angles + length l.self.left < 2 ^ 64;
+}
+
+abbrev pub decreases-tokens : goal.decreases-tokens
+decreases-tokens l = length l.self.left

@@ -1,0 +1,13 @@
+use Rattle.std.proofs.Common.{◌≡◌, ◌<◌, ◌+◌, ◌^◌, length}
+use Rattle.std.specs.Prelude.{string_bytes}
+use Rattle.rust_cursor.specs.Extents.{taking, taken}
+use Rattle.rust_cursor.proofs.cursor.Cursor.take_text.Given as goal
+
+abbrev pub invariant-tokens : goal.invariant-tokens
+invariant-tokens l = record {
+  same : taking l.extent (string_bytes l.text) l.last l.depth l.self ≡ taken l.extent l.initial.self;
+  few : l.depth + length l.self.left < 2 ^ 64;
+}
+
+abbrev pub decreases-tokens : goal.decreases-tokens
+decreases-tokens l = length l.self.left

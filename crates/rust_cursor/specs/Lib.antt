@@ -1,0 +1,7 @@
+pub mod Tokens
+pub mod Reader
+pub mod Words
+pub mod Brackets
+pub mod Elements
+pub mod Extents
+pub mod Angles

@@ -1,0 +1,238 @@
+//! A cursor over the tokens of a text.
+
+ghost use Rattle.std.specs.Prelude.{◌≡◌, ◌≤◌, ◌<◌, ◌^◌, IfSome, MatchOption, length};
+ghost use Rattle.std.specs.List.{filter};
+ghost use Rattle.rust_lexer.specs.Tokens.{is_significant};
+ghost use Rattle.rust_cursor.specs.Tokens.{left_of, tokens_of};
+ghost use Rattle.rust_cursor.specs.Words as spec;
+
+mod generics;
+mod passing;
+mod taking;
+mod texts;
+
+use rust_lexer::{Lexer, Token, TokenKind};
+use std::marker::Model;
+
+/// The tokens of a text that are left, without white space and comments. Documentation comments are among them.
+///
+/// It holds one token and no memory.
+#[derive(Drop)]
+pub struct Cursor<'t> {
+    past: usize,
+    next: Option<Token<'t>>,
+    lexer: Lexer<'t>,
+}
+
+impl<'t> Model for Cursor<'t> {
+    ghost use Rattle.std.specs.Prelude.{◌<◌, ◌^◌, length};
+    ghost use Rattle.rust_cursor.specs.Tokens.{Tokens, coded_tokens, left_of};
+
+    ghost Value = { Tokens };
+
+    ghost coded = { coded_tokens };
+
+    ghost view = { λ c. record { past = c.past; left = left_of c.next c.lexer } };
+
+    ghost invariant = { λ c. length (left_of c.next c.lexer) < 2 ^ 64 };
+}
+
+/// The next token that is neither white space nor a plain comment.
+fn significant<'t>(lexer: &mut Lexer<'t>) -> Option<Token<'t>>
+    ensures { filter is_significant lexer.old ≡ left_of result lexer.new }
+{
+    'tokens: while let Some(token) = lexer.next() {
+        if token.is_significant() {
+            return Some(token);
+        }
+    }
+    None
+}
+
+impl<'t> Cursor<'t> {
+    /// The tokens of a text.
+    #[tactic(auto, unfolding(crate::specs::Tokens::tokens_of), using(crate::proofs::Few::few))]
+    pub fn new(text: &'t str) -> Self
+        ensures { result ≡ tokens_of text.now }
+    {
+        let mut lexer = Lexer::new(text);
+        let next = significant(&mut lexer);
+        Cursor {
+            past: 0,
+            next,
+            lexer,
+        }
+    }
+
+    /// Another cursor at the same place, to look ahead.
+    pub fn ahead(&self) -> Self
+        ensures { result ≡ self.now }
+    {
+        let next = match &self.next {
+            Some(token) => Some(token.copy()),
+            None => None,
+        };
+        Cursor {
+            past: self.past,
+            next,
+            lexer: self.lexer.copy(),
+        }
+    }
+
+    /// The byte place behind the last token that was taken, at first 0.
+    pub fn past(&self) -> usize
+        ensures { result ≡ self.now.past }
+    {
+        self.past
+    }
+
+    /// The bracket or the punctuation that comes next, or 0.
+    #[tactic(auto, unfolding(crate::specs::Words::symbol))]
+    pub fn symbol(&self) -> u8
+        ensures { result ≡ spec.symbol self.now }
+    {
+        match &self.next {
+            Some(token) => token.symbol(),
+            None => 0,
+        }
+    }
+
+    /// The keyword or the name that comes next, or an empty text. A raw identifier is none.
+    #[tactic(auto, unfolding(crate::specs::Words::word))]
+    pub fn word(&self) -> &'t str
+        ensures { result.now ≡ spec.word self.now }
+    {
+        match &self.next {
+            Some(token) => word_of(token),
+            None => "",
+        }
+    }
+
+    #[tactic(auto, unfolding(crate::specs::Words::kind))]
+    pub fn kind(&self) -> Option<TokenKind>
+        ensures { result ≡ spec.kind self.now }
+    {
+        match &self.next {
+            Some(token) => Some(token.kind()),
+            None => None,
+        }
+    }
+
+    /// The text of the token that comes next, or an empty text.
+    #[tactic(auto, unfolding(crate::specs::Words::text))]
+    pub fn text(&self) -> &'t str
+        ensures { result.now ≡ spec.text self.now }
+    {
+        match &self.next {
+            Some(token) => token.text(),
+            None => "",
+        }
+    }
+
+    /// The byte place of the token that comes next, or [`Self::past`].
+    #[tactic(auto, unfolding(crate::specs::Words::at))]
+    pub fn at(&self) -> usize
+        ensures { result ≡ spec.at self.now }
+    {
+        match &self.next {
+            Some(token) => token.at(),
+            None => self.past,
+        }
+    }
+
+    /// Whether no token is left.
+    #[tactic(auto, unfolding(crate::specs::Words::is_empty))]
+    pub fn is_empty(&self) -> bool
+        ensures { result ≡ spec.is_empty self.now }
+    {
+        self.next.is_none()
+    }
+
+    /// Whether a bracket that opens comes next.
+    #[tactic(auto, unfolding(crate::specs::Words::is_at_open))]
+    pub fn is_at_open(&self) -> bool
+        ensures { result ≡ spec.is_at_open self.now }
+    {
+        match &self.next {
+            Some(token) => is_open(token),
+            None => false,
+        }
+    }
+
+    /// Whether a bracket that closes comes next, or nothing.
+    #[tactic(auto, unfolding(crate::specs::Words::is_at_end))]
+    pub fn is_at_end(&self) -> bool
+        ensures { result ≡ spec.is_at_end self.now }
+    {
+        match &self.next {
+            Some(token) => is_close(token),
+            None => true,
+        }
+    }
+
+    /// Whether a name or a keyword comes next, raw or not.
+    #[tactic(auto, unfolding(crate::specs::Words::is_at_identifier))]
+    pub fn is_at_identifier(&self) -> bool
+        ensures { result ≡ spec.is_at_identifier self.now }
+    {
+        match &self.next {
+            Some(token) => identifies(token.kind()),
+            None => false,
+        }
+    }
+
+    /// Whether a documentation comment comes next.
+    #[tactic(auto, unfolding(crate::specs::Words::is_at_doc))]
+    pub fn is_at_doc(&self) -> bool
+        ensures { result ≡ spec.is_at_doc self.now }
+    {
+        match &self.next {
+            Some(token) => documents(token.kind()),
+            None => false,
+        }
+    }
+
+    /// Takes one token, if one is left.
+    #[tactic(auto, unfolding(crate::specs::Words::bumped))]
+    pub fn bump(&mut self)
+        ensures { self.new ≡ spec.bumped self.old }
+    {
+        if let Some(token) = &self.next {
+            self.past = token.end();
+            self.next = significant(&mut self.lexer);
+        }
+    }
+}
+
+fn word_of<'t>(token: &Token<'t>) -> &'t str
+    ensures { result.now ≡ spec.word_by token.now.kind token.now.text }
+{
+    match token.kind() {
+        TokenKind::Ident => token.text(),
+        _ => "",
+    }
+}
+
+fn is_open(token: &Token<'_>) -> bool
+    ensures { result ≡ spec.is_open token.now }
+{
+    matches!(token.kind(), TokenKind::OpenDelim)
+}
+
+fn is_close(token: &Token<'_>) -> bool
+    ensures { result ≡ spec.is_close token.now }
+{
+    matches!(token.kind(), TokenKind::CloseDelim)
+}
+
+fn identifies(kind: TokenKind) -> bool
+    ensures { result ≡ spec.identifies kind }
+{
+    matches!(kind, TokenKind::Ident | TokenKind::RawIdent)
+}
+
+fn documents(kind: TokenKind) -> bool
+    ensures { result ≡ spec.documents kind }
+{
+    matches!(kind, TokenKind::LineComment(_) | TokenKind::BlockComment(_))
+}
