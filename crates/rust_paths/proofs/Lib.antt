@@ -1,0 +1,4 @@
+pub mod Naming
+pub mod Meant
+pub mod Steps
+pub mod Trees

@@ -1,0 +1,126 @@
+-- Steps over use trees.
+use Rattle.std.proofs.Common.{◌≡◌, ◌≢◌, ◌==◌, ◌<◌, ◌+◌, ◌-◌, ℕ, zero, suc, Bool, true, false, List, [], ◌∷◌, ◌++◌, map, Option, Some, None, option_map, refl, sym, ap, ◌∙◌, rules, arith, append_assoc, append-nil, Vec, Global}
+use Rattle.std.specs.Prelude.{option_to_list}
+use Rattle.std.specs.Option.{option_or}
+use Rattle.std.proofs.lemmas.Bool.{ne_eqb}
+use Rattle.hir_input.specs.declared.ast.PathNode.{PathNode}
+use Rattle.hir_input.specs.declared.ast.Rename.{Rename}
+use Rattle.hir_input.specs.declared.ast.UseTree.{UseTree, the_lemmas}
+use Rattle.hir_input.specs.declared.ast.UseTree.TheViews.{roll-UseTree}
+use Rattle.hir_input.specs.UseTreeView.{UseTreeView, use_tree_view, tree_from}
+use Rattle.rust_cursor.specs.Tokens.{Tokens}
+use Rattle.rust_cursor.specs.Reader.{Reader}
+use Rattle.rust_cursor.specs.Words.{symbol, at, bumped, is_at_end}
+use Rattle.rust_cursor.specs.Brackets.{behind_closed, behind_tree}
+use Rattle.rust_cursor.specs.Elements.{beyond, turns_from, one}
+use Rattle.rust_cursor.proofs.Turns.{turns_stop}
+use Rattle.rust_paths.specs.UseTrees.{Found, whole, comma_from, list, element, trees, some_list, values, first_too_deep}
+
+pub use_tree_view_made : (path : Option PathNode) (star : Bool) (rename : Option Rename) (list : Option (Vec UseTree Global))
+    → use_tree_view (roll-UseTree (record { path = path; star = star; rename = rename; list = list }))
+    ≡ tree_from (record { path = path; star = star; rename = rename }) (option_map (λ v. map use_tree_view v.items) list)
+use_tree_view_made path star rename None = search (rules, the_lemmas)
+use_tree_view_made path star rename (Some v) = search (rules, the_lemmas)
+
+-- ---- commas
+
+-- nothing more stands in the list
+pub comma_end : (n : ℕ) (ts : Tokens) → is_at_end ts ≡ true → comma_from n ts ≡ ts
+comma_end zero ts e = refl
+comma_end (suc n) ts e = rw e refl
+
+-- a comma
+pub comma_here : (bound at : ℕ) (ts : Tokens) → at < bound → is_at_end ts ≡ false → (symbol ts == 44) ≡ true → comma_from (bound - at) ts ≡ bumped ts
+comma_here bound at ts below e f = let turn : bound - at ≡ suc (bound - (at + 1)) = omega arith in rw (turn, e, f) refl
+
+-- something else
+pub comma_more : (bound at : ℕ) (ts : Tokens) → at < bound → is_at_end ts ≡ false → symbol ts ≢ 44 → comma_from (bound - at) ts ≡ comma_from (bound - (at + 1)) (behind_tree ts)
+comma_more bound at ts below e f =
+    let turn : bound - at ≡ suc (bound - (at + 1)) = omega arith in
+    let other : (symbol ts == 44) ≡ false = ne_eqb (symbol ts) 44 f in
+    rw (turn, e, other) refl
+
+-- ---- lists
+
+-- a list that is too deep
+pub list_deep : (depth : ℕ) (ts : Tokens) → depth ≡ 0 → (symbol ts == 123) ≡ true → list depth ts ≡ (record { value = None; too_deep = Some (at ts) }, behind_tree ts)
+unfolding list
+list_deep zero ts e f = rw f refl
+list_deep (suc depth) ts e f = absurd (omega arith)
+
+-- no list
+pub list_none : (depth : ℕ) (ts : Tokens) → symbol ts ≢ 123 → list depth ts ≡ (whole None, ts)
+unfolding list
+list_none zero ts e = let other : (symbol ts == 123) ≡ false = ne_eqb (symbol ts) 123 e in rw other refl
+list_none (suc depth) ts e = let other : (symbol ts == 123) ≡ false = ne_eqb (symbol ts) 123 e in rw other refl
+
+-- a list
+pub list_some : (depth : ℕ) (ts : Tokens) → 0 < depth → (symbol ts == 123) ≡ true
+    → list depth ts ≡ (some_list (trees (element (depth - 1)) (bumped ts)).0, behind_closed (trees (element (depth - 1)) (bumped ts)).1)
+unfolding list element
+list_some zero ts h e = absurd (omega arith)
+list_some (suc depth) ts h e = let less : suc depth - 1 ≡ depth = omega arith in rw (e, less) refl
+
+-- ---- the trees of a list
+
+-- what was found, with what is found behind it
+abbrev pub with_found : List UseTreeView → Option ℕ → List (Found (Option UseTreeView)) × Tokens → Found (List UseTreeView) × Tokens
+with_found done deep r = (record { value = done ++ values r.0; too_deep = option_or deep (first_too_deep r.0) }, r.1)
+
+turns-by : {A : Type 0} (ends : Tokens → Bool) (reader : Reader (List A)) (n : ℕ) (done : List A) (ts : Tokens) (b : Bool) → ends ts ≡ b
+    → turns_from ends reader n (done ++ (reader ts).0) (beyond ts.past (reader ts).1) ≡ ((done ++ (reader ts).0) ++ (turns_from ends reader n [] (beyond ts.past (reader ts).1)).0, (turns_from ends reader n [] (beyond ts.past (reader ts).1)).1)
+    → turns_from ends reader n (reader ts).0 (beyond ts.past (reader ts).1) ≡ ((reader ts).0 ++ (turns_from ends reader n [] (beyond ts.past (reader ts).1)).0, (turns_from ends reader n [] (beyond ts.past (reader ts).1)).1)
+    → turns_from ends reader (suc n) done ts ≡ (done ++ (turns_from ends reader (suc n) [] ts).0, (turns_from ends reader (suc n) [] ts).1)
+turns-by ends reader n done ts true e f g = rw e (ap (λ l. (l, ts)) (sym (append-nil done)))
+turns-by ends reader n done ts false e f g =
+    let rest = turns_from ends reader n [] (beyond ts.past (reader ts).1) in
+    rw e (f ∙ ap (λ l. (l, rest.1)) (append_assoc done (reader ts).0 rest.0) ∙ ap (λ r. (done ++ r.0, r.1)) (sym g))
+
+-- turns behind something are that and the turns behind nothing
+turns-front : {A : Type 0} (ends : Tokens → Bool) (reader : Reader (List A)) (n : ℕ) (done : List A) (ts : Tokens) → turns_from ends reader n done ts ≡ (done ++ (turns_from ends reader n [] ts).0, (turns_from ends reader n [] ts).1)
+turns-front ends reader zero done ts = ap (λ l. (l, ts)) (sym (append-nil done))
+turns-front ends reader (suc n) done ts =
+    let after = beyond ts.past (reader ts).1 in
+    turns-by ends reader n done ts (ends ts) refl (turns-front ends reader n (done ++ (reader ts).0) after) (turns-front ends reader n (reader ts).0 after)
+
+or-assoc : (a b c : Option ℕ) → option_or a (option_or b c) ≡ option_or (option_or a b) c
+or-assoc None b c = refl
+or-assoc (Some n) b c = refl
+
+or-none : (a : Option ℕ) → option_or a None ≡ a
+or-none None = refl
+or-none (Some n) = refl
+
+-- nothing is found behind it
+found_all : (done : List UseTreeView) (deep : Option ℕ) (ts : Tokens) → with_found done deep ([], ts) ≡ (record { value = done; too_deep = deep }, ts)
+found_all done deep ts = ap (λ l. (record { value = l; too_deep = option_or deep None }, ts)) (append-nil done) ∙ ap (λ o. (record { value = done; too_deep = o }, ts)) (or-none deep)
+
+-- no turn more
+pub found_over : (tree : Reader (Found (Option UseTreeView))) (n : ℕ) (done : List UseTreeView) (deep : Option ℕ) (ts : Tokens) → n ≡ 0
+    → with_found done deep (turns_from is_at_end (one tree) n [] ts) ≡ (record { value = done; too_deep = deep }, ts)
+found_over tree n done deep ts e = rw e (found_all done deep ts)
+
+-- no tree more
+pub found_end : (tree : Reader (Found (Option UseTreeView))) (n : ℕ) (done : List UseTreeView) (deep : Option ℕ) (ts : Tokens) → is_at_end ts ≡ true
+    → with_found done deep (turns_from is_at_end (one tree) n [] ts) ≡ (record { value = done; too_deep = deep }, ts)
+found_end tree n done deep ts e = ap (with_found done deep) (turns_stop is_at_end (one tree) n [] ts e) ∙ found_all done deep ts
+
+-- one tree more, or none
+pub found_more : (tree : Reader (Found (Option UseTreeView))) (bound at : ℕ) (done done' : List UseTreeView) (deep deep' : Option ℕ) (found : Found (Option UseTreeView)) (ts mid after : Tokens) (all : Found (List UseTreeView) × Tokens)
+    → at < bound → is_at_end ts ≡ false → tree ts ≡ (found, mid) → after ≡ beyond ts.past mid → done' ≡ done ++ option_to_list found.value → deep' ≡ option_or deep found.too_deep
+    → with_found done deep (turns_from is_at_end (one tree) (bound - at) [] ts) ≡ all → with_found done' deep' (turns_from is_at_end (one tree) (bound - (at + 1)) [] after) ≡ all
+found_more tree bound at done done' deep deep' found ts mid after all below e told a d f before =
+    let turn : bound - at ≡ suc (bound - (at + 1)) = omega arith in
+    let rest = turns_from is_at_end (one tree) (bound - (at + 1)) [] after in
+    let same : (tree ts).0 ≡ found = ap (λ p. p.0) told in
+    let behind : beyond ts.past (tree ts).1 ≡ after = ap (λ p. beyond ts.past p.1) told ∙ sym a in
+    let stepped : turns_from is_at_end (one tree) (bound - at) [] ts ≡ turns_from is_at_end (one tree) (bound - (at + 1)) ((tree ts).0 ∷ []) (beyond ts.past (tree ts).1) = rw (turn, e) refl in
+    let turned : turns_from is_at_end (one tree) (bound - at) [] ts ≡ (found ∷ rest.0, rest.1) =
+    stepped ∙ ap (λ t. turns_from is_at_end (one tree) (bound - (at + 1)) ((tree ts).0 ∷ []) t) behind
+    ∙ ap (λ x. turns_from is_at_end (one tree) (bound - (at + 1)) (x ∷ []) after) same
+    ∙ turns-front is_at_end (one tree) (bound - (at + 1)) (found ∷ []) after in
+    ap (λ l. (record { value = l ++ values rest.0; too_deep = option_or deep' (first_too_deep rest.0) }, rest.1)) d
+    ∙ ap (λ o. (record { value = (done ++ option_to_list found.value) ++ values rest.0; too_deep = option_or o (first_too_deep rest.0) }, rest.1)) f
+    ∙ ap (λ l. (record { value = l; too_deep = option_or (option_or deep found.too_deep) (first_too_deep rest.0) }, rest.1)) (append_assoc done (option_to_list found.value) (values rest.0))
+    ∙ ap (λ o. (record { value = done ++ (option_to_list found.value ++ values rest.0); too_deep = o }, rest.1)) (sym (or-assoc deep found.too_deep (first_too_deep rest.0)))
+    ∙ ap (with_found done deep) (sym turned) ∙ before

@@ -1,0 +1,122 @@
+-- Use trees.
+use Rattle.std.specs.Prelude.{ℕ, zero, suc, Bool, true, false, ◌==◌, ◌||◌, if◌then◌else◌, Option, Some, None, is_none, option_to_list, List, [], ◌∷◌, ◌++◌, codes}
+use Rattle.std.specs.Option.{option_or}
+use Rattle.hir_input.specs.declared.ast.PathNode.{PathNode}
+use Rattle.hir_input.specs.declared.ast.Rename.{Rename}
+use Rattle.hir_input.specs.UseTreeView.{UseTreeView, tree_from}
+use Rattle.rust_cursor.specs.Tokens.{Tokens}
+use Rattle.rust_cursor.specs.Reader.{Reader, ◌>>=◌, pure, pass}
+use Rattle.rust_cursor.specs.Words.{symbol, at, bumped, is_at_end, eat_word, eat_colons}
+use Rattle.rust_cursor.specs.Brackets.{behind_closed, behind_tree}
+use Rattle.rust_cursor.specs.Elements.{most, elements, one}
+use Rattle.rust_paths.specs.Names.{name}
+use Rattle.rust_paths.specs.Paths.{use_path}
+
+-- what was read, and the place of the first list that was passed over, since it stands in too many others
+pub record Found (A : Type 0) : Type 0 where
+  pub value : A
+  pub too_deep : Option ℕ
+
+abbrev pub whole : {A : Type 0} → A → Found A
+whole a = record { value = a; too_deep = None }
+
+-- ---- renames
+
+-- `_`, and a name that is missing, are none
+unfoldable pub alias : Reader Rename
+alias = do
+  name ← name
+  _ ← eat_word (codes "_")
+  pure (record { name = name })
+
+abbrev pub alias_if : Bool → Reader (Option Rename)
+alias_if found ts = if found then (Some (alias ts).0, (alias ts).1) else (None, ts)
+
+-- `as` and a name or `_`
+unfoldable pub rename : Reader (Option Rename)
+rename = do
+  found ← eat_word (codes "as")
+  alias_if found
+
+-- ---- trees
+
+abbrev pub bare : Option PathNode → Bool → Option Rename → UseTreeView
+bare path star rename = tree_from (record { path = path; star = star; rename = rename }) None
+
+-- a tree with a list, if there is something of it
+abbrev pub listed : Option PathNode → Option (List UseTreeView) → Option UseTreeView
+listed None None = None
+listed path list = Some (tree_from (record { path = path; star = false; rename = None }) list)
+
+abbrev pub with_list : Option PathNode → Found (Option (List UseTreeView)) → Found (Option UseTreeView)
+with_list path found = record { value = listed path found.value; too_deep = found.too_deep }
+
+-- behind a path and `::`, or behind neither: a star or a list
+abbrev pub star_or_list : Reader (Found (Option (List UseTreeView))) → Option PathNode → Reader (Found (Option UseTreeView))
+star_or_list list path ts =
+    if symbol ts == 42 then (whole (Some (bare path true None)), bumped ts) else (with_list path (list ts).0, (list ts).1)
+
+abbrev pub renamed_tree : Option PathNode → Reader (Found (Option UseTreeView))
+renamed_tree path = do
+  rename ← rename
+  pure (whole (Some (bare path false rename)))
+
+abbrev pub tree_behind : Reader (Found (Option (List UseTreeView))) → Option PathNode → Bool → Reader (Found (Option UseTreeView))
+tree_behind list path joined = if joined || is_none path then star_or_list list path else renamed_tree path
+
+-- UseTree: a path, and behind it `::*`, `::` and a list, a rename, or nothing; the path may be missing before the first two.
+abbrev pub tree_with : Reader (Found (Option (List UseTreeView))) → Reader (Found (Option UseTreeView))
+tree_with list = do
+  path ← use_path
+  joined ← eat_colons
+  tree_behind list path joined
+
+-- ---- lists
+
+-- up to a comma, and it, or up to a bracket that closes
+abbrev pub comma_from : ℕ → Tokens → Tokens
+comma_from zero ts = ts
+comma_from (suc n) ts = if is_at_end ts then ts else (if symbol ts == 44 then bumped ts else comma_from n (behind_tree ts))
+
+unfoldable pub behind_comma : Tokens → Tokens
+behind_comma ts = comma_from most ts
+
+abbrev pub element_with : Reader (Found (Option (List UseTreeView))) → Reader (Found (Option UseTreeView))
+element_with list = do
+  found ← tree_with list
+  _ ← pass behind_comma
+  pure found
+
+abbrev pub values : List (Found (Option UseTreeView)) → List UseTreeView
+values [] = []
+values (f ∷ fs) = option_to_list f.value ++ values fs
+
+abbrev pub first_too_deep : List (Found (Option UseTreeView)) → Option ℕ
+first_too_deep [] = None
+first_too_deep (f ∷ fs) = option_or f.too_deep (first_too_deep fs)
+
+abbrev pub all_found : List (Found (Option UseTreeView)) → Found (List UseTreeView)
+all_found fs = record { value = values fs; too_deep = first_too_deep fs }
+
+-- the elements of a list
+abbrev pub trees : Reader (Found (Option UseTreeView)) → Reader (Found (List UseTreeView))
+trees element ts = (all_found (elements (one element) ts).0, (elements (one element) ts).1)
+
+abbrev pub some_list : Found (List UseTreeView) → Found (Option (List UseTreeView))
+some_list found = record { value = Some found.value; too_deep = found.too_deep }
+
+-- A list in braces. The number bounds how deep lists stand in one another; one that is deeper is passed over.
+unfoldable pub list : ℕ → Reader (Found (Option (List UseTreeView)))
+list zero ts = if symbol ts == 123 then (record { value = None; too_deep = Some (at ts) }, behind_tree ts) else (whole None, ts)
+list (suc depth) ts =
+    if symbol ts == 123 then (let r = trees (element_with (list depth)) (bumped ts) in (some_list r.0, behind_closed r.1)) else (whole None, ts)
+
+unfoldable pub element : ℕ → Reader (Found (Option UseTreeView))
+element depth = element_with (list depth)
+
+unfoldable pub tree_at : ℕ → Reader (Found (Option UseTreeView))
+tree_at depth = tree_with (list depth)
+
+-- A use tree, if one is written, with lists that stand in one another as far as 128 deep.
+unfoldable pub use_tree : Reader (Found (Option UseTreeView))
+use_tree = tree_at 128

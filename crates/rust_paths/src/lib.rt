@@ -1,0 +1,13 @@
+//! Names, paths, visibilities and use trees, read from the tokens of Rust source text.
+#![tactic(auto)]
+
+mod meaning;
+mod names;
+mod paths;
+mod use_trees;
+mod visibilities;
+
+pub use names::{PlacedName, TextRange, name, placed_name};
+pub use paths::path;
+pub use use_trees::{FoundUseTree, use_tree};
+pub use visibilities::visibility;

@@ -1,0 +1,207 @@
+//! Names.
+
+ghost use Rattle.std.specs.Prelude.{◌≡◌, Some, IfOk, option_map, string_bytes};
+ghost use Rattle.rust_cursor.specs.Reader.{Gives};
+ghost use Rattle.rust_paths.specs.Names as spec;
+ghost use Rattle.rust_paths.specs.Views.{placed_view};
+
+use hir_input::Name;
+use rust_cursor::Cursor;
+use rust_lexer::TokenKind;
+use std::alloc::{AllocError, Global};
+
+/// A range of bytes of a text. text-size's `TextRange`.
+#[derive(Clone, Copy, Debug, PartialEq, Eq)]
+pub struct TextRange {
+    pub start: usize,
+    pub end: usize,
+}
+
+/// A name, and where its token stands.
+#[derive(Debug, Drop)]
+pub struct PlacedName {
+    pub name: Name,
+    pub range: TextRange,
+}
+
+#[tactic(auto, unfolding(crate::specs::Names::is_strict_keyword))]
+fn is_strict_keyword(word: &str) -> bool
+    ensures { result ≡ spec.is_strict_keyword word.now }
+{
+    matches!(
+        word,
+        "as" | "async"
+            | "await"
+            | "break"
+            | "const"
+            | "continue"
+            | "crate"
+            | "dyn"
+            | "else"
+            | "enum"
+            | "extern"
+            | "false"
+            | "fn"
+            | "for"
+            | "if"
+            | "impl"
+            | "in"
+            | "let"
+            | "loop"
+            | "match"
+            | "mod"
+            | "move"
+            | "mut"
+            | "pub"
+            | "ref"
+            | "return"
+            | "self"
+            | "Self"
+            | "static"
+            | "struct"
+            | "super"
+            | "trait"
+            | "true"
+            | "type"
+            | "unsafe"
+            | "use"
+            | "where"
+            | "while"
+    )
+}
+
+#[tactic(auto, unfolding(crate::specs::Names::is_reserved_keyword))]
+fn is_reserved_keyword(word: &str) -> bool
+    ensures { result ≡ spec.is_reserved_keyword word.now }
+{
+    matches!(
+        word,
+        "abstract"
+            | "become"
+            | "box"
+            | "do"
+            | "final"
+            | "macro"
+            | "override"
+            | "priv"
+            | "try"
+            | "typeof"
+            | "unsized"
+            | "virtual"
+            | "yield"
+    )
+}
+
+/// Whether a path may hold the keyword.
+#[tactic(auto, unfolding(crate::specs::Names::is_path_keyword))]
+pub(crate) fn is_path_keyword(word: &str) -> bool
+    ensures { result ≡ spec.is_path_keyword word.now }
+{
+    matches!(word, "crate" | "self" | "super" | "Self")
+}
+
+#[tactic(auto, unfolding(crate::specs::Names::plain_name))]
+fn plain_name(word: &str) -> Option<&str>
+    ensures { option_map (λ name. name.now) result ≡ spec.plain_name word.now }
+{
+    if is_strict_keyword(word) {
+        return None;
+    }
+    if is_reserved_keyword(word) {
+        return None;
+    }
+    if word == "_" {
+        return None;
+    }
+    Some(word)
+}
+
+/// What stands behind `r#`.
+fn behind_hash(text: &str) -> Option<&str>
+    ensures { option_map (λ word. word.now) result ≡ spec.behind_hash text.now }
+{
+    match text.strip_prefix('r') {
+        Some(rest) => rest.strip_prefix('#'),
+        None => None,
+    }
+}
+
+#[tactic(auto, unfolding(crate::specs::Names::raw_name))]
+fn raw_name(text: &str) -> Option<&str>
+    ensures { option_map (λ name. name.now) result ≡ spec.raw_name text.now }
+{
+    let word = behind_hash(text)?;
+    if is_path_keyword(word) {
+        return None;
+    }
+    if word == "_" {
+        return None;
+    }
+    Some(word)
+}
+
+fn name_text(kind: Option<TokenKind>, text: &str) -> Option<&str>
+    ensures { option_map (λ name. name.now) result ≡ spec.name_text kind text.now }
+{
+    match kind {
+        Some(TokenKind::Ident) => plain_name(text),
+        Some(TokenKind::RawIdent) => raw_name(text),
+        _ => None,
+    }
+}
+
+/// Whether a name comes next.
+#[tactic(auto, unfolding(crate::specs::Names::has_name))]
+pub(crate) fn has_name(cursor: &Cursor<'_>) -> bool
+    ensures { result ≡ spec.has_name cursor.now }
+{
+    name_text(cursor.kind(), cursor.text()).is_some()
+}
+
+#[tactic(auto, using(crate::proofs::Naming::new_name))]
+fn name_from(text: String) -> Option<Name>
+    ensures { result ≡ spec.as_name (Some (string_bytes text)) }
+{
+    Name::new(text)
+}
+
+/// The name that comes next.
+#[tactic(auto, unfolding(crate::specs::Names::next_name))]
+pub(crate) fn next_name(alloc: Global, cursor: &Cursor<'_>) -> Result<Option<Name>, AllocError>
+    ensures { IfOk result (λ name. name ≡ spec.next_name cursor.now) }
+{
+    match name_text(cursor.kind(), cursor.text()) {
+        Some(text) => Ok(name_from(String::from_str(alloc, text)?)),
+        None => Ok(None),
+    }
+}
+
+/// Takes a name, if one comes next: an identifier that is no keyword of the edition 2021 and not `_`, or a raw identifier.
+#[tactic(auto, unfolding(crate::specs::Names::name))]
+pub fn name(alloc: Global, cursor: &mut Cursor<'_>) -> Result<Option<Name>, AllocError>
+    ensures { Gives (λ name. name) (spec.name cursor.old) result cursor.new }
+{
+    match next_name(alloc, cursor)? {
+        Some(name) => {
+            cursor.bump();
+            Ok(Some(name))
+        }
+        None => Ok(None),
+    }
+}
+
+/// Takes a name as [`name`] does, and tells where it stands.
+#[tactic(auto, unfolding(crate::specs::Names::placed_name))]
+pub fn placed_name(alloc: Global, cursor: &mut Cursor<'_>) -> Result<Option<PlacedName>, AllocError>
+    ensures { Gives (option_map placed_view) (spec.placed_name cursor.old) result cursor.new }
+{
+    let start = cursor.at();
+    match name(alloc, cursor)? {
+        Some(name) => {
+            let end = cursor.past();
+            let range = TextRange { start, end };
+            Ok(Some(PlacedName { name, range }))
+        }
+        None => Ok(None),
+    }
+}

@@ -1,0 +1,109 @@
+//! Visibilities.
+
+ghost use Rattle.std.specs.Prelude.{◌≡◌};
+ghost use Rattle.rust_cursor.specs.Reader.{Gives};
+ghost use Rattle.rust_paths.specs.Visibilities as spec;
+
+use crate::paths::path;
+use hir_input::ast::{PathNode, Visibility};
+use rust_cursor::Cursor;
+use std::alloc::{AllocError, Global};
+
+fn in_path(path: Option<PathNode>) -> Visibility
+    ensures { result ≡ spec.in_path path }
+{
+    match path {
+        Some(path) => Visibility::InPath(path),
+        None => Visibility::Pub,
+    }
+}
+
+#[tactic(auto, unfolding(crate::specs::Visibilities::scope_of))]
+fn scope_of(word: &str) -> Option<Visibility>
+    ensures { result ≡ spec.scope_of word.now }
+{
+    match word {
+        "crate" => Some(Visibility::PubCrate),
+        "super" => Some(Visibility::PubSuper),
+        "self" => Some(Visibility::PubSelf),
+        _ => None,
+    }
+}
+
+/// The visibility of the word in the bracket that comes next, or none.
+#[tactic(auto, unfolding(crate::specs::Visibilities::scope))]
+fn scope(cursor: &Cursor<'_>) -> Option<Visibility>
+    ensures { result ≡ spec.scope cursor.now }
+{
+    let mut ahead = cursor.ahead();
+    ahead.bump();
+    let word = ahead.word();
+    ahead.bump();
+    if ahead.symbol() != b')' {
+        return None;
+    }
+    scope_of(word)
+}
+
+/// Whether `in` is the first in the bracket that comes next.
+#[tactic(auto, unfolding(crate::specs::Visibilities::is_in))]
+fn is_in(cursor: &Cursor<'_>) -> bool
+    ensures { result ≡ spec.is_in cursor.now }
+{
+    let mut ahead = cursor.ahead();
+    ahead.bump();
+    ahead.word() == "in"
+}
+
+fn path_scope(alloc: Global, cursor: &mut Cursor<'_>) -> Result<Visibility, AllocError>
+    ensures { Gives (λ v. v) (spec.path_scope cursor.old) result cursor.new }
+{
+    cursor.bump();
+    cursor.bump();
+    let path = path(alloc, cursor)?;
+    cursor.pass_closed();
+    Ok(in_path(path))
+}
+
+fn plain_scope(cursor: &mut Cursor<'_>) -> Visibility
+    ensures { spec.plain_scope (spec.scope cursor.old) cursor.old ≡ (result, cursor.new) }
+{
+    match scope(cursor) {
+        Some(visibility) => {
+            cursor.bump();
+            cursor.bump();
+            cursor.bump();
+            visibility
+        }
+        None => Visibility::Pub,
+    }
+}
+
+/// Takes what goes on a visibility behind `pub`.
+#[tactic(auto, unfolding(crate::specs::Visibilities::scoped))]
+fn scoped(alloc: Global, cursor: &mut Cursor<'_>) -> Result<Visibility, AllocError>
+    ensures { Gives (λ v. v) (spec.scoped cursor.old) result cursor.new }
+{
+    if cursor.symbol() != b'(' {
+        return Ok(Visibility::Pub);
+    }
+    if is_in(cursor) {
+        return path_scope(alloc, cursor);
+    }
+    Ok(plain_scope(cursor))
+}
+
+/// Takes a visibility, if one is written.
+///
+/// A bracket behind `pub` belongs to it where it holds `in` first, or one of `crate`, `super` and `self` alone; so
+/// `struct Pair(pub (u8, u8));` has a field that is `pub`. rust-analyzer's `opt_visibility`.
+#[tactic(auto, unfolding(crate::specs::Visibilities::visibility))]
+pub fn visibility(alloc: Global, cursor: &mut Cursor<'_>) -> Result<Option<Visibility>, AllocError>
+    ensures { Gives (λ v. v) (spec.visibility cursor.old) result cursor.new }
+{
+    if cursor.word() != "pub" {
+        return Ok(None);
+    }
+    cursor.bump();
+    Ok(Some(scoped(alloc, cursor)?))
+}
