@@ -1,0 +1,28 @@
+-- What stands in one another, down to a depth.
+use Rattle.std.proofs.Common.{◌≡◌, ◌-◌, ◌<◌, ℕ, zero, suc, None, refl, arith}
+use Rattle.rust_cursor.specs.Tokens.{Tokens}
+use Rattle.rust_cursor.specs.Elements.{elements, one}
+use Rattle.hir_input.specs.Attr.{path_meta}
+use Rattle.rust_metas.specs.Conditions.{conditions, condition, some}
+use Rattle.rust_metas.specs.Literals.{root}
+use Rattle.rust_metas.specs.Metas.{meta, meta_with}
+
+pub conditions_deep : (depth : ℕ) (ts : Tokens) → depth ≡ 0 → conditions depth ts ≡ (None, ts)
+unfolding conditions
+conditions_deep zero ts e = refl
+conditions_deep (suc depth) ts e = cc
+
+pub conditions_at : (depth : ℕ) (ts : Tokens) → 0 < depth → conditions depth ts ≡ some (elements (one (condition (depth - 1))) ts)
+unfolding conditions condition
+conditions_at zero ts h = absurd (omega arith)
+conditions_at (suc depth) ts h = let less : suc depth - 1 ≡ depth = omega arith in rw less refl
+
+pub meta_deep : (depth : ℕ) (ts : Tokens) → depth ≡ 0 → meta depth ts ≡ (path_meta None root, ts)
+unfolding meta
+meta_deep zero ts e = refl
+meta_deep (suc depth) ts e = cc
+
+pub meta_at : (depth : ℕ) (ts : Tokens) → 0 < depth → meta depth ts ≡ meta_with (meta (depth - 1)) (condition (depth - 1)) ts
+unfolding meta
+meta_at zero ts h = absurd (omega arith)
+meta_at (suc depth) ts h = let less : suc depth - 1 ≡ depth = omega arith in rw less refl

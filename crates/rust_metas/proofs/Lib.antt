@@ -1,0 +1,6 @@
+pub mod Characters
+pub mod Commas
+pub mod Depths
+pub mod Naming
+pub mod Strings
+pub mod Texts

@@ -1,0 +1,60 @@
+-- Attributes.
+use Rattle.std.specs.Prelude.{ℕ, Bool, true, false, not, ◌==◌, ◌&&◌, ◌||◌, if◌then◌else◌, Option, Some, List}
+use Rattle.hir_input.specs.Attr.{MetaView}
+use Rattle.rust_lexer.specs.declared.kind.DocStyle.{DocStyle}
+use Rattle.rust_lexer.specs.declared.kind.DocStyle.TheVariants.{Outer, Inner}
+use Rattle.rust_cursor.specs.Tokens.{Tokens}
+use Rattle.rust_cursor.specs.Reader.{Reader, ◌>>=◌, pure, pass}
+use Rattle.rust_cursor.specs.Words.{symbol, kind, bump, bumped}
+use Rattle.rust_cursor.specs.Brackets.{behind_closed}
+use Rattle.rust_cursor.specs.Elements.{turns, one}
+use Rattle.rust_metas.specs.Literals.{style_by}
+use Rattle.rust_metas.specs.Metas.{meta, doc}
+
+-- metas and conditions stand in one another as far as this
+abbrev pub deepest : ℕ
+deepest = 128
+
+abbrev pub is_style : DocStyle → Option DocStyle → Bool
+is_style Outer (Some Outer) = true
+is_style Inner (Some Inner) = true
+is_style _ _ = false
+
+-- a documentation comment of this style comes next
+unfoldable pub is_doc : DocStyle → Tokens → Bool
+is_doc style ts = is_style style (style_by (kind ts))
+
+-- `#[` comes next, or `#![`
+unfoldable pub is_attribute : DocStyle → Tokens → Bool
+is_attribute Outer ts = symbol ts == 35 && symbol (bumped ts) == 91
+is_attribute Inner ts = symbol ts == 35 && (symbol (bumped ts) == 33 && symbol (bumped (bumped ts)) == 91)
+
+-- no attribute of this style comes next
+unfoldable pub is_behind : DocStyle → Tokens → Bool
+is_behind style ts = not (is_doc style ts || is_attribute style ts)
+
+-- a meta in its bracket; what stands behind it there is passed over
+unfoldable pub bracketed : Reader MetaView
+bracketed = do
+  _ ← bump
+  m ← meta deepest
+  _ ← pass behind_closed
+  pure m
+
+abbrev pub opened : DocStyle → Tokens → Tokens
+opened Outer ts = bumped ts
+opened Inner ts = bumped (bumped ts)
+
+-- OuterAttribute or InnerAttribute
+unfoldable pub attribute : DocStyle → Reader MetaView
+attribute style ts = if is_doc style ts then doc ts else bracketed (opened style ts)
+
+-- the attributes of this style that come next
+unfoldable pub attributes : DocStyle → Reader (List MetaView)
+attributes style = turns (is_behind style) (one (attribute style))
+
+unfoldable pub outer_attributes : Reader (List MetaView)
+outer_attributes = attributes Outer
+
+unfoldable pub inner_attributes : Reader (List MetaView)
+inner_attributes = attributes Inner

@@ -1,0 +1,88 @@
+-- Conditions of `cfg` and `cfg_attr`.
+use Rattle.std.specs.Prelude.{ℕ, zero, suc, ◌==◌, if◌then◌else◌, Option, Some, None, List, [], ◌∷◌, codes}
+use Rattle.std.specs.Str.{bytes_eq}
+use Rattle.hir_input.specs.Cfg.{CfgView, invalid, atom, all_of, any_of, not_of, cfgs_from, flag, key_value}
+use Rattle.rust_cursor.specs.Tokens.{Tokens}
+use Rattle.rust_cursor.specs.Reader.{Reader, ◌>>=◌, pure, pass}
+use Rattle.rust_cursor.specs.Words.{symbol, word, kind, text, bump, bumped, is_at_end, is_at_open}
+use Rattle.rust_cursor.specs.Brackets.{behind_closed, behind_tree}
+use Rattle.rust_cursor.specs.Elements.{most, elements, one}
+use Rattle.rust_paths.specs.Names.{as_name, name}
+use Rattle.rust_metas.specs.Literals.{string_by, is_literal_kind, is_truth, is_ended}
+
+-- ---- what stands between commas
+
+abbrev pub comma_from : ℕ → Tokens → Tokens
+comma_from zero ts = ts
+comma_from (suc n) ts = if is_at_end ts then ts else (if symbol ts == 44 then bumped ts else comma_from n (behind_tree ts))
+
+-- what is left behind the next comma in no bracket, or from a bracket that closes
+unfoldable pub behind_comma : Tokens → Tokens
+behind_comma ts = comma_from most ts
+
+-- ---- conditions
+
+-- an identifier, `true` or `false`
+unfoldable pub option_name : Reader (Option (List ℕ))
+option_name ts = if is_truth ts then (as_name (Some (word ts)), bumped ts) else name ts
+
+-- ConfigurationNot has one condition
+abbrev pub not_from : List CfgView → CfgView
+not_from (c ∷ []) = not_of c
+not_from _ = invalid
+
+-- ConfigurationAll, ConfigurationAny and ConfigurationNot
+unfoldable pub composed : List ℕ → Option (List CfgView) → CfgView
+composed word None = invalid
+composed word (Some conditions) =
+    if bytes_eq word (codes "all") then all_of (cfgs_from conditions)
+    else (if bytes_eq word (codes "any") then any_of (cfgs_from conditions)
+    else (if bytes_eq word (codes "not") then not_from conditions else invalid))
+
+abbrev pub pair_from : List ℕ → Option (List ℕ) → CfgView
+pair_from key None = invalid
+pair_from key (Some value) = atom (key_value key value)
+
+-- ConfigurationOption with a value, at its `=`
+unfoldable pub pair : List ℕ → Reader CfgView
+pair key ts =
+    if is_literal_kind (kind (bumped ts)) then (pair_from key (string_by (kind (bumped ts)) (text (bumped ts))), bumped (bumped ts)) else (invalid, bumped ts)
+
+-- a word with conditions in a bracket
+abbrev pub group : Reader (Option (List CfgView)) → List ℕ → Reader CfgView
+group inside word = do
+  _ ← bump
+  conditions ← inside
+  _ ← pass behind_closed
+  pure (composed word conditions)
+
+abbrev pub named : Reader (Option (List CfgView)) → List ℕ → Reader CfgView
+named inside word ts =
+    if is_at_open ts then group inside word ts
+    else (if symbol ts == 61 then pair word ts else (atom (flag word), ts))
+
+abbrev pub if_named : Reader (Option (List CfgView)) → Option (List ℕ) → Reader CfgView
+if_named inside None ts = (invalid, ts)
+if_named inside (Some word) ts = named inside word ts
+
+-- a condition up to a comma; with more behind it, it is none
+unfoldable pub ended : CfgView → Reader CfgView
+ended c ts = (if is_ended ts then c else invalid, behind_comma ts)
+
+-- ConfigurationPredicate and the comma behind it, by what reads those inside
+abbrev pub condition_with : Reader (Option (List CfgView)) → Reader CfgView
+condition_with inside = do
+  word ← option_name
+  c ← if_named inside word
+  ended c
+
+abbrev pub some : {A : Type 0} → A × Tokens → Option A × Tokens
+some r = (Some r.0, r.1)
+
+-- Conditions up to a bracket that closes. The number bounds how deep they stand in one another; deeper ones are not read.
+unfoldable pub conditions : ℕ → Reader (Option (List CfgView))
+conditions zero ts = (None, ts)
+conditions (suc depth) ts = some (elements (one (condition_with (conditions depth))) ts)
+
+unfoldable pub condition : ℕ → Reader CfgView
+condition depth = condition_with (conditions depth)

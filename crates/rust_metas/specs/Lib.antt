@@ -1,0 +1,6 @@
+pub mod Escapes
+pub mod Strings
+pub mod Literals
+pub mod Conditions
+pub mod Metas
+pub mod Attributes

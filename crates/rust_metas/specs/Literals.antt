@@ -1,0 +1,96 @@
+-- Literals and documentation comments.
+use Rattle.std.specs.Prelude.{ℕ, Bool, true, false, ◌==◌, ◌-◌, ◌&&◌, ◌||◌, min, if◌then◌else◌, Option, Some, None, List, length, take, drop, slice_index, codes}
+use Rattle.std.specs.Str.{bytes_eq}
+use Rattle.hir_input.specs.declared.edition.EditionYear.TheVariants.{E2024}
+use Rattle.hir_input.specs.declared.ids.SyntaxContext.{SyntaxContext}
+use Rattle.hir_input.specs.declared.ids.SyntaxContext.TheVariants.{Root}
+use Rattle.hir_input.specs.declared.span.Span.{Span}
+use Rattle.hir_input.specs.Literal.{LiteralView}
+use Rattle.rust_lexer.specs.declared.kind.DocStyle.{DocStyle}
+use Rattle.rust_lexer.specs.declared.kind.LiteralKind.{LiteralKind}
+use Rattle.rust_lexer.specs.declared.kind.LiteralKind.TheVariants as literals
+use Rattle.rust_lexer.specs.declared.kind.TokenKind.{TokenKind}
+use Rattle.rust_lexer.specs.declared.kind.TokenKind.TheVariants as kinds
+use Rattle.rust_cursor.specs.Tokens.{Tokens}
+use Rattle.rust_cursor.specs.Reader.{Reader}
+use Rattle.rust_cursor.specs.Words.{symbol, word, kind, text, at, bumped, is_at_end}
+use Rattle.rust_metas.specs.Strings.{as_text, and_text, unescaped, raw, written}
+
+-- where all that is written in a text comes from
+abbrev pub root : SyntaxContext
+root = Root E2024
+
+-- a place that is too far is the last that a span can tell
+abbrev pub place : ℕ → ℕ
+place at = min at 4294967295
+
+abbrev pub span_from : ℕ → ℕ → Span
+span_from start end = record { start = place start; end = place end; ctxt = root }
+
+-- ---- literals
+
+-- the string of a literal of this kind and text, if it is a string or a raw string without a suffix
+abbrev pub string_of : LiteralKind → List ℕ → Option (List ℕ)
+string_of literals.Str z = and_text (unescaped 0 (drop 1 z))
+string_of literals.RawStr z = and_text (raw (drop 1 z))
+string_of _ z = None
+
+abbrev pub string_by : Option TokenKind → List ℕ → Option (List ℕ)
+string_by (Some (kinds.Literal k)) z = string_of k z
+string_by _ z = None
+
+abbrev pub is_literal_kind : Option TokenKind → Bool
+is_literal_kind (Some (kinds.Literal k)) = true
+is_literal_kind _ = false
+
+-- `true` and `false`
+unfoldable pub is_truth : Tokens → Bool
+is_truth ts = bytes_eq (word ts) (codes "true") || bytes_eq (word ts) (codes "false")
+
+-- LiteralExpression
+unfoldable pub is_literal : Tokens → Bool
+is_literal ts = is_literal_kind (kind ts) || is_truth ts
+
+-- a comma comes next, a bracket that closes, or nothing
+unfoldable pub is_ended : Tokens → Bool
+is_ended ts = is_at_end ts || symbol ts == 44
+
+-- the literal that comes next
+unfoldable pub next_literal : Tokens → LiteralView
+next_literal ts = record { rendered = text ts; string = string_by (kind ts) (text ts); span = span_from (at ts) (bumped ts).past }
+
+-- a literal, if one comes next and nothing stands behind it: any other expression is none
+unfoldable pub value : Reader (Option LiteralView)
+value ts = if is_literal ts && is_ended (bumped ts) then (Some (next_literal ts), bumped ts) else (None, ts)
+
+-- ---- documentation comments
+
+abbrev pub style_by : Option TokenKind → Option DocStyle
+style_by (Some (kinds.LineComment style)) = style
+style_by (Some (kinds.BlockComment style)) = style
+style_by _ = None
+
+-- a line without the carriage return at its end
+abbrev pub without_return : List ℕ → List ℕ
+without_return z = if slice_index z (length z - 1) == 13 then take (length z - 1) z else z
+
+-- a block without its `*/`
+abbrev pub without_end : List ℕ → List ℕ
+without_end z = if slice_index z (length z - 2) == 42 && slice_index z (length z - 1) == 47 then take (length z - 2) z else z
+
+-- the text of a comment behind its mark of three bytes
+abbrev pub comment_text : Option TokenKind → List ℕ → List ℕ
+comment_text (Some (kinds.LineComment _)) z = without_return (drop 3 z)
+comment_text _ z = without_end (drop 3 z)
+
+abbrev pub literal_from : Option (List ℕ) → Option (List ℕ) → Span → Option LiteralView
+literal_from (Some rendered) (Some string) span = Some (record { rendered = rendered; string = Some string; span = span })
+literal_from _ _ span = None
+
+-- a text as the literal of a string
+unfoldable pub string_literal : List ℕ → Span → Option LiteralView
+string_literal z span = literal_from (as_text (written z)) (as_text z) span
+
+-- what the documentation comment that comes next says
+unfoldable pub documentation : Reader (Option LiteralView)
+documentation ts = (string_literal (comment_text (kind ts) (text ts)) (span_from (at ts) (bumped ts).past), bumped ts)

@@ -1,0 +1,103 @@
+-- Metas.
+use Rattle.std.specs.Prelude.{ℕ, zero, suc, Bool, ◌==◌, ◌&&◌, if◌then◌else◌, Option, Some, None, List, [], ◌∷◌, codes}
+use Rattle.std.specs.Str.{bytes_eq}
+use Rattle.hir_input.specs.declared.ast.PathNode.{PathNode}
+use Rattle.hir_input.specs.declared.ast.PathNode.TheVariants.{Readable}
+use Rattle.hir_input.specs.declared.mod_path.PathKind.TheVariants.{Plain}
+use Rattle.hir_input.specs.Attr.{MetaView, path_meta, key_value_meta, token_tree_meta, cfg_meta, cfg_attr_meta, unsafe_meta, metas_from}
+use Rattle.hir_input.specs.Cfg.{CfgView}
+use Rattle.rust_cursor.specs.Tokens.{Tokens}
+use Rattle.rust_cursor.specs.Reader.{Reader, ◌>>=◌, pure, pass}
+use Rattle.rust_cursor.specs.Words.{symbol, word, bump, bumped, is_at_open}
+use Rattle.rust_cursor.specs.Brackets.{behind_closed}
+use Rattle.rust_cursor.specs.Elements.{elements, one}
+use Rattle.rust_cursor.specs.Extents.{tree_text}
+use Rattle.rust_paths.specs.Paths.{path}
+use Rattle.rust_metas.specs.Literals.{root, value, documentation}
+use Rattle.rust_metas.specs.Conditions.{behind_comma, condition}
+
+-- ---- a path and its input
+
+abbrev pub assigned : Option PathNode → Reader MetaView
+assigned path = do
+  _ ← bump
+  value ← value
+  pure (key_value_meta path value root)
+
+abbrev pub called : Option PathNode → Reader MetaView
+called path = do
+  tokens ← tree_text
+  pure (token_tree_meta path tokens root)
+
+-- AttrInput: `=` and a value, a token tree, or nothing
+unfoldable pub input : Option PathNode → Reader MetaView
+input path ts = if symbol ts == 61 then assigned path ts else (if is_at_open ts then called path ts else (path_meta path root, ts))
+
+unfoldable pub plain : Reader MetaView
+plain = do
+  path ← path
+  input path
+
+-- ---- `unsafe(..)`, `cfg(..)` and `cfg_attr(..)`
+
+-- the word and a bracket come next
+unfoldable pub is_call : List ℕ → Tokens → Bool
+is_call w ts = bytes_eq (word ts) w && is_at_open (bumped ts)
+
+abbrev pub unsafe_with : Reader MetaView → Reader MetaView
+unsafe_with inner = do
+  _ ← bump
+  _ ← bump
+  m ← inner
+  _ ← pass behind_closed
+  pure (unsafe_meta m)
+
+abbrev pub cfg_with : Reader CfgView → Reader MetaView
+cfg_with condition = do
+  _ ← bump
+  _ ← bump
+  c ← condition
+  _ ← pass behind_closed
+  pure (cfg_meta c)
+
+-- a meta and the comma behind it
+abbrev pub member : Reader MetaView → Reader MetaView
+member inner = do
+  m ← inner
+  _ ← pass behind_comma
+  pure m
+
+abbrev pub cfg_attr_with : Reader MetaView → Reader CfgView → Reader MetaView
+cfg_attr_with inner condition = do
+  _ ← bump
+  _ ← bump
+  c ← condition
+  metas ← elements (one (member inner))
+  _ ← pass behind_closed
+  pure (cfg_attr_meta c (metas_from metas))
+
+-- Attr, by what reads the metas and the conditions inside
+abbrev pub meta_with : Reader MetaView → Reader CfgView → Reader MetaView
+meta_with inner condition ts =
+    if is_call (codes "unsafe") ts then unsafe_with inner ts
+    else (if is_call (codes "cfg") ts then cfg_with condition ts
+    else (if is_call (codes "cfg_attr") ts then cfg_attr_with inner condition ts else plain ts))
+
+-- A meta. The number bounds how deep metas and conditions stand in one another; a deeper meta is one without a path.
+unfoldable pub meta : ℕ → Reader MetaView
+meta zero ts = (path_meta None root, ts)
+meta (suc depth) ts = meta_with (meta depth) (condition depth) ts
+
+unfoldable pub member_at : ℕ → Reader MetaView
+member_at depth = member (meta depth)
+
+-- ---- documentation
+
+abbrev pub doc_path : PathNode
+doc_path = Readable (record { kind = Plain; names = codes "doc" ∷ [] })
+
+-- a documentation comment as `doc = ".."`
+unfoldable pub doc : Reader MetaView
+doc = do
+  text ← documentation
+  pure (key_value_meta (Some doc_path) text root)

@@ -1,0 +1,81 @@
+-- What string literals stand for.
+use Rattle.std.specs.Prelude.{ℕ, zero, suc, ◌==◌, ◌&&◌, ◌||◌, Bool, nat_lt, not, if◌then◌else◌, Option, Some, None, option_map, List, [], ◌∷◌, ◌++◌, length, drop, codes}
+use Rattle.std.specs.Char.{encode_utf8}
+use Rattle.std.specs.List.{flat_map}
+use Rattle.std.specs.Option.{option_and_then}
+use Rattle.std.specs.Str.{is_utf8}
+use Rattle.rust_metas.specs.Escapes.{escape}
+
+-- bytes as a text, if they are UTF-8
+unfoldable pub as_text : List ℕ → Option (List ℕ)
+as_text bytes = if is_utf8 bytes then Some bytes else None
+
+abbrev pub and_text : Option (List ℕ) → Option (List ℕ)
+and_text None = None
+and_text (Some bytes) = as_text bytes
+
+abbrev pub prepend : List ℕ → Option (List ℕ) → Option (List ℕ)
+prepend front rest = option_map (λ bytes. front ++ bytes) rest
+
+-- the end of a string, if just so many bytes stand behind its quote: a suffix makes it no string
+abbrev pub ended : ℕ → List ℕ → Option (List ℕ)
+ended count z = if length z == count then Some [] else None
+
+-- ---- with escapes
+
+abbrev pub encoded : Option ℕ → List ℕ
+encoded None = []
+encoded (Some c) = encode_utf8 c
+
+-- what a byte stands for, with how many bytes behind it
+unfoldable pub character : ℕ → List ℕ → Option (List ℕ × ℕ)
+character b z = if b == 92 then option_map (λ e. (encoded e.character, e.len)) (escape z) else Some (b ∷ [], 0)
+
+-- the bytes so far with those that were read, and how many bytes are left of an escape
+abbrev pub pushed : List ℕ → Option (List ℕ × ℕ) → Option (List ℕ × ℕ)
+pushed bytes None = None
+pushed bytes (Some p) = Some (bytes ++ p.0, p.1)
+
+abbrev pub beside : List ℕ → Option ℕ → Option (List ℕ × ℕ)
+beside bytes None = None
+beside bytes (Some n) = Some (bytes, n)
+
+-- What a string's bytes stand for up to its quote. The number counts the bytes that are left of an escape.
+abbrev pub unescaped : ℕ → List ℕ → Option (List ℕ)
+unescaped left [] = None
+unescaped (suc left) (b ∷ z) = unescaped left z
+unescaped zero (b ∷ z) = if b == 34 then ended 0 z else option_and_then (λ p. prepend p.0 (unescaped p.1 z)) (character b z)
+
+-- ---- raw
+
+-- how many `#` come first
+abbrev pub hashes : List ℕ → ℕ
+hashes [] = 0
+hashes (b ∷ z) = if b == 35 then suc (hashes z) else 0
+
+abbrev pub is_end : ℕ → ℕ → List ℕ → Bool
+is_end count b z = b == 34 && not (nat_lt (hashes z) count)
+
+-- the bytes up to a quote with so many `#` behind it
+abbrev pub raw_from : ℕ → List ℕ → Option (List ℕ)
+raw_from count [] = None
+raw_from count (b ∷ z) = if is_end count b z then ended count z else prepend (b ∷ []) (raw_from count z)
+
+-- the bytes of a raw string behind its `r`
+abbrev pub raw : List ℕ → Option (List ℕ)
+raw z = raw_from (hashes z) (drop 1 (drop (hashes z) z))
+
+-- ---- written
+
+-- a byte as it is written in a string literal
+abbrev pub written_byte : ℕ → List ℕ
+written_byte b =
+    if b == 34 || b == 92 then 92 ∷ b ∷ []
+    else (if b == 10 then codes "\\n"
+    else (if b == 13 then codes "\\r"
+    else (if b == 9 then codes "\\t"
+    else (if b == 0 then codes "\\0" else b ∷ []))))
+
+-- a text as a string literal
+abbrev pub written : List ℕ → List ℕ
+written text = codes "\"" ++ flat_map written_byte text ++ codes "\""

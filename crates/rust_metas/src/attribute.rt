@@ -1,0 +1,142 @@
+//! Attributes.
+
+ghost use Rattle.std.specs.Prelude.{◌≡◌, map};
+ghost use Rattle.hir_input.specs.Attr.{meta_view};
+ghost use Rattle.rust_cursor.specs.Reader.{Gives};
+ghost use Rattle.rust_metas.specs.Attributes as spec;
+
+use crate::literal::style_by;
+use crate::meta::{doc, meta};
+use hir_input::Meta;
+use rust_cursor::Cursor;
+use rust_lexer::DocStyle;
+use std::alloc::{AllocError, Global};
+
+fn is_style(style: DocStyle, found: Option<DocStyle>) -> bool
+    ensures { result ≡ spec.is_style style found }
+{
+    match (style, found) {
+        (DocStyle::Outer, Some(DocStyle::Outer)) => true,
+        (DocStyle::Inner, Some(DocStyle::Inner)) => true,
+        _ => false,
+    }
+}
+
+/// Whether a documentation comment of the style comes next.
+#[tactic(auto, unfolding(crate::specs::Attributes::is_doc))]
+fn is_doc(cursor: &Cursor<'_>, style: DocStyle) -> bool
+    ensures { result ≡ spec.is_doc style cursor.now }
+{
+    is_style(style, style_by(cursor.kind()))
+}
+
+/// Passes over the `#`, and the `!` of an inner attribute.
+fn pass_mark(cursor: &mut Cursor<'_>, style: DocStyle)
+    ensures { cursor.new ≡ spec.opened style cursor.old }
+{
+    cursor.bump();
+    if style == DocStyle::Inner {
+        cursor.bump();
+    }
+}
+
+/// Whether `#[` comes next, or `#![`.
+#[tactic(auto, unfolding(crate::specs::Attributes::is_attribute))]
+fn is_attribute(cursor: &Cursor<'_>, style: DocStyle) -> bool
+    ensures { result ≡ spec.is_attribute style cursor.now }
+{
+    if cursor.symbol() != b'#' {
+        return false;
+    }
+    let mut ahead = cursor.ahead();
+    ahead.bump();
+    match style {
+        DocStyle::Outer => ahead.symbol() == b'[',
+        DocStyle::Inner => {
+            if ahead.symbol() != b'!' {
+                return false;
+            }
+            ahead.bump();
+            ahead.symbol() == b'['
+        }
+    }
+}
+
+/// Whether no attribute of the style comes next.
+#[tactic(auto, unfolding(crate::specs::Attributes::is_behind))]
+fn is_behind(cursor: &Cursor<'_>, style: DocStyle) -> bool
+    ensures { result ≡ spec.is_behind style cursor.now }
+{
+    !(is_doc(cursor, style) || is_attribute(cursor, style))
+}
+
+/// A meta in its bracket. What stands behind it there is passed over.
+#[tactic(auto, unfolding(crate::specs::Attributes::bracketed))]
+fn bracketed(alloc: Global, cursor: &mut Cursor<'_>) -> Result<Meta, AllocError>
+    ensures { Gives meta_view (spec.bracketed cursor.old) result cursor.new }
+{
+    cursor.bump();
+    let meta = meta(alloc, cursor, 128)?;
+    cursor.pass_closed();
+    Ok(meta)
+}
+
+#[tactic(auto, unfolding(crate::specs::Attributes::attribute))]
+fn attribute(alloc: Global, cursor: &mut Cursor<'_>, style: DocStyle) -> Result<Meta, AllocError>
+    ensures { Gives meta_view (spec.attribute style cursor.old) result cursor.new }
+{
+    if is_doc(cursor, style) {
+        return doc(alloc, cursor);
+    }
+    pass_mark(cursor, style);
+    bracketed(alloc, cursor)
+}
+
+/// The attributes of a style that come next.
+#[tactic(auto, unfolding(crate::specs::Attributes::attributes, rust_cursor::specs::Elements::turns), using(rust_cursor::proofs::Turns::turns_stop))]
+fn attributes(
+    alloc: Global,
+    cursor: &mut Cursor<'_>,
+    style: DocStyle,
+) -> Result<Vec<Meta>, AllocError>
+    ensures { Gives (λ v. map meta_view v.items) (spec.attributes style cursor.old) result cursor.new }
+{
+    let mut metas = Vec::new(alloc);
+    let most = Cursor::most_turns();
+    for _turn in 0..most {
+        if is_behind(cursor, style) {
+            break;
+        }
+        let past = cursor.past();
+        let meta = attribute(alloc, cursor, style)?;
+        metas.push(meta)?;
+        cursor.pass_beyond(past);
+    }
+    Ok(metas)
+}
+
+/// Takes the outer attributes that come next, in order: those in `#[..]`, and the comments `///` and `/** .. */` as
+/// `doc = ".."`. What is no meta in its bracket is one without a path.
+///
+/// # Errors
+///
+/// `AllocError` where memory is refused. The cursor may then stand anywhere.
+#[tactic(auto, unfolding(crate::specs::Attributes::outer_attributes))]
+pub fn outer_attributes(alloc: Global, cursor: &mut Cursor<'_>) -> Result<Vec<Meta>, AllocError>
+    ensures { Gives (λ v. map meta_view v.items) (spec.outer_attributes cursor.old) result cursor.new }
+{
+    attributes(alloc, cursor, DocStyle::Outer)
+}
+
+/// Takes the inner attributes that come next, in order: those in `#![..]`, and the comments `//!` and `/*! .. */` as
+/// `doc = ".."`.
+///
+/// # Errors
+///
+/// `AllocError` where memory is refused. The cursor may then stand anywhere.
+#[tactic(auto, unfolding(crate::specs::Attributes::inner_attributes))]
+pub fn inner_attributes(alloc: Global, cursor: &mut Cursor<'_>) -> Result<Vec<Meta>, AllocError>
+    ensures { Gives (λ v. map meta_view v.items) (spec.inner_attributes cursor.old) result cursor.new }
+{
+    attributes(alloc, cursor, DocStyle::Inner)
+}

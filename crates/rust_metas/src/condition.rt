@@ -1,0 +1,231 @@
+//! Conditions of `cfg` and `cfg_attr`.
+
+ghost use Rattle.std.specs.Prelude.{◌≡◌, IfOk, Some, map, option_map, string_bytes};
+ghost use Rattle.hir_input.specs.Cfg.{cfg_view};
+ghost use Rattle.rust_cursor.specs.Elements.{elements, one};
+ghost use Rattle.rust_cursor.specs.Reader.{Gives};
+ghost use Rattle.rust_paths.specs.Names.{as_name};
+ghost use Rattle.rust_metas.specs.Conditions as spec;
+
+use crate::literal::{is_ended, is_literal_kind, is_truth, string_by};
+use hir_input::{CfgAtom, CfgExpr, Name};
+use rust_cursor::Cursor;
+use rust_paths::name;
+use std::alloc::{AllocError, Global};
+
+/// Passes over what stands up to a comma in no bracket, and it, or up to a bracket that closes.
+#[tactic(auto, unfolding(crate::specs::Conditions::behind_comma), using(crate::proofs::Commas::comma_end, crate::proofs::Commas::comma_here, crate::proofs::Commas::comma_more))]
+pub(crate) fn pass_comma(cursor: &mut Cursor<'_>)
+    ensures { cursor.new ≡ spec.behind_comma cursor.old }
+{
+    let most = Cursor::most_turns();
+    for _turn in 0..most {
+        if cursor.is_at_end() {
+            return;
+        }
+        if cursor.symbol() == b',' {
+            cursor.bump();
+            return;
+        }
+        cursor.pass_tree();
+    }
+}
+
+/// The name of this text, if it is one.
+#[tactic(auto, using(crate::proofs::Naming::new_name))]
+fn name_from(text: String) -> Option<Name>
+    ensures { result ≡ as_name (Some (string_bytes text)) }
+{
+    Name::new(text)
+}
+
+/// Takes an identifier, `true` or `false`.
+#[tactic(auto, unfolding(crate::specs::Conditions::option_name))]
+fn option_name(alloc: Global, cursor: &mut Cursor<'_>) -> Result<Option<Name>, AllocError>
+    ensures { Gives (λ n. n) (spec.option_name cursor.old) result cursor.new }
+{
+    if !is_truth(cursor) {
+        return name(alloc, cursor);
+    }
+    let text = String::from_str(alloc, cursor.word())?;
+    cursor.bump();
+    Ok(name_from(text))
+}
+
+/// The negation of one condition.
+#[tactic(auto, using(hir_input::proofs::CfgLemmas::cfg_views))]
+fn not_from(alloc: Global, mut conditions: Vec<CfgExpr>) -> Result<CfgExpr, AllocError>
+    ensures { IfOk result (λ c. cfg_view c ≡ spec.not_from (map cfg_view conditions.items)) }
+{
+    if conditions.len() != 1 {
+        return Ok(CfgExpr::Invalid);
+    }
+    match conditions.pop() {
+        Some(condition) => Ok(CfgExpr::Not(Box::new(alloc, condition)?)),
+        None => Ok(CfgExpr::Invalid),
+    }
+}
+
+/// The condition of a word with conditions in its bracket.
+#[tactic(auto, unfolding(crate::specs::Conditions::composed), using(hir_input::proofs::CfgLemmas::cfg_views))]
+fn composed(
+    alloc: Global,
+    word: Name,
+    conditions: Option<Vec<CfgExpr>>,
+) -> Result<CfgExpr, AllocError>
+    ensures { IfOk result (λ c. cfg_view c ≡ spec.composed word (option_map (λ v. map cfg_view v.items) conditions)) }
+{
+    let Some(conditions) = conditions else {
+        return Ok(CfgExpr::Invalid);
+    };
+    match word.text() {
+        "all" => Ok(CfgExpr::All(conditions)),
+        "any" => Ok(CfgExpr::Any(conditions)),
+        "not" => not_from(alloc, conditions),
+        _ => Ok(CfgExpr::Invalid),
+    }
+}
+
+#[tactic(auto, using(hir_input::proofs::CfgLemmas::cfg_views))]
+fn pair_from(key: Name, value: Option<String>) -> CfgExpr
+    ensures { cfg_view result ≡ spec.pair_from key (option_map string_bytes value) }
+{
+    match value {
+        Some(value) => CfgExpr::Atom(CfgAtom::KeyValue { key, value }),
+        None => CfgExpr::Invalid,
+    }
+}
+
+/// A key with a value, from its `=` on.
+#[tactic(auto, unfolding(crate::specs::Conditions::pair), using(hir_input::proofs::CfgLemmas::cfg_views))]
+fn pair(alloc: Global, cursor: &mut Cursor<'_>, key: Name) -> Result<CfgExpr, AllocError>
+    ensures { Gives cfg_view (spec.pair key cursor.old) result cursor.new }
+{
+    cursor.bump();
+    if !is_literal_kind(cursor.kind()) {
+        return Ok(CfgExpr::Invalid);
+    }
+    let value = string_by(alloc, cursor.kind(), cursor.text())?;
+    cursor.bump();
+    Ok(pair_from(key, value))
+}
+
+/// A word with conditions in its bracket, from that on.
+#[cycle(conditions)]
+fn group(
+    alloc: Global,
+    cursor: &mut Cursor<'_>,
+    word: Name,
+    depth: usize,
+) -> Result<CfgExpr, AllocError>
+    ensures { Gives cfg_view (spec.group (spec.conditions depth) word cursor.old) result cursor.new }
+{
+    cursor.bump();
+    let inside = conditions(alloc, cursor, depth)?;
+    cursor.pass_closed();
+    composed(alloc, word, inside)
+}
+
+/// What begins with a word.
+#[cycle(conditions)]
+#[tactic(auto, using(hir_input::proofs::CfgLemmas::cfg_views))]
+fn named(
+    alloc: Global,
+    cursor: &mut Cursor<'_>,
+    word: Name,
+    depth: usize,
+) -> Result<CfgExpr, AllocError>
+    ensures { Gives cfg_view (spec.named (spec.conditions depth) word cursor.old) result cursor.new }
+{
+    if cursor.is_at_open() {
+        return group(alloc, cursor, word, depth);
+    }
+    if cursor.symbol() == b'=' {
+        return pair(alloc, cursor, word);
+    }
+    Ok(CfgExpr::Atom(CfgAtom::Flag(word)))
+}
+
+#[cycle(conditions)]
+#[tactic(auto, using(hir_input::proofs::CfgLemmas::cfg_views))]
+fn if_named(
+    alloc: Global,
+    cursor: &mut Cursor<'_>,
+    word: Option<Name>,
+    depth: usize,
+) -> Result<CfgExpr, AllocError>
+    ensures { Gives cfg_view (spec.if_named (spec.conditions depth) word cursor.old) result cursor.new }
+{
+    match word {
+        Some(word) => named(alloc, cursor, word, depth),
+        None => Ok(CfgExpr::Invalid),
+    }
+}
+
+/// A condition that goes up to a comma. With more behind it, it is none.
+#[tactic(auto, unfolding(crate::specs::Conditions::ended), using(hir_input::proofs::CfgLemmas::cfg_views))]
+fn ended(cursor: &mut Cursor<'_>, condition: CfgExpr) -> CfgExpr
+    ensures { spec.ended (cfg_view condition) cursor.old ≡ (cfg_view result, cursor.new) }
+{
+    let is_whole = is_ended(cursor);
+    pass_comma(cursor);
+    if is_whole {
+        return condition;
+    }
+    CfgExpr::Invalid
+}
+
+/// Takes a condition and the comma behind it. `depth` bounds how deep conditions stand in one another.
+#[cycle(conditions)]
+#[tactic(auto, unfolding(crate::specs::Conditions::condition))]
+pub(crate) fn condition(
+    alloc: Global,
+    cursor: &mut Cursor<'_>,
+    depth: usize,
+) -> Result<CfgExpr, AllocError>
+    ensures { Gives cfg_view (spec.condition depth cursor.old) result cursor.new }
+{
+    let word = option_name(alloc, cursor)?;
+    let condition = if_named(alloc, cursor, word, depth)?;
+    Ok(ended(cursor, condition))
+}
+
+/// Takes conditions up to a bracket that closes, unless they stand too deep.
+#[cycle(conditions)]
+#[tactic(auto, using(crate::proofs::Depths::conditions_deep, crate::proofs::Depths::conditions_at))]
+fn conditions(
+    alloc: Global,
+    cursor: &mut Cursor<'_>,
+    depth: usize,
+) -> Result<Option<Vec<CfgExpr>>, AllocError>
+    ensures { Gives (option_map (λ v. map cfg_view v.items)) (spec.conditions depth cursor.old) result cursor.new }
+{
+    if depth == 0 {
+        return Ok(None);
+    }
+    let conditions = condition_list(alloc, cursor, depth - 1)?;
+    Ok(Some(conditions))
+}
+
+#[cycle(conditions)]
+#[tactic(auto, unfolding(rust_cursor::specs::Elements::turns), using(rust_cursor::proofs::Turns::turns_stop))]
+fn condition_list(
+    alloc: Global,
+    cursor: &mut Cursor<'_>,
+    depth: usize,
+) -> Result<Vec<CfgExpr>, AllocError>
+    ensures { Gives (λ v. map cfg_view v.items) (elements (one (spec.condition depth)) cursor.old) result cursor.new }
+{
+    let mut conditions = Vec::new(alloc);
+    let most = Cursor::most_turns();
+    for _turn in 0..most {
+        if cursor.is_at_end() {
+            break;
+        }
+        let past = cursor.past();
+        let condition = condition(alloc, cursor, depth)?;
+        conditions.push(condition)?;
+        cursor.pass_beyond(past);
+    }
+    Ok(conditions)
+}
