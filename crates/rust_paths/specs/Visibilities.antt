@@ -1,19 +1,34 @@
 -- Visibilities.
-use Rattle.std.specs.Prelude.{Bool, ◌==◌, if◌then◌else◌, Option, Some, None, List, ℕ, codes}
+use Rattle.std.specs.Prelude.{Bool, zero, suc, length, ◌==◌, if◌then◌else◌, Option, Some, None, List, ℕ, codes}
 use Rattle.std.specs.Str.{bytes_eq}
 use Rattle.hir_input.specs.declared.ast.PathNode.{PathNode}
+use Rattle.hir_input.specs.declared.ast.PathNode.TheVariants.{Readable, Unreadable}
+use Rattle.hir_input.specs.declared.mod_path.PathKind.{PathKind}
+use Rattle.hir_input.specs.declared.mod_path.PathKind.TheVariants as path
+use Rattle.hir_input.specs.Path.{Path}
 use Rattle.hir_input.specs.declared.ast.Visibility.{Visibility}
 use Rattle.hir_input.specs.declared.ast.Visibility.TheVariants.{Pub, PubCrate, PubSuper, PubSelf, InPath}
 use Rattle.rust_cursor.specs.Tokens.{Tokens}
 use Rattle.rust_cursor.specs.Reader.{Reader, ◌>>=◌, pure, pass}
 use Rattle.rust_cursor.specs.Words.{symbol, word, bump, bumped}
 use Rattle.rust_cursor.specs.Brackets.{behind_closed}
-use Rattle.rust_paths.specs.Paths.{path}
+use Rattle.rust_paths.specs.Paths as paths
+
+-- `crate`, `self` or `super` alone are what they are without `in`
+abbrev pub in_word : PathKind → Path → Visibility
+in_word path.Crate p = PubCrate
+in_word (path.Super zero) p = PubSelf
+in_word (path.Super (suc zero)) p = PubSuper
+in_word kind p = InPath (Readable p)
+
+unfoldable pub in_readable : Path → Visibility
+in_readable p = if length p.names == 0 then in_word p.kind p else InPath (Readable p)
 
 -- without a path it is `pub`
 abbrev pub in_path : Option PathNode → Visibility
 in_path None = Pub
-in_path (Some p) = InPath p
+in_path (Some Unreadable) = InPath Unreadable
+in_path (Some (Readable p)) = in_readable p
 
 -- `crate`, `super` and `self`
 unfoldable pub scope_of : List ℕ → Option Visibility
@@ -31,9 +46,9 @@ abbrev pub path_scope : Reader Visibility
 path_scope = do
   _ ← bump
   _ ← bump
-  path ← path
+  p ← paths.path
   _ ← pass behind_closed
-  pure (in_path path)
+  pure (in_path p)
 
 abbrev pub plain_scope : Option Visibility → Reader Visibility
 plain_scope None ts = (Pub, ts)

@@ -6,14 +6,32 @@ ghost use Rattle.rust_paths.specs.Visibilities as spec;
 
 use crate::paths::path;
 use hir_input::ast::{PathNode, Visibility};
+use hir_input::{ModPath, PathKind};
 use rust_cursor::Cursor;
 use std::alloc::{AllocError, Global};
+
+/// What `in` and this path are: `crate`, `self` or `super` alone are what they are without `in`.
+#[tactic(auto, unfolding(crate::specs::Visibilities::in_readable))]
+fn in_readable(path: ModPath) -> Visibility
+    ensures { result ≡ spec.in_readable path }
+{
+    if !path.segments().is_empty() {
+        return Visibility::InPath(PathNode::Readable(path));
+    }
+    match path.kind() {
+        PathKind::Crate => Visibility::PubCrate,
+        PathKind::Super(0) => Visibility::PubSelf,
+        PathKind::Super(1) => Visibility::PubSuper,
+        _ => Visibility::InPath(PathNode::Readable(path)),
+    }
+}
 
 fn in_path(path: Option<PathNode>) -> Visibility
     ensures { result ≡ spec.in_path path }
 {
     match path {
-        Some(path) => Visibility::InPath(path),
+        Some(PathNode::Readable(path)) => in_readable(path),
+        Some(PathNode::Unreadable) => Visibility::InPath(PathNode::Unreadable),
         None => Visibility::Pub,
     }
 }
