@@ -33,11 +33,16 @@ is_barred_header angles ts =
     if symbol ts == 59 || begins_item ts then true
     else (if angles == 0 then symbol ts == 123 || (bytes_eq (word ts) (codes "where") || is_lone_for ts) else false)
 
+-- before an item's block nothing more stands, in so many angle brackets
+abbrev pub is_barred_block : ℕ → Tokens → Bool
+is_barred_block angles ts = if symbol ts == 59 || begins_item ts then true else angles == 0 && symbol ts == 123
+
 -- nothing more is passed over from here on, in no bracket and so many angle brackets
 abbrev pub is_barred : Reach → ℕ → Tokens → Bool
 is_barred reaches.Angles angles ts = is_at_end ts || (symbol ts == 59 || begins_item ts)
 is_barred reaches.Field angles ts = is_at_end ts || (angles == 0 && symbol ts == 44)
 is_barred reaches.Header angles ts = is_at_end ts || is_barred_header angles ts
+is_barred reaches.Block angles ts = is_at_end ts || is_barred_block angles ts
 
 unfoldable pub is_reached : Reach → Nest → Tokens → Bool
 is_reached reach nest ts = if is_empty ts then true else (if nest.depth == 0 then is_barred reach nest.angles ts else false)
@@ -47,6 +52,7 @@ unfoldable pub is_closed : Reach → Nest → Bool
 is_closed reaches.Angles nest = nest.depth == 0 && nest.angles == 0
 is_closed reaches.Field nest = false
 is_closed reaches.Header nest = false
+is_closed reaches.Block nest = false
 
 abbrev pub reaching_from : Reach → Nest → ℕ → List Piece → Tokens
 reaching_from reach nest past [] = record { past = past; left = [] }
@@ -71,6 +77,10 @@ behind_angles ts = if symbol ts == 60 then reached reaches.Angles ts else ts
 -- what is left from the comma or the bracket that closes on that ends a field's type
 abbrev pub behind_field : Tokens → Tokens
 behind_field = reached reaches.Field
+
+-- what is left from an item's block on, or from where none comes
+unfoldable pub to_block : Tokens → Tokens
+to_block = reached reaches.Block
 
 -- Behind `impl` and its generics: a `for` stands in no bracket before the items, and so before it a trait's name.
 unfoldable pub is_trait_impl : Tokens → Bool

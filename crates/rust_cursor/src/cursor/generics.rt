@@ -14,6 +14,8 @@ pub(crate) enum Reach {
     Field,
     /// Up to a `for` that no `<` follows, a `where` or a block.
     Header,
+    /// Up to a block or a semicolon.
+    Block,
 }
 
 /// In how many brackets and angle brackets a token stands, and whether the one before it is `-` or `=`.
@@ -81,7 +83,17 @@ impl<'t> Cursor<'t> {
             Reach::Angles => self.symbol() == b';' || self.begins_item(),
             Reach::Field => angles == 0 && self.symbol() == b',',
             Reach::Header => self.is_barred_header(angles),
+            Reach::Block => self.is_barred_block(angles),
         }
+    }
+
+    fn is_barred_block(&self, angles: usize) -> bool
+        ensures { result ≡ spec.is_barred_block angles self.now }
+    {
+        if self.symbol() == b';' || self.begins_item() {
+            return true;
+        }
+        angles == 0 && self.symbol() == b'{'
     }
 
     fn is_barred_header(&self, angles: usize) -> bool
@@ -148,6 +160,16 @@ impl<'t> Cursor<'t> {
         self.pass_reach(Reach::Field);
     }
 
+    /// Passes over what stands before the block of an item.
+    ///
+    /// It ends before a semicolon, a bracket that closes, or a word that can begin an item only where no block comes.
+    #[tactic(auto, unfolding(crate::specs::Angles::to_block))]
+    pub fn pass_to_block(&mut self)
+        ensures { self.new ≡ spec.to_block self.old }
+    {
+        self.pass_reach(Reach::Block);
+    }
+
     /// Behind `impl` and its generics, whether a `for` stands between a trait and a type.
     #[tactic(auto, unfolding(crate::specs::Angles::is_trait_impl))]
     pub fn is_trait_impl(&self) -> bool
@@ -165,6 +187,6 @@ fn is_closed(reach: Reach, nest: Nest) -> bool
 {
     match reach {
         Reach::Angles => nest.depth == 0 && nest.angles == 0,
-        Reach::Field | Reach::Header => false,
+        Reach::Field | Reach::Header | Reach::Block => false,
     }
 }
