@@ -1,0 +1,25 @@
+use Rattle.std.proofs.Common.{◌≡◌, map, ◌+◌, ◌-◌, ◌*◌}
+use Rattle.hir_input.specs.Syntax.{item_view}
+use Rattle.rust_items.specs.Found.{log_view}
+use Rattle.rust_items.specs.Items.{finding_from, items, is_list_end, turn}
+use Rattle.rust_items.proofs.items.+items.Given as goal
+
+abbrev pub decreases-module_inside : goal.decreases-module_inside
+decreases-module_inside l = 5 * l.left
+
+abbrev pub decreases-inside_unless : goal.decreases-inside_unless
+decreases-inside_unless l = 5 * l.left + 1
+
+abbrev pub decreases-module : goal.decreases-module
+decreases-module l = 5 * l.left + 2
+
+abbrev pub decreases-turn : goal.decreases-turn
+decreases-turn l = 5 * l.left + 3
+
+abbrev pub decreases-items : goal.decreases-items
+decreases-items l = 5 * l.left + 4
+
+abbrev pub invariant-items-loop-turn : goal.invariant-items-loop-turn
+invariant-items-loop-turn l =
+    finding_from (is_list_end l.is_top) (turn l.left) (l.most - l._turn) (map item_view l.items.items) (log_view l.log) l.cursor
+    ≡ items l.is_top l.left (log_view l.fn.log) l.fn.cursor

@@ -1,0 +1,77 @@
+-- Items with their ids, which are given in preorder.
+use Rattle.std.specs.Prelude.{List, [], ◌∷◌, Option, Some, None}
+use Rattle.hir_input.specs.declared.ids.FileAstId.{FileAstId}
+use Rattle.hir_input.specs.Syntax.{NodeView, NamedView, UseView, CallView, ItemView, ItemViews, plain_item, const_item, struct_item, bare_module, listed_module, use_item, extern_crate, bare_extern_block, listed_extern_block, impl_item, macro_call, macro_rules, asm_item, no_items, item_and}
+use Rattle.rust_items.specs.declared.ids.Numbers.{Numbers}
+
+-- the numbers of the next id, and the ids that are left
+abbrev pub first : List FileAstId → Numbers × List FileAstId
+first [] = (record { hash = 0; number = 0 }, [])
+first (id ∷ ids) = (record { hash = id.hash; number = id.number }, ids)
+
+-- ---- one item
+
+abbrev pub numbered_node : Numbers → NodeView → NodeView
+numbered_node id n = record { hash = id.hash; number = id.number; attrs = n.attrs; body = n.body }
+
+abbrev pub numbered_named : Numbers → NamedView → NamedView
+numbered_named id n = record { node = numbered_node id n.node; name = n.name; visibility = n.visibility }
+
+abbrev pub numbered_use : Numbers → UseView → UseView
+numbered_use id n = record { node = numbered_node id n.node; visibility = n.visibility; use_tree = n.use_tree }
+
+abbrev pub numbered_call : Numbers → CallView → CallView
+numbered_call id n = record { node = numbered_node id n.node; path = n.path; expand_to = n.expand_to; ctxt = n.ctxt }
+
+-- an item with the hash and the number of its id; what it holds is as before
+abbrev pub numbered : Numbers → ItemView → ItemView
+numbered id (plain_item k n) = plain_item k (numbered_named id n)
+numbered id (const_item n) = const_item (numbered_named id n)
+numbered id (struct_item n fields) = struct_item (numbered_named id n) fields
+numbered id (bare_module n semicolon) = bare_module (numbered_named id n) semicolon
+numbered id (listed_module n semicolon is) = listed_module (numbered_named id n) semicolon is
+numbered id (use_item u) = use_item (numbered_use id u)
+numbered id (extern_crate n rename) = extern_crate (numbered_named id n) rename
+numbered id (bare_extern_block n) = bare_extern_block (numbered_node id n)
+numbered id (listed_extern_block n is) = listed_extern_block (numbered_node id n) is
+numbered id (impl_item n is_trait) = impl_item (numbered_node id n) is_trait
+numbered id (macro_call c) = macro_call (numbered_call id c)
+numbered id (macro_rules n name) = macro_rules (numbered_node id n) name
+numbered id (asm_item n) = asm_item n
+
+-- ---- all items
+
+abbrev pub listed_by : (ItemViews → ItemView) → ItemViews × List FileAstId → ItemView × List FileAstId
+listed_by make r = (make r.0, r.1)
+
+abbrev mutual
+  -- an item with the numbers of its id, and those that it holds with the ids that come next
+  pub held_with_ids : Numbers → ItemView → List FileAstId → ItemView × List FileAstId
+  held_with_ids id (listed_module n semicolon is) ids = listed_by (listed_module (numbered_named id n) semicolon) (with_ids is ids)
+  held_with_ids id (listed_extern_block n is) ids = listed_by (listed_extern_block (numbered_node id n)) (with_ids is ids)
+  held_with_ids id i ids = (numbered id i, ids)
+
+  -- each item takes an id, and then those that it holds take theirs
+  pub with_ids : ItemViews → List FileAstId → ItemViews × List FileAstId
+  with_ids no_items ids = (no_items, ids)
+  with_ids (item_and i is) ids =
+      let head = held_with_ids (first ids).0 i (first ids).1 in
+      let rest = with_ids is head.1 in
+      (item_and head.0 rest.0, rest.1)
+
+abbrev pub item_with_ids : ItemView → List FileAstId → ItemView × List FileAstId
+item_with_ids i ids = held_with_ids (first ids).0 i (first ids).1
+
+-- ---- lists
+
+-- the same of a list
+abbrev pub list_with_ids : List ItemView → List FileAstId → List ItemView × List FileAstId
+list_with_ids [] ids = ([], ids)
+list_with_ids (i ∷ is) ids =
+    let head = item_with_ids i ids in
+    let rest = list_with_ids is head.1 in
+    (head.0 ∷ rest.0, rest.1)
+
+abbrev pub some_with_ids : Option (List ItemView) → List FileAstId → Option (List ItemView) × List FileAstId
+some_with_ids None ids = (None, ids)
+some_with_ids (Some is) ids = (Some (list_with_ids is ids).0, (list_with_ids is ids).1)

@@ -1,0 +1,203 @@
+-- Items: those of a list one after another, and those that hold others.
+use Rattle.std.specs.Prelude.{ℕ, zero, suc, ◌+◌, ◌-◌, Bool, true, false, not, ◌==◌, ◌&&◌, ◌||◌, if◌then◌else◌, Option, Some, None, option_to_list, List, [], ◌++◌}
+use Rattle.hir_input.specs.declared.ids.AstIdKind.{AstIdKind}
+use Rattle.hir_input.specs.declared.ids.AstIdKind.TheVariants as kind
+use Rattle.hir_input.specs.declared.ast.Visibility.{Visibility}
+use Rattle.hir_input.specs.Attr.{MetaView}
+use Rattle.hir_input.specs.Syntax.{ItemView, plain_item, fn_kind, static_kind, type_alias_kind, macro_call, module_from, extern_block_from}
+use Rattle.rust_cursor.specs.Tokens.{Tokens}
+use Rattle.rust_cursor.specs.Reader.{Reader, ◌>>=◌, pure, pass}
+use Rattle.rust_cursor.specs.Words.{symbol, at, eat, is_empty, is_at_end, bumped}
+use Rattle.rust_cursor.specs.Brackets.{behind_tree}
+use Rattle.rust_cursor.specs.Elements.{most, beyond}
+use Rattle.rust_paths.specs.declared.names.TextRange.{TextRange}
+use Rattle.rust_paths.specs.Visibilities.{visibility}
+use Rattle.rust_metas.specs.Attributes.{outer_attributes, inner_attributes}
+use Rattle.rust_items.specs.declared.head.Head.{Head}
+use Rattle.rust_items.specs.declared.head.Head.TheVariants as heads
+use Rattle.rust_items.specs.declared.log.ItemSpan.{ItemSpan}
+use Rattle.rust_items.specs.declared.log.ProblemKind.TheVariants as problem
+use Rattle.rust_items.specs.Found.{Found, Finder, nothing_found, and_problem, and_problem_if, and_problem_at, and_row, and_all}
+use Rattle.rust_items.specs.Heads.{behind_modifiers, head, behind_others}
+use Rattle.rust_items.specs.Leaves.{NameRead, LeafRead, no_name, named}
+use Rattle.rust_items.specs.Kinds.{named_node, node, leaf}
+
+-- ---- what stands in front
+
+-- what stands before an item's own parts
+pub record FrontRead : Type 0 where
+  pub attrs : List MetaView
+  pub visibility : Option Visibility
+  pub head : Head
+
+-- attributes, a visibility, modifiers, and the words that begin an item
+unfoldable pub front : Reader FrontRead
+front = do
+  attrs ← outer_attributes
+  v ← visibility
+  _ ← pass behind_modifiers
+  h ← head
+  pure (record { attrs = attrs; visibility = v; head = h })
+
+-- ---- what is found
+
+abbrev pub span_of : ℕ → ℕ → Option TextRange → ItemSpan
+span_of start end name = record { range = record { start = start; end = end }; name = name }
+
+-- an item without its end is a problem at its start
+abbrev pub and_item : ℕ → ℕ → ℕ → AstIdKind → List ℕ → Option TextRange → Bool → Found → Found
+and_item depth start end kind name named is_ended f =
+    and_problem_if (not is_ended) problem.Unfinished start (and_row (record { depth = depth; kind = kind; name = name }) (span_of start end named) f)
+
+abbrev pub and_leaf : ℕ → ℕ → ℕ → LeafRead → Found → Found
+and_leaf depth start end l f = and_problem_at problem.TooDeep l.too_deep (and_item depth start end l.kind l.name l.named l.is_ended f)
+
+-- ---- items that hold none
+
+-- an item that holds none, or tokens that begin no item
+abbrev pub leaf_found : ℕ → ℕ → Option LeafRead → Finder (Option ItemView)
+leaf_found depth start None f ts = (None, (and_problem problem.NoItem start f, behind_others ts))
+leaf_found depth start (Some l) f ts = (Some l.item, (and_leaf depth start ts.past l f, ts))
+
+unfoldable pub leaf_turn : ℕ → ℕ → FrontRead → Finder (Option ItemView)
+leaf_turn depth start h f ts = leaf_found depth start (leaf h.head h.attrs h.visibility ts).0 f (leaf h.head h.attrs h.visibility ts).1
+
+-- ---- lists
+
+-- what turns give one after another, at most so many; a turn that takes nothing passes over a token
+abbrev pub finding_from : (Tokens → Bool) → Finder (Option ItemView) → ℕ → List ItemView → Finder (List ItemView)
+finding_from ends turn zero done f ts = (done, (f, ts))
+finding_from ends turn (suc n) done f ts =
+    if ends ts then (done, (f, ts))
+    else finding_from ends turn n (done ++ option_to_list (turn f ts).0) (turn f ts).1.0 (beyond ts.past (turn f ts).1.1)
+
+unfoldable pub finding : (Tokens → Bool) → Finder (Option ItemView) → Finder (List ItemView)
+finding ends turn f ts = finding_from ends turn most [] f ts
+
+-- a list of items ends with the text, and before its `}` where it has one
+unfoldable pub is_list_end : Bool → Tokens → Bool
+is_list_end is_top ts = is_empty ts || not is_top && symbol ts == 125
+
+-- ---- blocks
+
+-- what stands in an item's braces: inner attributes and items, if there are braces, and whether they are closed
+pub record BlockRead : Type 0 where
+  pub attrs : List MetaView
+  pub items : Option (List ItemView)
+  pub is_ended : Bool
+
+abbrev pub empty_block : Bool → BlockRead
+empty_block is_ended = record { attrs = []; items = None; is_ended = is_ended }
+
+abbrev pub no_block : BlockRead
+no_block = empty_block false
+
+-- braces that stand too deep
+abbrev pub deep_block : BlockRead
+deep_block = empty_block true
+
+-- from its `{` on
+abbrev pub block_of : Finder (Option ItemView) → Finder BlockRead
+block_of turn f ts =
+    let inner = inner_attributes (bumped ts) in
+    let list = finding (is_list_end false) turn f inner.1 in
+    (record { attrs = inner.0; items = Some list.0; is_ended = (eat 125 list.1.1).0 }, (list.1.0, (eat 125 list.1.1).1))
+
+-- ---- extern blocks
+
+-- what may stand in an extern block
+abbrev pub as_extern : ItemView → Option ItemView
+as_extern (plain_item fn_kind n) = Some (plain_item fn_kind n)
+as_extern (plain_item static_kind n) = Some (plain_item static_kind n)
+as_extern (plain_item type_alias_kind n) = Some (plain_item type_alias_kind n)
+as_extern (macro_call c) = Some (macro_call c)
+as_extern _ = None
+
+-- another item that stands there is none
+abbrev pub extern_kept : ℕ → ℕ → ℕ → LeafRead → Option ItemView → Found → Option ItemView × Found
+extern_kept depth start end l None f = (None, and_problem problem.NoItem start f)
+extern_kept depth start end l (Some i) f = (Some i, and_leaf depth start end l f)
+
+abbrev pub and_rest : {A B : Type 0} → A × B → Tokens → A × (B × Tokens)
+and_rest r ts = (r.0, (r.1, ts))
+
+abbrev pub extern_found : ℕ → ℕ → Option LeafRead → Finder (Option ItemView)
+extern_found depth start None f ts = (None, (and_problem problem.NoItem start f, behind_others ts))
+extern_found depth start (Some l) f ts = and_rest (extern_kept depth start ts.past l (as_extern l.item) f) ts
+
+abbrev pub extern_behind : ℕ → ℕ → FrontRead → Finder (Option ItemView)
+extern_behind depth start h f ts = extern_found depth start (leaf h.head h.attrs h.visibility ts).0 f (leaf h.head h.attrs h.visibility ts).1
+
+abbrev pub extern_by : ℕ → Finder (Option ItemView)
+extern_by depth f ts = extern_behind depth (at ts) (front ts).0 f (front ts).1
+
+abbrev pub unmatched : Finder (Option ItemView)
+unmatched f ts = (None, (and_problem problem.Unmatched (at ts) f, bumped ts))
+
+-- an item of an extern block, or none
+unfoldable pub extern_turn : ℕ → Finder (Option ItemView)
+extern_turn depth f ts = if is_at_end ts then unmatched f ts else extern_by depth f ts
+
+unfoldable pub extern_inside : ℕ → Finder BlockRead
+extern_inside depth f ts = if symbol ts == 123 then block_of (extern_turn depth) f ts else (no_block, (f, ts))
+
+-- an item that holds items: its row, and then theirs
+abbrev pub and_parent : ℕ → ℕ → ℕ → AstIdKind → NameRead → Bool → Found → Found → Found
+and_parent depth start end kind n is_ended inner f = and_all inner (and_item depth start end kind n.hashed n.range is_ended f)
+
+-- what stands in an extern block is one deeper
+abbrev pub one_more : ℕ → ℕ
+one_more depth = depth + 1
+
+-- ExternBlock
+unfoldable pub extern_block : ℕ → ℕ → List MetaView → Finder ItemView
+extern_block depth start attrs f ts =
+    let b = extern_inside (one_more depth) nothing_found ts in
+    (extern_block_from (node (attrs ++ b.0.attrs) []) b.0.items, (and_parent depth start b.1.1.past kind.ExternBlock no_name b.0.is_ended b.1.0 f, b.1.1))
+
+-- ---- modules
+
+-- in how many modules an item stands where so many more may stand in one another
+abbrev pub depth_of : ℕ → ℕ
+depth_of left = 128 - left
+
+abbrev pub inside_unless : Bool → Finder BlockRead → Finder BlockRead
+inside_unless semicolon inside f ts = if semicolon then (no_block, (f, ts)) else inside f ts
+
+-- Module: with a semicolon, with items, or with neither
+abbrev pub module_with : Finder BlockRead → ℕ → ℕ → FrontRead → Finder ItemView
+module_with inside depth start h f ts =
+    let n = named ts in
+    let semicolon = eat 59 n.1 in
+    let b = inside_unless semicolon.0 inside nothing_found semicolon.1 in (
+      module_from (named_node (h.attrs ++ b.0.attrs) n.0.name h.visibility []) semicolon.0 b.0.items,
+      (and_parent depth start b.1.1.past kind.Module n.0 (semicolon.0 || b.0.is_ended) b.1.0 f, b.1.1),
+    )
+
+abbrev pub some_item : {A : Type 0} → ItemView × A → Option ItemView × A
+some_item r = (Some r.0, r.1)
+
+abbrev pub by_head : Finder BlockRead → ℕ → ℕ → Head → FrontRead → Finder (Option ItemView)
+by_head inside depth start heads.Module h f ts = some_item (module_with inside depth start h f ts)
+by_head inside depth start heads.ExternBlock h f ts = some_item (extern_block depth start h.attrs f ts)
+by_head inside depth start _ h f ts = leaf_turn depth start h f ts
+
+-- Item: an item, or none: then tokens are passed over
+abbrev pub turn_with : Finder BlockRead → ℕ → Finder (Option ItemView)
+turn_with inside depth f ts =
+    if is_at_end ts then unmatched f ts else by_head inside depth (at ts) (front ts).0.head (front ts).0 f (front ts).1
+
+-- The items of a module. The number bounds how deep modules stand in one another; one that is deeper is passed over.
+unfoldable pub inside : ℕ → Finder BlockRead
+inside zero f ts = if symbol ts == 123 then (deep_block, (and_problem problem.TooDeep (at ts) f, behind_tree ts)) else (no_block, (f, ts))
+inside (suc left) f ts = if symbol ts == 123 then block_of (turn_with (inside left) (depth_of left)) f ts else (no_block, (f, ts))
+
+unfoldable pub turn : ℕ → Finder (Option ItemView)
+turn left = turn_with (inside left) (depth_of left)
+
+unfoldable pub module_at : ℕ → ℕ → FrontRead → Finder ItemView
+module_at left = module_with (inside left) (depth_of left)
+
+-- the items of a file, or of a module
+abbrev pub items : Bool → ℕ → Finder (List ItemView)
+items is_top left = finding (is_list_end is_top) (turn left)

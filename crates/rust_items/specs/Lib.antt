@@ -1,0 +1,9 @@
+pub mod Found
+pub mod Heads
+pub mod Texts
+pub mod Leaves
+pub mod Kinds
+pub mod Items
+pub mod Views
+pub mod Ids
+pub mod SourceFiles

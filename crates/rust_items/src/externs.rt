@@ -1,0 +1,225 @@
+//! Extern blocks.
+
+ghost use Rattle.std.specs.Prelude.{◌≡◌, ◌++◌, ◌+◌, ◌<◌, IfOk, OnOk, map, false, [], option_map, option_to_list};
+ghost use Rattle.hir_input.specs.Attr.{meta_view};
+ghost use Rattle.hir_input.specs.Syntax.{item_view, extern_item_view, extern_block_from};
+ghost use Rattle.rust_items.specs.Kinds.{node};
+ghost use Rattle.rust_items.specs.Found.{Finds, log_view};
+ghost use Rattle.rust_items.specs.Items as spec;
+ghost use Rattle.rust_items.specs.Views.{extern_inside_view, leaf_view};
+
+use crate::front::{Extent, push_item, take_front};
+use crate::head::pass_others;
+use crate::leaf::{Leaf, take_leaf};
+use crate::log::{Log, ProblemKind};
+use crate::named::joined;
+use hir_input::ast::{ExternBlock, ExternItem, Item};
+use hir_input::{AstIdKind, Meta};
+use rust_cursor::Cursor;
+use rust_metas::inner_attributes;
+use std::alloc::{AllocError, Global};
+
+/// What stands in the braces of an extern block.
+#[derive(Drop)]
+pub(crate) struct ExternInside {
+    pub attrs: Vec<Meta>,
+    pub items: Option<Vec<ExternItem>>,
+    pub is_ended: bool,
+}
+
+/// The item as one of an extern block, if it may stand there.
+#[tactic(auto, using(hir_input::proofs::SyntaxViews::item_views))]
+fn as_extern(item: Item) -> Option<ExternItem>
+    ensures { option_map extern_item_view result ≡ spec.as_extern (item_view item) }
+{
+    match item {
+        Item::Fn(function) => Some(ExternItem::Fn(function)),
+        Item::MacroCall(call) => Some(ExternItem::MacroCall(call)),
+        Item::Static(value) => Some(ExternItem::Static(value)),
+        Item::TypeAlias(alias) => Some(ExternItem::TypeAlias(alias)),
+        _ => None,
+    }
+}
+
+/// Whether a list of items ends: with the text, or before its `}`.
+#[tactic(auto, unfolding(crate::specs::Items::is_list_end))]
+pub(crate) fn is_list_end(cursor: &Cursor<'_>, is_top: bool) -> bool
+    ensures { result ≡ spec.is_list_end is_top cursor.now }
+{
+    if cursor.is_empty() {
+        return true;
+    }
+    !is_top && cursor.symbol() == b'}'
+}
+
+/// Keeps an item of an extern block, where it may stand there.
+fn kept<'t>(
+    leaf: Leaf<'t>,
+    extent: Extent,
+    log: &mut Log<'t>,
+) -> Result<Option<ExternItem>, AllocError>
+    ensures { IfOk result (λ item. spec.extern_kept extent.depth extent.start extent.end (leaf_view leaf.entry) (spec.as_extern (item_view leaf.entry.item)) (log_view log.old) ≡ (option_map extern_item_view item, log_view log.new)) }
+{
+    match as_extern(leaf.item) {
+        Some(item) => {
+            push_item(log, extent, leaf.kind, leaf.name, leaf.named, leaf.is_ended)?;
+            log.push_problem_at(ProblemKind::TooDeep, leaf.too_deep)?;
+            Ok(Some(item))
+        }
+        None => {
+            log.push_problem(ProblemKind::NoItem, extent.start)?;
+            Ok(None)
+        }
+    }
+}
+
+fn extern_by<'t>(
+    alloc: Global,
+    cursor: &mut Cursor<'t>,
+    depth: usize,
+    log: &mut Log<'t>,
+) -> Result<Option<ExternItem>, AllocError>
+    ensures { Finds (option_map extern_item_view) (spec.extern_by depth (log_view log.old) cursor.old) result (log_view log.new) cursor.new }
+{
+    let start = cursor.at();
+    let front = take_front(alloc, cursor)?;
+    match take_leaf(alloc, cursor, front)? {
+        Some(leaf) => {
+            let end = cursor.past();
+            kept(leaf, Extent { depth, start, end }, log)
+        }
+        None => {
+            log.push_problem(ProblemKind::NoItem, start)?;
+            pass_others(cursor);
+            Ok(None)
+        }
+    }
+}
+
+/// An item of an extern block, or none.
+#[tactic(auto, unfolding(crate::specs::Items::extern_turn))]
+fn extern_turn<'t>(
+    alloc: Global,
+    cursor: &mut Cursor<'t>,
+    depth: usize,
+    log: &mut Log<'t>,
+) -> Result<Option<ExternItem>, AllocError>
+    ensures { Finds (option_map extern_item_view) (spec.extern_turn depth (log_view log.old) cursor.old) result (log_view log.new) cursor.new }
+{
+    if cursor.is_at_end() {
+        log.push_problem(ProblemKind::Unmatched, cursor.at())?;
+        cursor.bump();
+        return Ok(None);
+    }
+    extern_by(alloc, cursor, depth, log)
+}
+
+fn push_some(items: &mut Vec<ExternItem>, item: Option<ExternItem>) -> Result<(), AllocError>
+    ensures { OnOk result (map extern_item_view items.new.items ≡ map extern_item_view items.old.items ++ option_to_list (option_map extern_item_view item)) }
+{
+    match item {
+        Some(item) => {
+            items.push(item)?;
+            Ok(())
+        }
+        None => Ok(()),
+    }
+}
+
+#[tactic(auto, unfolding(crate::specs::Items::finding), using(crate::proofs::Steps::finding_stop))]
+fn extern_items<'t>(
+    alloc: Global,
+    cursor: &mut Cursor<'t>,
+    depth: usize,
+    log: &mut Log<'t>,
+) -> Result<Vec<ExternItem>, AllocError>
+    ensures { Finds (λ v. map extern_item_view v.items) (spec.finding (spec.is_list_end false) (spec.extern_turn depth) (log_view log.old) cursor.old) result (log_view log.new) cursor.new }
+{
+    let mut items = Vec::new(alloc);
+    let most = Cursor::most_turns();
+    for _turn in 0..most {
+        if is_list_end(cursor, false) {
+            return Ok(items);
+        }
+        let past = cursor.past();
+        let item = extern_turn(alloc, cursor, depth, log)?;
+        push_some(&mut items, item)?;
+        cursor.pass_beyond(past);
+    }
+    Ok(items)
+}
+
+/// Takes the braces of an extern block, if they come next.
+#[tactic(auto, unfolding(crate::specs::Items::extern_inside))]
+fn extern_inside<'t>(
+    alloc: Global,
+    cursor: &mut Cursor<'t>,
+    depth: usize,
+    log: &mut Log<'t>,
+) -> Result<ExternInside, AllocError>
+    ensures { Finds extern_inside_view (spec.extern_inside depth (log_view log.old) cursor.old) result (log_view log.new) cursor.new }
+{
+    if cursor.symbol() != b'{' {
+        return Ok(ExternInside {
+            attrs: Vec::new(alloc),
+            items: None,
+            is_ended: false,
+        });
+    }
+    cursor.bump();
+    let attrs = inner_attributes(alloc, cursor)?;
+    let items = extern_items(alloc, cursor, depth, log)?;
+    let is_ended = cursor.eat(b'}');
+    Ok(ExternInside {
+        attrs,
+        items: Some(items),
+        is_ended,
+    })
+}
+
+fn block_item(
+    alloc: Global,
+    attrs: Vec<Meta>,
+    inner: Vec<Meta>,
+    items: Option<Vec<ExternItem>>,
+) -> Result<Item, AllocError>
+    ensures { IfOk result (λ item. item_view item ≡ extern_block_from (node (map meta_view attrs.items ++ map meta_view inner.items) []) (option_map (λ v. map extern_item_view v.items) items)) }
+{
+    let attrs = joined(attrs, inner)?;
+    Ok(Item::ExternBlock(ExternBlock {
+        hash: 0,
+        number: 0,
+        attrs,
+        items,
+        body: String::new(alloc),
+    }))
+}
+
+/// Takes an extern block, behind `extern` and the name of an interface.
+#[tactic(auto, unfolding(crate::specs::Items::extern_block))]
+pub(crate) fn extern_block<'t>(
+    alloc: Global,
+    cursor: &mut Cursor<'t>,
+    depth: usize,
+    start: usize,
+    attrs: Vec<Meta>,
+    log: &mut Log<'t>,
+) -> Result<Item, AllocError>
+    requires { depth < 129 }
+    ensures { Finds item_view (spec.extern_block depth start (map meta_view attrs.items) (log_view log.old) cursor.old) result (log_view log.new) cursor.new }
+{
+    let mut more = Log::new(alloc);
+    let inside = extern_inside(alloc, cursor, depth + 1, &mut more)?;
+    let end = cursor.past();
+    let extent = Extent { depth, start, end };
+    push_item(
+        log,
+        extent,
+        AstIdKind::ExternBlock,
+        "",
+        None,
+        inside.is_ended,
+    )?;
+    log.append(more)?;
+    block_item(alloc, attrs, inside.attrs, inside.items)
+}

@@ -1,0 +1,230 @@
+//! The items of files and modules.
+
+ghost use Rattle.std.specs.Prelude.{◌≡◌, ◌++◌, IfOk, OnOk, map, option_map, option_to_list, []};
+ghost use Rattle.hir_input.specs.Attr.{meta_view};
+ghost use Rattle.hir_input.specs.Syntax.{item_view, module_from};
+ghost use Rattle.rust_items.specs.Found.{Finds, log_view};
+ghost use Rattle.rust_items.specs.Items as spec;
+ghost use Rattle.rust_items.specs.Kinds.{named_node};
+ghost use Rattle.rust_items.specs.Views.{front_view, inside_view};
+
+use crate::externs::{extern_block, is_list_end};
+use crate::front::{Extent, Front, leaf_turn, push_item, take_front};
+use crate::head::Head;
+use crate::log::{Log, ProblemKind};
+use crate::named::{item_name, joined};
+use hir_input::ast::{Item, Module, Visibility};
+use hir_input::{AstIdKind, Meta, Name};
+use rust_cursor::Cursor;
+use rust_metas::inner_attributes;
+use std::alloc::{AllocError, Global};
+
+/// How deep modules may stand in one another.
+pub(crate) const MOST_DEPTH: usize = 128;
+
+/// What stands in the braces of a module.
+#[derive(Drop)]
+pub(crate) struct Inside {
+    pub attrs: Vec<Meta>,
+    pub items: Option<Vec<Item>>,
+    pub is_ended: bool,
+}
+
+fn depth_of(left: usize) -> usize
+    ensures { result ≡ spec.depth_of left }
+{
+    MOST_DEPTH.saturating_sub(left)
+}
+
+fn no_inside(alloc: Global, is_ended: bool) -> Inside
+    ensures { inside_view result ≡ spec.empty_block is_ended }
+{
+    Inside {
+        attrs: Vec::new(alloc),
+        items: None,
+        is_ended,
+    }
+}
+
+fn push_some(items: &mut Vec<Item>, item: Option<Item>) -> Result<(), AllocError>
+    ensures { OnOk result (map item_view items.new.items ≡ map item_view items.old.items ++ option_to_list (option_map item_view item)) }
+{
+    match item {
+        Some(item) => {
+            items.push(item)?;
+            Ok(())
+        }
+        None => Ok(()),
+    }
+}
+
+#[tactic(auto, using(hir_input::proofs::SyntaxViews::item_views))]
+fn module_item(
+    alloc: Global,
+    attrs: Vec<Meta>,
+    inner: Vec<Meta>,
+    name: Option<Name>,
+    visibility: Option<Visibility>,
+    semicolon: bool,
+    items: Option<Vec<Item>>,
+) -> Result<Item, AllocError>
+    ensures { IfOk result (λ item. item_view item ≡ module_from (named_node (map meta_view attrs.items ++ map meta_view inner.items) name visibility []) semicolon (option_map (λ v. map item_view v.items) items)) }
+{
+    let attrs = joined(attrs, inner)?;
+    Ok(Item::Module(Module {
+        hash: 0,
+        number: 0,
+        attrs,
+        name,
+        visibility,
+        semicolon,
+        items,
+        body: String::new(alloc),
+    }))
+}
+
+/// Takes the braces of a module, if they come next.
+#[cycle(items)]
+#[tactic(auto, using(crate::proofs::Steps::inside_deep, crate::proofs::Steps::inside_none, crate::proofs::Steps::inside_some))]
+fn module_inside<'t>(
+    alloc: Global,
+    cursor: &mut Cursor<'t>,
+    left: usize,
+    log: &mut Log<'t>,
+) -> Result<Inside, AllocError>
+    ensures { Finds inside_view (spec.inside left (log_view log.old) cursor.old) result (log_view log.new) cursor.new }
+{
+    if cursor.symbol() != b'{' {
+        return Ok(no_inside(alloc, false));
+    }
+    if left == 0 {
+        log.push_problem(ProblemKind::TooDeep, cursor.at())?;
+        cursor.pass_tree();
+        return Ok(no_inside(alloc, true));
+    }
+    cursor.bump();
+    let attrs = inner_attributes(alloc, cursor)?;
+    let items = items(alloc, cursor, false, left - 1, log)?;
+    let is_ended = cursor.eat(b'}');
+    Ok(Inside {
+        attrs,
+        items: Some(items),
+        is_ended,
+    })
+}
+
+#[cycle(items)]
+fn inside_unless<'t>(
+    alloc: Global,
+    cursor: &mut Cursor<'t>,
+    semicolon: bool,
+    left: usize,
+    log: &mut Log<'t>,
+) -> Result<Inside, AllocError>
+    ensures { Finds inside_view (spec.inside_unless semicolon (spec.inside left) (log_view log.old) cursor.old) result (log_view log.new) cursor.new }
+{
+    if semicolon {
+        return Ok(no_inside(alloc, false));
+    }
+    module_inside(alloc, cursor, left, log)
+}
+
+/// Takes a module, behind `mod`.
+#[cycle(items)]
+#[tactic(auto, unfolding(crate::specs::Items::module_at))]
+fn module<'t>(
+    alloc: Global,
+    cursor: &mut Cursor<'t>,
+    left: usize,
+    start: usize,
+    front: Front,
+    log: &mut Log<'t>,
+) -> Result<Item, AllocError>
+    ensures { Finds item_view (spec.module_at left start (front_view front) (log_view log.old) cursor.old) result (log_view log.new) cursor.new }
+{
+    let named = item_name(alloc, cursor)?;
+    let semicolon = cursor.eat(b';');
+    let mut more = Log::new(alloc);
+    let inside = inside_unless(alloc, cursor, semicolon, left, &mut more)?;
+    let extent = Extent {
+        depth: depth_of(left),
+        start,
+        end: cursor.past(),
+    };
+    let is_ended = semicolon || inside.is_ended;
+    push_item(
+        log,
+        extent,
+        AstIdKind::Module,
+        named.hashed,
+        named.range,
+        is_ended,
+    )?;
+    log.append(more)?;
+    module_item(
+        alloc,
+        front.attrs,
+        inside.attrs,
+        named.name,
+        front.visibility,
+        semicolon,
+        inside.items,
+    )
+}
+
+/// An item, or none: then tokens are passed over.
+#[cycle(items)]
+#[tactic(auto, unfolding(crate::specs::Items::turn, crate::specs::Items::module_at))]
+fn turn<'t>(
+    alloc: Global,
+    cursor: &mut Cursor<'t>,
+    left: usize,
+    log: &mut Log<'t>,
+) -> Result<Option<Item>, AllocError>
+    ensures { Finds (option_map item_view) (spec.turn left (log_view log.old) cursor.old) result (log_view log.new) cursor.new }
+{
+    if cursor.is_at_end() {
+        log.push_problem(ProblemKind::Unmatched, cursor.at())?;
+        cursor.bump();
+        return Ok(None);
+    }
+    let start = cursor.at();
+    let front = take_front(alloc, cursor)?;
+    match front.head {
+        Head::Module => {
+            let item = module(alloc, cursor, left, start, front, log)?;
+            Ok(Some(item))
+        }
+        Head::ExternBlock => {
+            let item = extern_block(alloc, cursor, depth_of(left), start, front.attrs, log)?;
+            Ok(Some(item))
+        }
+        _ => leaf_turn(alloc, cursor, depth_of(left), start, front, log),
+    }
+}
+
+/// The items of a file, or of a module.
+#[cycle(items)]
+#[tactic(auto, unfolding(crate::specs::Items::finding), using(crate::proofs::Steps::finding_stop))]
+pub(crate) fn items<'t>(
+    alloc: Global,
+    cursor: &mut Cursor<'t>,
+    is_top: bool,
+    left: usize,
+    log: &mut Log<'t>,
+) -> Result<Vec<Item>, AllocError>
+    ensures { Finds (λ v. map item_view v.items) (spec.items is_top left (log_view log.old) cursor.old) result (log_view log.new) cursor.new }
+{
+    let mut items = Vec::new(alloc);
+    let most = Cursor::most_turns();
+    for _turn in 0..most {
+        if is_list_end(cursor, is_top) {
+            return Ok(items);
+        }
+        let past = cursor.past();
+        let item = turn(alloc, cursor, left, log)?;
+        push_some(&mut items, item)?;
+        cursor.pass_beyond(past);
+    }
+    Ok(items)
+}

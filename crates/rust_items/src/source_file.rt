@@ -1,0 +1,110 @@
+//! Source files.
+
+ghost use Rattle.std.specs.Prelude.{◌≡◌, IfOk, OnOk, map};
+ghost use Rattle.hir_input.specs.Syntax.{syntax_view};
+ghost use Rattle.rust_items.specs.Found.{log_view};
+ghost use Rattle.rust_items.specs.SourceFiles as spec;
+
+use crate::ids::{Supply, items_with_ids};
+use crate::items::{MOST_DEPTH, items};
+use crate::log::{ItemSpan, Log, Problem, ProblemKind};
+use hir_input::FileAstId;
+use hir_input::ast::Syntax;
+use rust_cursor::Cursor;
+use rust_ids::assign;
+use rust_lexer::{Lexer, Token};
+use rust_metas::inner_attributes;
+use rust_paths::TextRange;
+use std::alloc::{AllocError, Global};
+
+/// Where an item stands: its id, its bytes with its attributes, and those of its name.
+#[derive(Clone, Copy, Debug, PartialEq, Eq)]
+pub struct ItemPlace {
+    pub id: FileAstId,
+    pub range: TextRange,
+    pub name: Option<TextRange>,
+}
+
+/// What was read of a text.
+#[derive(Debug, Drop)]
+pub struct SourceFile {
+    pub syntax: Syntax,
+    /// The places of the items, in preorder.
+    pub places: Vec<ItemPlace>,
+    /// What is wrong with the text, in order.
+    pub problems: Vec<Problem>,
+}
+
+#[tactic(auto, using(crate::proofs::Steps::places_none, crate::proofs::Steps::places_over))]
+fn places(
+    alloc: Global,
+    ids: &[FileAstId],
+    spans: &[ItemSpan],
+) -> Result<Vec<ItemPlace>, AllocError>
+    ensures { IfOk result (λ v. v.items ≡ spec.places ids.now spans.now) }
+{
+    let mut places = Vec::with_capacity(alloc, ids.len())?;
+    let mut left = ids;
+    let mut unplaced = spans;
+    while let [id, more @ ..] = left {
+        let [span, rest @ ..] = unplaced else {
+            return Ok(places);
+        };
+        places.push(ItemPlace {
+            id: *id,
+            range: span.range,
+            name: span.name,
+        })?;
+        left = more;
+        unplaced = rest;
+    }
+    Ok(places)
+}
+
+/// The place of a token, if it is not ended.
+fn place_if_open(token: &Token<'_>) -> Option<usize>
+    ensures { result ≡ spec.place_if_open token.now }
+{
+    if token.is_terminated() {
+        None
+    } else {
+        Some(token.at())
+    }
+}
+
+/// The place of the last token of a text, if it is not ended.
+#[tactic(auto, unfolding(crate::specs::SourceFiles::unterminated))]
+fn unterminated(text: &str) -> Option<usize>
+    ensures { result ≡ spec.unterminated text.now }
+{
+    let mut last = None;
+    let mut lexer = Lexer::new(text);
+    'tokens: while let Some(token) = lexer.next() {
+        last = place_if_open(&token);
+    }
+    last
+}
+
+/// Reads the items of a text.
+///
+/// It answers for every text: what is no item is passed over and told among the problems. The only error is that memory
+/// runs out.
+#[tactic(auto, unfolding(crate::specs::SourceFiles::found_in, crate::specs::SourceFiles::items_in), using(crate::proofs::Numbering::with_ids_list))]
+pub fn read_source_file(alloc: Global, text: &str) -> Result<SourceFile, AllocError>
+    ensures { IfOk result (λ file. spec.IsSourceFile text.now file) }
+{
+    let mut cursor = Cursor::new(text);
+    let attrs = inner_attributes(alloc, &mut cursor)?;
+    let mut log = Log::new(alloc);
+    let items = items(alloc, &mut cursor, true, MOST_DEPTH, &mut log)?;
+    log.push_problem_at(ProblemKind::Unterminated, unterminated(text))?;
+    let ids = assign(alloc, &log.rows)?;
+    let places = places(alloc, &ids, &log.spans)?;
+    let mut supply = Supply { rest: &ids };
+    let items = items_with_ids(alloc, items, &mut supply)?;
+    Ok(SourceFile {
+        syntax: Syntax::SourceFile { attrs, items },
+        places,
+        problems: log.problems,
+    })
+}
