@@ -7,7 +7,10 @@ set -uo pipefail
 cd "$(dirname "$(realpath "${BASH_SOURCE[0]}")")" || exit 1
 program=crates/item_tree_tool/out/item_tree_tool
 outlines=crates/outline_tool/out/outline_tool
-tests=(crates/hir_input_tests/out/hir_input_tests_tests crates/item_tree_tests/out/item_tree_tests_tests crates/item_tree_db_tests/out/item_tree_db_tests_tests)
+tests=()
+for name in hir_input_tests item_tree_tests item_tree_db_tests rust_items_tests; do
+    tests+=("crates/$name/out/${name}_tests")
+done
 log=$(mktemp)
 planned=0 is_missing=
 

@@ -9,6 +9,10 @@ mod ids;
 #[cfg(test)]
 mod metas;
 #[cfg(test)]
+mod pages;
+#[cfg(test)]
 mod paths;
+#[cfg(test)]
+mod refusals;
 #[cfg(test)]
 mod tokens;
