@@ -22,9 +22,9 @@ use std::alloc::{AllocError, Global};
 pub(crate) fn has_trait(cursor: &Cursor<'_>) -> bool
     ensures { result ≡ spec.has_trait cursor.now }
 {
-    let mut ahead = cursor.ahead();
-    ahead.pass_angles();
-    ahead.is_trait_impl()
+    let mut behind = cursor.ahead();
+    behind.pass_angles();
+    behind.is_trait_impl()
 }
 
 #[tactic(auto, unfolding(crate::specs::Leaves::field))]
