@@ -7,7 +7,7 @@ use Rattle.rust_lexer.specs.Tokens.{tokens, is_significant, text_of, AreInPlace}
 use Rattle.rust_lexer.proofs.Laws.{AreSome, tokens_lossless, tokens_placed, tokens_not_empty}
 use Rattle.rust_cursor.specs.Tokens.{Tokens, tokens_of, end_of}
 use Rattle.rust_cursor.specs.Words.{by_first, behind_first, at, is_empty, bumped}
-use Rattle.rust_cursor.proofs.Leads.{LeadsTo, here, further, when}
+use Rattle.rust_cursor.proofs.Leads.{LeadsTo, here, further, when, Takes, takes}
 
 -- none is empty, each begins behind the one before it, and the first behind a place; the last ends before another
 abbrev pub AreLaid : ℕ → ℕ → List Piece → Type 0
@@ -57,6 +57,15 @@ one_taken end past (t ∷ ts) h e = let some : 0 < length t.text = h.0.1 in omeg
 pub taken_behind : (end : ℕ) (ts : Tokens) → IsLaid end ts → is_empty ts ≡ false → at ts < (bumped ts).past
 unfolding bumped at is_empty
 taken_behind end ts h e = one_taken end ts.past ts.left h.laid e
+
+-- where a token is taken, what is left stands behind the first byte of what was given
+pub takes_strict : (end : ℕ) {ts us : Tokens} → Takes ts us → IsLaid end ts → at ts < us.past
+takes_strict end (takes t before some later) h =
+    let first = behind end before h in
+    let next = bumped_behind end t first.laid in
+    let rest = behind end later next.laid in
+    let strict = taken_behind end t first.laid some in
+    omega arith
 
 first_behind : (end past : ℕ) (left : List Piece) → AreLaid end past left → past ≤ by_first past (λ t. t.at) left
 first_behind end past [] h = omega arith

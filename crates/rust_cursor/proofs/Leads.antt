@@ -1,13 +1,15 @@
 -- What is left behind tokens that are taken from the front.
-use Rattle.std.proofs.Common.{◌≡◌, ◌<◌, ◌+◌, ◌-◌, ◌==◌, ℕ, zero, suc, Bool, true, false, List, length, ⊎_elim, refl, arith}
+use Rattle.std.proofs.Common.{◌≡◌, ◌<◌, ◌+◌, ◌-◌, ◌==◌, ℕ, zero, suc, Bool, true, false, List, [], ◌∷◌, length, ⊎_elim, refl, arith}
 use Rattle.std.proofs.lemmas.Bool.{cases_Bool, eqb-true}
+use Rattle.rust_lexer.specs.Piece.{Piece}
+use Rattle.rust_lexer.specs.Symbol.{symbol_of}
 use Rattle.rust_cursor.specs.declared.cursor.generics.Nest.{Nest}
 use Rattle.rust_cursor.specs.declared.cursor.generics.Reach.{Reach}
 use Rattle.rust_cursor.specs.declared.cursor.generics.Reach.TheVariants as reaches
 use Rattle.rust_cursor.specs.declared.cursor.texts.Extent.{Extent}
 use Rattle.rust_cursor.specs.Tokens.{Tokens}
 use Rattle.rust_cursor.specs.Reader.{Reader}
-use Rattle.rust_cursor.specs.Words.{symbol, is_empty, is_at_open, is_at_end, bumped, taken_if, eat, eat_word, is_pair, eat_pair}
+use Rattle.rust_cursor.specs.Words.{is_close, word_by, by_first, symbol, word, is_empty, is_at_open, is_at_end, bumped, taken_if, eat, eat_word, is_pair, eat_pair}
 use Rattle.rust_cursor.specs.Brackets.{closing, behind_closed, behind_tree}
 use Rattle.rust_cursor.specs.Elements.{beyond, turns_from, turns}
 use Rattle.rust_cursor.specs.Extents.{depth_behind, stops, ends, taking, taken}
@@ -149,3 +151,45 @@ reached_leads r ts = reaching_leads r flat ts
 pub behind_angles_leads : (ts : Tokens) → LeadsTo ts (behind_angles ts)
 unfolding behind_angles
 behind_angles_leads ts = when (symbol ts == 60) (λ e. rw e (reached_leads reaches.Angles ts)) (λ e. rw e here)
+
+-- ---- what takes a token
+
+-- the second are left of the first behind a token at least
+pub data Takes : Tokens → Tokens → Type 0 where
+  takes : {ts us : Tokens} (t : Tokens) → LeadsTo ts t → is_empty t ≡ false → LeadsTo (bumped t) us → Takes ts us
+
+pub takes_leads : {ts us : Tokens} → Takes ts us → LeadsTo ts us
+takes_leads (takes t before some behind) = through before (further behind)
+
+pub takes_behind : {ts us vs : Tokens} → LeadsTo ts us → Takes us vs → Takes ts vs
+takes_behind p (takes t before some behind) = takes t (through p before) some behind
+
+pub takes_before : {ts us vs : Tokens} → Takes ts us → LeadsTo us vs → Takes ts vs
+takes_before (takes t before some behind) p = takes t before some (through behind p)
+
+no_symbol : (c : ℕ) (left : List Piece) → 0 < c → (by_first 0 symbol_of left == c) ≡ true → by_first true (λ _. false) left ≡ false
+no_symbol c [] h e = let none : 0 ≡ c = eqb-true 0 c e in absurd (omega arith)
+no_symbol c (t ∷ ts) h e = refl
+
+-- where a symbol comes next, a token does
+pub symbol_some : (c : ℕ) (ts : Tokens) → 0 < c → (symbol ts == c) ≡ true → is_empty ts ≡ false
+unfolding symbol is_empty
+symbol_some c ts h e = no_symbol c ts.left h e
+
+no_end : (left : List Piece) → by_first true is_close left ≡ false → by_first true (λ _. false) left ≡ false
+no_end [] e = e
+no_end (t ∷ ts) e = refl
+
+-- where no end comes next, a token does
+pub end_some : (ts : Tokens) → is_at_end ts ≡ false → is_empty ts ≡ false
+unfolding is_at_end is_empty
+end_some ts e = no_end ts.left e
+
+no_word : (left : List Piece) → by_first true (λ _. false) left ≡ true → by_first [] (λ t. word_by t.kind t.text) left ≡ []
+no_word [] e = refl
+no_word (t ∷ ts) e = absurd cc
+
+-- where nothing comes next, no word does
+pub word_none : (ts : Tokens) → is_empty ts ≡ true → word ts ≡ []
+unfolding is_empty word
+word_none ts e = no_word ts.left e

@@ -7,3 +7,4 @@ pub mod Items
 pub mod Views
 pub mod Ids
 pub mod SourceFiles
+pub mod Places
