@@ -1,2 +1,4 @@
 pub mod Steps
 pub mod Numbering
+pub mod Leads
+pub mod Places
