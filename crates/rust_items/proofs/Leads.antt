@@ -1,5 +1,5 @@
 -- What is left behind items that hold none is left of the tokens before them, and what they are.
-use Rattle.std.proofs.Common.{◌≡◌, ◌==◌, ◌&&◌, ℕ, zero, suc, Bool, true, false, Option, Some, None, List, [], codes, refl, ap, ◌∙◌, arith}
+use Rattle.std.proofs.Common.{◌≡◌, ◌==◌, ◌&&◌, ℕ, zero, suc, true, false, Option, Some, None, List, [], codes, refl, ap, ◌∙◌, arith}
 use Rattle.std.specs.Prelude.{is_some}
 use Rattle.std.specs.Str.{bytes_eq}
 use Rattle.std.proofs.lemmas.Bool.{and_parts}
@@ -20,7 +20,7 @@ use Rattle.rust_items.specs.declared.head.Head.{Head}
 use Rattle.rust_items.specs.declared.head.Head.TheVariants as heads
 use Rattle.rust_items.specs.Heads.{is_literal_kind, behind_abi, is_modifier, behind_modifier, behind_modifiers_from, behind_modifiers, head_by, behind_head, head, is_behind_others, behind_others_from, behind_others}
 use Rattle.rust_cursor.specs.Words.{is_at_end}
-use Rattle.rust_items.specs.Texts.{and_text, spaced_from, spaced_tree}
+use Rattle.rust_items.specs.Texts.{spaced_from, spaced_tree}
 use Rattle.rust_items.specs.Leaves.{LeafRead, name_read, named, crate_named, item_end, value_end, semicolon_end, call_end}
 use Rattle.rust_items.specs.Kinds.{function, block_item, union_item, enumeration, trait_item, macro_def, type_alias, static_value, constant, structure, implementation, crate_item, use_declaration, macro_definition, is_called, invocation, leaf}
 use Rattle.rust_items.specs.Items.{front}

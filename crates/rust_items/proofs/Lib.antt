@@ -2,3 +2,4 @@ pub mod Steps
 pub mod Numbering
 pub mod Leads
 pub mod Places
+pub mod FilePlaces

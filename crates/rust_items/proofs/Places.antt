@@ -1,19 +1,17 @@
 -- Items stand where their places say.
-use Rattle.std.proofs.Common.{◌≡◌, ◌<◌, ◌≤◌, ◌+◌, ◌-◌, ◌==◌, ◌^◌, ◌≢◌, ℕ, zero, suc, Bool, true, false, Option, Some, None, List, [], ◌∷◌, ◌++◌, map, length, refl, sym, ap, ◌∙◌, arith, append_assoc, append-nil}
-use Rattle.std.specs.Prelude.{option_to_list, option_map}
+use Rattle.std.proofs.Common.{◌≡◌, ◌≤◌, ◌+◌, ◌-◌, ◌==◌, ℕ, zero, suc, Bool, true, false, Option, Some, None, List, [], ◌∷◌, ◌++◌, map, length, refl, sym, ap, ◌∙◌, arith, append_assoc, append-nil}
+use Rattle.std.specs.Prelude.{option_to_list}
 use Rattle.std.proofs.lemmas.List.{map-append}
 use Rattle.hir_input.specs.declared.ids.AstIdKind.{AstIdKind}
 use Rattle.hir_input.specs.declared.ids.AstIdKind.TheVariants as kind
-use Rattle.hir_input.specs.declared.ids.FileAstId.{FileAstId}
 use Rattle.hir_input.specs.declared.ast.Visibility.{Visibility}
 use Rattle.hir_input.specs.Attr.{MetaView}
-use Rattle.hir_input.specs.Syntax.{NodeView, NamedView, ItemView, ItemViews, plain_item, fn_kind, static_kind, type_alias_kind, union_kind, enum_kind, trait_kind, macro_def_kind, const_item, struct_item, bare_module, listed_module, use_item, extern_crate, bare_extern_block, listed_extern_block, impl_item, macro_call, macro_rules, asm_item, no_items, item_and, items_from, module_from, extern_block_from}
+use Rattle.hir_input.specs.Syntax.{NodeView, NamedView, ItemView, ItemViews, plain_item, fn_kind, static_kind, type_alias_kind, macro_call, no_items, item_and, items_from, module_from, extern_block_from}
 use Rattle.rust_cursor.specs.Tokens.{Tokens}
 use Rattle.rust_cursor.specs.Words.{symbol, at, eat, is_at_end, bumped}
 use Rattle.rust_cursor.specs.Elements.{most, beyond}
-use Rattle.rust_cursor.specs.Brackets.{behind_tree}
 use Rattle.rust_cursor.proofs.Leads.{LeadsTo, here, further, through, when, bumped_leads, eat_leads, behind_tree_leads, beyond_leads, Takes, takes_leads, takes_before}
-use Rattle.rust_cursor.proofs.Laid.{IsLaid, IsBehind, behind, at_behind, past_within, taken_behind, takes_strict}
+use Rattle.rust_cursor.proofs.Laid.{IsLaid, behind, at_behind, taken_behind, takes_strict}
 use Rattle.rust_ids.specs.Row.{Row}
 use Rattle.rust_paths.specs.declared.names.TextRange.{TextRange}
 use Rattle.rust_metas.specs.Attributes.{inner_attributes}
@@ -23,12 +21,12 @@ use Rattle.rust_items.specs.declared.head.Head.TheVariants as heads
 use Rattle.rust_items.specs.declared.log.ItemSpan.{ItemSpan}
 use Rattle.rust_items.specs.declared.log.ProblemKind.{ProblemKind}
 use Rattle.rust_items.specs.declared.source_file.ItemPlace.{ItemPlace}
-use Rattle.rust_items.specs.Found.{Found, Finder, nothing_found, and_problem, and_problem_if, and_problem_at, and_row, and_all}
+use Rattle.rust_items.specs.Found.{Found, Finder, nothing_found, and_problem, and_problem_if, and_problem_at, and_all}
 use Rattle.rust_items.specs.Leaves.{LeafRead, NameRead, no_name, named}
-use Rattle.rust_items.specs.Kinds.{node, named_node, leaf}
-use Rattle.rust_items.specs.Items.{FrontRead, BlockRead, front, and_item, and_leaf, and_parent, leaf_found, leaf_turn, finding_from, finding, is_list_end, block_of, no_block, deep_block, as_extern, extern_kept, extern_found, extern_behind, extern_by, extern_turn, extern_inside, extern_block, one_more, unmatched, inside_unless, module_with, by_head, turn_with, inside, turn, depth_of, items}
+use Rattle.rust_items.specs.Kinds.{node, named_node}
+use Rattle.rust_items.specs.Items.{FrontRead, BlockRead, front, and_item, and_leaf, and_parent, leaf_found, leaf_turn, finding_from, finding, is_list_end, block_of, as_extern, extern_kept, extern_found, extern_turn, extern_inside, extern_block, one_more, unmatched, inside_unless, module_with, by_head, turn_with, inside, turn, depth_of, items}
 use Rattle.rust_items.specs.Places.{id_of, held, IsNameIn, IsPlace, ArePlaces, nothing, placed}
-use Rattle.rust_items.proofs.Leads.{IsNamed, nameless, by_token, name_behind, name_before, blank, IsLeaf, IsTaken, LeafFound, TakesBy, front_takes, named_leads, named_named, behind_others_leads} 
+use Rattle.rust_items.proofs.Leads.{IsNamed, nameless, by_token, name_behind, name_before, blank, IsLeaf, IsTaken, LeafFound, TakesBy, front_takes, named_leads, named_named, behind_others_leads}
 use Rattle.rust_items.proofs.Leads as leads
 
 -- ---- places
@@ -39,7 +37,7 @@ framed more nothing = nothing
 framed more (placed p inside behind) = placed p (framed more inside) (framed more behind)
 
 -- from an earlier place on and up to a later one
-widened : {from to : ℕ} {is : ItemViews} {ps rest : List ItemPlace} (low high : ℕ) → low ≤ from → to ≤ high → ArePlaces from to is ps rest → ArePlaces low high is ps rest
+pub widened : {from to : ℕ} {is : ItemViews} {ps rest : List ItemPlace} (low high : ℕ) → low ≤ from → to ≤ high → ArePlaces from to is ps rest → ArePlaces low high is ps rest
 widened low high l h nothing = nothing
 widened low high l h (placed {to = to} {p = p} place inside behind) =
     let begins = place.begins in
@@ -99,9 +97,9 @@ adds_problem_at kind (Some place) a = adds_problem kind place a
 adds_more : {f g h : Found} {ps qs : List ItemPlace} → Adds f g ps → Adds g h qs → Adds f h (ps ++ qs)
 adds_more {f} {g} {h} {ps} {qs} a b = record {
   rows = b.rows ∙ ap (λ l. l ++ map place_kind qs) a.rows ∙ append_assoc (map row_kind f.rows) (map place_kind ps) (map place_kind qs)
-  ∙ ap (λ l. map row_kind f.rows ++ l) (sym (map-append place_kind ps qs));
+      ∙ ap (λ l. map row_kind f.rows ++ l) (sym (map-append place_kind ps qs));
   spans = b.spans ∙ ap (λ l. l ++ map place_span qs) a.spans ∙ append_assoc f.spans (map place_span ps) (map place_span qs)
-  ∙ ap (λ l. f.spans ++ l) (sym (map-append place_span ps qs));
+      ∙ ap (λ l. f.spans ++ l) (sym (map-append place_span ps qs));
 }
 
 adds_all : (f g : Found) (ps : List ItemPlace) → Adds nothing_found g ps → Adds f (and_all g f) ps
