@@ -4,3 +4,5 @@ pub mod Turns
 pub mod Depth
 pub mod Scans
 pub mod Reaches
+pub mod Leads
+pub mod Laid

@@ -1,2 +1,5 @@
 pub mod Steps
 pub mod Numbering
+pub mod Leads
+pub mod Places
+pub mod FilePlaces

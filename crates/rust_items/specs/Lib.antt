@@ -3,3 +3,4 @@ pub mod Items
 pub mod Views
 pub mod Ids
 pub mod SourceFiles
+pub mod Places

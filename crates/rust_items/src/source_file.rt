@@ -1,8 +1,9 @@
 //! Source files.
 
-ghost use Rattle.std.specs.Prelude.{◌≡◌, IfOk, OnOk, map};
-ghost use Rattle.hir_input.specs.Syntax.{syntax_view};
+ghost use Rattle.std.specs.Prelude.{◌≡◌, ◌≢◌, ◌≤◌, ◌^◌, [], length, AllPairs, IfOk, OnOk, map};
+ghost use Rattle.hir_input.specs.Syntax.{items_of, syntax_view};
 ghost use Rattle.rust_items.specs.Found.{log_view};
+ghost use Rattle.rust_items.specs.Places.{ArePlaces};
 ghost use Rattle.rust_items.specs.SourceFiles as spec;
 
 use crate::ids::{Supply, items_with_ids};
@@ -60,12 +61,9 @@ fn places(
     Ok(places)
 }
 
-/// Reads the items of a text.
-///
-/// It answers for every text: what is no item is passed over and told among the problems. The only error is that memory
-/// runs out.
+/// What is read of a text.
 #[tactic(auto, unfolding(crate::specs::SourceFiles::found_in, crate::specs::SourceFiles::items_in), using(crate::proofs::Numbering::with_ids_list))]
-pub fn read_source_file(alloc: Global, text: &str) -> Result<SourceFile, AllocError>
+fn file_of(alloc: Global, text: &str) -> Result<SourceFile, AllocError>
     ensures { IfOk result (λ file. spec.IsSourceFile text.now file) }
 {
     let mut cursor = Cursor::new(text);
@@ -82,4 +80,17 @@ pub fn read_source_file(alloc: Global, text: &str) -> Result<SourceFile, AllocEr
         places,
         problems: log.problems,
     })
+}
+
+/// Reads the items of a text.
+///
+/// It answers for every text: what is no item is passed over and told among the problems. The only error is that memory
+/// runs out.
+#[tactic(auto, using(crate::proofs::FilePlaces::file_placed, crate::proofs::FilePlaces::file_distinct))]
+pub fn read_source_file(alloc: Global, text: &str) -> Result<SourceFile, AllocError>
+    ensures file { IfOk result (λ file. spec.IsSourceFile text.now file) }
+    ensures placed { IfOk result (λ file. ArePlaces 0 (length text.now) (items_of (syntax_view file.syntax)) file.places.items []) }
+    ensures distinct { length text.now ≤ 2 ^ 32 → IfOk result (λ file. AllPairs (λ p q. p.id ≢ q.id) file.places.items) }
+{
+    file_of(alloc, text)
 }

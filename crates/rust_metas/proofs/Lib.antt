@@ -4,3 +4,4 @@ pub mod Depths
 pub mod Naming
 pub mod Strings
 pub mod Texts
+pub mod Leads

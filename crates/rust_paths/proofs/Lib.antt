@@ -2,3 +2,4 @@ pub mod Naming
 pub mod Meant
 pub mod Steps
 pub mod Trees
+pub mod Leads

@@ -1,0 +1,167 @@
+-- The places of a whole text, with the ids of its items.
+use Rattle.std.proofs.Common.{true, ◌≡◌, ◌≢◌, ◌<◌, ◌≤◌, ◌+◌, ◌-◌, ℕ, zero, suc, Option, Some, List, [], ◌∷◌, map, length, refl, sym, ap, ◌∙◌, arith, get_or}
+use Rattle.std.specs.Prelude.{option_map, AllPairs}
+use Rattle.std.proofs.lemmas.List.{length-map}
+use Rattle.hir_input.specs.declared.ids.AstIdKind.{AstIdKind}
+use Rattle.hir_input.specs.declared.ids.FileAstId.{FileAstId}
+use Rattle.hir_input.specs.Syntax.{ItemView, ItemViews, plain_item, const_item, struct_item, bare_module, listed_module, use_item, extern_crate, bare_extern_block, listed_extern_block, impl_item, macro_call, macro_rules, asm_item, items_of, syntax_view}
+use Rattle.rust_cursor.specs.Tokens.{tokens_of}
+use Rattle.rust_cursor.proofs.Laid.{behind, past_within, tokens_laid}
+use Rattle.rust_metas.proofs.Leads.{inner_attributes_leads}
+use Rattle.rust_ids.specs.Row.{Row}
+use Rattle.rust_ids.specs.Ids.{row_at, id_at}
+use Rattle.rust_ids.proofs.Consequences.{distinct}
+use Rattle.rust_items.specs.declared.ids.Numbers.{Numbers}
+use Rattle.rust_items.specs.declared.log.ItemSpan.{ItemSpan}
+use Rattle.rust_items.specs.declared.source_file.ItemPlace.{ItemPlace}
+use Rattle.rust_items.specs.declared.source_file.SourceFile.{SourceFile}
+use Rattle.rust_items.specs.Found.{nothing_found}
+use Rattle.rust_items.specs.Ids.{held_with_ids, with_ids}
+use Rattle.rust_items.specs.Places.{id_of, held, IsPlace, ArePlaces, nothing, placed}
+use Rattle.rust_items.specs.SourceFiles.{places, behind_attributes, found_in, items_in, IsSourceFile}
+use Rattle.rust_items.proofs.Places.{few, widened, row_kind, place_kind, place_span, Adds, adds_problem_at, items_found}
+
+-- ---- ids
+
+abbrev pub id_kind : FileAstId → AstIdKind
+id_kind id = id.kind
+
+-- an id with this hash and number
+abbrev pub renumbered : Numbers → Option FileAstId → Option FileAstId
+renumbered n o = option_map (λ id. record { kind = id.kind; hash = n.hash; number = n.number }) o
+
+held_id : (n : Numbers) (i : ItemView) (ids : List FileAstId) → id_of (held_with_ids n i ids).0 ≡ renumbered n (id_of i)
+held_id n (plain_item k m) ids = refl
+held_id n (const_item m) ids = refl
+held_id n (struct_item m _) ids = refl
+held_id n (bare_module m semicolon) ids = refl
+held_id n (listed_module m semicolon is) ids = refl
+held_id n (use_item u) ids = refl
+held_id n (extern_crate m rename) ids = refl
+held_id n (bare_extern_block m) ids = refl
+held_id n (listed_extern_block m is) ids = refl
+held_id n (impl_item m is_trait) ids = refl
+held_id n (macro_call c) ids = refl
+held_id n (macro_rules m name) ids = refl
+held_id n (asm_item m) ids = refl
+
+held_items : (n : Numbers) (i : ItemView) (ids : List FileAstId) → held (held_with_ids n i ids).0 ≡ (with_ids (held i) ids).0
+held_items n (listed_module m semicolon is) ids = refl
+held_items n (listed_extern_block m is) ids = refl
+held_items n _ ids = refl
+
+held_ids : (n : Numbers) (i : ItemView) (ids : List FileAstId) → (held_with_ids n i ids).1 ≡ (with_ids (held i) ids).1
+held_ids n (listed_module m semicolon is) ids = refl
+held_ids n (listed_extern_block m is) ids = refl
+held_ids n _ ids = refl
+
+numbered_place : (from to : ℕ) (i : ItemView) (p : ItemPlace) (id : FileAstId) (ids : List FileAstId) → id.kind ≡ p.id.kind → IsPlace from to i p
+    → IsPlace from to (held_with_ids (record { hash = id.hash; number = id.number }) i ids).0 (record { id = id; range = p.range; name = p.name })
+numbered_place from to i p id ids same place =
+    let n : Numbers = record { hash = id.hash; number = id.number } in
+    record {
+      id = held_id n i ids ∙ ap (renumbered n) place.id ∙ ap (λ k. Some (record { kind = k; hash = id.hash; number = id.number })) (sym same);
+      begins = place.begins;
+      some = place.some;
+      ends = place.ends;
+      name = place.name;
+    }
+
+head_kind : (k l : AstIdKind) (ks ls : List AstIdKind) → k ∷ ks ≡ l ∷ ls → k ≡ l
+head_kind k l ks ls e = cc
+
+tail_kinds : (k l : AstIdKind) (ks ls : List AstIdKind) → k ∷ ks ≡ l ∷ ls → ks ≡ ls
+tail_kinds k l ks ls e = cc
+
+-- items that take ids of the kinds of their places have the places with these ids
+numbered : {from to : ℕ} {is : ItemViews} {ps rest : List ItemPlace} → ArePlaces from to is ps rest → (ids : List FileAstId) → map id_kind ids ≡ map place_kind ps
+    → ArePlaces from to (with_ids is ids).0 (places ids (map place_span ps)) (places (with_ids is ids).1 (map place_span rest)) × (map id_kind (with_ids is ids).1 ≡ map place_kind rest)
+numbered nothing ids e = (nothing, e)
+numbered (placed place inside behind) [] e = absurd cc
+numbered {from} {to} (placed {i = i} {is = is} {p = p} {ps = ps} {mid = mid} place inside behind) (id ∷ ids) e =
+    let n : Numbers = record { hash = id.hash; number = id.number } in
+    let same = head_kind id.kind p.id.kind (map id_kind ids) (map place_kind ps) e in
+    let first = numbered inside ids (tail_kinds id.kind p.id.kind (map id_kind ids) (map place_kind ps) e) in
+    let later = numbered behind (with_ids (held i) ids).1 first.1 in (
+      placed {mid = places (with_ids (held i) ids).1 (map place_span mid)} (numbered_place from to i p id ids same place) (rw (held_items n i ids) first.0) (rw (held_ids n i ids) later.0),
+      rw (held_ids n i ids) later.1,
+    )
+
+kinds_same : (ids : List FileAstId) (rows : List Row) → length ids ≡ length rows → ((k : ℕ) → k < length rows → (id_at ids k).kind ≡ (row_at rows k).kind) → map id_kind ids ≡ map row_kind rows
+kinds_same [] [] e h = refl
+kinds_same [] (row ∷ rows) e h = absurd (omega arith)
+kinds_same (id ∷ ids) [] e h = absurd (omega arith)
+kinds_same (id ∷ ids) (row ∷ rows) e h =
+    let first : id.kind ≡ row.kind = h 0 (omega arith) in
+    let rest : map id_kind ids ≡ map row_kind rows = kinds_same ids rows (omega arith) (λ k l. h (suc k) (omega arith)) in
+    ap (λ k. k ∷ map id_kind ids) first ∙ ap (λ ks. row.kind ∷ ks) rest
+
+none_left : (ids : List FileAstId) → places ids [] ≡ []
+none_left [] = refl
+none_left (id ∷ ids) = refl
+
+-- ---- a text
+
+-- what is found in a text
+record IsText (text : List ℕ) : Type 0 where
+  pub ps : List ItemPlace
+  pub adds : Adds nothing_found (found_in text) ps
+  pub are : ArePlaces 0 (length text) (items_in text) ps []
+
+text_found : (text : List ℕ) → IsText text
+unfolding found_in items_in
+text_found text =
+    let whole = tokens_laid text in
+    let first = behind (length text) (inner_attributes_leads (tokens_of text)) whole in
+    let found = items_found (length text) true 128 nothing_found (behind_attributes text) first.laid in
+    let last = behind (length text) found.leads first.laid in
+    record {
+      ps = found.places;
+      adds = adds_problem_at _ _ found.adds;
+      are = widened 0 (length text) (omega arith) (past_within (length text) _ last.laid) found.are;
+    }
+
+module _ (text : List ℕ) (file : SourceFile) (is : IsSourceFile text file) where
+  kinds : map id_kind is.ids ≡ map place_kind (text_found text).ps
+  kinds =
+      kinds_same is.ids (found_in text).rows is.are_ids.as_many (λ k l. (is.are_ids.each k l).kind)
+      ∙ (text_found text).adds.rows
+
+  -- the places of a text are those of its items
+  pub file_placed : ArePlaces 0 (length text) (items_of (syntax_view file.syntax)) file.places.items []
+  file_placed =
+      let t = text_found text in
+      let all = numbered t.are is.ids kinds in
+      rw (is.syntax, is.places, t.adds.spans) (rw (none_left (with_ids (items_in text) is.ids).1) at all.0)
+
+-- ---- ids differ
+
+places_length : (ids : List FileAstId) (spans : List ItemSpan) → length ids ≡ length spans → length (places ids spans) ≡ length ids
+places_length [] spans e = refl
+places_length (id ∷ ids) [] e = absurd (omega arith)
+places_length (id ∷ ids) (s ∷ spans) e = ap suc (places_length ids spans (omega arith))
+
+places_at : (ids : List FileAstId) (spans : List ItemSpan) (k : ℕ) (d : ItemPlace) → length ids ≡ length spans → k < length ids → (get_or (places ids spans) k d).id ≡ id_at ids k
+places_at [] spans k d e l = absurd (omega arith)
+places_at (id ∷ ids) [] k d e l = absurd (omega arith)
+places_at (id ∷ ids) (s ∷ spans) zero d e l = refl
+places_at (id ∷ ids) (s ∷ spans) (suc k) d e l = places_at ids spans k d (omega arith) (omega arith)
+
+-- no two places of a text that is not too long have one id
+pub file_distinct : (text : List ℕ) (file : SourceFile) → IsSourceFile text file → length text ≤ 4294967296 → AllPairs (λ p q. p.id ≢ q.id) file.places.items
+file_distinct text file is short i j d before within same =
+    let t = text_found text in
+    let rows = (found_in text).rows in
+    let spans = (found_in text).spans in
+    let as_many : length is.ids ≡ length rows = is.are_ids.as_many in
+    let row_count : length rows ≡ length t.ps = sym (length-map rows row_kind) ∙ ap length t.adds.rows ∙ length-map t.ps place_kind in
+    let span_count : length spans ≡ length t.ps = ap length t.adds.spans ∙ length-map t.ps place_span in
+    let bounded : length t.ps ≤ 0 + (length text - 0) = few t.are in
+    let pairs : length is.ids ≡ length spans = omega arith in
+    let place_count : length file.places.items ≡ length is.ids = ap length is.places ∙ places_length is.ids spans pairs in
+    let low : i < length is.ids = omega arith in
+    let high : j < length is.ids = omega arith in
+    let first : (get_or file.places.items i d).id ≡ id_at is.ids i = ap (λ l. (get_or l i d).id) is.places ∙ places_at is.ids spans i d pairs low in
+    let second : (get_or file.places.items j d).id ≡ id_at is.ids j = ap (λ l. (get_or l j d).id) is.places ∙ places_at is.ids spans j d pairs high in
+    let one : i ≡ j = distinct rows is.ids is.are_ids (omega arith) i j low high (sym first ∙ same ∙ second) in
+    absurd (omega arith)

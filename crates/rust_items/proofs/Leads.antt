@@ -1,0 +1,285 @@
+-- What is left behind items that hold none is left of the tokens before them, and what they are.
+use Rattle.std.proofs.Common.{◌≡◌, ◌==◌, ◌&&◌, ℕ, zero, suc, true, false, Option, Some, None, List, [], codes, refl, ap, ◌∙◌, arith}
+use Rattle.std.specs.Prelude.{is_some}
+use Rattle.std.specs.Str.{bytes_eq}
+use Rattle.std.proofs.lemmas.Bool.{and_parts}
+use Rattle.hir_input.specs.declared.ids.AstIdKind.{AstIdKind}
+use Rattle.hir_input.specs.declared.ids.FileAstId.{FileAstId}
+use Rattle.hir_input.specs.declared.ast.Visibility.{Visibility}
+use Rattle.hir_input.specs.Attr.{MetaView}
+use Rattle.hir_input.specs.Syntax.{PlainKind, union_kind, enum_kind, trait_kind, macro_def_kind, no_items}
+use Rattle.rust_cursor.specs.Tokens.{Tokens}
+use Rattle.rust_cursor.specs.Words.{symbol, word, kind, text, at, is_empty, is_at_open, bumped}
+use Rattle.rust_cursor.proofs.Leads.{LeadsTo, here, further, through, Forwards, when, bumped_leads, eat_leads, eat_word_leads, behind_tree_leads, taken_leads_on, Takes, takes, takes_leads, takes_behind, takes_before, symbol_some, word_none}
+use Rattle.rust_paths.specs.declared.names.TextRange.{TextRange}
+use Rattle.rust_paths.specs.Names.{Placed, placed_name}
+use Rattle.rust_paths.specs.Paths.{path}
+use Rattle.rust_paths.proofs.Leads.{placed_name_leads, placed_next, path_leads, visibility_leads, use_tree_leads, rename_leads}
+use Rattle.rust_metas.proofs.Leads.{outer_attributes_leads}
+use Rattle.rust_leaves.specs.declared.head.Head.{Head}
+use Rattle.rust_leaves.specs.declared.head.Head.TheVariants as heads
+use Rattle.rust_leaves.specs.Heads.{is_literal_kind, behind_abi, is_modifier, behind_modifier, behind_modifiers_from, behind_modifiers, head_by, behind_head, head, is_behind_others, behind_others_from, behind_others}
+use Rattle.rust_cursor.specs.Words.{is_at_end}
+use Rattle.rust_leaves.specs.Texts.{spaced_from, spaced_tree}
+use Rattle.rust_leaves.specs.Leaves.{LeafRead, name_read, named, crate_named, item_end, value_end, semicolon_end, call_end}
+use Rattle.rust_leaves.specs.Kinds.{function, block_item, union_item, enumeration, trait_item, macro_def, type_alias, static_value, constant, structure, implementation, crate_item, use_declaration, macro_definition, is_called, invocation, leaf}
+use Rattle.rust_items.specs.Items.{front}
+use Rattle.rust_items.specs.Places.{id_of, held}
+
+-- ---- texts
+
+spaced_from_leads : (n end : ℕ) (done : List ℕ) → Forwards (spaced_from n end done)
+spaced_from_leads zero end done ts = here
+spaced_from_leads (suc n) end done ts = when (ts.past == end) (λ e. rw e here) (λ e. rw e (further (spaced_from_leads n end _ _)))
+
+spaced_tree_leads : Forwards spaced_tree
+unfolding spaced_tree
+spaced_tree_leads ts = spaced_from_leads _ _ _ ts
+
+item_end_leads : Forwards item_end
+unfolding item_end
+item_end_leads ts = taken_leads_on _ ts
+
+value_end_leads : Forwards value_end
+unfolding value_end
+value_end_leads ts = taken_leads_on _ ts
+
+semicolon_end_leads : (body : List ℕ) → Forwards (semicolon_end body)
+semicolon_end_leads body ts = eat_leads _ ts
+
+call_end_leads : Forwards call_end
+unfolding call_end
+call_end_leads ts =
+    when (is_at_open ts)
+    (λ e. rw e (when (symbol ts == 123) (λ f. rw f (spaced_tree_leads ts)) (λ f. rw f (through (spaced_tree_leads ts) (semicolon_end_leads (spaced_tree ts).0 _)))))
+    (λ e. rw e here)
+
+-- ---- the words in front
+
+behind_abi_leads : (ts : Tokens) → LeadsTo ts (behind_abi ts)
+unfolding behind_abi
+behind_abi_leads ts = when (is_literal_kind (kind ts)) (λ e. rw e (bumped_leads ts)) (λ e. rw e here)
+
+behind_modifier_leads : (ts : Tokens) → LeadsTo ts (behind_modifier ts)
+unfolding behind_modifier
+behind_modifier_leads ts = when (bytes_eq (word ts) (codes "extern")) (λ e. rw e (further (behind_abi_leads _))) (λ e. rw e (bumped_leads ts))
+
+modifiers_leads : (n : ℕ) (ts : Tokens) → LeadsTo ts (behind_modifiers_from n ts)
+modifiers_leads zero ts = here
+modifiers_leads (suc n) ts = when (is_modifier ts) (λ e. rw e (through (behind_modifier_leads ts) (modifiers_leads n _))) (λ e. rw e here)
+
+behind_modifiers_leads : (ts : Tokens) → LeadsTo ts (behind_modifiers ts)
+unfolding behind_modifiers
+behind_modifiers_leads ts = modifiers_leads _ ts
+
+others_leads : (n : ℕ) (ts : Tokens) → LeadsTo ts (behind_others_from n ts)
+others_leads zero ts = here
+others_leads (suc n) ts = when (is_behind_others ts) (λ e. rw e here) (λ e. rw e (through (behind_tree_leads ts) (others_leads n _)))
+
+pub behind_others_leads : (ts : Tokens) → LeadsTo ts (behind_others ts)
+unfolding behind_others
+behind_others_leads ts = when (is_at_end ts) (λ e. rw e here) (λ e. rw e (through (behind_tree_leads ts) (others_leads _ _)))
+
+-- a word that begins an item is a token
+pub record TakesBy (h : Head) (ts us : Tokens) : Type 0 where
+  pub leads : LeadsTo ts us
+  pub word : (h ≡ heads.Other → ⊥) → Takes ts us
+
+word_takes : {h : Head} {ts us : Tokens} → Takes ts us → TakesBy h ts us
+word_takes t = record { leads = takes_leads t; word = λ _. t }
+
+head_some : (h : Head) (ts : Tokens) → is_empty ts ≡ false → TakesBy h ts (behind_head h ts)
+head_some heads.Other ts e = record { leads = here; word = λ other. absurd (other refl) }
+head_some heads.ExternCrate ts e = word_takes (takes ts here e (bumped_leads _))
+head_some heads.MacroRules ts e = word_takes (takes ts here e (bumped_leads _))
+head_some heads.ExternBlock ts e = word_takes (takes ts here e (behind_abi_leads _))
+head_some _ ts e = word_takes (takes ts here e here)
+
+no_head : (behind : Tokens) → head_by [] behind ≡ heads.Other
+unfolding head_by
+no_head behind = refl
+
+head_takes : (ts : Tokens) → TakesBy (head ts).0 ts (head ts).1
+unfolding head
+head_takes ts =
+    when (is_empty ts)
+    (λ e. let none : head_by (word ts) (bumped ts) ≡ heads.Other = ap (λ w. head_by w (bumped ts)) (word_none ts e) ∙ no_head (bumped ts) in
+    rw none (record { leads = here; word = λ other. absurd (other refl) }))
+    (λ e. head_some (head_by (word ts) (bumped ts)) ts e)
+
+takes_by_behind : {h : Head} {ts us vs : Tokens} → LeadsTo ts us → TakesBy h us vs → TakesBy h ts vs
+takes_by_behind p t = record { leads = through p t.leads; word = λ other. takes_behind p (t.word other) }
+
+pub front_takes : (ts : Tokens) → TakesBy (front ts).0.head ts (front ts).1
+unfolding front
+front_takes ts = takes_by_behind (through (outer_attributes_leads ts) (through (visibility_leads _) (behind_modifiers_leads _))) (head_takes _)
+
+-- ---- names
+
+-- a name, if there is one, is a token between what was given and what is left
+pub data IsNamed : Tokens → Tokens → Option TextRange → Type 0 where
+  nameless : {ts us : Tokens} → IsNamed ts us None
+  by_token : {ts us : Tokens} (t : Tokens) → LeadsTo ts t → is_empty t ≡ false → LeadsTo (bumped t) us → IsNamed ts us (Some (record { start = at t; end = (bumped t).past }))
+
+pub name_behind : {ts us vs : Tokens} {range : Option TextRange} → LeadsTo ts us → IsNamed us vs range → IsNamed ts vs range
+name_behind p nameless = nameless
+name_behind p (by_token t before some behind) = by_token t (through p before) some behind
+
+pub name_before : {ts us vs : Tokens} {range : Option TextRange} → IsNamed ts us range → LeadsTo us vs → IsNamed ts vs range
+name_before nameless p = nameless
+name_before (by_token t before some behind) p = by_token t before some (through behind p)
+
+pub named_leads : Forwards named
+unfolding named
+named_leads ts = placed_name_leads ts
+
+read_named : (ts : Tokens) (o : Option Placed) → (placed_name ts).0 ≡ o → IsNamed ts (placed_name ts).1 (name_read o (text ts)).range
+read_named ts None e = nameless
+read_named ts (Some p) e = let n = placed_next ts p e in rw (n.start, n.end, n.left) (by_token ts here n.some here)
+
+pub named_named : (ts : Tokens) → IsNamed ts (named ts).1 (named ts).0.range
+unfolding named
+named_named ts = read_named ts (placed_name ts).0 refl
+
+crate_named_leads : Forwards crate_named
+unfolding crate_named
+crate_named_leads ts = when (bytes_eq (word ts) (codes "self")) (λ e. rw e (bumped_leads ts)) (λ e. rw e (named_leads ts))
+
+word_some : (ts : Tokens) → bytes_eq (word ts) (codes "self") ≡ true → is_empty ts ≡ false
+word_some ts e = when (is_empty ts) (λ h. let none = word_none ts h in let wrong : false ≡ true = rw none at e in absurd cc) (λ h. h)
+
+crate_named_named : (ts : Tokens) → IsNamed ts (crate_named ts).1 (crate_named ts).0.range
+unfolding crate_named
+crate_named_named ts =
+    when (bytes_eq (word ts) (codes "self")) (λ e. rw e (by_token ts here (word_some ts e) here)) (λ e. rw e (named_named ts))
+
+-- ---- items that hold none
+
+-- an id before it has its hash and its number
+abbrev pub blank : AstIdKind → FileAstId
+blank kind = record { kind = kind; hash = 0; number = 0 }
+
+pub record IsLeaf (ts us : Tokens) (l : LeafRead) : Type 0 where
+  pub leads : LeadsTo ts us
+  pub id : id_of l.item ≡ Some (blank l.kind)
+  pub alone : held l.item ≡ no_items
+  pub name : IsNamed ts us l.named
+
+module _ (attrs : List MetaView) (v : Option Visibility) (ts : Tokens) where
+  function_leaf : IsLeaf ts (function attrs v ts).1 (function attrs v ts).0
+  unfolding function
+  function_leaf = record { leads = through (named_leads ts) (item_end_leads _); id = refl; alone = refl; name = name_before (named_named ts) (item_end_leads _) }
+
+  block_leaf : (k : PlainKind) → IsLeaf ts (block_item k attrs v ts).1 (block_item k attrs v ts).0
+  block_leaf k = record { leads = through (named_leads ts) (item_end_leads _); id = refl; alone = refl; name = name_before (named_named ts) (item_end_leads _) }
+
+  union_leaf : IsLeaf ts (union_item attrs v ts).1 (union_item attrs v ts).0
+  unfolding union_item
+  union_leaf = block_leaf union_kind
+
+  enum_leaf : IsLeaf ts (enumeration attrs v ts).1 (enumeration attrs v ts).0
+  unfolding enumeration
+  enum_leaf = block_leaf enum_kind
+
+  trait_leaf : IsLeaf ts (trait_item attrs v ts).1 (trait_item attrs v ts).0
+  unfolding trait_item
+  trait_leaf = block_leaf trait_kind
+
+  macro_def_leaf : IsLeaf ts (macro_def attrs v ts).1 (macro_def attrs v ts).0
+  unfolding macro_def
+  macro_def_leaf = block_leaf macro_def_kind
+
+  type_alias_leaf : IsLeaf ts (type_alias attrs v ts).1 (type_alias attrs v ts).0
+  unfolding type_alias
+  type_alias_leaf = record { leads = through (named_leads ts) (value_end_leads _); id = refl; alone = refl; name = name_before (named_named ts) (value_end_leads _) }
+
+  static_leaf : IsLeaf ts (static_value attrs v ts).1 (static_value attrs v ts).0
+  unfolding static_value
+  static_leaf = record {
+    leads = through (eat_word_leads _ ts) (through (named_leads _) (value_end_leads _));
+    id = refl;
+    alone = refl;
+    name = name_behind (eat_word_leads _ ts) (name_before (named_named _) (value_end_leads _));
+  }
+
+  const_leaf : IsLeaf ts (constant attrs v ts).1 (constant attrs v ts).0
+  unfolding constant
+  const_leaf = record {
+    leads = through (named_leads ts) (through (eat_word_leads _ _) (value_end_leads _));
+    id = refl;
+    alone = refl;
+    name = name_before (named_named ts) (through (eat_word_leads _ _) (value_end_leads _));
+  }
+
+  struct_leaf : IsLeaf ts (structure attrs v ts).1 (structure attrs v ts).0
+  unfolding structure
+  struct_leaf = record { leads = through (named_leads ts) (item_end_leads _); id = refl; alone = refl; name = name_before (named_named ts) (item_end_leads _) }
+
+  impl_leaf : IsLeaf ts (implementation attrs ts).1 (implementation attrs ts).0
+  unfolding implementation
+  impl_leaf = record { leads = item_end_leads ts; id = refl; alone = refl; name = nameless }
+
+  crate_leaf : IsLeaf ts (crate_item attrs v ts).1 (crate_item attrs v ts).0
+  unfolding crate_item
+  crate_leaf = record {
+    leads = through (crate_named_leads ts) (through (rename_leads _) (eat_leads _ _));
+    id = refl;
+    alone = refl;
+    name = name_before (crate_named_named ts) (through (rename_leads _) (eat_leads _ _));
+  }
+
+  use_leaf : IsLeaf ts (use_declaration attrs v ts).1 (use_declaration attrs v ts).0
+  unfolding use_declaration
+  use_leaf = record { leads = through (use_tree_leads ts) (eat_leads _ _); id = refl; alone = refl; name = nameless }
+
+  macro_rules_leaf : IsLeaf ts (macro_definition attrs ts).1 (macro_definition attrs ts).0
+  unfolding macro_definition
+  macro_rules_leaf = record { leads = through (named_leads ts) (call_end_leads _); id = refl; alone = refl; name = name_before (named_named ts) (call_end_leads _) }
+
+-- an item of tokens, one at least
+pub record IsTaken (ts us : Tokens) (l : LeafRead) : Type 0 where
+  pub takes : Takes ts us
+  pub leaf : IsLeaf ts us l
+
+leaf_taken : {ts us vs : Tokens} {l : LeafRead} → Takes ts us → IsLeaf us vs l → IsTaken ts vs l
+leaf_taken t l = record {
+  takes = takes_before t l.leads;
+  leaf = record { leads = through (takes_leads t) l.leads; id = l.id; alone = l.alone; name = name_behind (takes_leads t) l.name };
+}
+
+-- an item, or none
+abbrev pub LeafFound : Tokens → Tokens → Option LeafRead → Type 0
+LeafFound ts us None = LeadsTo ts us
+LeafFound ts us (Some l) = IsTaken ts us l
+
+called_some : (ts : Tokens) → is_called ts ≡ true → is_empty ts ≡ false
+unfolding is_called
+called_some ts e = symbol_some 33 ts (omega arith) (and_parts (symbol ts == 33) (is_at_open (bumped ts)) e).0
+
+invocation_found : (attrs : List MetaView) (ts us : Tokens) → LeadsTo ts us → LeafFound ts (invocation attrs us).1 (invocation attrs us).0
+unfolding invocation
+invocation_found attrs ts us p =
+    when (is_some (path us).0 && is_called (path us).1)
+    (λ e. rw e (record {
+      takes = takes (path us).1 (through p (path_leads us)) (called_some (path us).1 (and_parts (is_some (path us).0) (is_called (path us).1) e).1) (call_end_leads _);
+      leaf = record { leads = through p (through (path_leads us) (further (call_end_leads _))); id = refl; alone = refl; name = nameless };
+    }))
+    (λ e. rw e p)
+
+-- behind what stands in front of an item
+pub leaf_found : (h : Head) (attrs : List MetaView) (v : Option Visibility) (ts us : Tokens) → TakesBy h ts us → LeafFound ts (leaf h attrs v us).1 (leaf h attrs v us).0
+unfolding leaf
+leaf_found heads.Use attrs v ts us t = leaf_taken (t.word (λ e. absurd cc)) (use_leaf attrs v us)
+leaf_found heads.ExternCrate attrs v ts us t = leaf_taken (t.word (λ e. absurd cc)) (crate_leaf attrs v us)
+leaf_found heads.Fn attrs v ts us t = leaf_taken (t.word (λ e. absurd cc)) (function_leaf attrs v us)
+leaf_found heads.Impl attrs v ts us t = leaf_taken (t.word (λ e. absurd cc)) (impl_leaf attrs v us)
+leaf_found heads.Trait attrs v ts us t = leaf_taken (t.word (λ e. absurd cc)) (trait_leaf attrs v us)
+leaf_found heads.Struct attrs v ts us t = leaf_taken (t.word (λ e. absurd cc)) (struct_leaf attrs v us)
+leaf_found heads.Union attrs v ts us t = leaf_taken (t.word (λ e. absurd cc)) (union_leaf attrs v us)
+leaf_found heads.Enum attrs v ts us t = leaf_taken (t.word (λ e. absurd cc)) (enum_leaf attrs v us)
+leaf_found heads.Const attrs v ts us t = leaf_taken (t.word (λ e. absurd cc)) (const_leaf attrs v us)
+leaf_found heads.Static attrs v ts us t = leaf_taken (t.word (λ e. absurd cc)) (static_leaf attrs v us)
+leaf_found heads.TypeAlias attrs v ts us t = leaf_taken (t.word (λ e. absurd cc)) (type_alias_leaf attrs v us)
+leaf_found heads.MacroDef attrs v ts us t = leaf_taken (t.word (λ e. absurd cc)) (macro_def_leaf attrs v us)
+leaf_found heads.MacroRules attrs v ts us t = leaf_taken (t.word (λ e. absurd cc)) (macro_rules_leaf attrs v us)
+leaf_found _ attrs v ts us t = invocation_found attrs ts us t.leads

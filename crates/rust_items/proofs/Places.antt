@@ -1,0 +1,359 @@
+-- Items stand where their places say.
+use Rattle.std.proofs.Common.{◌≡◌, ◌≤◌, ◌+◌, ◌-◌, ◌==◌, ℕ, zero, suc, Bool, true, false, Option, Some, None, List, [], ◌∷◌, ◌++◌, map, length, refl, sym, ap, ◌∙◌, arith, append_assoc, append-nil}
+use Rattle.std.specs.Prelude.{option_to_list}
+use Rattle.std.proofs.lemmas.List.{map-append}
+use Rattle.hir_input.specs.declared.ids.AstIdKind.{AstIdKind}
+use Rattle.hir_input.specs.declared.ids.AstIdKind.TheVariants as kind
+use Rattle.hir_input.specs.declared.ast.Visibility.{Visibility}
+use Rattle.hir_input.specs.Attr.{MetaView}
+use Rattle.hir_input.specs.Syntax.{NodeView, NamedView, ItemView, ItemViews, plain_item, fn_kind, static_kind, type_alias_kind, macro_call, no_items, item_and, items_from, module_from, extern_block_from}
+use Rattle.rust_cursor.specs.Tokens.{Tokens}
+use Rattle.rust_cursor.specs.Words.{symbol, at, eat, is_at_end, bumped}
+use Rattle.rust_cursor.specs.Elements.{most, beyond}
+use Rattle.rust_cursor.proofs.Leads.{LeadsTo, here, further, through, when, bumped_leads, eat_leads, behind_tree_leads, beyond_leads, Takes, takes_leads, takes_before}
+use Rattle.rust_cursor.proofs.Laid.{IsLaid, behind, at_behind, taken_behind, takes_strict}
+use Rattle.rust_ids.specs.Row.{Row}
+use Rattle.rust_paths.specs.declared.names.TextRange.{TextRange}
+use Rattle.rust_metas.specs.Attributes.{inner_attributes}
+use Rattle.rust_metas.proofs.Leads.{inner_attributes_leads}
+use Rattle.rust_leaves.specs.declared.head.Head.{Head}
+use Rattle.rust_leaves.specs.declared.head.Head.TheVariants as heads
+use Rattle.rust_items.specs.declared.log.ItemSpan.{ItemSpan}
+use Rattle.rust_items.specs.declared.log.ProblemKind.{ProblemKind}
+use Rattle.rust_items.specs.declared.source_file.ItemPlace.{ItemPlace}
+use Rattle.rust_items.specs.Found.{Found, Finder, nothing_found, and_problem, and_problem_if, and_problem_at, and_all}
+use Rattle.rust_leaves.specs.Leaves.{LeafRead, NameRead, no_name, named}
+use Rattle.rust_leaves.specs.Kinds.{node, named_node}
+use Rattle.rust_items.specs.Items.{FrontRead, BlockRead, front, and_item, and_leaf, and_parent, leaf_found, leaf_turn, finding_from, finding, is_list_end, block_of, as_extern, extern_kept, extern_found, extern_turn, extern_inside, extern_block, one_more, unmatched, inside_unless, module_with, by_head, turn_with, inside, turn, depth_of, items}
+use Rattle.rust_items.specs.Places.{id_of, held, IsNameIn, IsPlace, ArePlaces, nothing, placed}
+use Rattle.rust_items.proofs.Leads.{IsNamed, nameless, by_token, name_behind, name_before, blank, IsLeaf, IsTaken, LeafFound, TakesBy, front_takes, named_leads, named_named, behind_others_leads}
+use Rattle.rust_items.proofs.Leads as leads
+
+-- ---- places
+
+-- with more places behind
+framed : {from to : ℕ} {is : ItemViews} {ps rest : List ItemPlace} (more : List ItemPlace) → ArePlaces from to is ps rest → ArePlaces from to is (ps ++ more) (rest ++ more)
+framed more nothing = nothing
+framed more (placed p inside behind) = placed p (framed more inside) (framed more behind)
+
+-- from an earlier place on and up to a later one
+pub widened : {from to : ℕ} {is : ItemViews} {ps rest : List ItemPlace} (low high : ℕ) → low ≤ from → to ≤ high → ArePlaces from to is ps rest → ArePlaces low high is ps rest
+widened low high l h nothing = nothing
+widened low high l h (placed {to = to} {p = p} place inside behind) =
+    let begins = place.begins in
+    let ends = place.ends in
+    placed (record { id = place.id; begins = omega arith; some = place.some; ends = omega arith; name = place.name }) inside (widened p.range.end high (omega arith) h behind)
+
+-- more items behind
+joined : (from mid low to : ℕ) (xs ys : List ItemView) (ps ms rest : List ItemPlace) → from ≤ low → mid ≤ low → mid ≤ to
+    → ArePlaces from mid (items_from xs) ps ms → ArePlaces low to (items_from ys) ms rest → ArePlaces from to (items_from (xs ++ ys)) ps rest
+joined from mid low to [] ys ps ms rest a b c nothing q = widened from to a (omega arith) q
+joined from mid low to (x ∷ xs) ys ps ms rest a b c (placed {p = p} place inside behind) q =
+    let begins = place.begins in
+    let ends = place.ends in
+    placed (record { id = place.id; begins = place.begins; some = place.some; ends = omega arith; name = place.name }) inside (joined p.range.end mid low to xs ys _ ms rest (omega arith) b c behind q)
+
+-- there are no more items than bytes
+pub few : {from to : ℕ} {is : ItemViews} {ps rest : List ItemPlace} → ArePlaces from to is ps rest → length ps ≤ length rest + (to - from)
+few nothing = omega arith
+few (placed place inside behind) =
+    let begins = place.begins in
+    let some = place.some in
+    let ends = place.ends in
+    let within = few inside in
+    let later = few behind in
+    omega arith
+
+-- ---- what is found
+
+abbrev pub row_kind : Row → AstIdKind
+row_kind row = row.kind
+
+abbrev pub place_kind : ItemPlace → AstIdKind
+place_kind p = p.id.kind
+
+abbrev pub place_span : ItemPlace → ItemSpan
+place_span p = record { range = p.range; name = p.name }
+
+-- these items were found, with their places, but for the hashes and numbers of their ids
+pub record Adds (f g : Found) (ps : List ItemPlace) : Type 0 where
+  pub rows : map row_kind g.rows ≡ map row_kind f.rows ++ map place_kind ps
+  pub spans : g.spans ≡ f.spans ++ map place_span ps
+
+adds_none : (f : Found) → Adds f f []
+adds_none f = record { rows = sym (append-nil _); spans = sym (append-nil _) }
+
+adds_problem : {f g : Found} {ps : List ItemPlace} (kind : ProblemKind) (place : ℕ) → Adds f g ps → Adds f (and_problem kind place g) ps
+adds_problem kind place a = record { rows = a.rows; spans = a.spans }
+
+adds_problem_if : {f g : Found} {ps : List ItemPlace} (test : Bool) (kind : ProblemKind) (place : ℕ) → Adds f g ps → Adds f (and_problem_if test kind place g) ps
+adds_problem_if true kind place a = adds_problem kind place a
+adds_problem_if false kind place a = a
+
+pub adds_problem_at : {f g : Found} {ps : List ItemPlace} (kind : ProblemKind) (place : Option ℕ) → Adds f g ps → Adds f (and_problem_at kind place g) ps
+adds_problem_at kind None a = a
+adds_problem_at kind (Some place) a = adds_problem kind place a
+
+adds_more : {f g h : Found} {ps qs : List ItemPlace} → Adds f g ps → Adds g h qs → Adds f h (ps ++ qs)
+adds_more {f} {g} {h} {ps} {qs} a b = record {
+  rows = b.rows ∙ ap (λ l. l ++ map place_kind qs) a.rows ∙ append_assoc (map row_kind f.rows) (map place_kind ps) (map place_kind qs)
+      ∙ ap (λ l. map row_kind f.rows ++ l) (sym (map-append place_kind ps qs));
+  spans = b.spans ∙ ap (λ l. l ++ map place_span qs) a.spans ∙ append_assoc f.spans (map place_span ps) (map place_span qs)
+      ∙ ap (λ l. f.spans ++ l) (sym (map-append place_span ps qs));
+}
+
+adds_all : (f g : Found) (ps : List ItemPlace) → Adds nothing_found g ps → Adds f (and_all g f) ps
+adds_all f g ps a = record {
+  rows = map-append row_kind f.rows g.rows ∙ ap (λ l. map row_kind f.rows ++ l) a.rows;
+  spans = ap (λ l. f.spans ++ l) a.spans;
+}
+
+-- the place of an item before its id has its hash and its number
+abbrev pub unnumbered : AstIdKind → ℕ → ℕ → Option TextRange → ItemPlace
+unnumbered kind start end name = record { id = blank kind; range = record { start = start; end = end }; name = name }
+
+adds_item : (f : Found) (depth start end : ℕ) (kind : AstIdKind) (hashed : List ℕ) (name : Option TextRange) (is_ended : Bool)
+    → Adds f (and_item depth start end kind hashed name is_ended f) (unnumbered kind start end name ∷ [])
+adds_item f depth start end kind hashed name is_ended =
+    adds_problem_if _ _ _ (record { rows = map-append row_kind f.rows (record { depth = depth; kind = kind; name = hashed } ∷ []); spans = refl })
+
+-- ---- what a reader of items finds
+
+-- these items were found, with their places between what was given and what is left
+pub record AreFound (ts us : Tokens) (f g : Found) (is : ItemViews) : Type 0 where
+  pub leads : LeadsTo ts us
+  pub places : List ItemPlace
+  pub adds : Adds f g places
+  pub are : ArePlaces ts.past us.past is places []
+
+none_found : {ts us : Tokens} (f g : Found) → LeadsTo ts us → Adds f g [] → AreFound ts us f g no_items
+none_found f g p a = record { leads = p; places = []; adds = a; are = nothing }
+
+-- what a reader finds in tokens that end before this place
+abbrev pub Finds : ℕ → Finder (Option ItemView) → Type 0
+Finds end turn = (f : Found) (ts : Tokens) → IsLaid end ts → AreFound ts (turn f ts).1.1 f (turn f ts).1.0 (items_from (option_to_list (turn f ts).0))
+
+found_more : (end : ℕ) (ts us vs ws : Tokens) (f g h : Found) (xs ys : List ItemView) → IsLaid end ts → LeadsTo us vs → AreFound ts us f g (items_from xs)
+    → AreFound vs ws g h (items_from ys) → AreFound ts ws f h (items_from (xs ++ ys))
+found_more end ts us vs ws f g h xs ys laid p a b =
+    let first = behind end a.leads laid in
+    let next = behind end p first.laid in
+    let last = behind end b.leads next.laid in
+    record {
+      leads = through a.leads (through p b.leads);
+      places = a.places ++ b.places;
+      adds = adds_more a.adds b.adds;
+      are = joined ts.past us.past vs.past ws.past xs ys (a.places ++ b.places) b.places [] (omega arith) (omega arith) (omega arith) (framed b.places a.are) b.are;
+    }
+
+-- ---- lists
+
+-- a list that was found behind items
+pub record IsListed (ts : Tokens) (f : Found) (done : List ItemView) (r : List ItemView × (Found × Tokens)) : Type 0 where
+  pub new : List ItemView
+  pub list : r.0 ≡ done ++ new
+  pub found : AreFound ts r.1.1 f r.1.0 (items_from new)
+
+module _ (end : ℕ) (ends : Tokens → Bool) (turn : Finder (Option ItemView)) (t : Finds end turn) where
+  list_end : (done : List ItemView) (f : Found) (ts : Tokens) → IsListed ts f done (done, (f, ts))
+  list_end done f ts = record { new = []; list = sym (append-nil done); found = none_found f f here (adds_none f) }
+
+  list_more : (done : List ItemView) (f : Found) (ts : Tokens) (r : List ItemView × (Found × Tokens)) → IsLaid end ts
+      → IsListed (beyond ts.past (turn f ts).1.1) (turn f ts).1.0 (done ++ option_to_list (turn f ts).0) r → IsListed ts f done r
+  list_more done f ts r laid rest = record {
+    new = option_to_list (turn f ts).0 ++ rest.new;
+    list = rest.list ∙ append_assoc done (option_to_list (turn f ts).0) rest.new;
+    found = found_more end ts _ _ _ f _ _ (option_to_list (turn f ts).0) rest.new laid (beyond_leads ts.past (turn f ts).1.1) (t f ts laid) rest.found;
+  }
+
+  list_from : (n : ℕ) (done : List ItemView) (f : Found) (ts : Tokens) → IsLaid end ts → IsListed ts f done (finding_from ends turn n done f ts)
+  list_from zero done f ts laid = list_end done f ts
+  list_from (suc n) done f ts laid =
+      let first = behind end (t f ts laid).leads laid in
+      let next = behind end (beyond_leads ts.past (turn f ts).1.1) first.laid in
+      let rest = list_from n (done ++ option_to_list (turn f ts).0) (turn f ts).1.0 (beyond ts.past (turn f ts).1.1) next.laid in
+      when (ends ts) (λ e. rw e (list_end done f ts)) (λ e. rw e (list_more done f ts _ laid rest))
+
+  list_found : (f : Found) (ts : Tokens) → IsLaid end ts → AreFound ts (finding ends turn f ts).1.1 f (finding ends turn f ts).1.0 (items_from (finding ends turn f ts).0)
+  unfolding finding
+  list_found f ts laid = let l = list_from most [] f ts laid in rw l.list l.found
+
+-- ---- one item
+
+name_in : (end : ℕ) (ts us : Tokens) (name : Option TextRange) → IsLaid end ts → IsNamed ts us name → IsNameIn (record { start = at ts; end = us.past }) name
+name_in end ts us None laid n = tt
+name_in end ts us (Some range) laid (by_token t before some later) =
+    let first = behind end before laid in
+    let strict = taken_behind end t first.laid some in
+    let next = behind end (bumped_leads t) first.laid in
+    let last = behind end later next.laid in
+    (first.place, strict, last.past)
+
+place_is : (end : ℕ) (ts us : Tokens) (i : ItemView) (k : AstIdKind) (name : Option TextRange) → IsLaid end ts → Takes ts us → id_of i ≡ Some (blank k) → IsNamed ts us name
+    → IsPlace ts.past us.past i (unnumbered k (at ts) us.past name)
+place_is end ts us i k name laid t e n =
+    record { id = e; begins = at_behind end ts laid; some = takes_strict end t laid; ends = omega arith; name = name_in end ts us name laid n }
+
+-- an item that holds none
+leaf_is : (end : ℕ) (ts us : Tokens) (depth : ℕ) (l : LeafRead) (f : Found) → IsLaid end ts → IsTaken ts us l → AreFound ts us f (and_leaf depth (at ts) us.past l f) (item_and l.item no_items)
+leaf_is end ts us depth l f laid t = record {
+  leads = takes_leads t.takes;
+  places = unnumbered l.kind (at ts) us.past l.named ∷ [];
+  adds = adds_problem_at _ l.too_deep (adds_item f depth (at ts) us.past l.kind l.name l.named l.is_ended);
+  are = placed (place_is end ts us l.item l.kind l.named laid t.takes t.leaf.id t.leaf.name) (rw t.leaf.alone nothing) nothing;
+}
+
+-- the items of a block, if there is one
+abbrev pub listed : Option (List ItemView) → ItemViews
+listed None = no_items
+listed (Some is) = items_from is
+
+-- an item that holds these
+parent_is : (end : ℕ) (ts ms us : Tokens) (f g : Found) (depth : ℕ) (k : AstIdKind) (n : NameRead) (is_ended : Bool) (i : ItemView) (is : ItemViews) → IsLaid end ts → Takes ts ms → AreFound ms us nothing_found g is
+    → id_of i ≡ Some (blank k) → held i ≡ is → IsNamed ts ms n.range → AreFound ts us f (and_parent depth (at ts) us.past k n is_ended g f) (item_and i no_items)
+parent_is end ts ms us f g depth k n is_ended i is laid t b e same name =
+    let strict = takes_strict end t laid in
+    record {
+      leads = through (takes_leads t) b.leads;
+      places = unnumbered k (at ts) us.past n.range ∷ b.places;
+      adds = adds_more (adds_item f depth (at ts) us.past k n.hashed n.range is_ended) (adds_all _ g b.places b.adds);
+      are = placed (place_is end ts us i k n.range laid (takes_before t b.leads) e (name_before name b.leads)) (rw same (widened (at ts + 1) us.past (omega arith) (omega arith) b.are)) nothing;
+    }
+
+-- ---- items that hold none
+
+option_found : (end : ℕ) (ts us : Tokens) (depth : ℕ) (o : Option LeafRead) (f : Found) → IsLaid end ts → LeafFound ts us o
+    → AreFound ts (leaf_found depth (at ts) o f us).1.1 f (leaf_found depth (at ts) o f us).1.0 (items_from (option_to_list (leaf_found depth (at ts) o f us).0))
+option_found end ts us depth None f laid p = none_found f _ (through p (behind_others_leads us)) (adds_problem _ _ (adds_none f))
+option_found end ts us depth (Some l) f laid t = leaf_is end ts us depth l f laid t
+
+leaf_turn_found : (end : ℕ) (ts us : Tokens) (depth : ℕ) (h : FrontRead) (f : Found) → IsLaid end ts → TakesBy h.head ts us
+    → AreFound ts (leaf_turn depth (at ts) h f us).1.1 f (leaf_turn depth (at ts) h f us).1.0 (items_from (option_to_list (leaf_turn depth (at ts) h f us).0))
+unfolding leaf_turn
+leaf_turn_found end ts us depth h f laid t = option_found end ts _ depth _ f laid (leads.leaf_found h.head h.attrs h.visibility ts us t)
+
+unmatched_found : (ts : Tokens) (f : Found) → AreFound ts (unmatched f ts).1.1 f (unmatched f ts).1.0 no_items
+unmatched_found ts f = none_found f _ (bumped_leads ts) (adds_problem _ _ (adds_none f))
+
+-- ---- blocks
+
+-- what a reader of a block finds
+abbrev pub FindsIn : ℕ → Finder BlockRead → Type 0
+FindsIn end inside = (f : Found) (ts : Tokens) → IsLaid end ts → AreFound ts (inside f ts).1.1 f (inside f ts).1.0 (listed (inside f ts).0.items)
+
+block_found : (end : ℕ) (turn : Finder (Option ItemView)) → Finds end turn → FindsIn end (block_of turn)
+block_found end turn t f ts laid =
+    let open_leads : LeadsTo ts (inner_attributes (bumped ts)).1 = further (inner_attributes_leads (bumped ts)) in
+    let first = behind end open_leads laid in
+    let list = list_found end (is_list_end false) turn t f (inner_attributes (bumped ts)).1 first.laid in
+    let next = behind end list.leads first.laid in
+    let close_leads = eat_leads 125 (finding (is_list_end false) turn f (inner_attributes (bumped ts)).1).1.1 in
+    let last = behind end close_leads next.laid in
+    record {
+      leads = through open_leads (through list.leads close_leads);
+      places = list.places;
+      adds = list.adds;
+      are = widened ts.past _ first.past last.past list.are;
+    }
+
+no_block_found : (f : Found) (ts : Tokens) → AreFound ts ts f f no_items
+no_block_found f ts = none_found f f here (adds_none f)
+
+-- ---- extern blocks
+
+extern_same : (i j : ItemView) → as_extern i ≡ Some j → i ≡ j
+extern_same (plain_item fn_kind n) j e = cc
+extern_same (plain_item static_kind n) j e = cc
+extern_same (plain_item type_alias_kind n) j e = cc
+extern_same (macro_call c) j e = cc
+extern_same _ j e = absurd cc
+
+kept_found : (end : ℕ) (ts us : Tokens) (depth : ℕ) (l : LeafRead) (o : Option ItemView) (f : Found) → IsLaid end ts → IsTaken ts us l → as_extern l.item ≡ o
+    → AreFound ts us f (extern_kept depth (at ts) us.past l o f).1 (items_from (option_to_list (extern_kept depth (at ts) us.past l o f).0))
+kept_found end ts us depth l None f laid t e = none_found f _ (takes_leads t.takes) (adds_problem _ _ (adds_none f))
+kept_found end ts us depth l (Some i) f laid t e = let same = extern_same l.item i e in rw (← same) (leaf_is end ts us depth l f laid t)
+
+extern_option_found : (end : ℕ) (ts us : Tokens) (depth : ℕ) (o : Option LeafRead) (f : Found) → IsLaid end ts → LeafFound ts us o
+    → AreFound ts (extern_found depth (at ts) o f us).1.1 f (extern_found depth (at ts) o f us).1.0 (items_from (option_to_list (extern_found depth (at ts) o f us).0))
+extern_option_found end ts us depth None f laid p = none_found f _ (through p (behind_others_leads us)) (adds_problem _ _ (adds_none f))
+extern_option_found end ts us depth (Some l) f laid t = kept_found end ts us depth l (as_extern l.item) f laid t refl
+
+extern_turn_found : (end depth : ℕ) → Finds end (extern_turn depth)
+unfolding extern_turn
+extern_turn_found end depth f ts laid =
+    when (is_at_end ts) (λ e. rw e (unmatched_found ts f))
+    (λ e. rw e (extern_option_found end ts _ depth _ f laid (leads.leaf_found (front ts).0.head (front ts).0.attrs (front ts).0.visibility ts (front ts).1 (front_takes ts))))
+
+extern_inside_found : (end depth : ℕ) → FindsIn end (extern_inside depth)
+unfolding extern_inside
+extern_inside_found end depth f ts laid =
+    when (symbol ts == 123) (λ e. rw e (block_found end (extern_turn depth) (extern_turn_found end depth) f ts laid)) (λ e. rw e (no_block_found f ts))
+
+extern_id : (attrs : List MetaView) (is : Option (List ItemView)) → id_of (extern_block_from (node attrs []) is) ≡ Some (blank kind.ExternBlock)
+extern_id attrs None = refl
+extern_id attrs (Some is) = refl
+
+extern_held : (n : NodeView) (is : Option (List ItemView)) → held (extern_block_from n is) ≡ listed is
+extern_held n None = refl
+extern_held n (Some is) = refl
+
+extern_block_found : (end : ℕ) (ts us : Tokens) (depth : ℕ) (attrs : List MetaView) (f : Found) → IsLaid end ts → Takes ts us
+    → AreFound ts (extern_block depth (at ts) attrs f us).1.1 f (extern_block depth (at ts) attrs f us).1.0 (item_and (extern_block depth (at ts) attrs f us).0 no_items)
+unfolding extern_block
+extern_block_found end ts us depth attrs f laid t =
+    let first = behind end (takes_leads t) laid in
+    parent_is end ts us _ f _ depth kind.ExternBlock no_name _ _ _ laid t (extern_inside_found end (one_more depth) nothing_found us first.laid) (extern_id _ _) (extern_held _ _) nameless
+
+-- ---- modules
+
+module_id : (attrs : List MetaView) (name : Option (List ℕ)) (v : Option Visibility) (semicolon : Bool) (is : Option (List ItemView))
+    → id_of (module_from (named_node attrs name v []) semicolon is) ≡ Some (blank kind.Module)
+module_id attrs name v semicolon None = refl
+module_id attrs name v semicolon (Some is) = refl
+
+module_held : (n : NamedView) (semicolon : Bool) (is : Option (List ItemView)) → held (module_from n semicolon is) ≡ listed is
+module_held n semicolon None = refl
+module_held n semicolon (Some is) = refl
+
+module _ (end : ℕ) (inside : Finder BlockRead) (finds : FindsIn end inside) (depth : ℕ) where
+  unless_found : (semicolon : Bool) → FindsIn end (inside_unless semicolon inside)
+  unless_found true f ts laid = no_block_found f ts
+  unless_found false f ts laid = finds f ts laid
+
+  module_found : (ts us : Tokens) (h : FrontRead) (f : Found) → IsLaid end ts → Takes ts us
+      → AreFound ts (module_with inside depth (at ts) h f us).1.1 f (module_with inside depth (at ts) h f us).1.0 (item_and (module_with inside depth (at ts) h f us).0 no_items)
+  module_found ts us h f laid t =
+      let name_leads = through (named_leads us) (eat_leads 59 (named us).1) in
+      let first = behind end (through (takes_leads t) name_leads) laid in
+      let b = unless_found (eat 59 (named us).1).0 nothing_found (eat 59 (named us).1).1 first.laid in
+      parent_is end ts (eat 59 (named us).1).1 _ f _ depth kind.Module (named us).0 _ _ _ laid (takes_before t name_leads) b (module_id _ _ _ _ _) (module_held _ _ _)
+      (name_behind (takes_leads t) (name_before (named_named us) (eat_leads 59 (named us).1)))
+
+  head_found : (head : Head) (ts us : Tokens) (h : FrontRead) (f : Found) → IsLaid end ts → TakesBy head ts us → TakesBy h.head ts us
+      → AreFound ts (by_head inside depth (at ts) head h f us).1.1 f (by_head inside depth (at ts) head h f us).1.0 (items_from (option_to_list (by_head inside depth (at ts) head h f us).0))
+  head_found heads.Module ts us h f laid t u = module_found ts us h f laid (t.word (λ e. absurd cc))
+  head_found heads.ExternBlock ts us h f laid t u = extern_block_found end ts us depth h.attrs f laid (t.word (λ e. absurd cc))
+  head_found _ ts us h f laid t u = leaf_turn_found end ts us depth h f laid u
+
+  turn_with_found : Finds end (turn_with inside depth)
+  turn_with_found f ts laid =
+      when (is_at_end ts) (λ e. rw e (unmatched_found ts f))
+      (λ e. rw e (head_found (front ts).0.head ts (front ts).1 (front ts).0 f laid (front_takes ts) (front_takes ts)))
+
+inside_found : (end left : ℕ) → FindsIn end (inside left)
+unfolding inside
+inside_found end zero f ts laid =
+    when (symbol ts == 123) (λ e. rw e (none_found f _ (behind_tree_leads ts) (adds_problem _ _ (adds_none f)))) (λ e. rw e (no_block_found f ts))
+inside_found end (suc left) f ts laid =
+    when (symbol ts == 123)
+    (λ e. rw e (block_found end (turn_with (inside left) (depth_of left)) (turn_with_found end (inside left) (inside_found end left) (depth_of left)) f ts laid))
+    (λ e. rw e (no_block_found f ts))
+
+turn_found : (end left : ℕ) → Finds end (turn left)
+unfolding turn
+turn_found end left f ts laid = turn_with_found end (inside left) (inside_found end left) (depth_of left) f ts laid
+
+-- the items of a file
+pub items_found : (end : ℕ) (is_top : Bool) (left : ℕ) (f : Found) (ts : Tokens) → IsLaid end ts
+    → AreFound ts (items is_top left f ts).1.1 f (items is_top left f ts).1.0 (items_from (items is_top left f ts).0)
+items_found end is_top left f ts laid = list_found end (is_list_end is_top) (turn left) (turn_found end left) f ts laid

@@ -1,0 +1,54 @@
+-- Where items stand.
+use Rattle.std.specs.Prelude.{◌≡◌, ◌<◌, ◌≤◌, ◌+◌, ℕ, Option, Some, None, List, ◌∷◌}
+use Rattle.hir_input.specs.declared.ids.AstIdKind.{AstIdKind}
+use Rattle.hir_input.specs.declared.ids.AstIdKind.TheVariants as kind
+use Rattle.hir_input.specs.declared.ids.FileAstId.{FileAstId}
+use Rattle.hir_input.specs.Syntax.{NodeView, ItemView, ItemViews, ast_kind, plain_item, const_item, struct_item, bare_module, listed_module, use_item, extern_crate, bare_extern_block, listed_extern_block, impl_item, macro_call, macro_rules, asm_item, no_items, item_and}
+use Rattle.rust_paths.specs.declared.names.TextRange.{TextRange}
+use Rattle.rust_items.specs.declared.source_file.ItemPlace.{ItemPlace}
+
+-- the id of a kind, with the hash and the number of a node
+abbrev pub id_by : AstIdKind → NodeView → Option FileAstId
+id_by kind n = Some (record { kind = kind; hash = n.hash; number = n.number })
+
+-- the id of an item; assembly has none
+abbrev pub id_of : ItemView → Option FileAstId
+id_of (plain_item k n) = id_by (ast_kind k) n.node
+id_of (const_item n) = id_by kind.Const n.node
+id_of (struct_item n _) = id_by kind.Struct n.node
+id_of (bare_module n semicolon) = id_by kind.Module n.node
+id_of (listed_module n semicolon is) = id_by kind.Module n.node
+id_of (use_item u) = id_by kind.Use u.node
+id_of (extern_crate n rename) = id_by kind.ExternCrate n.node
+id_of (bare_extern_block n) = id_by kind.ExternBlock n
+id_of (listed_extern_block n is) = id_by kind.ExternBlock n
+id_of (impl_item n is_trait) = id_by kind.Impl n
+id_of (macro_call c) = id_by kind.MacroCall c.node
+id_of (macro_rules n name) = id_by kind.MacroRules n
+id_of (asm_item n) = None
+
+-- the items that a module or an extern block holds
+abbrev pub held : ItemView → ItemViews
+held (listed_module n semicolon is) = is
+held (listed_extern_block n is) = is
+held _ = no_items
+
+-- a name, if there is one, stands in a range and is not empty
+abbrev pub IsNameIn : TextRange → Option TextRange → Type 0
+IsNameIn range None = Unit {0}
+IsNameIn range (Some name) = (range.start ≤ name.start) × (name.start < name.end) × (name.end ≤ range.end)
+
+-- an item's place: it has the item's id, and a range that is not empty, from a byte place on and up to another, with the name in it
+pub record IsPlace (from to : ℕ) (i : ItemView) (p : ItemPlace) : Type 0 where
+  pub id : id_of i ≡ Some p.id
+  pub begins : from ≤ p.range.start
+  pub some : p.range.start < p.range.end
+  pub ends : p.range.end ≤ to
+  pub name : IsNameIn p.range p.name
+
+-- The places of items in preorder, from a byte place on and up to another, and the places behind them: of siblings, each begins at the
+-- end of the one before it or behind that; what an item holds stands in it, behind its first byte.
+pub data ArePlaces : ℕ → ℕ → ItemViews → List ItemPlace → List ItemPlace → Type 0 where
+  nothing : {from to : ℕ} {ps : List ItemPlace} → ArePlaces from to no_items ps ps
+  placed : {from to : ℕ} {i : ItemView} {is : ItemViews} {p : ItemPlace} {ps mid rest : List ItemPlace} → IsPlace from to i p
+      → ArePlaces (p.range.start + 1) p.range.end (held i) ps mid → ArePlaces p.range.end to is mid rest → ArePlaces from to (item_and i is) (p ∷ ps) rest

@@ -1,0 +1,138 @@
+-- What is left behind attributes is left of the tokens before them.
+use Rattle.std.proofs.Common.{◌==◌, ◌&&◌, ℕ, zero, suc, Option, Some, None, List, codes}
+use Rattle.hir_input.specs.declared.ast.PathNode.{PathNode}
+use Rattle.hir_input.specs.Attr.{MetaView}
+use Rattle.hir_input.specs.Cfg.{CfgView}
+use Rattle.rust_lexer.specs.declared.kind.DocStyle.{DocStyle}
+use Rattle.rust_lexer.specs.declared.kind.DocStyle.TheVariants.{Outer, Inner}
+use Rattle.rust_cursor.specs.Tokens.{Tokens}
+use Rattle.rust_cursor.specs.Reader.{Reader}
+use Rattle.rust_cursor.specs.Words.{symbol, word, kind, bumped, is_at_end, is_at_open}
+use Rattle.rust_cursor.specs.Elements.{one}
+use Rattle.rust_cursor.proofs.Leads.{LeadsTo, here, further, through, Forwards, when, bumped_leads, behind_closed_leads, behind_tree_leads, turns_leads, taken_leads_on}
+use Rattle.rust_paths.proofs.Leads.{name_leads, path_leads}
+use Rattle.rust_metas.specs.Literals.{is_literal_kind, is_truth, is_literal, is_ended, value, documentation}
+use Rattle.rust_metas.specs.Conditions.{comma_from, behind_comma, option_name, pair, named, if_named, ended, condition_with, conditions, condition}
+use Rattle.rust_metas.specs.Metas.{input, plain, is_call, unsafe_with, cfg_with, member, cfg_attr_with, meta_with, meta, doc}
+use Rattle.rust_metas.specs.Attributes.{is_doc, is_behind, bracketed, opened, attribute, attributes, outer_attributes, inner_attributes}
+
+-- ---- literals
+
+value_leads : Forwards value
+unfolding value
+value_leads ts = when (is_literal ts && is_ended (bumped ts)) (λ e. rw e (bumped_leads ts)) (λ e. rw e here)
+
+documentation_leads : Forwards documentation
+unfolding documentation
+documentation_leads ts = bumped_leads ts
+
+-- ---- conditions
+
+comma_from_leads : (n : ℕ) (ts : Tokens) → LeadsTo ts (comma_from n ts)
+comma_from_leads zero ts = here
+comma_from_leads (suc n) ts =
+    when (is_at_end ts) (λ e. rw e here)
+    (λ e. rw e (when (symbol ts == 44) (λ f. rw f (bumped_leads ts)) (λ f. rw f (through (behind_tree_leads ts) (comma_from_leads n _)))))
+
+behind_comma_leads : (ts : Tokens) → LeadsTo ts (behind_comma ts)
+unfolding behind_comma
+behind_comma_leads ts = comma_from_leads _ ts
+
+option_name_leads : Forwards option_name
+unfolding option_name
+option_name_leads ts = when (is_truth ts) (λ e. rw e (bumped_leads ts)) (λ e. rw e (name_leads ts))
+
+pair_leads : (key : List ℕ) → Forwards (pair key)
+unfolding pair
+pair_leads key ts = when (is_literal_kind (kind (bumped ts))) (λ e. rw e (further (bumped_leads _))) (λ e. rw e (bumped_leads ts))
+
+named_leads : (inside : Reader (Option (List CfgView))) → Forwards inside → (word : List ℕ) → Forwards (named inside word)
+named_leads inside i word ts =
+    when (is_at_open ts) (λ e. rw e (further (through (i _) (behind_closed_leads _))))
+    (λ e. rw e (when (symbol ts == 61) (λ f. rw f (pair_leads word ts)) (λ f. rw f here)))
+
+if_named_leads : (inside : Reader (Option (List CfgView))) → Forwards inside → (o : Option (List ℕ)) → Forwards (if_named inside o)
+if_named_leads inside i None ts = here
+if_named_leads inside i (Some word) ts = named_leads inside i word ts
+
+ended_leads : (c : CfgView) → Forwards (ended c)
+unfolding ended
+ended_leads c ts = behind_comma_leads ts
+
+condition_with_leads : (inside : Reader (Option (List CfgView))) → Forwards inside → Forwards (condition_with inside)
+condition_with_leads inside i ts = through (option_name_leads ts) (through (if_named_leads inside i _ _) (ended_leads _ _))
+
+conditions_leads : (depth : ℕ) → Forwards (conditions depth)
+unfolding conditions
+conditions_leads zero ts = here
+conditions_leads (suc depth) ts = turns_leads is_at_end (one (condition_with (conditions depth))) (condition_with_leads (conditions depth) (conditions_leads depth)) ts
+
+condition_leads : (depth : ℕ) → Forwards (condition depth)
+unfolding condition
+condition_leads depth ts = condition_with_leads (conditions depth) (conditions_leads depth) ts
+
+-- ---- metas
+
+input_leads : (path : Option PathNode) → Forwards (input path)
+unfolding input
+input_leads path ts =
+    when (symbol ts == 61) (λ e. rw e (further (value_leads _)))
+    (λ e. rw e (when (is_at_open ts) (λ f. rw f (taken_leads_on _ ts)) (λ f. rw f here)))
+
+plain_leads : Forwards plain
+unfolding plain
+plain_leads ts = through (path_leads ts) (input_leads _ _)
+
+module _ (inner : Reader MetaView) (condition : Reader CfgView) (i : Forwards inner) (c : Forwards condition) where
+  unsafe_leads : Forwards (unsafe_with inner)
+  unsafe_leads ts = further (further (through (i _) (behind_closed_leads _)))
+
+  cfg_leads : Forwards (cfg_with condition)
+  cfg_leads ts = further (further (through (c _) (behind_closed_leads _)))
+
+  member_leads : Forwards (member inner)
+  member_leads ts = through (i ts) (behind_comma_leads _)
+
+  cfg_attr_leads : Forwards (cfg_attr_with inner condition)
+  cfg_attr_leads ts = further (further (through (c _) (through (turns_leads is_at_end (one (member inner)) member_leads _) (behind_closed_leads _))))
+
+  meta_with_leads : Forwards (meta_with inner condition)
+  meta_with_leads ts =
+      when (is_call (codes "unsafe") ts) (λ e. rw e (unsafe_leads ts))
+      (λ e. rw e (when (is_call (codes "cfg") ts) (λ f. rw f (cfg_leads ts))
+      (λ f. rw f (when (is_call (codes "cfg_attr") ts) (λ g. rw g (cfg_attr_leads ts)) (λ g. rw g (plain_leads ts))))))
+
+meta_leads : (depth : ℕ) → Forwards (meta depth)
+unfolding meta
+meta_leads zero ts = here
+meta_leads (suc depth) ts = meta_with_leads (meta depth) (condition depth) (meta_leads depth) (condition_leads depth) ts
+
+-- ---- attributes
+
+doc_leads : Forwards doc
+unfolding doc
+doc_leads ts = documentation_leads ts
+
+bracketed_leads : Forwards bracketed
+unfolding bracketed
+bracketed_leads ts = further (through (meta_leads _ _) (behind_closed_leads _))
+
+opened_leads : (style : DocStyle) (ts : Tokens) → LeadsTo ts (opened style ts)
+opened_leads Outer ts = bumped_leads ts
+opened_leads Inner ts = further (bumped_leads _)
+
+attribute_leads : (style : DocStyle) → Forwards (attribute style)
+unfolding attribute
+attribute_leads style ts = when (is_doc style ts) (λ e. rw e (doc_leads ts)) (λ e. rw e (through (opened_leads style ts) (bracketed_leads _)))
+
+attributes_leads : (style : DocStyle) → Forwards (attributes style)
+unfolding attributes
+attributes_leads style ts = turns_leads (is_behind style) (one (attribute style)) (attribute_leads style) ts
+
+pub outer_attributes_leads : Forwards outer_attributes
+unfolding outer_attributes
+outer_attributes_leads ts = attributes_leads Outer ts
+
+pub inner_attributes_leads : Forwards inner_attributes
+unfolding inner_attributes
+inner_attributes_leads ts = attributes_leads Inner ts
