@@ -1,4 +1,5 @@
 pub mod Steps
+pub mod Parts
 pub mod Numbering
 pub mod Leads
 pub mod Places

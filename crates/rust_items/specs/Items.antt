@@ -174,6 +174,10 @@ unfoldable pub inside : ℕ → ℕ → Finder BlockRead
 inside zero start f ts = if symbol ts == 123 then (deep_block, (and_problem problem.TooDeep (at ts) f, behind_tree ts)) else (no_block, (f, ts))
 inside (suc left) start f ts = if symbol ts == 123 then block_of start (turn_with (inside left) (depth_of left)) f ts else (no_block, (f, ts))
 
+-- an item behind what stands in front of it
+unfoldable pub behind_front : ℕ → FrontRead → Finder (Option ItemView)
+behind_front left h = by_head (inside left) (depth_of left) h.head h
+
 unfoldable pub turn : ℕ → Finder (Option ItemView)
 turn left = turn_with (inside left) (depth_of left)
 

@@ -1,5 +1,6 @@
 pub mod Found
 pub mod Items
+pub mod Blocks
 pub mod Views
 pub mod Ids
 pub mod SourceFiles

@@ -2,10 +2,14 @@
 use Rattle.std.specs.Prelude.{List, map, option_map}
 use Rattle.hir_input.specs.declared.ids.FileAstId.{FileAstId}
 use Rattle.hir_input.specs.Attr.{meta_view}
-use Rattle.hir_input.specs.Syntax.{item_view, extern_item_view}
+use Rattle.hir_input.specs.Syntax.{item_view, extern_item_view, stmt_view, tail_view}
+use Rattle.rust_items.specs.declared.blocks.Body.{Body}
+use Rattle.rust_items.specs.declared.blocks.Part.{Part}
+use Rattle.rust_items.specs.declared.blocks.Part.TheVariants as parts
 use Rattle.rust_items.specs.declared.externs.ExternInside.{ExternInside}
 use Rattle.rust_items.specs.declared.ids.Supply.{Supply}
 use Rattle.rust_items.specs.declared.items.Inside.{Inside}
+use Rattle.rust_items.specs.Blocks.{BodyRead, PartView, no_part, stmt_part, tail_part}
 use Rattle.rust_items.specs.Items.{BlockRead}
 
 abbrev pub extern_inside_view : ExternInside → BlockRead
@@ -13,6 +17,14 @@ extern_inside_view b = record { attrs = map meta_view b.attrs.items; items = opt
 
 abbrev pub inside_view : Inside → BlockRead
 inside_view b = record { attrs = map meta_view b.attrs.items; items = option_map (λ v. map item_view v.items) b.items; is_ended = b.is_ended }
+
+abbrev pub part_view : Part → PartView
+part_view parts.Nothing = no_part
+part_view (parts.Stmt s) = stmt_part (stmt_view s)
+part_view (parts.Tail t) = tail_part (tail_view t)
+
+abbrev pub body_view : Body → BodyRead
+body_view b = record { stmts = map stmt_view b.stmts.items; tail = tail_view b.tail }
 
 abbrev pub supply_view : Supply → List FileAstId
 supply_view s = s.rest.now

@@ -23,7 +23,7 @@ pub(crate) struct Supply<'a> {
 }
 
 impl<'a> Supply<'a> {
-    fn take(&mut self) -> Numbers
+    pub(crate) fn take(&mut self) -> Numbers
         ensures { spec.first (supply_view self.old) ≡ (result, supply_view self.new) }
     {
         match self.rest {
@@ -169,7 +169,11 @@ fn module_with_ids(
 
 #[cycle(ids)]
 #[tactic(auto, using(hir_input::proofs::SyntaxViews::item_views))]
-fn item_with_ids(alloc: Global, item: Item, supply: &mut Supply<'_>) -> Result<Item, AllocError>
+pub(crate) fn item_with_ids(
+    alloc: Global,
+    item: Item,
+    supply: &mut Supply<'_>,
+) -> Result<Item, AllocError>
     ensures { IfOk result (λ made. spec.item_with_ids (item_view item) (supply_view supply.old) ≡ (item_view made, supply_view supply.new)) }
 {
     let id = supply.take();

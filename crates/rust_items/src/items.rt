@@ -7,7 +7,7 @@ ghost use Rattle.rust_items.specs.Found.{Finds, log_view};
 ghost use Rattle.rust_items.specs.Items as spec;
 ghost use Rattle.rust_items.specs.Views.{inside_view};
 ghost use Rattle.rust_leaves.specs.Kinds.{named_node};
-ghost use Rattle.rust_leaves.specs.Views.{front_view};
+ghost use Rattle.rust_leaves.specs.Views.{front_view, name_view};
 
 use crate::externs::{extern_block, is_list_end};
 use crate::log::{Log, ProblemKind};
@@ -15,7 +15,7 @@ use crate::turn::{Extent, leaf_turn, push_item};
 use hir_input::ast::{Item, Module, Visibility};
 use hir_input::{AstIdKind, Meta, Name};
 use rust_cursor::Cursor;
-use rust_leaves::{Front, Head, item_name, joined, take_front};
+use rust_leaves::{Front, Head, Named, item_name, joined, take_front};
 use rust_metas::inner_attributes;
 use std::alloc::{AllocError, Global};
 
@@ -56,6 +56,21 @@ fn push_some(items: &mut Vec<Item>, item: Option<Item>) -> Result<(), AllocError
         }
         None => Ok(()),
     }
+}
+
+/// Adds a module, and behind it what it holds.
+fn push_module<'t>(
+    log: &mut Log<'t>,
+    extent: Extent,
+    named: &Named<'t>,
+    is_ended: bool,
+    more: Log<'t>,
+) -> Result<(), AllocError>
+    ensures { OnOk result (log_view log.new ≡ spec.and_parent extent.depth extent.start extent.end AstIdKind.Module (name_view named.now) is_ended (log_view more.entry) (log_view log.old)) }
+{
+    let kind = AstIdKind::Module;
+    push_item(log, extent, kind, named.hashed, named.range, is_ended)?;
+    log.append(more)
 }
 
 #[tactic(auto, using(hir_input::proofs::SyntaxViews::item_views))]
@@ -153,15 +168,7 @@ fn module<'t>(
         end: cursor.past(),
     };
     let is_ended = semicolon || inside.is_ended;
-    push_item(
-        log,
-        extent,
-        AstIdKind::Module,
-        named.hashed,
-        named.range,
-        is_ended,
-    )?;
-    log.append(more)?;
+    push_module(log, extent, &named, is_ended, more)?;
     module_item(
         alloc,
         front.attrs,
@@ -173,9 +180,34 @@ fn module<'t>(
     )
 }
 
-/// An item, or none: then tokens are passed over.
+/// An item behind what stands in front of it, or none: then tokens are passed over.
 #[cycle(items)]
-#[tactic(auto, unfolding(crate::specs::Items::turn, crate::specs::Items::module_at))]
+#[tactic(auto, unfolding(crate::specs::Items::behind_front, crate::specs::Items::module_at))]
+pub(crate) fn behind_front<'t>(
+    alloc: Global,
+    cursor: &mut Cursor<'t>,
+    left: usize,
+    front: Front,
+    log: &mut Log<'t>,
+) -> Result<Option<Item>, AllocError>
+    ensures { Finds (option_map item_view) (spec.behind_front left (front_view front) (log_view log.old) cursor.old) result (log_view log.new) cursor.new }
+{
+    match front.head {
+        Head::Module => {
+            let item = module(alloc, cursor, left, front, log)?;
+            Ok(Some(item))
+        }
+        Head::ExternBlock => {
+            let item = extern_block(alloc, cursor, depth_of(left), front.start, front.attrs, log)?;
+            Ok(Some(item))
+        }
+        _ => leaf_turn(alloc, cursor, depth_of(left), front, log),
+    }
+}
+
+/// An item, or none.
+#[cycle(items)]
+#[tactic(auto, unfolding(crate::specs::Items::turn, crate::specs::Items::behind_front))]
 fn turn<'t>(
     alloc: Global,
     cursor: &mut Cursor<'t>,
@@ -190,17 +222,7 @@ fn turn<'t>(
         return Ok(None);
     }
     let front = take_front(alloc, cursor)?;
-    match front.head {
-        Head::Module => {
-            let item = module(alloc, cursor, left, front, log)?;
-            Ok(Some(item))
-        }
-        Head::ExternBlock => {
-            let item = extern_block(alloc, cursor, depth_of(left), front.start, front.attrs, log)?;
-            Ok(Some(item))
-        }
-        _ => leaf_turn(alloc, cursor, depth_of(left), front, log),
-    }
+    behind_front(alloc, cursor, left, front, log)
 }
 
 /// The items of a file, or of a module.

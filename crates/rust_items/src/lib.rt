@@ -1,6 +1,7 @@
 //! Reads the items of Rust source text into the syntax that an item tree is made from.
 #![tactic(auto)]
 
+mod blocks;
 mod externs;
 mod ids;
 mod items;
@@ -8,6 +9,7 @@ mod log;
 mod source_file;
 mod turn;
 
+pub use blocks::read_block;
 pub use log::{Problem, ProblemKind};
 pub use rust_paths::TextRange;
 pub use source_file::{ItemPlace, SourceFile, read_source_file};

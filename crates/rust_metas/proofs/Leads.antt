@@ -18,13 +18,13 @@ use Rattle.rust_metas.specs.Attributes.{is_doc, is_behind, bracketed, opened, at
 
 -- ---- literals
 
-value_leads : Forwards value
+value_leads : (anchor : ℕ) → Forwards (value anchor)
 unfolding value
-value_leads ts = when (is_literal ts && is_ended (bumped ts)) (λ e. rw e (bumped_leads ts)) (λ e. rw e here)
+value_leads anchor ts = when (is_literal ts && is_ended (bumped ts)) (λ e. rw e (bumped_leads ts)) (λ e. rw e here)
 
-documentation_leads : Forwards documentation
+documentation_leads : (anchor : ℕ) → Forwards (documentation anchor)
 unfolding documentation
-documentation_leads ts = bumped_leads ts
+documentation_leads anchor ts = bumped_leads ts
 
 -- ---- conditions
 
@@ -73,15 +73,15 @@ condition_leads depth ts = condition_with_leads (conditions depth) (conditions_l
 
 -- ---- metas
 
-input_leads : (path : Option PathNode) → Forwards (input path)
+input_leads : (anchor : ℕ) (path : Option PathNode) → Forwards (input anchor path)
 unfolding input
-input_leads path ts =
-    when (symbol ts == 61) (λ e. rw e (further (value_leads _)))
+input_leads anchor path ts =
+    when (symbol ts == 61) (λ e. rw e (further (value_leads anchor _)))
     (λ e. rw e (when (is_at_open ts) (λ f. rw f (taken_leads_on _ ts)) (λ f. rw f here)))
 
-plain_leads : Forwards plain
+plain_leads : (anchor : ℕ) → Forwards (plain anchor)
 unfolding plain
-plain_leads ts = through (path_leads ts) (input_leads _ _)
+plain_leads anchor ts = through (path_leads ts) (input_leads anchor _ _)
 
 module _ (inner : Reader MetaView) (condition : Reader CfgView) (i : Forwards inner) (c : Forwards condition) where
   unsafe_leads : Forwards (unsafe_with inner)
@@ -96,43 +96,43 @@ module _ (inner : Reader MetaView) (condition : Reader CfgView) (i : Forwards in
   cfg_attr_leads : Forwards (cfg_attr_with inner condition)
   cfg_attr_leads ts = further (further (through (c _) (through (turns_leads is_at_end (one (member inner)) member_leads _) (behind_closed_leads _))))
 
-  meta_with_leads : Forwards (meta_with inner condition)
-  meta_with_leads ts =
+  meta_with_leads : (anchor : ℕ) → Forwards (meta_with anchor inner condition)
+  meta_with_leads anchor ts =
       when (is_call (codes "unsafe") ts) (λ e. rw e (unsafe_leads ts))
       (λ e. rw e (when (is_call (codes "cfg") ts) (λ f. rw f (cfg_leads ts))
-      (λ f. rw f (when (is_call (codes "cfg_attr") ts) (λ g. rw g (cfg_attr_leads ts)) (λ g. rw g (plain_leads ts))))))
+      (λ f. rw f (when (is_call (codes "cfg_attr") ts) (λ g. rw g (cfg_attr_leads ts)) (λ g. rw g (plain_leads anchor ts))))))
 
-meta_leads : (depth : ℕ) → Forwards (meta depth)
+meta_leads : (anchor depth : ℕ) → Forwards (meta anchor depth)
 unfolding meta
-meta_leads zero ts = here
-meta_leads (suc depth) ts = meta_with_leads (meta depth) (condition depth) (meta_leads depth) (condition_leads depth) ts
+meta_leads anchor zero ts = here
+meta_leads anchor (suc depth) ts = meta_with_leads (meta anchor depth) (condition depth) (meta_leads anchor depth) (condition_leads depth) anchor ts
 
 -- ---- attributes
 
-doc_leads : Forwards doc
+doc_leads : (anchor : ℕ) → Forwards (doc anchor)
 unfolding doc
-doc_leads ts = documentation_leads ts
+doc_leads anchor ts = documentation_leads anchor ts
 
-bracketed_leads : Forwards bracketed
+bracketed_leads : (anchor : ℕ) → Forwards (bracketed anchor)
 unfolding bracketed
-bracketed_leads ts = further (through (meta_leads _ _) (behind_closed_leads _))
+bracketed_leads anchor ts = further (through (meta_leads anchor _ _) (behind_closed_leads _))
 
 opened_leads : (style : DocStyle) (ts : Tokens) → LeadsTo ts (opened style ts)
 opened_leads Outer ts = bumped_leads ts
 opened_leads Inner ts = further (bumped_leads _)
 
-attribute_leads : (style : DocStyle) → Forwards (attribute style)
+attribute_leads : (anchor : ℕ) (style : DocStyle) → Forwards (attribute anchor style)
 unfolding attribute
-attribute_leads style ts = when (is_doc style ts) (λ e. rw e (doc_leads ts)) (λ e. rw e (through (opened_leads style ts) (bracketed_leads _)))
+attribute_leads anchor style ts = when (is_doc style ts) (λ e. rw e (doc_leads anchor ts)) (λ e. rw e (through (opened_leads style ts) (bracketed_leads anchor _)))
 
-attributes_leads : (style : DocStyle) → Forwards (attributes style)
+attributes_leads : (anchor : ℕ) (style : DocStyle) → Forwards (attributes anchor style)
 unfolding attributes
-attributes_leads style ts = turns_leads (is_behind style) (one (attribute style)) (attribute_leads style) ts
+attributes_leads anchor style ts = turns_leads (is_behind style) (one (attribute anchor style)) (attribute_leads anchor style) ts
 
-pub outer_attributes_leads : Forwards outer_attributes
+pub outer_attributes_leads : (anchor : ℕ) → Forwards (outer_attributes anchor)
 unfolding outer_attributes
-outer_attributes_leads ts = attributes_leads Outer ts
+outer_attributes_leads anchor ts = attributes_leads anchor Outer ts
 
-pub inner_attributes_leads : Forwards inner_attributes
+pub inner_attributes_leads : (anchor : ℕ) → Forwards (inner_attributes anchor)
 unfolding inner_attributes
-inner_attributes_leads ts = attributes_leads Inner ts
+inner_attributes_leads anchor ts = attributes_leads anchor Inner ts

@@ -5,19 +5,22 @@ use Rattle.rust_items.specs.Items.{finding_from, items, is_list_end, turn}
 use Rattle.rust_items.proofs.items.+items.Given as goal
 
 abbrev pub decreases-module_inside : goal.decreases-module_inside
-decreases-module_inside l = 5 * l.left
+decreases-module_inside l = 6 * l.left
 
 abbrev pub decreases-inside_unless : goal.decreases-inside_unless
-decreases-inside_unless l = 5 * l.left + 1
+decreases-inside_unless l = 6 * l.left + 1
 
 abbrev pub decreases-module : goal.decreases-module
-decreases-module l = 5 * l.left + 2
+decreases-module l = 6 * l.left + 2
+
+abbrev pub decreases-behind_front : goal.decreases-behind_front
+decreases-behind_front l = 6 * l.left + 3
 
 abbrev pub decreases-turn : goal.decreases-turn
-decreases-turn l = 5 * l.left + 3
+decreases-turn l = 6 * l.left + 4
 
 abbrev pub decreases-items : goal.decreases-items
-decreases-items l = 5 * l.left + 4
+decreases-items l = 6 * l.left + 5
 
 abbrev pub invariant-items-loop-turn : goal.invariant-items-loop-turn
 invariant-items-loop-turn l =

@@ -1,0 +1,41 @@
+-- Steps of what reads blocks.
+use Rattle.std.proofs.Common.{◌≡◌, ◌<◌, ◌+◌, ◌-◌, ℕ, zero, suc, Bool, true, false, List, [], ◌∷◌, ◌++◌, refl, sym, ap, ◌∙◌, arith, append-nil, append_assoc}
+use Rattle.hir_input.specs.declared.ids.FileAstId.{FileAstId}
+use Rattle.hir_input.specs.Syntax.{StmtView}
+use Rattle.rust_cursor.specs.Tokens.{Tokens}
+use Rattle.rust_cursor.specs.Elements.{beyond}
+use Rattle.rust_items.specs.Found.{Found}
+use Rattle.rust_items.specs.Items.{is_list_end}
+use Rattle.rust_items.specs.Blocks.{PartView, BodyRead, and_part, part, parts_from, stmt_with_ids, stmts_with_ids}
+
+pub parts_stop : (is_top : Bool) (n : ℕ) (done : BodyRead) (f : Found) (ts : Tokens) → is_list_end is_top ts ≡ true → parts_from is_top n done f ts ≡ (done, (f, ts))
+parts_stop is_top zero done f ts e = refl
+parts_stop is_top (suc n) done f ts e = rw e refl
+
+-- one more turn
+pub parts_more : (is_top : Bool) (bound at past : ℕ) (done done' : BodyRead) (p : PartView) (f f' : Found) (ts mid after : Tokens) (all : BodyRead × (Found × Tokens)) → at < bound → is_list_end is_top ts ≡ false
+    → part is_top f ts ≡ (p, (f', mid)) → past ≡ ts.past → after ≡ beyond past mid → done' ≡ and_part done p → parts_from is_top (bound - at) done f ts ≡ all → parts_from is_top (bound - (at + 1)) done' f' after ≡ all
+parts_more is_top bound at past done done' p f f' ts mid after all below e told q a d before =
+    let next : bound - at ≡ suc (bound - (at + 1)) = omega arith in
+    let n = bound - (at + 1) in
+    let step : parts_from is_top (bound - at) done f ts ≡ parts_from is_top n (and_part done (part is_top f ts).0) (part is_top f ts).1.0 (beyond ts.past (part is_top f ts).1.1) = rw (next, e) refl in
+    let here : parts_from is_top n (and_part done (part is_top f ts).0) (part is_top f ts).1.0 (beyond ts.past (part is_top f ts).1.1) ≡ parts_from is_top n (and_part done p) f' (beyond ts.past mid) =
+    ap (λ r. parts_from is_top n (and_part done r.0) r.1.0 (beyond ts.past r.1.1)) told in
+    ap (λ l. parts_from is_top n l f' after) d
+    ∙ ap (λ k. parts_from is_top n (and_part done p) f' k) (a ∙ ap (λ k. beyond k mid) q)
+    ∙ sym here ∙ sym step ∙ before
+
+-- what is done, and then this
+abbrev pub behind : List StmtView → List StmtView × List FileAstId → List StmtView × List FileAstId
+behind done r = (done ++ r.0, r.1)
+
+-- one more statement
+pub one_more : (done : List StmtView) (s made : StmtView) (ss : List StmtView) (ids rest : List FileAstId) → stmt_with_ids s ids ≡ (made, rest)
+    → behind done (stmts_with_ids (s ∷ ss) ids) ≡ behind (done ++ made ∷ []) (stmts_with_ids ss rest)
+one_more done s made ss ids rest e =
+    ap (λ r. (done ++ (r.0 ∷ (stmts_with_ids ss r.1).0), (stmts_with_ids ss r.1).1)) e
+    ∙ ap (λ l. (l, (stmts_with_ids ss rest).1)) (sym (append_assoc done (made ∷ []) (stmts_with_ids ss rest).0))
+
+-- no statement is left
+pub no_more : (done : List StmtView) (ids : List FileAstId) → behind done (stmts_with_ids [] ids) ≡ (done, ids)
+no_more done ids = ap (λ l. (l, ids)) (append-nil done)

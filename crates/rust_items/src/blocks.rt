@@ -1,0 +1,304 @@
+//! Blocks.
+
+ghost use Rattle.std.specs.Prelude.{◌≡◌, IfOk, OnOk, map, option_map};
+ghost use Rattle.hir_input.specs.Attr.{meta_view};
+ghost use Rattle.hir_input.specs.Syntax.{call_view, item_view, stmt_view, tail_view};
+ghost use Rattle.rust_leaves.specs.Views.{call_read_view, front_view};
+ghost use Rattle.rust_items.specs.Blocks as spec;
+ghost use Rattle.rust_items.specs.Found.{Finds, log_view};
+ghost use Rattle.rust_items.specs.Views.{body_view, part_view, supply_view};
+
+use crate::externs::is_list_end;
+use crate::ids::{Supply, item_with_ids};
+use crate::items::{MOST_DEPTH, behind_front};
+use crate::log::{Log, ProblemKind};
+use crate::turn::{Extent, push_item};
+use hir_input::ast::{BlockExpr, Item, MacroCall, Stmt, Tail};
+use hir_input::{AstIdKind, Meta};
+use rust_cursor::Cursor;
+use rust_ids::assign;
+use rust_leaves::{Call, front_behind, is_item, pass_statement, statement_call};
+use rust_metas::{inner_attributes, outer_attributes};
+use std::alloc::{AllocError, Global};
+
+/// A part of a block.
+#[derive(Drop)]
+pub(crate) enum Part {
+    Nothing,
+    Stmt(Stmt),
+    Tail(Tail),
+}
+
+/// The parts of a block.
+#[derive(Drop)]
+pub(crate) struct Body {
+    pub stmts: Vec<Stmt>,
+    pub tail: Tail,
+}
+
+fn item_part(item: Option<Item>) -> Part
+    ensures { part_view result ≡ spec.item_part (option_map item_view item) }
+{
+    match item {
+        Some(item) => Part::Stmt(Stmt::Item(item)),
+        None => Part::Nothing,
+    }
+}
+
+fn other_part(is_last: bool) -> Part
+    ensures { part_view result ≡ spec.other_part is_last }
+{
+    if is_last {
+        Part::Tail(Tail::Other)
+    } else {
+        Part::Stmt(Stmt::Other)
+    }
+}
+
+/// A statement that is neither an item nor a macro call, or such an expression where it stands last.
+#[tactic(auto, unfolding(crate::specs::Blocks::other_read))]
+fn take_other(cursor: &mut Cursor<'_>, is_top: bool) -> Part
+    ensures { spec.other_read is_top cursor.old ≡ (part_view result, cursor.new) }
+{
+    let is_let = cursor.word() == "let";
+    let is_ended = pass_statement(cursor);
+    let is_last = !is_let && (!is_ended && is_list_end(cursor, is_top));
+    other_part(is_last)
+}
+
+fn is_operand(cursor: &Cursor<'_>) -> bool
+    ensures { result ≡ spec.is_operand cursor.now }
+{
+    matches!(cursor.symbol(), b'.' | b'?')
+}
+
+fn push_call<'t>(
+    log: &mut Log<'t>,
+    start: usize,
+    end: usize,
+    call: &Call<'t>,
+) -> Result<(), AllocError>
+    ensures { OnOk result (log_view log.new ≡ spec.and_call start end (call_read_view call.now) (log_view log.old)) }
+{
+    let extent = Extent {
+        depth: 0,
+        start,
+        end,
+    };
+    push_item(log, extent, AstIdKind::MacroCall, call.name, None, true)
+}
+
+/// What a macro call is, by what stands behind it.
+#[tactic(auto, unfolding(crate::specs::Blocks::call_found))]
+fn call_part<'t>(
+    cursor: &mut Cursor<'t>,
+    is_top: bool,
+    start: usize,
+    call: Call<'t>,
+    log: &mut Log<'t>,
+) -> Result<Part, AllocError>
+    ensures { Finds part_view (spec.call_found is_top start (call_read_view call.entry) (log_view log.old) cursor.old) result (log_view log.new) cursor.new }
+{
+    let end = cursor.past();
+    if cursor.symbol() == b';' {
+        push_call(log, start, end, &call)?;
+        cursor.bump();
+        return Ok(Part::Stmt(Stmt::MacroCall(call.node)));
+    }
+    if is_list_end(cursor, is_top) {
+        push_call(log, start, end, &call)?;
+        return Ok(Part::Tail(Tail::MacroCall(call.node)));
+    }
+    if call.is_braced && !is_operand(cursor) {
+        push_call(log, start, end, &call)?;
+        return Ok(Part::Stmt(Stmt::MacroCall(call.node)));
+    }
+    Ok(take_other(cursor, is_top))
+}
+
+/// A macro call, or another statement.
+fn take_called<'t>(
+    alloc: Global,
+    cursor: &mut Cursor<'t>,
+    is_top: bool,
+    start: usize,
+    attrs: Vec<Meta>,
+    log: &mut Log<'t>,
+) -> Result<Part, AllocError>
+    ensures { Finds part_view (spec.taken_call is_top start (map meta_view attrs.items) (log_view log.old) cursor.old) result (log_view log.new) cursor.new }
+{
+    match statement_call(alloc, cursor, attrs)? {
+        Some(call) => call_part(cursor, is_top, start, call, log),
+        None => Ok(take_other(cursor, is_top)),
+    }
+}
+
+fn take_item<'t>(
+    alloc: Global,
+    cursor: &mut Cursor<'t>,
+    start: usize,
+    attrs: Vec<Meta>,
+    log: &mut Log<'t>,
+) -> Result<Part, AllocError>
+    ensures { Finds part_view (spec.taken_item start (map meta_view attrs.items) (log_view log.old) cursor.old) result (log_view log.new) cursor.new }
+{
+    let front = front_behind(alloc, cursor, start, attrs)?;
+    let item = behind_front(alloc, cursor, MOST_DEPTH, front, log)?;
+    Ok(item_part(item))
+}
+
+/// A part of a block, behind its attributes.
+#[tactic(auto, unfolding(crate::specs::Blocks::behind_attributes))]
+fn take_behind<'t>(
+    alloc: Global,
+    cursor: &mut Cursor<'t>,
+    is_top: bool,
+    start: usize,
+    attrs: Vec<Meta>,
+    log: &mut Log<'t>,
+) -> Result<Part, AllocError>
+    ensures { Finds part_view (spec.behind_attributes is_top start (map meta_view attrs.items) (log_view log.old) cursor.old) result (log_view log.new) cursor.new }
+{
+    if cursor.is_at_end() {
+        return Ok(Part::Nothing);
+    }
+    if is_item(cursor) {
+        return take_item(alloc, cursor, start, attrs, log);
+    }
+    take_called(alloc, cursor, is_top, start, attrs, log)
+}
+
+/// A part of a block.
+#[tactic(auto, unfolding(crate::specs::Blocks::part))]
+fn take_part<'t>(
+    alloc: Global,
+    cursor: &mut Cursor<'t>,
+    is_top: bool,
+    log: &mut Log<'t>,
+) -> Result<Part, AllocError>
+    ensures { Finds part_view (spec.part is_top (log_view log.old) cursor.old) result (log_view log.new) cursor.new }
+{
+    if cursor.is_at_end() {
+        log.push_problem(ProblemKind::Unmatched, cursor.at())?;
+        cursor.bump();
+        return Ok(Part::Nothing);
+    }
+    if cursor.symbol() == b';' {
+        cursor.bump();
+        return Ok(Part::Nothing);
+    }
+    let start = cursor.at();
+    let attrs = outer_attributes(alloc, cursor, start)?;
+    take_behind(alloc, cursor, is_top, start, attrs, log)
+}
+
+fn push_part(body: &mut Body, part: Part) -> Result<(), AllocError>
+    ensures { OnOk result (body_view body.new ≡ spec.and_part (body_view body.old) (part_view part)) }
+{
+    match part {
+        Part::Nothing => Ok(()),
+        Part::Stmt(stmt) => {
+            body.stmts.push(stmt)?;
+            Ok(())
+        }
+        Part::Tail(tail) => {
+            body.tail = tail;
+            Ok(())
+        }
+    }
+}
+
+/// The parts of a block, up to its `}`, or up to the end of the text.
+#[tactic(auto, using(crate::proofs::Parts::parts_stop))]
+fn parts<'t>(
+    alloc: Global,
+    cursor: &mut Cursor<'t>,
+    is_top: bool,
+    log: &mut Log<'t>,
+) -> Result<Body, AllocError>
+    ensures { Finds body_view (spec.parts is_top (log_view log.old) cursor.old) result (log_view log.new) cursor.new }
+{
+    let mut body = Body {
+        stmts: Vec::new(alloc),
+        tail: Tail::Nothing,
+    };
+    let most = Cursor::most_turns();
+    for _turn in 0..most {
+        if is_list_end(cursor, is_top) {
+            return Ok(body);
+        }
+        let past = cursor.past();
+        let part = take_part(alloc, cursor, is_top, log)?;
+        push_part(&mut body, part)?;
+        cursor.pass_beyond(past);
+    }
+    Ok(body)
+}
+
+fn call_with_id(mut node: MacroCall, supply: &mut Supply<'_>) -> MacroCall
+    ensures { (spec.call_with_id (call_view node) (supply_view supply.old)) ≡ (call_view result, supply_view supply.new) }
+{
+    let id = supply.take();
+    node.hash = id.hash;
+    node.number = id.number;
+    node
+}
+
+fn stmt_with_ids(alloc: Global, stmt: Stmt, supply: &mut Supply<'_>) -> Result<Stmt, AllocError>
+    ensures { IfOk result (λ made. spec.stmt_with_ids (stmt_view stmt) (supply_view supply.old) ≡ (stmt_view made, supply_view supply.new)) }
+{
+    match stmt {
+        Stmt::Item(item) => Ok(Stmt::Item(item_with_ids(alloc, item, supply)?)),
+        Stmt::MacroCall(node) => Ok(Stmt::MacroCall(call_with_id(node, supply))),
+        Stmt::Other => Ok(Stmt::Other),
+    }
+}
+
+#[tactic(auto, using(crate::proofs::Parts::one_more, crate::proofs::Parts::no_more))]
+fn stmts_with_ids(
+    alloc: Global,
+    stmts: Vec<Stmt>,
+    supply: &mut Supply<'_>,
+) -> Result<Vec<Stmt>, AllocError>
+    ensures { IfOk result (λ v. spec.stmts_with_ids (map stmt_view stmts.items) (supply_view supply.old) ≡ (map stmt_view v.items, supply_view supply.new)) }
+{
+    let mut numbered = Vec::with_capacity(alloc, stmts.len())?;
+    for stmt in stmts {
+        let stmt = stmt_with_ids(alloc, stmt, supply)?;
+        numbered.push(stmt)?;
+    }
+    Ok(numbered)
+}
+
+fn tail_with_id(tail: Tail, supply: &mut Supply<'_>) -> Tail
+    ensures { tail_view result ≡ spec.tail_with_id (tail_view tail) (supply_view supply.old) }
+{
+    match tail {
+        Tail::MacroCall(node) => Tail::MacroCall(call_with_id(node, supply)),
+        Tail::Nothing => Tail::Nothing,
+        Tail::Other => Tail::Other,
+    }
+}
+
+/// Reads a block expression from its text, with its braces; a text that begins with none is that between them.
+///
+/// It answers for every text. Statements that are neither items nor macro calls are not read, nor are the blocks in them. The
+/// ids count the items and the macro calls of this block alone. What stands behind the block is ignored.
+///
+/// # Errors
+///
+/// `AllocError` where memory is refused.
+pub fn read_block(alloc: Global, text: &str) -> Result<BlockExpr, AllocError>
+    ensures { IfOk result (λ block. spec.IsBlock text.now block) }
+{
+    let mut cursor = Cursor::new(text);
+    let is_top = !cursor.eat(b'{');
+    let attrs = inner_attributes(alloc, &mut cursor, 0)?;
+    let mut log = Log::new(alloc);
+    let body = parts(alloc, &mut cursor, is_top, &mut log)?;
+    let ids = assign(alloc, &log.rows)?;
+    let mut supply = Supply { rest: &ids };
+    let stmts = stmts_with_ids(alloc, body.stmts, &mut supply)?;
+    let tail = tail_with_id(body.tail, &mut supply);
+    Ok(BlockExpr { attrs, stmts, tail })
+}

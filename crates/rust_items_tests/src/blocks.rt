@@ -1,0 +1,151 @@
+//! Blocks: which parts are items and macro calls, and which ids they have.
+use hir_input::ast::{BlockExpr, Stmt, Tail};
+use hir_input::{CfgOptions, Edition, EditionYear, HirFileId};
+use item_tree::{CrateData, lower_block};
+use rust_items::read_block;
+use std::alloc::Global;
+use std::test::Fail;
+
+/// A letter for each statement (`I`tem, `M`acro call or `O`ther) and, behind a line, for what stands last.
+fn shape_of(alloc: Global, block: &BlockExpr) -> Result<String, Fail> {
+    let mut text = String::new(alloc);
+    for stmt in &block.stmts {
+        text.push_str(match stmt {
+            Stmt::Item(_) => "I",
+            Stmt::MacroCall(_) => "M",
+            Stmt::Other => "O",
+        })?;
+    }
+    text.push_str(match &block.tail {
+        Tail::Nothing => "|",
+        Tail::MacroCall(_) => "|M",
+        Tail::Other => "|O",
+    })?;
+    Ok(text)
+}
+
+const SHAPES: [(&str, &str); 22] = [
+    ("", "|"),
+    ("{", "|"),
+    ("/* a */ { } // b", "|"),
+    ("{ fn f() {} let x = 1; struct S; }", "IOI|"),
+    ("fn f() {} f()", "I|O"),
+    ("{ m!(1); m!{} m![2] }", "MM|M"),
+    ("{ a::m! {} }", "|M"),
+    ("{ #[a] m!(); x }", "M|O"),
+    ("{ m!(1).await; m!{}.x; m!{}?; m!() + 1 }", "OOO|O"),
+    ("{ unsafe { a() } async { b } const { 1 } }", "OO|O"),
+    (
+        "{ async move { 1 }; const X: u8 = 1; unsafe fn g() {} async fn h() {} }",
+        "OIII|",
+    ),
+    ("{ if a { b } else if c { d } else { e } fn f() {} }", "OI|"),
+    (
+        "{ if let X(x) = unsafe { g() } { } match x { } use a::b; }",
+        "OOI|",
+    ),
+    (
+        "{ match x { A => 1 }.b(); return m!(); while x {} for i in 0.. {} -1 }",
+        "OOOO|O",
+    ),
+    (
+        "{ #[b] fn f() {} ; ; let y = || { 2 }; 'a: loop { break 'a } }",
+        "IO|O",
+    ),
+    ("{ { fn inner() {} } { m!(1); } }", "O|O"),
+    (
+        "{ mod m { fn f() {} } extern \"C\" { fn g(); } m!{} 1 }",
+        "IIM|O",
+    ),
+    (
+        "{ static || {}; static X: u8 = 1; union = 3; union U { a: u8 } auto(); default }",
+        "OIOIO|O",
+    ),
+    (
+        "{ macro_rules! m { () => {} } macro_rules!(a); pub(crate) type T = u8; }",
+        "IMI|",
+    ),
+    ("{ let x = 1 }", "O|"),
+    ("{ x fn f() {} ) y }", "OI|O"),
+    ("{ #[a] }", "|"),
+];
+
+#[test]
+fn blocks_have_their_parts(rt: HostRuntime) -> Result<(), Fail> {
+    let alloc = rt.alloc();
+    for (text, shape) in SHAPES {
+        let block = read_block(alloc, text)?;
+        assert_eq!(rt; shape_of(alloc, &block)?.as_str(), shape, "of {text}");
+    }
+    Ok(())
+}
+
+const BLOCK: &str = "{
+    #![x]
+    fn f() {}
+    #[attr]
+    m!(1);
+    let a = m!(2);
+    mod inline { fn fn_in_module() {} }
+    m! {}
+    a;
+    m!()
+}
+";
+
+const PAGE: &str = "#![x]
+
+// AstId: Fn[BE8F, 0]
+pub(self) fn f;
+
+#[attr]
+// AstId: MacroCall[7E68, 0], SyntaxContextId: ROOT2024, ExpandTo: Statements
+m!(...);
+
+// AstId: Module[03AE, 0]
+pub(self) mod inline {
+    // AstId: Fn[2A78, 0]
+    pub(self) fn fn_in_module;
+}
+
+// AstId: MacroCall[7E68, 1], SyntaxContextId: ROOT2024, ExpandTo: Statements
+m!(...);
+
+// AstId: MacroCall[7E68, 2], SyntaxContextId: ROOT2024, ExpandTo: Statements
+m!(...);
+";
+
+#[test]
+fn a_block_has_its_page(rt: HostRuntime) -> Result<(), Fail> {
+    let alloc = rt.alloc();
+    let krate = CrateData {
+        root: HirFileId(0),
+        cfg: CfgOptions::new(Vec::new(alloc)),
+        attrs: Vec::new(alloc),
+    };
+    let edition = Edition {
+        year: EditionYear::E2024,
+        reserved: Vec::new(alloc),
+    };
+    let block = read_block(alloc, BLOCK)?;
+    let tree = lower_block(alloc, &block, &krate, &[])?;
+    assert_eq!(rt; tree.pretty_print(alloc, &edition)?.as_str(), PAGE);
+    Ok(())
+}
+
+// Whether a block is read whole, if it is read.
+fn is_whole(alloc: Global) -> Option<bool> {
+    match read_block(alloc, BLOCK) {
+        Ok(block) => Some(block.stmts.len() == 6 && block.attrs.len() == 1),
+        Err(_) => None,
+    }
+}
+
+#[test]
+fn a_block_is_whole_or_refused_when_memory_is_refused(rt: HostRuntime) -> Result<(), Fail> {
+    let first = is_whole(rt.alloc());
+    let second = is_whole(rt.alloc());
+    assert!(rt; first.unwrap_or(true) && second.unwrap_or(true));
+    assert!(rt; first.is_some() || second.is_some());
+    Ok(())
+}
