@@ -112,7 +112,7 @@ text_found : (text : List ℕ) → IsText text
 unfolding found_in items_in
 text_found text =
     let whole = tokens_laid text in
-    let first = behind (length text) (inner_attributes_leads (tokens_of text)) whole in
+    let first = behind (length text) (inner_attributes_leads 0 (tokens_of text)) whole in
     let found = items_found (length text) true 128 nothing_found (behind_attributes text) first.laid in
     let last = behind (length text) found.leads first.laid in
     record {

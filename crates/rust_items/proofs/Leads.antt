@@ -22,8 +22,8 @@ use Rattle.rust_leaves.specs.Heads.{is_literal_kind, behind_abi, is_modifier, be
 use Rattle.rust_cursor.specs.Words.{is_at_end}
 use Rattle.rust_leaves.specs.Texts.{spaced_from, spaced_tree}
 use Rattle.rust_leaves.specs.Leaves.{LeafRead, name_read, named, crate_named, item_end, value_end, semicolon_end, call_end}
-use Rattle.rust_leaves.specs.Kinds.{function, block_item, union_item, enumeration, trait_item, macro_def, type_alias, static_value, constant, structure, implementation, crate_item, use_declaration, macro_definition, is_called, invocation, leaf}
-use Rattle.rust_items.specs.Items.{front}
+use Rattle.rust_leaves.specs.Kinds.{function, block_item, union_item, enumeration, trait_item, macro_def, type_alias, static_value, constant, structure, implementation, crate_item, use_declaration, macro_definition, is_called, invocation, leaf_by, leaf}
+use Rattle.rust_leaves.specs.Fronts.{FrontRead, front_behind, front}
 use Rattle.rust_items.specs.Places.{id_of, held}
 
 -- ---- texts
@@ -111,8 +111,12 @@ takes_by_behind : {h : Head} {ts us vs : Tokens} → LeadsTo ts us → TakesBy h
 takes_by_behind p t = record { leads = through p t.leads; word = λ other. takes_behind p (t.word other) }
 
 pub front_takes : (ts : Tokens) → TakesBy (front ts).0.head ts (front ts).1
-unfolding front
-front_takes ts = takes_by_behind (through (outer_attributes_leads ts) (through (visibility_leads _) (behind_modifiers_leads _))) (head_takes _)
+unfolding front front_behind
+front_takes ts = takes_by_behind (through (outer_attributes_leads (at ts) ts) (through (visibility_leads _) (behind_modifiers_leads _))) (head_takes _)
+
+pub front_start : (ts : Tokens) → (front ts).0.start ≡ at ts
+unfolding front front_behind
+front_start ts = refl
 
 -- ---- names
 
@@ -165,8 +169,8 @@ pub record IsLeaf (ts us : Tokens) (l : LeafRead) : Type 0 where
   pub alone : held l.item ≡ no_items
   pub name : IsNamed ts us l.named
 
-module _ (attrs : List MetaView) (v : Option Visibility) (ts : Tokens) where
-  function_leaf : IsLeaf ts (function attrs v ts).1 (function attrs v ts).0
+module _ (start : ℕ) (attrs : List MetaView) (v : Option Visibility) (ts : Tokens) where
+  function_leaf : IsLeaf ts (function start attrs v ts).1 (function start attrs v ts).0
   unfolding function
   function_leaf = record { leads = through (named_leads ts) (item_end_leads _); id = refl; alone = refl; name = name_before (named_named ts) (item_end_leads _) }
 
@@ -215,7 +219,7 @@ module _ (attrs : List MetaView) (v : Option Visibility) (ts : Tokens) where
   unfolding structure
   struct_leaf = record { leads = through (named_leads ts) (item_end_leads _); id = refl; alone = refl; name = name_before (named_named ts) (item_end_leads _) }
 
-  impl_leaf : IsLeaf ts (implementation attrs ts).1 (implementation attrs ts).0
+  impl_leaf : IsLeaf ts (implementation start attrs ts).1 (implementation start attrs ts).0
   unfolding implementation
   impl_leaf = record { leads = item_end_leads ts; id = refl; alone = refl; name = nameless }
 
@@ -266,20 +270,23 @@ invocation_found attrs ts us p =
     }))
     (λ e. rw e p)
 
+leaf_by_found : (h : Head) (start : ℕ) (attrs : List MetaView) (v : Option Visibility) (ts us : Tokens) → TakesBy h ts us → LeafFound ts (leaf_by h start attrs v us).1 (leaf_by h start attrs v us).0
+leaf_by_found heads.Use start attrs v ts us t = leaf_taken (t.word (λ e. absurd cc)) (use_leaf start attrs v us)
+leaf_by_found heads.ExternCrate start attrs v ts us t = leaf_taken (t.word (λ e. absurd cc)) (crate_leaf start attrs v us)
+leaf_by_found heads.Fn start attrs v ts us t = leaf_taken (t.word (λ e. absurd cc)) (function_leaf start attrs v us)
+leaf_by_found heads.Impl start attrs v ts us t = leaf_taken (t.word (λ e. absurd cc)) (impl_leaf start attrs v us)
+leaf_by_found heads.Trait start attrs v ts us t = leaf_taken (t.word (λ e. absurd cc)) (trait_leaf start attrs v us)
+leaf_by_found heads.Struct start attrs v ts us t = leaf_taken (t.word (λ e. absurd cc)) (struct_leaf start attrs v us)
+leaf_by_found heads.Union start attrs v ts us t = leaf_taken (t.word (λ e. absurd cc)) (union_leaf start attrs v us)
+leaf_by_found heads.Enum start attrs v ts us t = leaf_taken (t.word (λ e. absurd cc)) (enum_leaf start attrs v us)
+leaf_by_found heads.Const start attrs v ts us t = leaf_taken (t.word (λ e. absurd cc)) (const_leaf start attrs v us)
+leaf_by_found heads.Static start attrs v ts us t = leaf_taken (t.word (λ e. absurd cc)) (static_leaf start attrs v us)
+leaf_by_found heads.TypeAlias start attrs v ts us t = leaf_taken (t.word (λ e. absurd cc)) (type_alias_leaf start attrs v us)
+leaf_by_found heads.MacroDef start attrs v ts us t = leaf_taken (t.word (λ e. absurd cc)) (macro_def_leaf start attrs v us)
+leaf_by_found heads.MacroRules start attrs v ts us t = leaf_taken (t.word (λ e. absurd cc)) (macro_rules_leaf start attrs v us)
+leaf_by_found _ start attrs v ts us t = invocation_found attrs ts us t.leads
+
 -- behind what stands in front of an item
-pub leaf_found : (h : Head) (attrs : List MetaView) (v : Option Visibility) (ts us : Tokens) → TakesBy h ts us → LeafFound ts (leaf h attrs v us).1 (leaf h attrs v us).0
+pub leaf_found : (h : FrontRead) (ts us : Tokens) → TakesBy h.head ts us → LeafFound ts (leaf h us).1 (leaf h us).0
 unfolding leaf
-leaf_found heads.Use attrs v ts us t = leaf_taken (t.word (λ e. absurd cc)) (use_leaf attrs v us)
-leaf_found heads.ExternCrate attrs v ts us t = leaf_taken (t.word (λ e. absurd cc)) (crate_leaf attrs v us)
-leaf_found heads.Fn attrs v ts us t = leaf_taken (t.word (λ e. absurd cc)) (function_leaf attrs v us)
-leaf_found heads.Impl attrs v ts us t = leaf_taken (t.word (λ e. absurd cc)) (impl_leaf attrs v us)
-leaf_found heads.Trait attrs v ts us t = leaf_taken (t.word (λ e. absurd cc)) (trait_leaf attrs v us)
-leaf_found heads.Struct attrs v ts us t = leaf_taken (t.word (λ e. absurd cc)) (struct_leaf attrs v us)
-leaf_found heads.Union attrs v ts us t = leaf_taken (t.word (λ e. absurd cc)) (union_leaf attrs v us)
-leaf_found heads.Enum attrs v ts us t = leaf_taken (t.word (λ e. absurd cc)) (enum_leaf attrs v us)
-leaf_found heads.Const attrs v ts us t = leaf_taken (t.word (λ e. absurd cc)) (const_leaf attrs v us)
-leaf_found heads.Static attrs v ts us t = leaf_taken (t.word (λ e. absurd cc)) (static_leaf attrs v us)
-leaf_found heads.TypeAlias attrs v ts us t = leaf_taken (t.word (λ e. absurd cc)) (type_alias_leaf attrs v us)
-leaf_found heads.MacroDef attrs v ts us t = leaf_taken (t.word (λ e. absurd cc)) (macro_def_leaf attrs v us)
-leaf_found heads.MacroRules attrs v ts us t = leaf_taken (t.word (λ e. absurd cc)) (macro_rules_leaf attrs v us)
-leaf_found _ attrs v ts us t = invocation_found attrs ts us t.leads
+leaf_found h ts us t = leaf_by_found h.head h.start h.attrs h.visibility ts us t
