@@ -4,6 +4,7 @@ ghost use Rattle.std.specs.Prelude.{◌≡◌, ◌++◌, ◌+◌, ◌<◌, IfOk,
 ghost use Rattle.hir_input.specs.Attr.{meta_view};
 ghost use Rattle.hir_input.specs.Syntax.{item_view, extern_item_view, extern_block_from};
 ghost use Rattle.rust_leaves.specs.Kinds.{node};
+ghost use Rattle.rust_leaves.specs.Leaves.{no_name};
 ghost use Rattle.rust_leaves.specs.Views.{leaf_view};
 ghost use Rattle.rust_items.specs.Found.{Finds, log_view};
 ghost use Rattle.rust_items.specs.Items as spec;
@@ -14,7 +15,7 @@ use crate::turn::{Extent, push_item};
 use hir_input::ast::{ExternBlock, ExternItem, Item};
 use hir_input::{AstIdKind, Meta};
 use rust_cursor::Cursor;
-use rust_leaves::{Leaf, joined, pass_others, take_front, take_leaf};
+use rust_leaves::{Front, Leaf, joined, pass_others, take_front, take_leaf};
 use rust_metas::inner_attributes;
 use std::alloc::{AllocError, Global};
 
@@ -177,22 +178,30 @@ fn extern_inside<'t>(
     })
 }
 
-fn block_item(
-    alloc: Global,
-    attrs: Vec<Meta>,
-    inner: Vec<Meta>,
-    items: Option<Vec<ExternItem>>,
-) -> Result<Item, AllocError>
-    ensures { IfOk result (λ item. item_view item ≡ extern_block_from (node (map meta_view attrs.items ++ map meta_view inner.items) []) (option_map (λ v. map extern_item_view v.items) items)) }
+fn block_item(alloc: Global, front: Front, inside: ExternInside) -> Result<Item, AllocError>
+    ensures { IfOk result (λ item. item_view item ≡ extern_block_from (node (map meta_view front.attrs.items ++ map meta_view inside.attrs.items) []) (option_map (λ v. map extern_item_view v.items) inside.items)) }
 {
-    let attrs = joined(attrs, inner)?;
+    let attrs = joined(front.attrs, inside.attrs)?;
     Ok(Item::ExternBlock(ExternBlock {
         hash: 0,
         number: 0,
         attrs,
-        items,
+        items: inside.items,
         body: String::new(alloc),
     }))
+}
+
+/// Adds an extern block, and behind it what it holds.
+fn push_block<'t>(
+    log: &mut Log<'t>,
+    extent: Extent,
+    is_ended: bool,
+    more: Log<'t>,
+) -> Result<(), AllocError>
+    ensures { OnOk result (log_view log.new ≡ spec.and_parent extent.depth extent.start extent.end AstIdKind.ExternBlock no_name is_ended (log_view more.entry) (log_view log.old)) }
+{
+    push_item(log, extent, AstIdKind::ExternBlock, "", None, is_ended)?;
+    log.append(more)
 }
 
 /// Takes an extern block, behind `extern` and the name of an interface.
@@ -201,25 +210,16 @@ pub(crate) fn extern_block<'t>(
     alloc: Global,
     cursor: &mut Cursor<'t>,
     depth: usize,
-    start: usize,
-    attrs: Vec<Meta>,
+    front: Front,
     log: &mut Log<'t>,
 ) -> Result<Item, AllocError>
     requires { depth < 129 }
-    ensures { Finds item_view (spec.extern_block depth start (map meta_view attrs.items) (log_view log.old) cursor.old) result (log_view log.new) cursor.new }
+    ensures { Finds item_view (spec.extern_block depth front.start (map meta_view front.attrs.items) (log_view log.old) cursor.old) result (log_view log.new) cursor.new }
 {
     let mut more = Log::new(alloc);
+    let start = front.start;
     let inside = extern_inside(alloc, cursor, depth + 1, start, &mut more)?;
     let end = cursor.past();
-    let extent = Extent { depth, start, end };
-    push_item(
-        log,
-        extent,
-        AstIdKind::ExternBlock,
-        "",
-        None,
-        inside.is_ended,
-    )?;
-    log.append(more)?;
-    block_item(alloc, attrs, inside.attrs, inside.items)
+    push_block(log, Extent { depth, start, end }, inside.is_ended, more)?;
+    block_item(alloc, front, inside)
 }

@@ -39,31 +39,24 @@ impl<'a> Supply<'a> {
     }
 }
 
+/// A node with the hash and the number of an id.
+macro_rules! with_id {
+    ($node:ident, $id:ident) => {{
+        $node.hash = $id.hash;
+        $node.number = $id.number;
+        $node
+    }};
+}
+
 #[tactic(auto, using(hir_input::proofs::SyntaxViews::item_views))]
 fn numbered_extern(item: ExternItem, id: Numbers) -> ExternItem
     ensures { extern_item_view result ≡ spec.numbered id (extern_item_view item) }
 {
     match item {
-        ExternItem::Fn(mut node) => {
-            node.hash = id.hash;
-            node.number = id.number;
-            ExternItem::Fn(node)
-        }
-        ExternItem::MacroCall(mut node) => {
-            node.hash = id.hash;
-            node.number = id.number;
-            ExternItem::MacroCall(node)
-        }
-        ExternItem::Static(mut node) => {
-            node.hash = id.hash;
-            node.number = id.number;
-            ExternItem::Static(node)
-        }
-        ExternItem::TypeAlias(mut node) => {
-            node.hash = id.hash;
-            node.number = id.number;
-            ExternItem::TypeAlias(node)
-        }
+        ExternItem::Fn(mut node) => ExternItem::Fn(with_id!(node, id)),
+        ExternItem::MacroCall(mut node) => ExternItem::MacroCall(with_id!(node, id)),
+        ExternItem::Static(mut node) => ExternItem::Static(with_id!(node, id)),
+        ExternItem::TypeAlias(mut node) => ExternItem::TypeAlias(with_id!(node, id)),
     }
 }
 
@@ -180,76 +173,20 @@ pub(crate) fn item_with_ids(
     match item {
         Item::Module(node) => module_with_ids(alloc, node, id, supply),
         Item::ExternBlock(node) => extern_block_with_ids(alloc, node, id, supply),
-        Item::Const(mut node) => {
-            node.hash = id.hash;
-            node.number = id.number;
-            Ok(Item::Const(node))
-        }
-        Item::Enum(mut node) => {
-            node.hash = id.hash;
-            node.number = id.number;
-            Ok(Item::Enum(node))
-        }
-        Item::ExternCrate(mut node) => {
-            node.hash = id.hash;
-            node.number = id.number;
-            Ok(Item::ExternCrate(node))
-        }
-        Item::Fn(mut node) => {
-            node.hash = id.hash;
-            node.number = id.number;
-            Ok(Item::Fn(node))
-        }
-        Item::Impl(mut node) => {
-            node.hash = id.hash;
-            node.number = id.number;
-            Ok(Item::Impl(node))
-        }
-        Item::MacroCall(mut node) => {
-            node.hash = id.hash;
-            node.number = id.number;
-            Ok(Item::MacroCall(node))
-        }
-        Item::MacroDef(mut node) => {
-            node.hash = id.hash;
-            node.number = id.number;
-            Ok(Item::MacroDef(node))
-        }
-        Item::MacroRules(mut node) => {
-            node.hash = id.hash;
-            node.number = id.number;
-            Ok(Item::MacroRules(node))
-        }
-        Item::Static(mut node) => {
-            node.hash = id.hash;
-            node.number = id.number;
-            Ok(Item::Static(node))
-        }
-        Item::Struct(mut node) => {
-            node.hash = id.hash;
-            node.number = id.number;
-            Ok(Item::Struct(node))
-        }
-        Item::Trait(mut node) => {
-            node.hash = id.hash;
-            node.number = id.number;
-            Ok(Item::Trait(node))
-        }
-        Item::TypeAlias(mut node) => {
-            node.hash = id.hash;
-            node.number = id.number;
-            Ok(Item::TypeAlias(node))
-        }
-        Item::Union(mut node) => {
-            node.hash = id.hash;
-            node.number = id.number;
-            Ok(Item::Union(node))
-        }
-        Item::Use(mut node) => {
-            node.hash = id.hash;
-            node.number = id.number;
-            Ok(Item::Use(node))
-        }
+        Item::Const(mut node) => Ok(Item::Const(with_id!(node, id))),
+        Item::Enum(mut node) => Ok(Item::Enum(with_id!(node, id))),
+        Item::ExternCrate(mut node) => Ok(Item::ExternCrate(with_id!(node, id))),
+        Item::Fn(mut node) => Ok(Item::Fn(with_id!(node, id))),
+        Item::Impl(mut node) => Ok(Item::Impl(with_id!(node, id))),
+        Item::MacroCall(mut node) => Ok(Item::MacroCall(with_id!(node, id))),
+        Item::MacroDef(mut node) => Ok(Item::MacroDef(with_id!(node, id))),
+        Item::MacroRules(mut node) => Ok(Item::MacroRules(with_id!(node, id))),
+        Item::Static(mut node) => Ok(Item::Static(with_id!(node, id))),
+        Item::Struct(mut node) => Ok(Item::Struct(with_id!(node, id))),
+        Item::Trait(mut node) => Ok(Item::Trait(with_id!(node, id))),
+        Item::TypeAlias(mut node) => Ok(Item::TypeAlias(with_id!(node, id))),
+        Item::Union(mut node) => Ok(Item::Union(with_id!(node, id))),
+        Item::Use(mut node) => Ok(Item::Use(with_id!(node, id))),
         Item::AsmExpr(node) => Ok(Item::AsmExpr(node)),
     }
 }

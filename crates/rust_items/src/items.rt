@@ -12,7 +12,7 @@ ghost use Rattle.rust_leaves.specs.Views.{front_view, name_view};
 use crate::externs::{extern_block, is_list_end};
 use crate::log::{Log, ProblemKind};
 use crate::turn::{Extent, leaf_turn, push_item};
-use hir_input::ast::{Item, Module, Visibility};
+use hir_input::ast::{Item, Module};
 use hir_input::{AstIdKind, Meta, Name};
 use rust_cursor::Cursor;
 use rust_leaves::{Front, Head, Named, item_name, joined, take_front};
@@ -76,24 +76,22 @@ fn push_module<'t>(
 #[tactic(auto, using(hir_input::proofs::SyntaxViews::item_views))]
 fn module_item(
     alloc: Global,
-    attrs: Vec<Meta>,
-    inner: Vec<Meta>,
+    front: Front,
     name: Option<Name>,
-    visibility: Option<Visibility>,
     semicolon: bool,
-    items: Option<Vec<Item>>,
+    inside: Inside,
 ) -> Result<Item, AllocError>
-    ensures { IfOk result (λ item. item_view item ≡ module_from (named_node (map meta_view attrs.items ++ map meta_view inner.items) name visibility []) semicolon (option_map (λ v. map item_view v.items) items)) }
+    ensures { IfOk result (λ item. item_view item ≡ module_from (named_node (map meta_view front.attrs.items ++ map meta_view inside.attrs.items) name front.visibility []) semicolon (option_map (λ v. map item_view v.items) inside.items)) }
 {
-    let attrs = joined(attrs, inner)?;
+    let attrs = joined(front.attrs, inside.attrs)?;
     Ok(Item::Module(Module {
         hash: 0,
         number: 0,
         attrs,
         name,
-        visibility,
+        visibility: front.visibility,
         semicolon,
-        items,
+        items: inside.items,
         body: String::new(alloc),
     }))
 }
@@ -169,15 +167,7 @@ fn module<'t>(
     };
     let is_ended = semicolon || inside.is_ended;
     push_module(log, extent, &named, is_ended, more)?;
-    module_item(
-        alloc,
-        front.attrs,
-        inside.attrs,
-        named.name,
-        front.visibility,
-        semicolon,
-        inside.items,
-    )
+    module_item(alloc, front, named.name, semicolon, inside)
 }
 
 /// An item behind what stands in front of it, or none: then tokens are passed over.
@@ -198,7 +188,7 @@ pub(crate) fn behind_front<'t>(
             Ok(Some(item))
         }
         Head::ExternBlock => {
-            let item = extern_block(alloc, cursor, depth_of(left), front.start, front.attrs, log)?;
+            let item = extern_block(alloc, cursor, depth_of(left), front, log)?;
             Ok(Some(item))
         }
         _ => leaf_turn(alloc, cursor, depth_of(left), front, log),

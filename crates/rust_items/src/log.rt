@@ -11,7 +11,7 @@ use rust_paths::TextRange;
 use std::alloc::{AllocError, Global};
 
 /// Where an item stands with its attributes, and where its name stands.
-#[derive(Clone, Copy, Debug)]
+#[derive(Clone, Copy)]
 pub(crate) struct ItemSpan {
     pub range: TextRange,
     pub name: Option<TextRange>,
