@@ -1,12 +1,14 @@
 -- What stands in angle brackets, and what is found beside them.
-use Rattle.std.specs.Prelude.{ℕ, ◌+◌, ◌-◌, ◌==◌, Bool, true, false, not, ◌&&◌, ◌||◌, if◌then◌else◌, List, [], ◌∷◌, codes}
+use Rattle.std.specs.Prelude.{ℕ, ◌+◌, ◌-◌, ◌==◌, Bool, true, false, not, ◌&&◌, ◌||◌, if◌then◌else◌, Option, Some, List, [], ◌∷◌, codes}
 use Rattle.std.specs.Str.{bytes_eq}
+use Rattle.rust_lexer.specs.declared.kind.TokenKind.{TokenKind}
+use Rattle.rust_lexer.specs.declared.kind.TokenKind.TheVariants as kinds
 use Rattle.rust_lexer.specs.Piece.{Piece}
 use Rattle.rust_cursor.specs.declared.cursor.generics.Nest.{Nest}
 use Rattle.rust_cursor.specs.declared.cursor.generics.Reach.{Reach}
 use Rattle.rust_cursor.specs.declared.cursor.generics.Reach.TheVariants as reaches
 use Rattle.rust_cursor.specs.Tokens.{Tokens}
-use Rattle.rust_cursor.specs.Words.{symbol, word, is_empty, is_at_end, is_glued, bumped}
+use Rattle.rust_cursor.specs.Words.{symbol, word, kind, is_empty, is_at_end, is_glued, bumped}
 use Rattle.rust_cursor.specs.Extents.{depth_behind, begins_item}
 
 -- In how many angle brackets what stands behind the next token is. The `>` of `->` and `=>` closes none.
@@ -23,9 +25,18 @@ nest_behind nest ts = record {
   is_dash = symbol ts == 45 || symbol ts == 61;
 }
 
--- a `for` that is not one of `for<..>`
+abbrev pub is_lifetime : Option TokenKind → Bool
+is_lifetime (Some kinds.Lifetime) = true
+is_lifetime (Some kinds.RawLifetime) = true
+is_lifetime _ = false
+
+-- `<` and a lifetime or `>`: what stands behind `for` in `for<'a>`, and before no type
+abbrev pub begins_binder : Tokens → Bool
+begins_binder ts = symbol ts == 60 && (is_lifetime (kind (bumped ts)) || symbol (bumped ts) == 62)
+
+-- a `for` that is not one of `for<'a>`
 abbrev pub is_lone_for : Tokens → Bool
-is_lone_for ts = bytes_eq (word ts) (codes "for") && not (symbol (bumped ts) == 60)
+is_lone_for ts = bytes_eq (word ts) (codes "for") && not (begins_binder (bumped ts))
 
 -- an impl's header is over, in so many angle brackets
 abbrev pub is_barred_header : ℕ → Tokens → Bool

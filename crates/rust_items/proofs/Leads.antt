@@ -21,7 +21,7 @@ use Rattle.rust_leaves.specs.declared.head.Head.TheVariants as heads
 use Rattle.rust_leaves.specs.Heads.{is_literal_kind, behind_abi, is_modifier, behind_modifier, behind_modifiers_from, behind_modifiers, head_by, behind_head, head, is_behind_others, behind_others_from, behind_others}
 use Rattle.rust_cursor.specs.Words.{is_at_end}
 use Rattle.rust_leaves.specs.Texts.{spaced_from, spaced_tree}
-use Rattle.rust_leaves.specs.Leaves.{LeafRead, name_read, named, crate_named, item_end, value_end, semicolon_end, call_end}
+use Rattle.rust_leaves.specs.Leaves.{LeafRead, name_read, named, named_or, item_end, value_end, semicolon_end, call_end}
 use Rattle.rust_leaves.specs.Kinds.{function, block_item, union_item, enumeration, trait_item, macro_def, type_alias, static_value, constant, structure, implementation, crate_item, use_declaration, macro_definition, is_called, invocation, leaf_by, leaf}
 use Rattle.rust_leaves.specs.Fronts.{FrontRead, front_behind, front}
 use Rattle.rust_items.specs.Places.{id_of, held}
@@ -145,17 +145,17 @@ pub named_named : (ts : Tokens) → IsNamed ts (named ts).1 (named ts).0.range
 unfolding named
 named_named ts = read_named ts (placed_name ts).0 refl
 
-crate_named_leads : Forwards crate_named
-unfolding crate_named
-crate_named_leads ts = when (bytes_eq (word ts) (codes "self")) (λ e. rw e (bumped_leads ts)) (λ e. rw e (named_leads ts))
+named_or_leads : (keyword : List ℕ) → Forwards (named_or keyword)
+unfolding named_or
+named_or_leads keyword ts = when (bytes_eq (word ts) keyword) (λ e. rw e (bumped_leads ts)) (λ e. rw e (named_leads ts))
 
-word_some : (ts : Tokens) → bytes_eq (word ts) (codes "self") ≡ true → is_empty ts ≡ false
-word_some ts e = when (is_empty ts) (λ h. let none = word_none ts h in let wrong : false ≡ true = rw none at e in absurd cc) (λ h. h)
+word_some : (keyword : List ℕ) → bytes_eq [] keyword ≡ false → (ts : Tokens) → bytes_eq (word ts) keyword ≡ true → is_empty ts ≡ false
+word_some keyword some ts e = when (is_empty ts) (λ h. let none = word_none ts h in let wrong : bytes_eq [] keyword ≡ true = rw none at e in absurd cc) (λ h. h)
 
-crate_named_named : (ts : Tokens) → IsNamed ts (crate_named ts).1 (crate_named ts).0.range
-unfolding crate_named
-crate_named_named ts =
-    when (bytes_eq (word ts) (codes "self")) (λ e. rw e (by_token ts here (word_some ts e) here)) (λ e. rw e (named_named ts))
+named_or_named : (keyword : List ℕ) → bytes_eq [] keyword ≡ false → (ts : Tokens) → IsNamed ts (named_or keyword ts).1 (named_or keyword ts).0.range
+unfolding named_or
+named_or_named keyword some ts =
+    when (bytes_eq (word ts) keyword) (λ e. rw e (by_token ts here (word_some keyword some ts e) here)) (λ e. rw e (named_named ts))
 
 -- ---- items that hold none
 
@@ -226,10 +226,10 @@ module _ (start : ℕ) (attrs : List MetaView) (v : Option Visibility) (ts : Tok
   crate_leaf : IsLeaf ts (crate_item attrs v ts).1 (crate_item attrs v ts).0
   unfolding crate_item
   crate_leaf = record {
-    leads = through (crate_named_leads ts) (through (rename_leads _) (eat_leads _ _));
+    leads = through (named_or_leads (codes "self") ts) (through (rename_leads _) (eat_leads _ _));
     id = refl;
     alone = refl;
-    name = name_before (crate_named_named ts) (through (rename_leads _) (eat_leads _ _));
+    name = name_before (named_or_named (codes "self") refl ts) (through (rename_leads _) (eat_leads _ _));
   }
 
   use_leaf : IsLeaf ts (use_declaration attrs v ts).1 (use_declaration attrs v ts).0
@@ -238,7 +238,12 @@ module _ (start : ℕ) (attrs : List MetaView) (v : Option Visibility) (ts : Tok
 
   macro_rules_leaf : IsLeaf ts (macro_definition attrs ts).1 (macro_definition attrs ts).0
   unfolding macro_definition
-  macro_rules_leaf = record { leads = through (named_leads ts) (call_end_leads _); id = refl; alone = refl; name = name_before (named_named ts) (call_end_leads _) }
+  macro_rules_leaf = record {
+    leads = through (named_or_leads (codes "try") ts) (call_end_leads _);
+    id = refl;
+    alone = refl;
+    name = name_before (named_or_named (codes "try") refl ts) (call_end_leads _);
+  }
 
 -- an item of tokens, one at least
 pub record IsTaken (ts us : Tokens) (l : LeafRead) : Type 0 where

@@ -1,5 +1,5 @@
 -- Items stand where their places say.
-use Rattle.std.proofs.Common.{◌≡◌, ◌≤◌, ◌+◌, ◌-◌, ◌==◌, ℕ, zero, suc, Bool, true, false, Option, Some, None, List, [], ◌∷◌, ◌++◌, map, length, refl, sym, ap, ◌∙◌, arith, append_assoc, append-nil}
+use Rattle.std.proofs.Common.{◌≡◌, ◌≤◌, ◌+◌, ◌-◌, ◌==◌, ℕ, zero, suc, Bool, true, false, Option, Some, None, List, [], ◌∷◌, ◌++◌, map, length, refl, sym, subst, ap, ◌∙◌, arith, append_assoc, append-nil}
 use Rattle.std.specs.Prelude.{option_to_list}
 use Rattle.std.proofs.lemmas.List.{map-append}
 use Rattle.hir_input.specs.declared.ids.AstIdKind.{AstIdKind}
@@ -228,10 +228,16 @@ option_found : (end : ℕ) (ts us : Tokens) (depth : ℕ) (o : Option LeafRead) 
 option_found end ts us depth None f laid p = none_found f _ (through p (behind_others_leads us)) (adds_problem _ _ (adds_none f))
 option_found end ts us depth (Some l) f laid t = leaf_is end ts us depth l f laid t
 
+-- the same where an item's start is said otherwise
+start_found : (end : ℕ) (ts us : Tokens) (depth start : ℕ) (o : Option LeafRead) (f : Found) → start ≡ at ts → IsLaid end ts → LeafFound ts us o
+    → AreFound ts (leaf_found depth start o f us).1.1 f (leaf_found depth start o f us).1.0 (items_from (option_to_list (leaf_found depth start o f us).0))
+start_found end ts us depth start o f s laid p =
+    subst (λ n. AreFound ts (leaf_found depth n o f us).1.1 f (leaf_found depth n o f us).1.0 (items_from (option_to_list (leaf_found depth n o f us).0))) (sym s) (option_found end ts us depth o f laid p)
+
 leaf_turn_found : (end : ℕ) (ts us : Tokens) (depth : ℕ) (h : FrontRead) (f : Found) → h.start ≡ at ts → IsLaid end ts → TakesBy h.head ts us
     → AreFound ts (leaf_turn depth h f us).1.1 f (leaf_turn depth h f us).1.0 (items_from (option_to_list (leaf_turn depth h f us).0))
 unfolding leaf_turn
-leaf_turn_found end ts us depth h f s laid t = rw s (option_found end ts _ depth _ f laid (leads.leaf_found h ts us t))
+leaf_turn_found end ts us depth h f s laid t = start_found end ts _ depth h.start _ f s laid (leads.leaf_found h ts us t)
 
 unmatched_found : (ts : Tokens) (f : Found) → AreFound ts (unmatched f ts).1.1 f (unmatched f ts).1.0 no_items
 unmatched_found ts f = none_found f _ (bumped_leads ts) (adds_problem _ _ (adds_none f))

@@ -9,6 +9,8 @@ mod cursor;
 #[cfg(test)]
 mod ids;
 #[cfg(test)]
+mod items;
+#[cfg(test)]
 mod metas;
 #[cfg(test)]
 mod pages;

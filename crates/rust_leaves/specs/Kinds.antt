@@ -19,7 +19,7 @@ use Rattle.rust_leaves.specs.declared.head.Head.{Head}
 use Rattle.rust_leaves.specs.declared.head.Head.TheVariants as head
 use Rattle.rust_leaves.specs.Fronts.{FrontRead}
 use Rattle.rust_leaves.specs.Texts.{bare, last_text}
-use Rattle.rust_leaves.specs.Leaves.{NameRead, RestRead, LeafRead, no_name, named, crate_named, item_end, value_end, call_end, block_attributes, struct_fields, has_trait}
+use Rattle.rust_leaves.specs.Leaves.{NameRead, RestRead, LeafRead, no_name, named, named_or, item_end, value_end, call_end, block_attributes, struct_fields, has_trait}
 
 -- the ids are given later
 abbrev pub node : List MetaView → List ℕ → NodeView
@@ -103,7 +103,7 @@ implementation start attrs = do
 -- ExternCrate
 unfoldable pub crate_item : List MetaView → Option Visibility → Reader LeafRead
 crate_item attrs visibility = do
-  n ← crate_named
+  n ← named_or (codes "self")
   alias ← rename
   semicolon ← eat 59
   pure (leaf_read (extern_crate (named_node attrs n.name visibility []) alias) kind.ExternCrate n semicolon)
@@ -128,7 +128,7 @@ use_declaration attrs visibility = do
 -- MacroRulesDefinition
 unfoldable pub macro_definition : List MetaView → Reader LeafRead
 macro_definition attrs = do
-  n ← named
+  n ← named_or (codes "try")
   r ← call_end
   pure (leaf_read (macro_rules (node attrs r.body) n.name) kind.MacroRules n r.is_ended)
 

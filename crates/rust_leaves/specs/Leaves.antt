@@ -50,10 +50,10 @@ name_read (Some p) text = record { name = Some p.name; hashed = bare text; range
 unfoldable pub named : Reader NameRead
 named ts = (name_read (placed_name ts).0 (text ts), (placed_name ts).1)
 
--- the name of a crate, which may be `self`
-unfoldable pub crate_named : Reader NameRead
-crate_named ts =
-    if bytes_eq (word ts) (codes "self")
+-- the same where one keyword is a name too: `self` of a crate, `try` of a macro
+unfoldable pub named_or : List ℕ → Reader NameRead
+named_or keyword ts =
+    if bytes_eq (word ts) keyword
     then (record { name = as_name (Some (word ts)); hashed = word ts; range = Some (record { start = at ts; end = (bumped ts).past }) }, bumped ts)
     else named ts
 

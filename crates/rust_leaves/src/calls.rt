@@ -7,7 +7,7 @@ ghost use Rattle.rust_leaves.specs.Kinds as spec;
 ghost use Rattle.rust_leaves.specs.Views.{leaf_view};
 
 use crate::leaf::Leaf;
-use crate::named::{call_end, item_name};
+use crate::named::{call_end, item_name_or};
 use crate::texts::{bare, last_text};
 use hir_input::ast::{Item, MacroCall, MacroRules, PathNode};
 use hir_input::{AstIdKind, EditionYear, ExpandTo, Meta, SyntaxContext};
@@ -23,7 +23,7 @@ pub(crate) fn macro_definition<'t>(
 ) -> Result<Leaf<'t>, AllocError>
     ensures { Gives leaf_view (spec.macro_definition (map meta_view attrs.items) cursor.old) result cursor.new }
 {
-    let named = item_name(alloc, cursor)?;
+    let named = item_name_or(alloc, cursor, "try")?;
     let rest = call_end(alloc, cursor)?;
     let item = Item::MacroRules(MacroRules {
         hash: 0,

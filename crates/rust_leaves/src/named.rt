@@ -1,6 +1,7 @@
 //! The names of items, and where items end.
 
-ghost use Rattle.std.specs.Prelude.{◌≡◌, ◌++◌, IfOk, map, option_map, [], false};
+ghost use Rattle.std.specs.Prelude.{◌≡◌, ◌++◌, IfOk, Some, string_bytes, map, option_map, [], false};
+ghost use Rattle.rust_paths.specs.Names.{as_name};
 ghost use Rattle.rust_paths.specs.Views.{placed_view};
 ghost use Rattle.hir_input.specs.Attr.{meta_view};
 ghost use Rattle.rust_cursor.specs.Reader.{Gives};
@@ -61,6 +62,38 @@ pub fn item_name<'t>(alloc: Global, cursor: &mut Cursor<'t>) -> Result<Named<'t>
     let text = cursor.text();
     let placed = placed_name(alloc, cursor)?;
     Ok(named_of(placed, text))
+}
+
+#[tactic(auto, using(rust_paths::proofs::Naming::new_name))]
+fn name_from(text: String) -> Option<Name>
+    ensures { result ≡ as_name (Some (string_bytes text)) }
+{
+    Name::new(text)
+}
+
+/// Takes the name of an item, which may be this keyword: `self` of a crate, `try` of a macro.
+#[tactic(auto, unfolding(crate::specs::Leaves::named_or))]
+pub(crate) fn item_name_or<'t>(
+    alloc: Global,
+    cursor: &mut Cursor<'t>,
+    keyword: &str,
+) -> Result<Named<'t>, AllocError>
+    ensures { Gives name_view (spec.named_or keyword.now cursor.old) result cursor.new }
+{
+    let hashed = cursor.word();
+    if hashed != keyword {
+        return item_name(alloc, cursor);
+    }
+    let name = name_from(String::from_str(alloc, hashed)?);
+    let start = cursor.at();
+    cursor.bump();
+    let end = cursor.past();
+    let range = Some(TextRange { start, end });
+    Ok(Named {
+        name,
+        hashed,
+        range,
+    })
 }
 
 /// Takes what is left of an item that ends with a semicolon or a block.

@@ -1,20 +1,18 @@
 //! Uses and extern crates.
 
-ghost use Rattle.std.specs.Prelude.{◌≡◌, Some, map, option_map, string_bytes};
+ghost use Rattle.std.specs.Prelude.{◌≡◌, map, option_map};
 ghost use Rattle.hir_input.specs.Attr.{meta_view};
 ghost use Rattle.rust_cursor.specs.Reader.{Gives};
-ghost use Rattle.rust_paths.specs.Names.{as_name};
 ghost use Rattle.rust_paths.specs.UseTrees as trees;
 ghost use Rattle.rust_leaves.specs.Kinds as spec;
-ghost use Rattle.rust_leaves.specs.Leaves as leaves;
-ghost use Rattle.rust_leaves.specs.Views.{leaf_view, name_view};
+ghost use Rattle.rust_leaves.specs.Views.{leaf_view};
 
 use crate::leaf::Leaf;
-use crate::named::{Named, item_name};
+use crate::named::item_name_or;
 use hir_input::ast::{ExternCrate, Item, Rename, Use, Visibility};
-use hir_input::{AstIdKind, Meta, Name};
+use hir_input::{AstIdKind, Meta};
 use rust_cursor::Cursor;
-use rust_paths::{TextRange, name, use_tree};
+use rust_paths::{name, use_tree};
 use std::alloc::{AllocError, Global};
 
 #[tactic(auto, unfolding(rust_paths::specs::UseTrees::alias))]
@@ -37,34 +35,6 @@ fn rename(alloc: Global, cursor: &mut Cursor<'_>) -> Result<Option<Rename>, Allo
     Ok(Some(alias(alloc, cursor)?))
 }
 
-#[tactic(auto, using(rust_paths::proofs::Naming::new_name))]
-fn name_from(text: String) -> Option<Name>
-    ensures { result ≡ as_name (Some (string_bytes text)) }
-{
-    Name::new(text)
-}
-
-/// Takes the name of a crate, which may be `self`.
-#[tactic(auto, unfolding(crate::specs::Leaves::crate_named))]
-fn crate_named<'t>(alloc: Global, cursor: &mut Cursor<'t>) -> Result<Named<'t>, AllocError>
-    ensures { Gives name_view (leaves.crate_named cursor.old) result cursor.new }
-{
-    let hashed = cursor.word();
-    if hashed != "self" {
-        return item_name(alloc, cursor);
-    }
-    let name = name_from(String::from_str(alloc, hashed)?);
-    let start = cursor.at();
-    cursor.bump();
-    let end = cursor.past();
-    let range = Some(TextRange { start, end });
-    Ok(Named {
-        name,
-        hashed,
-        range,
-    })
-}
-
 #[tactic(auto, unfolding(crate::specs::Kinds::crate_item), using(hir_input::proofs::SyntaxViews::item_views))]
 pub(crate) fn crate_item<'t>(
     alloc: Global,
@@ -74,7 +44,7 @@ pub(crate) fn crate_item<'t>(
 ) -> Result<Leaf<'t>, AllocError>
     ensures { Gives leaf_view (spec.crate_item (map meta_view attrs.items) visibility cursor.old) result cursor.new }
 {
-    let named = crate_named(alloc, cursor)?;
+    let named = item_name_or(alloc, cursor, "self")?;
     let rename = rename(alloc, cursor)?;
     let is_ended = cursor.eat(b';');
     let item = Item::ExternCrate(ExternCrate {

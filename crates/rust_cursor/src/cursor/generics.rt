@@ -4,6 +4,7 @@ ghost use Rattle.std.specs.Prelude.{◌≡◌, ◌+◌, ◌<◌, ◌^◌};
 ghost use Rattle.rust_cursor.specs.Angles as spec;
 
 use crate::cursor::Cursor;
+use rust_lexer::TokenKind;
 
 /// How far tokens are passed over.
 #[derive(Clone, Copy)]
@@ -70,7 +71,17 @@ impl<'t> Cursor<'t> {
     fn is_lone_for(&self) -> bool
         ensures { result ≡ spec.is_lone_for self.now }
     {
-        self.word() == "for" && self.second().symbol() != b'<'
+        self.word() == "for" && !self.second().begins_binder()
+    }
+
+    fn begins_binder(&self) -> bool
+        ensures { result ≡ spec.begins_binder self.now }
+    {
+        if self.symbol() != b'<' {
+            return false;
+        }
+        let inside = self.second();
+        is_lifetime(inside.kind()) || inside.symbol() == b'>'
     }
 
     fn is_barred(&self, reach: Reach, angles: usize) -> bool
@@ -179,6 +190,15 @@ impl<'t> Cursor<'t> {
         ahead.pass_reach(Reach::Header);
         ahead.word() == "for"
     }
+}
+
+fn is_lifetime(kind: Option<TokenKind>) -> bool
+    ensures { result ≡ spec.is_lifetime kind }
+{
+    matches!(
+        kind,
+        Some(TokenKind::Lifetime | TokenKind::RawLifetime)
+    )
 }
 
 #[tactic(auto, unfolding(crate::specs::Angles::is_closed))]
