@@ -1,12 +1,12 @@
 -- For the crate's own functions.
-use Rattle.std.specs.Prelude.{◌≡◌, List, ◌++◌}
+use Rattle.std.specs.Prelude.{◌≡◌, ◌-◌, List, drop, length}
 use Rattle.source_listing.specs.declared.lines.Source as code_source
 use Rattle.source_listing.specs.declared.lines.Choice as code_choice
 use Rattle.source_listing.specs.Lines.{Source, Choice}
 
 -- what is left of a list behind some of it
 abbrev pub IsEndOf : {A : Type 0} → List A → List A → Type 0
-IsEndOf {A} left all = Σ (front : List A), front ++ left ≡ all
+IsEndOf left all = drop (length all - length left) all ≡ left
 
 -- what the code holds, as plain data
 abbrev pub source_view : code_source.Source → Source

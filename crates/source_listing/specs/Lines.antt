@@ -73,18 +73,17 @@ abbrev pub name_text : List (List ℕ) → Option (List ℕ) → List ℕ
 name_text reserved None = []
 name_text reserved (Some name) = codes " " ++ shown_name reserved name
 
-abbrev pub mark : Bool → List ℕ
-mark is_active = if is_active then [] else codes " (inactive)"
+abbrev pub line_end : Bool → List ℕ
+line_end is_active = if is_active then codes "\n" else codes " (inactive)\n"
 
 -- four blanks a level
 abbrev pub indent : ℕ → List ℕ
 indent level = replicate (4 * level) 32
 
--- the line of an item: its place, four blanks for each item that it stands in, its visibility, the word of its kind, and its name
+-- the line of an item: its place, four blanks for each item that it stands in, its visibility, the word of its kind, its name, and whether a cfg disables it
 abbrev pub item_line : Source → List (List ℕ) → List ItemPlace → RowView → List ℕ
 item_line s reserved places r =
-    item_place s (place_of r.id places) ++ indent r.level ++ visibility_text reserved r.visibility ++ word r.id.kind ++ name_text reserved r.name ++ mark r.is_active
-    ++ codes "\n"
+    item_place s (place_of r.id places) ++ indent r.level ++ visibility_text reserved r.visibility ++ word r.id.kind ++ name_text reserved r.name ++ line_end r.is_active
 
 abbrev pub outline_text : Source → List (List ℕ) → List ItemPlace → Choice → List RowView → List ℕ
 outline_text s reserved places c rs = flat_map (item_line s reserved places) (filter (is_listed c) rs)

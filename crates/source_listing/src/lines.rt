@@ -1,5 +1,5 @@
 //! Outlines as lines of text.
-ghost use Rattle.std.specs.Prelude.{◌≡◌, ◌++◌, IfOk, OnOk, option_copied, string_bytes, map};
+ghost use Rattle.std.specs.Prelude.{◌≡◌, ◌++◌, ◌∷◌, [], IfOk, OnOk, option_copied, string_bytes, map};
 ghost use Rattle.line_index.specs.Positions.{position_of};
 ghost use Rattle.item_rows.specs.Inner.{row_view};
 ghost use Rattle.item_rows.specs.Rows as rows;
@@ -33,7 +33,7 @@ pub struct Choice {
 
 impl Choice {
     fn lists(self, row: &Row<'_>) -> bool
-        ensures { result ≡ spec.is_listed (choice_view self.entry) (row_view row.now) }
+        ensures { result ≡ spec.is_listed (choice_view self) (row_view row.now) }
     {
         let is_within = match self.depth {
             Some(depth) => row.level < depth,
@@ -44,11 +44,7 @@ impl Choice {
 }
 
 /// File, line and column, as compilers write them.
-pub(crate) fn push_place(
-    path: &str,
-    position: Position,
-    out: &mut String,
-) -> Result<(), AllocError>
+pub(crate) fn push_place(path: &str, position: Position, out: &mut String) -> Result<(), AllocError>
     ensures { OnOk result (string_bytes out.new ≡ string_bytes out.old ++ place_text path.now position) }
 {
     let (line, column) = (position.line, position.column);
@@ -110,11 +106,7 @@ fn push_visibility(
     }
 }
 
-fn push_name(
-    edition: &Edition,
-    name: Option<&Name>,
-    out: &mut String,
-) -> Result<(), AllocError>
+fn push_name(edition: &Edition, name: Option<&Name>, out: &mut String) -> Result<(), AllocError>
     ensures { OnOk result (string_bytes out.new ≡ string_bytes out.old ++ spec.name_text edition.now.reserved.items (option_copied name.entry)) }
 {
     match name {
@@ -124,6 +116,13 @@ fn push_name(
             write!(out, " {name}")
         }
     }
+}
+
+/// The end of an item's line, which tells whether a cfg disables it.
+fn push_end(is_active: bool, out: &mut String) -> Result<(), AllocError>
+    ensures { OnOk result (string_bytes out.new ≡ string_bytes out.old ++ spec.line_end is_active) }
+{
+    out.push_str(if is_active { "\n" } else { " (inactive)\n" })
 }
 
 /// What the lines of a file are made from.
@@ -139,7 +138,7 @@ impl Printer<'_> {
     /// Where an item stands.
     fn push_item_place(&mut self, row: &Row<'_>, out: &mut String) -> Result<(), AllocError>
         requires { AreDistinct self.old.places.all.now }
-        ensures text { let s = record { path = self.old.path.now; text = self.old.lines } in
+        ensures text { let s : spec.Source = record { path = self.old.path.now; text = self.old.lines } in
             OnOk result (string_bytes out.new ≡ string_bytes out.old ++ spec.item_place s (place_of row.now.id self.old.places.all.now)) }
         ensures same { (self.new.lines ≡ self.old.lines) × (self.new.places.all.now ≡ self.old.places.all.now) × (self.new.path ≡ self.old.path) × (self.new.edition ≡ self.old.edition) }
     {
@@ -161,7 +160,7 @@ impl Printer<'_> {
     /// The line of an item.
     fn push_item(&mut self, row: &Row<'_>, out: &mut String) -> Result<(), AllocError>
         requires { AreDistinct self.old.places.all.now }
-        ensures text { let s = record { path = self.old.path.now; text = self.old.lines } in
+        ensures text { let s : spec.Source = record { path = self.old.path.now; text = self.old.lines } in
             OnOk result (string_bytes out.new ≡ string_bytes out.old ++ spec.item_line s self.old.edition.now.reserved.items self.old.places.all.now (row_view row.now)) }
         ensures same { (self.new.lines ≡ self.old.lines) × (self.new.places.all.now ≡ self.old.places.all.now) × (self.new.path ≡ self.old.path) × (self.new.edition ≡ self.old.edition) }
     {
@@ -170,11 +169,25 @@ impl Printer<'_> {
         push_visibility(self.edition, row.visibility, out)?;
         out.push_str(word(row.id.kind))?;
         push_name(self.edition, row.name, out)?;
-        if row.is_active {
-            out.push_str("\n")
-        } else {
-            out.push_str(" (inactive)\n")
+        push_end(row.is_active, out)
+    }
+
+    /// The line of an item, if that is chosen.
+    fn push_chosen(
+        &mut self,
+        choice: Choice,
+        row: &Row<'_>,
+        out: &mut String,
+    ) -> Result<(), AllocError>
+        requires { AreDistinct self.old.places.all.now }
+        ensures text { let s : spec.Source = record { path = self.old.path.now; text = self.old.lines } in
+            OnOk result (string_bytes out.new ≡ string_bytes out.old ++ spec.outline_text s self.old.edition.now.reserved.items self.old.places.all.now (choice_view choice) (row_view row.now ∷ [])) }
+        ensures same { (self.new.lines ≡ self.old.lines) × (self.new.places.all.now ≡ self.old.places.all.now) × (self.new.path ≡ self.old.path) × (self.new.edition ≡ self.old.edition) }
+    {
+        if !choice.lists(row) {
+            return Ok(());
         }
+        self.push_item(row, out)
     }
 }
 
@@ -182,6 +195,7 @@ impl Printer<'_> {
 /// item that it stands in, its visibility as it was written, the word of its kind, its name, and whether a cfg disables it.
 ///
 /// The places are those that the reader gave with the syntax of the tree. The only error is want of memory.
+#[tactic(auto, using(crate::proofs::Pushed::one_more))]
 pub fn outline(
     alloc: Global,
     source: Source<'_>,
@@ -202,9 +216,7 @@ pub fn outline(
     let mut out = String::new(alloc);
     let rows = item_rows(alloc, tree)?;
     for row in &rows {
-        if choice.lists(row) {
-            printer.push_item(row, &mut out)?;
-        }
+        printer.push_chosen(choice, row, &mut out)?;
     }
     Ok(out)
 }

@@ -1,11 +1,11 @@
-//! Counts the tokens, the items and the problems of the Rust source text on standard input. With a number, it cuts and reads the
-//! text so many times, and writes on standard error how long the lexer and the reader took.
+//! Counts the tokens, the items and the problems of the Rust source text on standard input.
+//!
+//! With `lexer` or `reader` and a number it only cuts or only reads the text, so many times: for the scripts in bench/.
 #![tactic(auto)]
 
 use rust_items::read_source_file;
 use rust_lexer::Lexer;
-use std::alloc::Global;
-use std::time::Instant;
+use std::alloc::{AllocError, Global};
 use std::{env, io};
 
 fn count_tokens(text: &str) -> usize {
@@ -17,12 +17,28 @@ fn count_tokens(text: &str) -> usize {
     count
 }
 
-fn count_items(alloc: Global, text: &str) -> io::Result<(usize, usize)> {
+fn count_items(alloc: Global, text: &str) -> Result<(usize, usize), AllocError> {
     let file = read_source_file(alloc, text)?;
     Ok((file.places.len(), file.problems.len()))
 }
 
-fn times(word: Option<String>) -> u32 {
+fn repeat_lexer(times: u32, text: &str) -> usize {
+    let mut tokens = 0;
+    for _time in 0..times {
+        tokens = count_tokens(text);
+    }
+    tokens
+}
+
+fn repeat_reader(alloc: Global, times: u32, text: &str) -> Result<(usize, usize), AllocError> {
+    let mut counts = (0, 0);
+    for _time in 0..times {
+        counts = count_items(alloc, text)?;
+    }
+    Ok(counts)
+}
+
+fn number(word: Option<String>) -> u32 {
     match word {
         Some(word) => word.parse().unwrap_or(1),
         None => 1,
@@ -31,22 +47,12 @@ fn times(word: Option<String>) -> u32 {
 
 fn main(rt: HostRuntime) -> io::Result<()> {
     let text = io::read_to_string(rt.alloc(), rt.stdin())?;
-    let word = env::args(&rt)?.nth(1);
-    let is_timed = word.is_some();
-    let times = times(word);
-    let start = Instant::now(&rt)?;
-    let mut tokens = 0;
-    for _time in 0..times {
-        tokens = count_tokens(&text);
-    }
-    let lexed = start.elapsed(&rt)?;
-    let (mut items, mut problems) = (0, 0);
-    for _time in 0..times {
-        (items, problems) = count_items(rt.alloc(), &text)?;
-    }
-    let all = start.elapsed(&rt)?;
-    if is_timed {
-        eprintln!(rt; "lexer {lexed:?}, lexer and reader {all:?}")?;
-    }
+    let mut args = env::args(&rt)?;
+    let what = args.nth(1);
+    let times = number(args.next());
+    let what = what.as_ref().map_or("", |word| word.as_str());
+    let tokens = repeat_lexer(if what == "reader" { 0 } else { times }, &text);
+    let (items, problems) =
+        repeat_reader(rt.alloc(), if what == "lexer" { 0 } else { times }, &text)?;
     println!(rt; "{tokens} tokens, {items} items, {problems} problems")
 }
