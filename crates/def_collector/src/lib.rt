@@ -7,5 +7,5 @@ mod names;
 mod search;
 
 pub use collector::{Collected, Declaration, collect};
-pub use names::{Declares, name_at};
+pub use names::{Declares, name_at, visibility_at};
 pub use search::find;

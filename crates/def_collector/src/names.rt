@@ -108,3 +108,12 @@ pub(crate) fn visibility_of<'tree>(
         None => None,
     }
 }
+
+/// The visibility of an item, if it has one: impls, macro calls, macros by example and extern blocks have none. Takes no
+/// memory.
+pub fn visibility_at(tree: &ItemTree, id: ModItemId) -> Option<&RawVisibility>
+    requires { IsContained tree.now id }
+    ensures { option_copied result ≡ of_id tree.now None node_visibility id }
+{
+    visibility_of(tree, id, tree.index(id))
+}

@@ -1,0 +1,55 @@
+-- The items of a tree in the order in which they are written, each with what stands around it.
+use Rattle.std.specs.Prelude.{ℕ, ◌+◌, Bool, true, not, ◌&&◌, List, [], ◌∷◌, ◌++◌, Option, Some, None, is_some}
+use Rattle.hir_input.specs.declared.ids.AstIdKind.{AstIdKind}
+use Rattle.hir_input.specs.declared.ids.AstIdKind.TheVariants as kind
+use Rattle.hir_input.specs.declared.ids.FileAstId.{FileAstId}
+use Rattle.item_tree.specs.declared.visibility.RawVisibility.{RawVisibility}
+use Rattle.item_tree.specs.Node.{Node, leaf, parent, Forest, empty, more, node_ast, node_head, node_kind}
+use Rattle.def_collector.specs.Declarations.{node_name, node_visibility}
+
+-- what items stand in: how many items, the names of the modules among them from the top on down, and whether no cfg disables these
+pub record Around : Type 0 where
+  pub level : ℕ
+  pub scope : List (List ℕ)
+  pub is_active : Bool
+
+-- an item, what it stands in, and whether no cfg disables it
+pub record RowView : Type 0 where
+  pub level : ℕ
+  pub scope : List (List ℕ)
+  pub id : FileAstId
+  pub name : Option (List ℕ)
+  pub visibility : Option RawVisibility
+  pub is_active : Bool
+
+abbrev pub top : Around
+top = record { level = 0; scope = []; is_active = true }
+
+abbrev pub scope_below : List (List ℕ) → AstIdKind → Option (List ℕ) → List (List ℕ)
+scope_below scope kind.Module (Some name) = scope ++ name ∷ []
+scope_below scope _ _ = scope
+
+-- an item's own attributes hold no false cfg
+abbrev pub is_enabled : Node → Bool
+is_enabled n = not (is_some (node_head n).attrs.false_cfg)
+
+abbrev pub row : Around → Node → RowView
+row a n = record { level = a.level; scope = a.scope; id = node_ast n; name = node_name n; visibility = node_visibility n; is_active = a.is_active && is_enabled n }
+
+-- around what stands in an item
+abbrev pub below : RowView → Around
+below r = record { level = r.level + 1; scope = scope_below r.scope r.id.kind r.name; is_active = r.is_active }
+
+-- the row of an item, before those of the items in it
+abbrev mutual
+  pub node_rows : Around → Node → List RowView
+  node_rows around (leaf h l) = row around (leaf h l) ∷ []
+  node_rows around (parent h t f) = row around (parent h t f) ∷ forest_rows (below (row around (parent h t f))) f
+
+  pub forest_rows : Around → Forest → List RowView
+  forest_rows around empty = []
+  forest_rows around (more n f) = node_rows around n ++ forest_rows around f
+
+-- the rows of a whole tree
+abbrev pub rows : Forest → List RowView
+rows = forest_rows top

@@ -1,0 +1,6 @@
+//! The items of a tree in the order in which they are written, each with what it stands in: what lists of items are made from.
+#![tactic(auto)]
+
+mod rows;
+
+pub use rows::{Row, item_rows};

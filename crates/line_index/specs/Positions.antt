@@ -1,0 +1,24 @@
+-- Lines and columns.
+use Rattle.std.specs.Prelude.{ℕ, Bool, ◌+◌, ◌==◌, ◌&&◌, if◌then◌else◌, List, [], ◌∷◌, take, nat_le, nat_lt}
+use Rattle.line_index.specs.declared.Position.{Position}
+
+-- a byte behind the first of a character
+abbrev pub is_continuation : ℕ → Bool
+is_continuation b = nat_le 128 b && nat_lt b 192
+
+-- a line feed ends a line; each other character takes a column
+abbrev pub behind_byte : Position → ℕ → Position
+behind_byte p b =
+    if b == 10 then record { line = p.line + 1; column = 1 }
+    else (if is_continuation b then p else record { line = p.line; column = p.column + 1 })
+
+abbrev pub behind : Position → List ℕ → Position
+behind p [] = p
+behind p (b ∷ bs) = behind (behind_byte p b) bs
+
+abbrev pub start : Position
+start = record { line = 1; column = 1 }
+
+-- where a place in a text stands; one past the text stands at its end
+unfoldable pub position_of : List ℕ → ℕ → Position
+position_of text at = behind start (take at text)

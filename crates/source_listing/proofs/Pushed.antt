@@ -1,0 +1,18 @@
+-- Texts that are pushed one after another.
+use Rattle.std.proofs.Common.{◌≡◌, ℕ, List, [], ◌∷◌, ◌++◌, map, take, ap, ◌∙◌, append_assoc}
+use Rattle.std.specs.Prelude.{filter}
+use Rattle.std.specs.List.{flat_map}
+use Rattle.std.proofs.lemmas.Grind.{flat_map-append}
+use Rattle.std.proofs.lemmas.List.Elements.{filter-append}
+use Rattle.item_rows.specs.Rows.{RowView}
+use Rattle.rust_items.specs.declared.source_file.ItemPlace.{ItemPlace}
+use Rattle.source_listing.specs.Lines.{Source, Choice, is_listed, item_line, outline_text}
+
+pub six_pushed : (o p i v w n e o1 o2 o3 o4 o5 o6 : List ℕ) → o1 ≡ o ++ p → o2 ≡ o1 ++ i → o3 ≡ o2 ++ v → o4 ≡ o3 ++ w → o5 ≡ o4 ++ n → o6 ≡ o5 ++ e
+    → o6 ≡ o ++ (p ++ i ++ v ++ w ++ n ++ e)
+six_pushed o p i v w n e o1 o2 o3 o4 o5 o6 a b c d f g = rw (g, f, d, c, b, a) (simp append_assoc)
+
+-- the lines of one more item
+pub one_more : (s : Source) (reserved : List (List ℕ)) (places : List ItemPlace) (c : Choice) (rs : List RowView) (r : RowView)
+    → outline_text s reserved places c (rs ++ r ∷ []) ≡ outline_text s reserved places c rs ++ outline_text s reserved places c (r ∷ [])
+one_more s reserved places c rs r = ap (flat_map (item_line s reserved places)) (filter-append (is_listed c) rs (r ∷ [])) ∙ flat_map-append (item_line s reserved places) (filter (is_listed c) rs) (filter (is_listed c) (r ∷ []))

@@ -1,0 +1,8 @@
+use Rattle.std.proofs.Common.{◌≡◌, ◌++◌, take, string_bytes}
+use Rattle.std.specs.List.{flat_map}
+use Rattle.source_listing.specs.Lines as spec
+use Rattle.source_listing.specs.Inner.{source_view}
+use Rattle.source_listing.proofs.problems.problem_lines.Given as goal
+
+abbrev pub invariant-loop-problem : goal.invariant-loop-problem
+invariant-loop-problem l = (string_bytes l.out ≡ flat_map (spec.problem_line (source_view l.fn.source)) (take l.problem-index l.problems)) × (l.lines ≡ l.fn.source.text.now)

@@ -1,0 +1,104 @@
+-- The lines of an outline, and of problems.
+use Rattle.std.specs.Prelude.{ℕ, Bool, true, not, ◌&&◌, ◌||◌, ◌*◌, nat_lt, if◌then◌else◌, List, [], ◌∷◌, ◌++◌, codes, replicate, filter, Option, Some, None}
+use Rattle.std.specs.List.{flat_map}
+use Rattle.hir_input.specs.declared.ids.AstIdKind.{AstIdKind}
+use Rattle.hir_input.specs.declared.ids.AstIdKind.TheVariants as kind
+use Rattle.hir_input.specs.Name.{shown_name}
+use Rattle.item_tree.specs.declared.visibility.RawVisibility.{RawVisibility}
+use Rattle.item_tree.specs.declared.visibility.RawVisibility.TheVariants.{PubSelf}
+use Rattle.item_tree.specs.declared.visibility.VisibilityExplicitness.TheVariants.{Implicit}
+use Rattle.item_tree.specs.Page.{shown_visibility}
+use Rattle.item_rows.specs.Rows.{RowView}
+use Rattle.line_index.specs.Positions.{position_of}
+use Rattle.rust_items.specs.declared.source_file.ItemPlace.{ItemPlace}
+use Rattle.rust_items.specs.declared.log.Problem.{Problem}
+use Rattle.rust_items.specs.declared.log.ProblemKind.{ProblemKind}
+use Rattle.rust_items.specs.declared.log.ProblemKind.TheVariants as problem
+use Rattle.source_listing.specs.Places.{place_of, stands_at, place_text}
+
+-- the word of a kind
+abbrev pub word : AstIdKind → List ℕ
+word kind.Const = codes "const"
+word kind.Enum = codes "enum"
+word kind.ExternBlock = codes "extern"
+word kind.ExternCrate = codes "extern crate"
+word kind.Fn = codes "fn"
+word kind.Impl = codes "impl"
+word kind.MacroDef = codes "macro"
+word kind.MacroCall = codes "macro call"
+word kind.MacroRules = codes "macro_rules"
+word kind.Module = codes "mod"
+word kind.Static = codes "static"
+word kind.Struct = codes "struct"
+word kind.Trait = codes "trait"
+word kind.TypeAlias = codes "type"
+word kind.Union = codes "union"
+word kind.Use = codes "use"
+
+-- a file: its path as it was given, and its text
+pub record Source : Type 0 where
+  pub path : List ℕ
+  pub text : List ℕ
+
+-- file, line and column of a byte of the text
+abbrev pub place_at : Source → ℕ → List ℕ
+place_at s at = place_text s.path (position_of s.text at)
+
+-- ---- outlines
+
+-- which items are listed: those in fewer than so many others, and only those that no cfg disables where that is asked
+pub record Choice : Type 0 where
+  pub depth : Option ℕ
+  pub only_active : Bool
+
+abbrev pub is_within : Option ℕ → ℕ → Bool
+is_within None level = true
+is_within (Some depth) level = nat_lt level depth
+
+abbrev pub is_listed : Choice → RowView → Bool
+is_listed c r = is_within c.depth r.level && (not c.only_active || r.is_active)
+
+-- where an item stands; each has a place
+abbrev pub item_place : Source → Option ItemPlace → List ℕ
+item_place s None = s.path ++ codes ": "
+item_place s (Some p) = place_at s (stands_at p)
+
+-- a visibility is written where it was
+abbrev pub visibility_text : List (List ℕ) → Option RawVisibility → List ℕ
+visibility_text reserved None = []
+visibility_text reserved (Some (PubSelf Implicit)) = []
+visibility_text reserved (Some v) = shown_visibility reserved v
+
+abbrev pub name_text : List (List ℕ) → Option (List ℕ) → List ℕ
+name_text reserved None = []
+name_text reserved (Some name) = codes " " ++ shown_name reserved name
+
+abbrev pub line_end : Bool → List ℕ
+line_end is_active = if is_active then codes "\n" else codes " (inactive)\n"
+
+-- four blanks a level
+abbrev pub indent : ℕ → List ℕ
+indent level = replicate (4 * level) 32
+
+-- the line of an item: its place, four blanks for each item that it stands in, its visibility, the word of its kind, its name, and whether a cfg disables it
+abbrev pub item_line : Source → List (List ℕ) → List ItemPlace → RowView → List ℕ
+item_line s reserved places r =
+    item_place s (place_of r.id places) ++ indent r.level ++ visibility_text reserved r.visibility ++ word r.id.kind ++ name_text reserved r.name ++ line_end r.is_active
+
+abbrev pub outline_text : Source → List (List ℕ) → List ItemPlace → Choice → List RowView → List ℕ
+outline_text s reserved places c rs = flat_map (item_line s reserved places) (filter (is_listed c) rs)
+
+-- ---- problems
+
+abbrev pub message : ProblemKind → List ℕ
+message problem.NoItem = codes "expected an item"
+message problem.Unmatched = codes "this bracket closes nothing"
+message problem.Unfinished = codes "this item has no end"
+message problem.Unterminated = codes "this literal or comment has no end"
+message problem.TooDeep = codes "this stands in too many others to be read"
+
+abbrev pub problem_line : Source → Problem → List ℕ
+problem_line s p = place_at s p.at ++ message p.kind ++ codes "\n"
+
+abbrev pub problem_lines : Source → List Problem → List ℕ
+problem_lines s ps = flat_map (problem_line s) ps

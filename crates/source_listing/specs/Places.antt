@@ -1,0 +1,33 @@
+-- Where an item stands, by its id.
+use Rattle.std.specs.Prelude.{◌≢◌, ℕ, Bool, ◌==◌, ◌&&◌, if◌then◌else◌, List, [], ◌∷◌, ◌++◌, codes, decimal, Option, Some, None}
+use Rattle.std.specs.List.{AllPairs}
+use Rattle.hir_input.specs.declared.ids.FileAstId.{FileAstId}
+use Rattle.line_index.specs.declared.Position.{Position}
+use Rattle.rust_ids.specs.Ids.{kind_place}
+use Rattle.rust_paths.specs.declared.names.TextRange.{TextRange}
+use Rattle.rust_items.specs.declared.source_file.ItemPlace.{ItemPlace}
+
+-- no two places have one id
+abbrev pub AreDistinct : List ItemPlace → Type 0
+AreDistinct = AllPairs (λ p q. p.id ≢ q.id)
+
+-- two ids are one
+abbrev pub is_id : FileAstId → FileAstId → Bool
+is_id a b = kind_place a.kind == kind_place b.kind && (a.hash == b.hash && a.number == b.number)
+
+-- the first place of an id
+abbrev pub place_of : FileAstId → List ItemPlace → Option ItemPlace
+place_of id [] = None
+place_of id (p ∷ ps) = if is_id id p.id then Some p else place_of id ps
+
+-- an item stands at its name, or where it begins
+abbrev pub at_name : Option TextRange → ℕ → ℕ
+at_name None start = start
+at_name (Some name) start = name.start
+
+abbrev pub stands_at : ItemPlace → ℕ
+stands_at p = at_name p.name p.range.start
+
+-- what an editor and a compiler write of a place: the file, the line and the column
+abbrev pub place_text : List ℕ → Position → List ℕ
+place_text path p = path ++ codes ":" ++ decimal p.line ++ codes ":" ++ decimal p.column ++ codes ": "

@@ -1,0 +1,9 @@
+//! Lists of the items and of the problems of Rust source, with the line and the column of each.
+#![tactic(auto)]
+
+mod lines;
+mod places;
+mod problems;
+
+pub use lines::{Choice, Source, outline};
+pub use problems::problem_lines;

@@ -1,0 +1,222 @@
+//! Outlines as lines of text.
+ghost use Rattle.std.specs.Prelude.{◌≡◌, ◌++◌, ◌∷◌, [], IfOk, OnOk, option_copied, string_bytes, map};
+ghost use Rattle.line_index.specs.Positions.{position_of};
+ghost use Rattle.item_rows.specs.Inner.{row_view};
+ghost use Rattle.item_rows.specs.Rows as rows;
+ghost use Rattle.source_listing.specs.Lines as spec;
+ghost use Rattle.source_listing.specs.Places.{AreDistinct, place_of, place_text, stands_at};
+ghost use Rattle.source_listing.specs.Inner.{choice_view, source_view};
+
+use crate::places::Places;
+use hir_input::{AstIdKind, Edition, Name};
+use item_rows::{Row, item_rows};
+use item_tree::{ItemTree, RawVisibility, VisibilityExplicitness};
+use line_index::{LineIndex, Position};
+use rust_items::ItemPlace;
+use std::alloc::{AllocError, Global};
+
+/// A file: its path as it is to be written, and its text.
+#[derive(Clone, Copy)]
+pub struct Source<'a> {
+    pub path: &'a str,
+    pub text: &'a str,
+}
+
+/// Which items are listed.
+#[derive(Clone, Copy, Debug, PartialEq, Eq)]
+pub struct Choice {
+    /// Only those that stand in fewer than so many others.
+    pub depth: Option<usize>,
+    /// Only those that no cfg disables.
+    pub only_active: bool,
+}
+
+impl Choice {
+    fn lists(self, row: &Row<'_>) -> bool
+        ensures { result ≡ spec.is_listed (choice_view self) (row_view row.now) }
+    {
+        let is_within = match self.depth {
+            Some(depth) => row.level < depth,
+            None => true,
+        };
+        is_within && (!self.only_active || row.is_active)
+    }
+}
+
+/// File, line and column, as compilers write them.
+pub(crate) fn push_place(path: &str, position: Position, out: &mut String) -> Result<(), AllocError>
+    ensures { OnOk result (string_bytes out.new ≡ string_bytes out.old ++ place_text path.now position) }
+{
+    let (line, column) = (position.line, position.column);
+    write!(out, "{path}:{line}:{column}: ")
+}
+
+/// The word of a kind.
+fn word(kind: AstIdKind) -> &'static str
+    ensures { result.now ≡ spec.word kind }
+{
+    match kind {
+        AstIdKind::Const => "const",
+        AstIdKind::Enum => "enum",
+        AstIdKind::ExternBlock => "extern",
+        AstIdKind::ExternCrate => "extern crate",
+        AstIdKind::Fn => "fn",
+        AstIdKind::Impl => "impl",
+        AstIdKind::MacroDef => "macro",
+        AstIdKind::MacroCall => "macro call",
+        AstIdKind::MacroRules => "macro_rules",
+        AstIdKind::Module => "mod",
+        AstIdKind::Static => "static",
+        AstIdKind::Struct => "struct",
+        AstIdKind::Trait => "trait",
+        AstIdKind::TypeAlias => "type",
+        AstIdKind::Union => "union",
+        AstIdKind::Use => "use",
+    }
+}
+
+fn push_indent(level: usize, out: &mut String) -> Result<(), AllocError>
+    ensures { OnOk result (string_bytes out.new ≡ string_bytes out.old ++ spec.indent level) }
+{
+    for _level in 0..level {
+        out.push_str("    ")?;
+    }
+    Ok(())
+}
+
+/// A visibility as it was written, and a blank.
+fn push_visibility(
+    edition: &Edition,
+    visibility: Option<&RawVisibility>,
+    out: &mut String,
+) -> Result<(), AllocError>
+    ensures { OnOk result (string_bytes out.new ≡ string_bytes out.old ++ spec.visibility_text edition.now.reserved.items (option_copied visibility.entry)) }
+{
+    match visibility {
+        None | Some(RawVisibility::PubSelf(VisibilityExplicitness::Implicit)) => Ok(()),
+        Some(RawVisibility::PubSelf(VisibilityExplicitness::Explicit)) => {
+            out.push_str("pub(self) ")
+        }
+        Some(RawVisibility::Public) => out.push_str("pub "),
+        Some(RawVisibility::PubCrate) => out.push_str("pub(crate) "),
+        Some(RawVisibility::Module(path, _)) => {
+            let path = path.display(edition);
+            write!(out, "pub(in {path}) ")
+        }
+    }
+}
+
+fn push_name(edition: &Edition, name: Option<&Name>, out: &mut String) -> Result<(), AllocError>
+    ensures { OnOk result (string_bytes out.new ≡ string_bytes out.old ++ spec.name_text edition.now.reserved.items (option_copied name.entry)) }
+{
+    match name {
+        None => Ok(()),
+        Some(name) => {
+            let name = name.display(edition);
+            write!(out, " {name}")
+        }
+    }
+}
+
+/// The end of an item's line, which tells whether a cfg disables it.
+fn push_end(is_active: bool, out: &mut String) -> Result<(), AllocError>
+    ensures { OnOk result (string_bytes out.new ≡ string_bytes out.old ++ spec.line_end is_active) }
+{
+    out.push_str(if is_active { "\n" } else { " (inactive)\n" })
+}
+
+/// What the lines of a file are made from.
+#[derive(Drop)]
+struct Printer<'a> {
+    path: &'a str,
+    lines: LineIndex<'a>,
+    places: Places<'a>,
+    edition: &'a Edition,
+}
+
+impl Printer<'_> {
+    /// Where an item stands.
+    fn push_item_place(&mut self, row: &Row<'_>, out: &mut String) -> Result<(), AllocError>
+        requires { AreDistinct self.old.places.all.now }
+        ensures text { let s : spec.Source = record { path = self.old.path.now; text = self.old.lines } in
+            OnOk result (string_bytes out.new ≡ string_bytes out.old ++ spec.item_place s (place_of row.now.id self.old.places.all.now)) }
+        ensures same { (self.new.lines ≡ self.old.lines) × (self.new.places.all.now ≡ self.old.places.all.now) × (self.new.path ≡ self.old.path) × (self.new.edition ≡ self.old.edition) }
+    {
+        match self.places.find(row.id) {
+            Some(place) => {
+                let at = match place.name {
+                    Some(name) => name.start,
+                    None => place.range.start,
+                };
+                push_place(self.path, self.lines.position(at), out)
+            }
+            None => {
+                out.push_str(self.path)?;
+                out.push_str(": ")
+            }
+        }
+    }
+
+    /// The line of an item.
+    fn push_item(&mut self, row: &Row<'_>, out: &mut String) -> Result<(), AllocError>
+        requires { AreDistinct self.old.places.all.now }
+        ensures text { let s : spec.Source = record { path = self.old.path.now; text = self.old.lines } in
+            OnOk result (string_bytes out.new ≡ string_bytes out.old ++ spec.item_line s self.old.edition.now.reserved.items self.old.places.all.now (row_view row.now)) }
+        ensures same { (self.new.lines ≡ self.old.lines) × (self.new.places.all.now ≡ self.old.places.all.now) × (self.new.path ≡ self.old.path) × (self.new.edition ≡ self.old.edition) }
+    {
+        self.push_item_place(row, out)?;
+        push_indent(row.level, out)?;
+        push_visibility(self.edition, row.visibility, out)?;
+        out.push_str(word(row.id.kind))?;
+        push_name(self.edition, row.name, out)?;
+        push_end(row.is_active, out)
+    }
+
+    /// The line of an item, if that is chosen.
+    fn push_chosen(
+        &mut self,
+        choice: Choice,
+        row: &Row<'_>,
+        out: &mut String,
+    ) -> Result<(), AllocError>
+        requires { AreDistinct self.old.places.all.now }
+        ensures text { let s : spec.Source = record { path = self.old.path.now; text = self.old.lines } in
+            OnOk result (string_bytes out.new ≡ string_bytes out.old ++ spec.outline_text s self.old.edition.now.reserved.items self.old.places.all.now (choice_view choice) (row_view row.now ∷ [])) }
+        ensures same { (self.new.lines ≡ self.old.lines) × (self.new.places.all.now ≡ self.old.places.all.now) × (self.new.path ≡ self.old.path) × (self.new.edition ≡ self.old.edition) }
+    {
+        if !choice.lists(row) {
+            return Ok(());
+        }
+        self.push_item(row, out)
+    }
+}
+
+/// A line for each chosen item of a file's tree, before those of the items in it: file, line and column, four blanks for each
+/// item that it stands in, its visibility as it was written, the word of its kind, its name, and whether a cfg disables it.
+///
+/// The places are those that the reader gave with the syntax of the tree. The only error is want of memory.
+#[tactic(auto, using(crate::proofs::Pushed::one_more))]
+pub fn outline(
+    alloc: Global,
+    source: Source<'_>,
+    places: &[ItemPlace],
+    tree: &ItemTree,
+    edition: &Edition,
+    choice: Choice,
+) -> Result<String, AllocError>
+    requires { AreDistinct places.now }
+    ensures { IfOk result (λ text. string_bytes text ≡ spec.outline_text (source_view source.entry) edition.now.reserved.items places.now (choice_view choice) (rows.rows tree.now.forest)) }
+{
+    let mut printer = Printer {
+        path: source.path,
+        lines: LineIndex::new(source.text),
+        places: Places::new(places),
+        edition,
+    };
+    let mut out = String::new(alloc);
+    let rows = item_rows(alloc, tree)?;
+    for row in &rows {
+        printer.push_chosen(choice, row, &mut out)?;
+    }
+    Ok(out)
+}
