@@ -63,8 +63,17 @@ abbrev pub other_found : Bool → Finder PartView
 other_found is_top f ts = ((other_read is_top ts).0, (f, (other_read is_top ts).1))
 
 -- a macro call gets an id as an item does
+abbrev pub and_named_call : ℕ → ℕ → List ℕ → Found → Found
+and_named_call start end name f = and_item 0 start end kind.MacroCall name None true f
+
 abbrev pub and_call : ℕ → ℕ → CallRead → Found → Found
-and_call start end c f = and_item 0 start end kind.MacroCall c.name None true f
+and_call start end c f = and_named_call start end c.name f
+
+abbrev pub stmt_of_call : ℕ → ℕ → CallRead → Found → PartView × Found
+stmt_of_call start end c f = (stmt_part (call_stmt c.call), and_call start end c f)
+
+abbrev pub tail_of_call : ℕ → ℕ → CallRead → Found → PartView × Found
+tail_of_call start end c f = (tail_part (call_tail c.call), and_call start end c f)
 
 -- behind the braces of a macro call: it is an operand
 abbrev pub is_operand : Tokens → Bool

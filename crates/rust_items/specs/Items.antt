@@ -33,6 +33,9 @@ and_item depth start end kind name named is_ended f =
 abbrev pub and_leaf : ℕ → ℕ → ℕ → LeafRead → Found → Found
 and_leaf depth start end l f = and_problem_at problem.TooDeep l.too_deep (and_item depth start end l.kind l.name l.named l.is_ended f)
 
+abbrev pub leaf_kept : ℕ → ℕ → ℕ → LeafRead → Found → Option ItemView × Found
+leaf_kept depth start end l f = (Some l.item, and_leaf depth start end l f)
+
 -- ---- items that hold none
 
 -- an item that holds none, or tokens that begin no item

@@ -72,20 +72,45 @@ fn is_operand(cursor: &Cursor<'_>) -> bool
     matches!(cursor.symbol(), b'.' | b'?')
 }
 
+/// Adds a macro call.
 fn push_call<'t>(
     log: &mut Log<'t>,
     start: usize,
     end: usize,
-    call: &Call<'t>,
+    name: &'t str,
 ) -> Result<(), AllocError>
-    ensures { OnOk result (log_view log.new ≡ spec.and_call start end (call_read_view call.now) (log_view log.old)) }
+    ensures { OnOk result (log_view log.new ≡ spec.and_named_call start end name.now (log_view log.old)) }
 {
     let extent = Extent {
         depth: 0,
         start,
         end,
     };
-    push_item(log, extent, AstIdKind::MacroCall, call.name, None, true)
+    push_item(log, extent, AstIdKind::MacroCall, name, None, true)
+}
+
+fn stmt_of<'t>(
+    call: Call<'t>,
+    start: usize,
+    end: usize,
+    log: &mut Log<'t>,
+) -> Result<Part, AllocError>
+    ensures { IfOk result (λ part. spec.stmt_of_call start end (call_read_view call.entry) (log_view log.old) ≡ (part_view part, log_view log.new)) }
+{
+    push_call(log, start, end, call.name)?;
+    Ok(Part::Stmt(Stmt::MacroCall(call.node)))
+}
+
+fn tail_of<'t>(
+    call: Call<'t>,
+    start: usize,
+    end: usize,
+    log: &mut Log<'t>,
+) -> Result<Part, AllocError>
+    ensures { IfOk result (λ part. spec.tail_of_call start end (call_read_view call.entry) (log_view log.old) ≡ (part_view part, log_view log.new)) }
+{
+    push_call(log, start, end, call.name)?;
+    Ok(Part::Tail(Tail::MacroCall(call.node)))
 }
 
 /// What a macro call is, by what stands behind it.
@@ -101,17 +126,14 @@ fn call_part<'t>(
 {
     let end = cursor.past();
     if cursor.symbol() == b';' {
-        push_call(log, start, end, &call)?;
         cursor.bump();
-        return Ok(Part::Stmt(Stmt::MacroCall(call.node)));
+        return stmt_of(call, start, end, log);
     }
     if is_list_end(cursor, is_top) {
-        push_call(log, start, end, &call)?;
-        return Ok(Part::Tail(Tail::MacroCall(call.node)));
+        return tail_of(call, start, end, log);
     }
     if call.is_braced && !is_operand(cursor) {
-        push_call(log, start, end, &call)?;
-        return Ok(Part::Stmt(Stmt::MacroCall(call.node)));
+        return stmt_of(call, start, end, log);
     }
     Ok(take_other(cursor, is_top))
 }

@@ -1,6 +1,6 @@
 //! What an item leaves in the log, and items that hold none.
 
-ghost use Rattle.std.specs.Prelude.{◌≡◌, OnOk, option_map};
+ghost use Rattle.std.specs.Prelude.{◌≡◌, IfOk, OnOk, option_map};
 ghost use Rattle.hir_input.specs.Syntax.{item_view};
 ghost use Rattle.rust_leaves.specs.Views.{front_view, leaf_view};
 ghost use Rattle.rust_items.specs.Found.{Finds, log_view};
@@ -43,16 +43,13 @@ pub(crate) fn push_item<'t>(
     log.push_problem_if(!is_ended, ProblemKind::Unfinished, extent.start)
 }
 
-/// Adds an item that holds none.
-pub(crate) fn push_leaf<'t>(
-    log: &mut Log<'t>,
-    extent: Extent,
-    leaf: &Leaf<'t>,
-) -> Result<(), AllocError>
-    ensures { OnOk result (log_view log.new ≡ spec.and_leaf extent.depth extent.start extent.end (leaf_view leaf.now) (log_view log.old)) }
+/// Keeps an item that holds none.
+fn kept<'t>(leaf: Leaf<'t>, extent: Extent, log: &mut Log<'t>) -> Result<Option<Item>, AllocError>
+    ensures { IfOk result (λ item. spec.leaf_kept extent.depth extent.start extent.end (leaf_view leaf.entry) (log_view log.old) ≡ (option_map item_view item, log_view log.new)) }
 {
     push_item(log, extent, leaf.kind, leaf.name, leaf.named, leaf.is_ended)?;
-    log.push_problem_at(ProblemKind::TooDeep, leaf.too_deep)
+    log.push_problem_at(ProblemKind::TooDeep, leaf.too_deep)?;
+    Ok(Some(leaf.item))
 }
 
 /// An item that holds none, or tokens that begin no item.
@@ -70,8 +67,7 @@ pub(crate) fn leaf_turn<'t>(
     match take_leaf(alloc, cursor, front)? {
         Some(leaf) => {
             let end = cursor.past();
-            push_leaf(log, Extent { depth, start, end }, &leaf)?;
-            Ok(Some(leaf.item))
+            kept(leaf, Extent { depth, start, end }, log)
         }
         None => {
             log.push_problem(ProblemKind::NoItem, start)?;
