@@ -1,0 +1,4 @@
+pub mod Gaps
+pub mod Words
+pub mod Standing
+pub mod Laws
