@@ -4,3 +4,4 @@ pub mod Turns
 pub mod Depth
 pub mod Scans
 pub mod Reaches
+pub mod Rests
