@@ -1,5 +1,5 @@
 -- Steps of what passes over angle brackets.
-use Rattle.std.proofs.Common.{◌≡◌, ◌≤◌, ◌+◌, ◌-◌, ◌==◌, ◌&&◌, ℕ, Bool, true, false, List, [], ◌∷◌, length, refl, sym, ap, ◌∙◌, arith}
+use Rattle.std.proofs.Common.{◌≡◌, ◌≤◌, ◌+◌, ◌-◌, ◌==◌, ◌&&◌, ℕ, Bool, true, false, Option, List, [], ◌∷◌, length, refl, sym, ap, ◌∙◌, arith}
 use Rattle.std.specs.Prelude.{if◌then◌else◌}
 use Rattle.rust_lexer.specs.Piece.{Piece}
 use Rattle.rust_cursor.specs.declared.cursor.generics.Nest.{Nest}
@@ -10,36 +10,34 @@ use Rattle.rust_cursor.specs.Angles.{nest_behind, is_reached, is_closed, reachin
 use Rattle.rust_cursor.proofs.Steps.{shorter}
 use Rattle.rust_cursor.proofs.Scans.{depth_behind_le, not_first}
 
-stop_from : (r : Reach) (nest : Nest) (past : ℕ) (left : List Piece) → is_reached r nest (record { past = past; left = left }) ≡ true → reaching_from r nest past left ≡ record { past = past; left = left }
-stop_from r nest past [] s = refl
-stop_from r nest past (t ∷ ts) s = rw s refl
+stop_from : (r : Reach) (nest : Nest) (ts : Tokens) (left : List Piece) → is_reached r nest ts ≡ true → reaching_from r nest ts left ≡ ts
+stop_from r nest ts [] s = refl
+stop_from r nest ts (t ∷ more) s = rw s refl
 
 -- nothing more is passed over
 pub reaching_stop : (r : Reach) (nest : Nest) (ts : Tokens) → is_reached r nest ts ≡ true → reaching r nest ts ≡ ts
 unfolding reaching
-reaching_stop r nest ts s = stop_from r nest ts.past ts.left s
+reaching_stop r nest ts s = stop_from r nest ts ts.left s
 
-end_from : (r : Reach) (nest : Nest) (past : ℕ) (left : List Piece) → (let here : Tokens = record { past = past; left = left } in
-    is_reached r nest here ≡ false → is_closed r (nest_behind nest here) ≡ true → reaching_from r nest past left ≡ bumped here)
-unfolding is_reached is_empty
-end_from r nest past [] s f = absurd cc
-end_from r nest past (t ∷ ts) s f = rw (s, f) refl
+end_from : (r : Reach) (nest : Nest) (past : ℕ) (left : List Piece) (u : Option ℕ) → (let here : Tokens = record { past = past; left = left; unended = u } in
+    is_reached r nest here ≡ false → is_closed r (nest_behind nest here) ≡ true → reaching r nest here ≡ bumped here)
+unfolding is_reached is_empty reaching
+end_from r nest past [] u s f = absurd cc
+end_from r nest past (t ∷ ts) u s f = rw (s, f) refl
 
 -- the next token is the last
 pub reaching_end : (r : Reach) (nest : Nest) (ts : Tokens) → is_reached r nest ts ≡ false → is_closed r (nest_behind nest ts) ≡ true → reaching r nest ts ≡ bumped ts
-unfolding reaching
-reaching_end r nest ts s f = end_from r nest ts.past ts.left s f
+reaching_end r nest ts s f = end_from r nest ts.past ts.left ts.unended s f
 
-more_from : (r : Reach) (nest : Nest) (past : ℕ) (left : List Piece) → (let here : Tokens = record { past = past; left = left } in
-    is_reached r nest here ≡ false → is_closed r (nest_behind nest here) ≡ false → reaching_from r nest past left ≡ reaching r (nest_behind nest here) (bumped here))
+more_from : (r : Reach) (nest : Nest) (past : ℕ) (left : List Piece) (u : Option ℕ) → (let here : Tokens = record { past = past; left = left; unended = u } in
+    is_reached r nest here ≡ false → is_closed r (nest_behind nest here) ≡ false → reaching r nest here ≡ reaching r (nest_behind nest here) (bumped here))
 unfolding is_reached is_empty reaching bumped
-more_from r nest past [] s f = absurd cc
-more_from r nest past (t ∷ ts) s f = rw (s, f) refl
+more_from r nest past [] u s f = absurd cc
+more_from r nest past (t ∷ ts) u s f = rw (s, f) refl
 
 -- a token is passed over, and more
 pub reaching_more : (r : Reach) (nest : Nest) (ts : Tokens) → is_reached r nest ts ≡ false → is_closed r (nest_behind nest ts) ≡ false → reaching r nest ts ≡ reaching r (nest_behind nest ts) (bumped ts)
-unfolding reaching
-reaching_more r nest ts s f = more_from r nest ts.past ts.left s f
+reaching_more r nest ts s f = more_from r nest ts.past ts.left ts.unended s f
 
 -- where a token is passed over, one is left
 pub one_left : (r : Reach) (nest : Nest) (ts : Tokens) → is_reached r nest ts ≡ false → length (bumped ts).left + 1 ≡ length ts.left

@@ -1,5 +1,5 @@
 -- Steps of what takes texts.
-use Rattle.std.proofs.Common.{◌≡◌, ◌≤◌, ◌+◌, ◌-◌, ℕ, Bool, true, false, List, [], ◌∷◌, length, refl, sym, ap, ◌∙◌, arith}
+use Rattle.std.proofs.Common.{◌≡◌, ◌≤◌, ◌+◌, ◌-◌, ℕ, Bool, true, false, Option, List, [], ◌∷◌, length, refl, sym, ap, ◌∙◌, arith}
 use Rattle.rust_lexer.specs.Piece.{Piece}
 use Rattle.rust_cursor.specs.declared.cursor.texts.Extent.{Extent}
 use Rattle.rust_cursor.specs.Tokens.{Tokens}
@@ -8,37 +8,35 @@ use Rattle.rust_cursor.specs.Words.{is_empty, is_at_open, is_at_end, bumped}
 use Rattle.rust_cursor.proofs.Steps.{shorter}
 use Rattle.rust_cursor.specs.Extents.{depth_behind, stops, ends, more, last_behind, taking, taking_from}
 
-stop_from : (e : Extent) (done : List ℕ) (last depth past : ℕ) (left : List Piece) → stops e depth (record { past = past; left = left }) ≡ true → taking_from e done last depth past left ≡ (done, record { past = past; left = left })
-stop_from e done last depth past [] s = refl
-stop_from e done last depth past (t ∷ ts) s = rw s refl
+stop_from : (e : Extent) (done : List ℕ) (last depth : ℕ) (ts : Tokens) (left : List Piece) → stops e depth ts ≡ true → taking_from e done last depth ts left ≡ (done, ts)
+stop_from e done last depth ts [] s = refl
+stop_from e done last depth ts (t ∷ left) s = rw s refl
 
 -- nothing more is taken
 pub taking_stop : (e : Extent) (done : List ℕ) (last depth : ℕ) (ts : Tokens) → stops e depth ts ≡ true → taking e done last depth ts ≡ (done, ts)
 unfolding taking
-taking_stop e done last depth ts s = stop_from e done last depth ts.past ts.left s
+taking_stop e done last depth ts s = stop_from e done last depth ts ts.left s
 
-end_from : (e : Extent) (done : List ℕ) (last depth past : ℕ) (left : List Piece) → (let here : Tokens = record { past = past; left = left } in
-    stops e depth here ≡ false → ends e (depth_behind depth here) here ≡ true → taking_from e done last depth past left ≡ (more e last done here, bumped here))
-unfolding stops is_empty
-end_from e done last depth past [] s f = absurd cc
-end_from e done last depth past (t ∷ ts) s f = rw (s, f) refl
+end_from : (e : Extent) (done : List ℕ) (last depth past : ℕ) (left : List Piece) (u : Option ℕ) → (let here : Tokens = record { past = past; left = left; unended = u } in
+    stops e depth here ≡ false → ends e (depth_behind depth here) here ≡ true → taking e done last depth here ≡ (more e last done here, bumped here))
+unfolding stops is_empty taking
+end_from e done last depth past [] u s f = absurd cc
+end_from e done last depth past (t ∷ ts) u s f = rw (s, f) refl
 
 -- the next token is the last
 pub taking_end : (e : Extent) (done : List ℕ) (last depth : ℕ) (ts : Tokens) → stops e depth ts ≡ false → ends e (depth_behind depth ts) ts ≡ true → taking e done last depth ts ≡ (more e last done ts, bumped ts)
-unfolding taking
-taking_end e done last depth ts s f = end_from e done last depth ts.past ts.left s f
+taking_end e done last depth ts s f = end_from e done last depth ts.past ts.left ts.unended s f
 
-more_from : (e : Extent) (done : List ℕ) (last depth past : ℕ) (left : List Piece) → (let here : Tokens = record { past = past; left = left } in
-    stops e depth here ≡ false → ends e (depth_behind depth here) here ≡ false → taking_from e done last depth past left ≡ taking e (more e last done here) (last_behind last here) (depth_behind depth here) (bumped here))
+more_from : (e : Extent) (done : List ℕ) (last depth past : ℕ) (left : List Piece) (u : Option ℕ) → (let here : Tokens = record { past = past; left = left; unended = u } in
+    stops e depth here ≡ false → ends e (depth_behind depth here) here ≡ false → taking e done last depth here ≡ taking e (more e last done here) (last_behind last here) (depth_behind depth here) (bumped here))
 unfolding stops is_empty taking bumped
-more_from e done last depth past [] s f = absurd cc
-more_from e done last depth past (t ∷ ts) s f = rw (s, f) refl
+more_from e done last depth past [] u s f = absurd cc
+more_from e done last depth past (t ∷ ts) u s f = rw (s, f) refl
 
 -- the next token is taken, and more
 pub taking_more : (e : Extent) (done : List ℕ) (last depth : ℕ) (ts : Tokens) → stops e depth ts ≡ false → ends e (depth_behind depth ts) ts ≡ false
     → taking e done last depth ts ≡ taking e (more e last done ts) (last_behind last ts) (depth_behind depth ts) (bumped ts)
-unfolding taking
-taking_more e done last depth ts s f = more_from e done last depth ts.past ts.left s f
+taking_more e done last depth ts s f = more_from e done last depth ts.past ts.left ts.unended s f
 
 pub not_first : (b rest : Bool) → (if b then true else rest) ≡ false → b ≡ false
 not_first true rest e = e

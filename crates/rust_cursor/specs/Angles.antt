@@ -5,7 +5,7 @@ use Rattle.rust_lexer.specs.Piece.{Piece}
 use Rattle.rust_cursor.specs.declared.cursor.generics.Nest.{Nest}
 use Rattle.rust_cursor.specs.declared.cursor.generics.Reach.{Reach}
 use Rattle.rust_cursor.specs.declared.cursor.generics.Reach.TheVariants as reaches
-use Rattle.rust_cursor.specs.Tokens.{Tokens, end_of}
+use Rattle.rust_cursor.specs.Tokens.{Tokens}
 use Rattle.rust_cursor.specs.Words.{symbol, word, is_empty, is_at_end, is_glued, bumped}
 use Rattle.rust_cursor.specs.Extents.{depth_behind, begins_item}
 
@@ -54,15 +54,15 @@ is_closed reaches.Field nest = false
 is_closed reaches.Header nest = false
 is_closed reaches.Block nest = false
 
-abbrev pub reaching_from : Reach → Nest → ℕ → List Piece → Tokens
-reaching_from reach nest past [] = record { past = past; left = [] }
-reaching_from reach nest past (t ∷ ts) =
-    let here : Tokens = record { past = past; left = t ∷ ts } in
-    if is_reached reach nest here then here
-    else (if is_closed reach (nest_behind nest here) then bumped here else reaching_from reach (nest_behind nest here) (end_of t) ts)
+-- goes on from here, at most as many times as a token is in this list
+abbrev pub reaching_from : Reach → Nest → Tokens → List Piece → Tokens
+reaching_from reach nest ts [] = ts
+reaching_from reach nest ts (_ ∷ more) =
+    if is_reached reach nest ts then ts
+    else (if is_closed reach (nest_behind nest ts) then bumped ts else reaching_from reach (nest_behind nest ts) (bumped ts) more)
 
 unfoldable pub reaching : Reach → Nest → Tokens → Tokens
-reaching reach nest ts = reaching_from reach nest ts.past ts.left
+reaching reach nest ts = reaching_from reach nest ts ts.left
 
 abbrev pub flat : Nest
 flat = record { depth = 0; angles = 0; is_dash = false }

@@ -1,19 +1,20 @@
 -- What is left behind brackets. The kinds of brackets are not told apart.
 use Rattle.std.specs.Prelude.{ℕ, ◌+◌, ◌-◌, ◌==◌, if◌then◌else◌, List, [], ◌∷◌}
 use Rattle.rust_lexer.specs.Piece.{Piece}
-use Rattle.rust_cursor.specs.Tokens.{Tokens, end_of}
-use Rattle.rust_cursor.specs.Words.{is_open, is_close, is_at_open, bumped}
+use Rattle.rust_cursor.specs.Tokens.{Tokens}
+use Rattle.rust_cursor.specs.Words.{is_at_open, is_at_end, bumped}
 
-abbrev pub closing_from : ℕ → ℕ → List Piece → Tokens
-closing_from depth past [] = record { past = past; left = [] }
-closing_from depth past (t ∷ ts) =
-    if is_open t then closing_from (depth + 1) (end_of t) ts
-    else (if is_close t then (if depth == 0 then record { past = past; left = t ∷ ts } else closing_from (depth - 1) (end_of t) ts)
-    else closing_from depth (end_of t) ts)
+-- goes on from here, at most as many times as a token is in this list
+abbrev pub closing_from : ℕ → Tokens → List Piece → Tokens
+closing_from depth ts [] = ts
+closing_from depth ts (_ ∷ more) =
+    if is_at_open ts then closing_from (depth + 1) (bumped ts) more
+    else (if is_at_end ts then (if depth == 0 then ts else closing_from (depth - 1) (bumped ts) more)
+    else closing_from depth (bumped ts) more)
 
 -- what is left from the bracket on that closes one that is open, in which so many more are open, or nothing
 unfoldable pub closing : ℕ → Tokens → Tokens
-closing depth ts = closing_from depth ts.past ts.left
+closing depth ts = closing_from depth ts ts.left
 
 -- what is left behind the bracket that closes one that is open
 unfoldable pub behind_closed : Tokens → Tokens

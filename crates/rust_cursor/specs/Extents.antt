@@ -4,7 +4,7 @@ use Rattle.std.specs.Str.{bytes_eq}
 use Rattle.rust_lexer.specs.Piece.{Piece}
 use Rattle.rust_cursor.specs.declared.cursor.texts.Extent.{Extent}
 use Rattle.rust_cursor.specs.declared.cursor.texts.Extent.TheVariants as extents
-use Rattle.rust_cursor.specs.Tokens.{Tokens, end_of}
+use Rattle.rust_cursor.specs.Tokens.{Tokens}
 use Rattle.rust_cursor.specs.Reader.{Reader, ◌>>=◌, pure}
 use Rattle.rust_cursor.specs.Words.{symbol, word, text, at, is_empty, is_at_open, is_at_end, is_at_identifier, is_at_doc, bumped, bump}
 
@@ -70,17 +70,17 @@ more e last done ts =
 unfoldable pub last_behind : ℕ → Tokens → ℕ
 last_behind last ts = if is_at_doc ts then last else (bumped ts).past
 
-abbrev pub taking_from : Extent → List ℕ → ℕ → ℕ → ℕ → List Piece → List ℕ × Tokens
-taking_from e done last depth past [] = (done, record { past = past; left = [] })
-taking_from e done last depth past (t ∷ ts) =
-    let here : Tokens = record { past = past; left = t ∷ ts } in
-    if stops e depth here then (done, here)
-    else (if ends e (depth_behind depth here) here then (more e last done here, bumped here)
-    else taking_from e (more e last done here) (last_behind last here) (depth_behind depth here) (end_of t) ts)
+-- goes on from here, at most as many times as a token is in this list
+abbrev pub taking_from : Extent → List ℕ → ℕ → ℕ → Tokens → List Piece → List ℕ × Tokens
+taking_from e done last depth ts [] = (done, ts)
+taking_from e done last depth ts (_ ∷ more_left) =
+    if stops e depth ts then (done, ts)
+    else (if ends e (depth_behind depth ts) ts then (more e last done ts, bumped ts)
+    else taking_from e (more e last done ts) (last_behind last ts) (depth_behind depth ts) (bumped ts) more_left)
 
 -- goes on taking in so many brackets, behind a text
 unfoldable pub taking : Extent → List ℕ → ℕ → ℕ → Reader (List ℕ)
-taking e done last depth ts = taking_from e done last depth ts.past ts.left
+taking e done last depth ts = taking_from e done last depth ts ts.left
 
 unfoldable pub taken : Extent → Reader (List ℕ)
 taken e ts = taking e [] ts.past 0 ts

@@ -1,21 +1,33 @@
 -- What is left of the tokens of a text.
-use Rattle.std.specs.Prelude.{ℕ, ◌+◌, Option, Some, None, List, [], ◌∷◌, length, refl}
-use Rattle.std.specs.Coded.{Coded, code_by, coded×, coded_ℕ, coded_list}
+use Rattle.std.specs.Prelude.{ℕ, ◌+◌, if◌then◌else◌, Option, Some, None, List, [], ◌∷◌, length, refl}
+use Rattle.std.specs.Coded.{Coded, code_by, coded×, coded_ℕ, coded_list, coded_option}
 use Rattle.std.specs.List.{filter}
 use Rattle.rust_lexer.specs.Piece.{Piece, coded_piece}
+use Rattle.rust_lexer.specs.Terminated.{is_terminated}
 use Rattle.rust_lexer.specs.Tokens.{tokens, is_significant}
 
--- the byte place behind the last token that was taken, and the tokens that are left, without white space and comments
+-- The byte place behind the last token that was taken, and the tokens that are left, without white space and comments.
+-- And of the text as a whole: the place of its last token, if that is not ended. It stays while tokens are taken.
 pub record Tokens : Type 0 where
   pub past : ℕ
   pub left : List Piece
+  pub unended : Option ℕ
 
 abbrev pub coded_tokens : Coded Tokens
-coded_tokens = code_by (ℕ × List Piece) (coded× coded_ℕ (coded_list coded_piece)) (λ t. (t.past, t.left)) (λ p. record { past = p.0; left = p.1 }) (λ _. refl)
+coded_tokens = code_by (ℕ × (List Piece × Option ℕ)) (coded× coded_ℕ (coded× (coded_list coded_piece) (coded_option coded_ℕ)))
+    (λ t. (t.past, (t.left, t.unended))) (λ p. record { past = p.0; left = p.1.0; unended = p.1.1 }) (λ _. refl)
+
+abbrev pub place_if_open : Piece → Option ℕ
+place_if_open t = if is_terminated t then None else Some t.at
+
+-- the place of the last of these tokens, if it is not ended; where there are none, this
+abbrev pub last_unended : Option ℕ → List Piece → Option ℕ
+last_unended last [] = last
+last_unended last (t ∷ ts) = last_unended (place_if_open t) ts
 
 -- the tokens of a text
 unfoldable pub tokens_of : List ℕ → Tokens
-tokens_of text = record { past = 0; left = filter is_significant (tokens text) }
+tokens_of text = record { past = 0; left = filter is_significant (tokens text); unended = last_unended None (tokens text) }
 
 -- a token that was looked at, and those that count of what is behind it
 abbrev pub left_of : Option Piece → List Piece → List Piece

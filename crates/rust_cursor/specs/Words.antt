@@ -78,13 +78,14 @@ is_at_identifier ts = by_first false (λ t. identifies t.kind) ts.left
 unfoldable pub is_at_doc : Tokens → Bool
 is_at_doc ts = by_first false (λ t. documents t.kind) ts.left
 
-abbrev pub behind_first : ℕ → List Piece → Tokens
-behind_first past [] = record { past = past; left = [] }
-behind_first past (t ∷ ts) = record { past = end_of t; left = ts }
+-- those behind the first
+abbrev pub rest : List Piece → List Piece
+rest [] = []
+rest (t ∷ ts) = ts
 
 -- what is left behind the next token
 unfoldable pub bumped : Tokens → Tokens
-bumped ts = behind_first ts.past ts.left
+bumped ts = record { past = by_first ts.past end_of ts.left; left = rest ts.left; unended = ts.unended }
 
 abbrev pub bump : Reader (Unit {0})
 bump ts = (tt, bumped ts)

@@ -3,7 +3,7 @@
 ghost use Rattle.std.specs.Prelude.{◌≡◌, ◌≤◌, ◌<◌, ◌^◌, IfSome, MatchOption, length};
 ghost use Rattle.std.specs.List.{filter};
 ghost use Rattle.rust_lexer.specs.Tokens.{is_significant};
-ghost use Rattle.rust_cursor.specs.Tokens.{left_of, tokens_of};
+ghost use Rattle.rust_cursor.specs.Tokens.{last_unended, left_of, place_if_open, tokens_of};
 ghost use Rattle.rust_cursor.specs.Words as spec;
 
 mod generics;
@@ -22,26 +22,42 @@ pub struct Cursor<'t> {
     past: usize,
     next: Option<Token<'t>>,
     lexer: Lexer<'t>,
+    /// The place of the last token that the lexer gave, if it is not ended.
+    last: Option<usize>,
 }
 
 impl<'t> Model for Cursor<'t> {
     ghost use Rattle.std.specs.Prelude.{◌<◌, ◌^◌, length};
-    ghost use Rattle.rust_cursor.specs.Tokens.{Tokens, coded_tokens, left_of};
+    ghost use Rattle.rust_cursor.specs.Tokens.{Tokens, coded_tokens, last_unended, left_of};
 
     ghost Value = { Tokens };
 
     ghost coded = { coded_tokens };
 
-    ghost view = { λ c. record { past = c.past; left = left_of c.next c.lexer } };
+    ghost view = { λ c. record { past = c.past; left = left_of c.next c.lexer; unended = last_unended c.last c.lexer } };
 
     ghost invariant = { λ c. length (left_of c.next c.lexer) < 2 ^ 64 };
 }
 
-/// The next token that is neither white space nor a plain comment.
-fn significant<'t>(lexer: &mut Lexer<'t>) -> Option<Token<'t>>
-    ensures { filter is_significant lexer.old ≡ left_of result lexer.new }
+/// The place of a token, if it is not ended.
+fn place_if_open(token: &Token<'_>) -> Option<usize>
+    ensures { result ≡ place_if_open token.now }
+{
+    if token.is_terminated() {
+        None
+    } else {
+        Some(token.at())
+    }
+}
+
+/// The next token that is neither white space nor a plain comment. The place of the last token that was passed is put down, if
+/// that is not ended.
+fn significant<'t>(lexer: &mut Lexer<'t>, last: &mut Option<usize>) -> Option<Token<'t>>
+    ensures found { filter is_significant lexer.old ≡ left_of result lexer.new }
+    ensures last { last_unended last.new lexer.new ≡ last_unended last.old lexer.old }
 {
     'tokens: while let Some(token) = lexer.next() {
+        *last = place_if_open(&token);
         if token.is_significant() {
             return Some(token);
         }
@@ -56,11 +72,13 @@ impl<'t> Cursor<'t> {
         ensures { result ≡ tokens_of text.now }
     {
         let mut lexer = Lexer::new(text);
-        let next = significant(&mut lexer);
+        let mut last = None;
+        let next = significant(&mut lexer, &mut last);
         Cursor {
             past: 0,
             next,
             lexer,
+            last,
         }
     }
 
@@ -76,6 +94,7 @@ impl<'t> Cursor<'t> {
             past: self.past,
             next,
             lexer: self.lexer.copy(),
+            last: self.last,
         }
     }
 
@@ -192,6 +211,20 @@ impl<'t> Cursor<'t> {
         }
     }
 
+    /// The byte place of the text's last token, white space and comments among them, if that is not ended.
+    ///
+    /// It reads what is left of the text again, which is nothing where no token is left.
+    pub fn unended(&self) -> Option<usize>
+        ensures { result ≡ self.now.unended }
+    {
+        let mut last = self.last;
+        let mut lexer = self.lexer.copy();
+        'tokens: while let Some(token) = lexer.next() {
+            last = place_if_open(&token);
+        }
+        last
+    }
+
     /// Takes one token, if one is left.
     #[tactic(auto, unfolding(crate::specs::Words::bumped))]
     pub fn bump(&mut self)
@@ -199,7 +232,7 @@ impl<'t> Cursor<'t> {
     {
         if let Some(token) = &self.next {
             self.past = token.end();
-            self.next = significant(&mut self.lexer);
+            self.next = significant(&mut self.lexer, &mut self.last);
         }
     }
 }

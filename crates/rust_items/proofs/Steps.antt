@@ -2,80 +2,18 @@
 use Rattle.std.proofs.Common.{◌≡◌, ◌≢◌, ◌==◌, ◌<◌, ◌+◌, ◌-◌, ℕ, zero, suc, Bool, true, false, List, [], ◌∷◌, ◌++◌, Option, refl, sym, ap, ◌∙◌, arith, append-nil}
 use Rattle.std.specs.Prelude.{option_to_list}
 use Rattle.std.proofs.lemmas.Bool.{ne_eqb}
+use Rattle.hir_input.specs.declared.ids.FileAstId.{FileAstId}
 use Rattle.hir_input.specs.Syntax.{ItemView}
 use Rattle.rust_cursor.specs.Tokens.{Tokens}
-use Rattle.rust_cursor.specs.Words.{symbol, at, bumped, is_empty}
+use Rattle.rust_cursor.specs.Words.{symbol, at}
 use Rattle.rust_cursor.specs.Brackets.{behind_tree}
 use Rattle.rust_cursor.specs.Elements.{beyond}
-use Rattle.rust_items.specs.declared.log.ProblemKind.TheVariants as problem
-use Rattle.hir_input.specs.declared.ids.FileAstId.{FileAstId}
 use Rattle.rust_items.specs.declared.log.ItemSpan.{ItemSpan}
+use Rattle.rust_items.specs.declared.log.ProblemKind.TheVariants as problem
 use Rattle.rust_items.specs.declared.source_file.ItemPlace.{ItemPlace}
-use Rattle.rust_items.specs.SourceFiles.{places}
 use Rattle.rust_items.specs.Found.{Found, Finder, and_problem}
-use Rattle.rust_items.specs.Heads.{is_modifier, behind_modifier, behind_modifiers_from, is_behind_others, behind_others_from}
-use Rattle.rust_items.specs.Texts.{open_step, has_open_from, and_text, spaced_from, last_text_from}
-use Rattle.rust_cursor.specs.Words.{text}
 use Rattle.rust_items.specs.Items.{finding_from, no_block, deep_block, block_of, inside, turn}
-
--- ---- modifiers
-
-pub modifiers_stop : (n : ℕ) (ts : Tokens) → is_modifier ts ≡ false → behind_modifiers_from n ts ≡ ts
-modifiers_stop zero ts e = refl
-modifiers_stop (suc n) ts e = rw e refl
-
-pub modifiers_more : (bound at : ℕ) (ts : Tokens) → at < bound → is_modifier ts ≡ true → behind_modifiers_from (bound - at) ts ≡ behind_modifiers_from (bound - (at + 1)) (behind_modifier ts)
-modifiers_more bound at ts below e = let turn : bound - at ≡ suc (bound - (at + 1)) = omega arith in rw (turn, e) refl
-
--- ---- what is no item
-
-pub others_stop : (n : ℕ) (ts : Tokens) → is_behind_others ts ≡ true → behind_others_from n ts ≡ ts
-others_stop zero ts e = refl
-others_stop (suc n) ts e = rw e refl
-
-pub others_more : (bound at : ℕ) (ts : Tokens) → at < bound → is_behind_others ts ≡ false → behind_others_from (bound - at) ts ≡ behind_others_from (bound - (at + 1)) (behind_tree ts)
-others_more bound at ts below e = let turn : bound - at ≡ suc (bound - (at + 1)) = omega arith in rw (turn, e) refl
-
--- ---- what is open
-
-pub open_end : (n : ℕ) (ts : Tokens) → is_empty ts ≡ true → has_open_from n ts ≡ false
-open_end zero ts e = refl
-open_end (suc n) ts e = rw e refl
-
-pub open_here : (bound at : ℕ) (found : Bool) (ts mid : Tokens) → at < bound → is_empty ts ≡ false → open_step ts ≡ (found, mid) → found ≡ true → has_open_from (bound - at) ts ≡ true
-open_here bound at found ts mid below e told f =
-    let turn : bound - at ≡ suc (bound - (at + 1)) = omega arith in
-    let test : (open_step ts).0 ≡ true = ap (λ r. r.0) told ∙ f in
-    rw (turn, e, test) refl
-
-pub open_more : (bound at : ℕ) (found : Bool) (ts mid : Tokens) → at < bound → is_empty ts ≡ false → open_step ts ≡ (found, mid) → found ≡ false → has_open_from (bound - at) ts ≡ has_open_from (bound - (at + 1)) mid
-open_more bound at found ts mid below e told f =
-    let turn : bound - at ≡ suc (bound - (at + 1)) = omega arith in
-    let test : (open_step ts).0 ≡ false = ap (λ r. r.0) told ∙ f in
-    let rest : (open_step ts).1 ≡ mid = ap (λ r. r.1) told in
-    rw (turn, e, test, rest) refl
-
--- ---- texts
-
-pub spaced_stop : (n end : ℕ) (done : List ℕ) (ts : Tokens) → (ts.past == end) ≡ true → spaced_from n end done ts ≡ (done, ts)
-spaced_stop zero end done ts e = refl
-spaced_stop (suc n) end done ts e = rw e refl
-
-pub spaced_more : (bound at end : ℕ) (done : List ℕ) (ts : Tokens) → at < bound → ts.past ≢ end → spaced_from (bound - at) end done ts ≡ spaced_from (bound - (at + 1)) end (and_text ts done) (bumped ts)
-spaced_more bound at end done ts below e =
-    let turn : bound - at ≡ suc (bound - (at + 1)) = omega arith in
-    let other : (ts.past == end) ≡ false = ne_eqb ts.past end e in
-    rw (turn, other) refl
-
-pub last_stop : (n end : ℕ) (last : List ℕ) (ts : Tokens) → (ts.past == end) ≡ true → last_text_from n end last ts ≡ last
-last_stop zero end last ts e = refl
-last_stop (suc n) end last ts e = rw e refl
-
-pub last_more : (bound at end : ℕ) (last : List ℕ) (ts : Tokens) → at < bound → ts.past ≢ end → last_text_from (bound - at) end last ts ≡ last_text_from (bound - (at + 1)) end (text ts) (bumped ts)
-last_more bound at end last ts below e =
-    let turn : bound - at ≡ suc (bound - (at + 1)) = omega arith in
-    let other : (ts.past == end) ≡ false = ne_eqb ts.past end e in
-    rw (turn, other) refl
+use Rattle.rust_items.specs.SourceFiles.{places}
 
 -- ---- lists of items
 
@@ -99,22 +37,22 @@ finding_more ends turn bound at past done done' i f f' ts mid after all below e 
 -- ---- modules
 
 -- one that is too deep
-pub inside_deep : (left : ℕ) (f : Found) (ts : Tokens) → left ≡ 0 → (symbol ts == 123) ≡ true → inside left f ts ≡ (deep_block, (and_problem problem.TooDeep (at ts) f, behind_tree ts))
+pub inside_deep : (left start : ℕ) (f : Found) (ts : Tokens) → left ≡ 0 → (symbol ts == 123) ≡ true → inside left start f ts ≡ (deep_block, (and_problem problem.TooDeep (at ts) f, behind_tree ts))
 unfolding inside
-inside_deep zero f ts e b = rw b refl
-inside_deep (suc left) f ts e b = absurd (omega arith)
+inside_deep zero start f ts e b = rw b refl
+inside_deep (suc left) start f ts e b = absurd (omega arith)
 
 -- no braces
-pub inside_none : (left : ℕ) (f : Found) (ts : Tokens) → symbol ts ≢ 123 → inside left f ts ≡ (no_block, (f, ts))
+pub inside_none : (left start : ℕ) (f : Found) (ts : Tokens) → symbol ts ≢ 123 → inside left start f ts ≡ (no_block, (f, ts))
 unfolding inside
-inside_none zero f ts e = let other : (symbol ts == 123) ≡ false = ne_eqb (symbol ts) 123 e in rw other refl
-inside_none (suc left) f ts e = let other : (symbol ts == 123) ≡ false = ne_eqb (symbol ts) 123 e in rw other refl
+inside_none zero start f ts e = let other : (symbol ts == 123) ≡ false = ne_eqb (symbol ts) 123 e in rw other refl
+inside_none (suc left) start f ts e = let other : (symbol ts == 123) ≡ false = ne_eqb (symbol ts) 123 e in rw other refl
 
 -- the braces of a module
-pub inside_some : (left : ℕ) (f : Found) (ts : Tokens) → 0 < left → (symbol ts == 123) ≡ true → inside left f ts ≡ block_of (turn (left - 1)) f ts
+pub inside_some : (left start : ℕ) (f : Found) (ts : Tokens) → 0 < left → (symbol ts == 123) ≡ true → inside left start f ts ≡ block_of start (turn (left - 1)) f ts
 unfolding inside turn
-inside_some zero f ts h e = absurd (omega arith)
-inside_some (suc left) f ts h e = let less : suc left - 1 ≡ left = omega arith in rw (e, less) refl
+inside_some zero start f ts h e = absurd (omega arith)
+inside_some (suc left) start f ts h e = let less : suc left - 1 ≡ left = omega arith in rw (e, less) refl
 
 -- ---- places
 

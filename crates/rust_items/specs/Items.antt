@@ -2,42 +2,23 @@
 use Rattle.std.specs.Prelude.{ℕ, zero, suc, ◌+◌, ◌-◌, Bool, true, false, not, ◌==◌, ◌&&◌, ◌||◌, if◌then◌else◌, Option, Some, None, option_to_list, List, [], ◌++◌}
 use Rattle.hir_input.specs.declared.ids.AstIdKind.{AstIdKind}
 use Rattle.hir_input.specs.declared.ids.AstIdKind.TheVariants as kind
-use Rattle.hir_input.specs.declared.ast.Visibility.{Visibility}
 use Rattle.hir_input.specs.Attr.{MetaView}
 use Rattle.hir_input.specs.Syntax.{ItemView, plain_item, fn_kind, static_kind, type_alias_kind, macro_call, module_from, extern_block_from}
 use Rattle.rust_cursor.specs.Tokens.{Tokens}
-use Rattle.rust_cursor.specs.Reader.{Reader, ◌>>=◌, pure, pass}
 use Rattle.rust_cursor.specs.Words.{symbol, at, eat, is_empty, is_at_end, bumped}
 use Rattle.rust_cursor.specs.Brackets.{behind_tree}
 use Rattle.rust_cursor.specs.Elements.{most, beyond}
 use Rattle.rust_paths.specs.declared.names.TextRange.{TextRange}
-use Rattle.rust_paths.specs.Visibilities.{visibility}
-use Rattle.rust_metas.specs.Attributes.{outer_attributes, inner_attributes}
-use Rattle.rust_items.specs.declared.head.Head.{Head}
-use Rattle.rust_items.specs.declared.head.Head.TheVariants as heads
+use Rattle.rust_metas.specs.Attributes.{inner_attributes}
+use Rattle.rust_leaves.specs.declared.head.Head.{Head}
+use Rattle.rust_leaves.specs.declared.head.Head.TheVariants as heads
 use Rattle.rust_items.specs.declared.log.ItemSpan.{ItemSpan}
 use Rattle.rust_items.specs.declared.log.ProblemKind.TheVariants as problem
 use Rattle.rust_items.specs.Found.{Found, Finder, nothing_found, and_problem, and_problem_if, and_problem_at, and_row, and_all}
-use Rattle.rust_items.specs.Heads.{behind_modifiers, head, behind_others}
-use Rattle.rust_items.specs.Leaves.{NameRead, LeafRead, no_name, named}
-use Rattle.rust_items.specs.Kinds.{named_node, node, leaf}
-
--- ---- what stands in front
-
--- what stands before an item's own parts
-pub record FrontRead : Type 0 where
-  pub attrs : List MetaView
-  pub visibility : Option Visibility
-  pub head : Head
-
--- attributes, a visibility, modifiers, and the words that begin an item
-unfoldable pub front : Reader FrontRead
-front = do
-  attrs ← outer_attributes
-  v ← visibility
-  _ ← pass behind_modifiers
-  h ← head
-  pure (record { attrs = attrs; visibility = v; head = h })
+use Rattle.rust_leaves.specs.Fronts.{FrontRead, front}
+use Rattle.rust_leaves.specs.Heads.{behind_others}
+use Rattle.rust_leaves.specs.Leaves.{NameRead, LeafRead, no_name, named}
+use Rattle.rust_leaves.specs.Kinds.{named_node, node, leaf}
 
 -- ---- what is found
 
@@ -59,8 +40,8 @@ abbrev pub leaf_found : ℕ → ℕ → Option LeafRead → Finder (Option ItemV
 leaf_found depth start None f ts = (None, (and_problem problem.NoItem start f, behind_others ts))
 leaf_found depth start (Some l) f ts = (Some l.item, (and_leaf depth start ts.past l f, ts))
 
-unfoldable pub leaf_turn : ℕ → ℕ → FrontRead → Finder (Option ItemView)
-leaf_turn depth start h f ts = leaf_found depth start (leaf h.head h.attrs h.visibility ts).0 f (leaf h.head h.attrs h.visibility ts).1
+unfoldable pub leaf_turn : ℕ → FrontRead → Finder (Option ItemView)
+leaf_turn depth h f ts = leaf_found depth h.start (leaf h ts).0 f (leaf h ts).1
 
 -- ---- lists
 
@@ -96,10 +77,10 @@ no_block = empty_block false
 abbrev pub deep_block : BlockRead
 deep_block = empty_block true
 
--- from its `{` on
-abbrev pub block_of : Finder (Option ItemView) → Finder BlockRead
-block_of turn f ts =
-    let inner = inner_attributes (bumped ts) in
+-- from its `{` on; the spans of the attributes count from this place
+abbrev pub block_of : ℕ → Finder (Option ItemView) → Finder BlockRead
+block_of start turn f ts =
+    let inner = inner_attributes start (bumped ts) in
     let list = finding (is_list_end false) turn f inner.1 in
     (record { attrs = inner.0; items = Some list.0; is_ended = (eat 125 list.1.1).0 }, (list.1.0, (eat 125 list.1.1).1))
 
@@ -125,11 +106,11 @@ abbrev pub extern_found : ℕ → ℕ → Option LeafRead → Finder (Option Ite
 extern_found depth start None f ts = (None, (and_problem problem.NoItem start f, behind_others ts))
 extern_found depth start (Some l) f ts = and_rest (extern_kept depth start ts.past l (as_extern l.item) f) ts
 
-abbrev pub extern_behind : ℕ → ℕ → FrontRead → Finder (Option ItemView)
-extern_behind depth start h f ts = extern_found depth start (leaf h.head h.attrs h.visibility ts).0 f (leaf h.head h.attrs h.visibility ts).1
+abbrev pub extern_behind : ℕ → FrontRead → Finder (Option ItemView)
+extern_behind depth h f ts = extern_found depth h.start (leaf h ts).0 f (leaf h ts).1
 
 abbrev pub extern_by : ℕ → Finder (Option ItemView)
-extern_by depth f ts = extern_behind depth (at ts) (front ts).0 f (front ts).1
+extern_by depth f ts = extern_behind depth (front ts).0 f (front ts).1
 
 abbrev pub unmatched : Finder (Option ItemView)
 unmatched f ts = (None, (and_problem problem.Unmatched (at ts) f, bumped ts))
@@ -138,8 +119,8 @@ unmatched f ts = (None, (and_problem problem.Unmatched (at ts) f, bumped ts))
 unfoldable pub extern_turn : ℕ → Finder (Option ItemView)
 extern_turn depth f ts = if is_at_end ts then unmatched f ts else extern_by depth f ts
 
-unfoldable pub extern_inside : ℕ → Finder BlockRead
-extern_inside depth f ts = if symbol ts == 123 then block_of (extern_turn depth) f ts else (no_block, (f, ts))
+unfoldable pub extern_inside : ℕ → ℕ → Finder BlockRead
+extern_inside depth start f ts = if symbol ts == 123 then block_of start (extern_turn depth) f ts else (no_block, (f, ts))
 
 -- an item that holds items: its row, and then theirs
 abbrev pub and_parent : ℕ → ℕ → ℕ → AstIdKind → NameRead → Bool → Found → Found → Found
@@ -152,7 +133,7 @@ one_more depth = depth + 1
 -- ExternBlock
 unfoldable pub extern_block : ℕ → ℕ → List MetaView → Finder ItemView
 extern_block depth start attrs f ts =
-    let b = extern_inside (one_more depth) nothing_found ts in
+    let b = extern_inside (one_more depth) start nothing_found ts in
     (extern_block_from (node (attrs ++ b.0.attrs) []) b.0.items, (and_parent depth start b.1.1.past kind.ExternBlock no_name b.0.is_ended b.1.0 f, b.1.1))
 
 -- ---- modules
@@ -165,37 +146,38 @@ abbrev pub inside_unless : Bool → Finder BlockRead → Finder BlockRead
 inside_unless semicolon inside f ts = if semicolon then (no_block, (f, ts)) else inside f ts
 
 -- Module: with a semicolon, with items, or with neither
-abbrev pub module_with : Finder BlockRead → ℕ → ℕ → FrontRead → Finder ItemView
-module_with inside depth start h f ts =
+abbrev pub module_with : (ℕ → Finder BlockRead) → ℕ → FrontRead → Finder ItemView
+module_with inside depth h f ts =
     let n = named ts in
     let semicolon = eat 59 n.1 in
-    let b = inside_unless semicolon.0 inside nothing_found semicolon.1 in (
+    let b = inside_unless semicolon.0 (inside h.start) nothing_found semicolon.1 in (
       module_from (named_node (h.attrs ++ b.0.attrs) n.0.name h.visibility []) semicolon.0 b.0.items,
-      (and_parent depth start b.1.1.past kind.Module n.0 (semicolon.0 || b.0.is_ended) b.1.0 f, b.1.1),
+      (and_parent depth h.start b.1.1.past kind.Module n.0 (semicolon.0 || b.0.is_ended) b.1.0 f, b.1.1),
     )
 
 abbrev pub some_item : {A : Type 0} → ItemView × A → Option ItemView × A
 some_item r = (Some r.0, r.1)
 
-abbrev pub by_head : Finder BlockRead → ℕ → ℕ → Head → FrontRead → Finder (Option ItemView)
-by_head inside depth start heads.Module h f ts = some_item (module_with inside depth start h f ts)
-by_head inside depth start heads.ExternBlock h f ts = some_item (extern_block depth start h.attrs f ts)
-by_head inside depth start _ h f ts = leaf_turn depth start h f ts
+abbrev pub by_head : (ℕ → Finder BlockRead) → ℕ → Head → FrontRead → Finder (Option ItemView)
+by_head inside depth heads.Module h f ts = some_item (module_with inside depth h f ts)
+by_head inside depth heads.ExternBlock h f ts = some_item (extern_block depth h.start h.attrs f ts)
+by_head inside depth _ h f ts = leaf_turn depth h f ts
 
 -- Item: an item, or none: then tokens are passed over
-abbrev pub turn_with : Finder BlockRead → ℕ → Finder (Option ItemView)
+abbrev pub turn_with : (ℕ → Finder BlockRead) → ℕ → Finder (Option ItemView)
 turn_with inside depth f ts =
-    if is_at_end ts then unmatched f ts else by_head inside depth (at ts) (front ts).0.head (front ts).0 f (front ts).1
+    if is_at_end ts then unmatched f ts else by_head inside depth (front ts).0.head (front ts).0 f (front ts).1
 
--- The items of a module. The number bounds how deep modules stand in one another; one that is deeper is passed over.
-unfoldable pub inside : ℕ → Finder BlockRead
-inside zero f ts = if symbol ts == 123 then (deep_block, (and_problem problem.TooDeep (at ts) f, behind_tree ts)) else (no_block, (f, ts))
-inside (suc left) f ts = if symbol ts == 123 then block_of (turn_with (inside left) (depth_of left)) f ts else (no_block, (f, ts))
+-- The items of a module that begins at this place. The first number bounds how deep modules stand in one another; one that is
+-- deeper is passed over.
+unfoldable pub inside : ℕ → ℕ → Finder BlockRead
+inside zero start f ts = if symbol ts == 123 then (deep_block, (and_problem problem.TooDeep (at ts) f, behind_tree ts)) else (no_block, (f, ts))
+inside (suc left) start f ts = if symbol ts == 123 then block_of start (turn_with (inside left) (depth_of left)) f ts else (no_block, (f, ts))
 
 unfoldable pub turn : ℕ → Finder (Option ItemView)
 turn left = turn_with (inside left) (depth_of left)
 
-unfoldable pub module_at : ℕ → ℕ → FrontRead → Finder ItemView
+unfoldable pub module_at : ℕ → FrontRead → Finder ItemView
 module_at left = module_with (inside left) (depth_of left)
 
 -- the items of a file, or of a module

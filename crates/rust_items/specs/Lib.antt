@@ -1,8 +1,4 @@
 pub mod Found
-pub mod Heads
-pub mod Texts
-pub mod Leaves
-pub mod Kinds
 pub mod Items
 pub mod Views
 pub mod Ids

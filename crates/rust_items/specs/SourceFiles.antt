@@ -1,10 +1,7 @@
 -- Source files.
-use Rattle.std.specs.Prelude.{◌≡◌, ℕ, true, List, [], ◌∷◌, Option, Some, None, if◌then◌else◌}
+use Rattle.std.specs.Prelude.{◌≡◌, ℕ, true, List, [], ◌∷◌}
 use Rattle.hir_input.specs.declared.ids.FileAstId.{FileAstId}
-use Rattle.hir_input.specs.Syntax.{ItemViews, source_file, items_from, syntax_view}
-use Rattle.rust_lexer.specs.Piece.{Piece}
-use Rattle.rust_lexer.specs.Tokens.{tokens}
-use Rattle.rust_lexer.specs.Terminated.{is_terminated}
+use Rattle.hir_input.specs.Syntax.{ItemView, ItemViews, source_file, items_from, syntax_view}
 use Rattle.rust_cursor.specs.Tokens.{Tokens, tokens_of}
 use Rattle.rust_metas.specs.Attributes.{inner_attributes}
 use Rattle.rust_ids.specs.Ids.{AreIds}
@@ -22,35 +19,27 @@ places [] spans = []
 places (id ∷ ids) [] = []
 places (id ∷ ids) (s ∷ spans) = record { id = id; range = s.range; name = s.name } ∷ places ids spans
 
-abbrev pub place_if_open : Piece → Option ℕ
-place_if_open t = if is_terminated t then None else Some t.at
-
--- the place of the last of these, if it is not ended
-abbrev pub last_unterminated : Option ℕ → List Piece → Option ℕ
-last_unterminated last [] = last
-last_unterminated last (t ∷ ts) = last_unterminated (place_if_open t) ts
-
--- a literal or a comment that is not ended is the last token of a text
-unfoldable pub unterminated : List ℕ → Option ℕ
-unterminated text = last_unterminated None (tokens text)
-
 -- the text behind its inner attributes
 abbrev pub behind_attributes : List ℕ → Tokens
-behind_attributes text = (inner_attributes (tokens_of text)).1
+behind_attributes text = (inner_attributes 0 (tokens_of text)).1
 
--- what is found in a text
+-- the items of a text without their ids, what is found beside them, and what is left
+abbrev pub read_of : List ℕ → List ItemView × (Found × Tokens)
+read_of text = items true 128 nothing_found (behind_attributes text)
+
+-- What is found in a text. A literal or a comment that is not ended is the last token of a text.
 unfoldable pub found_in : List ℕ → Found
-found_in text = and_problem_at problem.Unterminated (unterminated text) (items true 128 nothing_found (behind_attributes text)).1.0
+found_in text = and_problem_at problem.Unterminated (read_of text).1.1.unended (read_of text).1.0
 
 -- the items of a text, without their ids
 unfoldable pub items_in : List ℕ → ItemViews
-items_in text = items_from (items true 128 nothing_found (behind_attributes text)).0
+items_in text = items_from (read_of text).0
 
 -- what is read of a text
 pub record IsSourceFile (text : List ℕ) (file : SourceFile) : Type 0 where
   -- each item has its id
   pub ids : List FileAstId
   pub are_ids : AreIds (found_in text).rows ids
-  pub syntax : syntax_view file.syntax ≡ source_file (inner_attributes (tokens_of text)).0 (with_ids (items_in text) ids).0
+  pub syntax : syntax_view file.syntax ≡ source_file (inner_attributes 0 (tokens_of text)).0 (with_ids (items_in text) ids).0
   pub places : file.places.items ≡ places ids (found_in text).spans
   pub problems : file.problems.items ≡ (found_in text).problems

@@ -3,19 +3,18 @@
 ghost use Rattle.std.specs.Prelude.{◌≡◌, ◌++◌, ◌+◌, ◌<◌, IfOk, OnOk, map, false, [], option_map, option_to_list};
 ghost use Rattle.hir_input.specs.Attr.{meta_view};
 ghost use Rattle.hir_input.specs.Syntax.{item_view, extern_item_view, extern_block_from};
-ghost use Rattle.rust_items.specs.Kinds.{node};
+ghost use Rattle.rust_leaves.specs.Kinds.{node};
+ghost use Rattle.rust_leaves.specs.Views.{leaf_view};
 ghost use Rattle.rust_items.specs.Found.{Finds, log_view};
 ghost use Rattle.rust_items.specs.Items as spec;
-ghost use Rattle.rust_items.specs.Views.{extern_inside_view, leaf_view};
+ghost use Rattle.rust_items.specs.Views.{extern_inside_view};
 
-use crate::front::{Extent, push_item, take_front};
-use crate::head::pass_others;
-use crate::leaf::{Leaf, take_leaf};
 use crate::log::{Log, ProblemKind};
-use crate::named::joined;
+use crate::turn::{Extent, push_item};
 use hir_input::ast::{ExternBlock, ExternItem, Item};
 use hir_input::{AstIdKind, Meta};
 use rust_cursor::Cursor;
+use rust_leaves::{Leaf, joined, pass_others, take_front, take_leaf};
 use rust_metas::inner_attributes;
 use std::alloc::{AllocError, Global};
 
@@ -81,8 +80,8 @@ fn extern_by<'t>(
 ) -> Result<Option<ExternItem>, AllocError>
     ensures { Finds (option_map extern_item_view) (spec.extern_by depth (log_view log.old) cursor.old) result (log_view log.new) cursor.new }
 {
-    let start = cursor.at();
     let front = take_front(alloc, cursor)?;
+    let start = front.start;
     match take_leaf(alloc, cursor, front)? {
         Some(leaf) => {
             let end = cursor.past();
@@ -155,9 +154,10 @@ fn extern_inside<'t>(
     alloc: Global,
     cursor: &mut Cursor<'t>,
     depth: usize,
+    start: usize,
     log: &mut Log<'t>,
 ) -> Result<ExternInside, AllocError>
-    ensures { Finds extern_inside_view (spec.extern_inside depth (log_view log.old) cursor.old) result (log_view log.new) cursor.new }
+    ensures { Finds extern_inside_view (spec.extern_inside depth start (log_view log.old) cursor.old) result (log_view log.new) cursor.new }
 {
     if cursor.symbol() != b'{' {
         return Ok(ExternInside {
@@ -167,7 +167,7 @@ fn extern_inside<'t>(
         });
     }
     cursor.bump();
-    let attrs = inner_attributes(alloc, cursor)?;
+    let attrs = inner_attributes(alloc, cursor, start)?;
     let items = extern_items(alloc, cursor, depth, log)?;
     let is_ended = cursor.eat(b'}');
     Ok(ExternInside {
@@ -209,7 +209,7 @@ pub(crate) fn extern_block<'t>(
     ensures { Finds item_view (spec.extern_block depth start (map meta_view attrs.items) (log_view log.old) cursor.old) result (log_view log.new) cursor.new }
 {
     let mut more = Log::new(alloc);
-    let inside = extern_inside(alloc, cursor, depth + 1, &mut more)?;
+    let inside = extern_inside(alloc, cursor, depth + 1, start, &mut more)?;
     let end = cursor.past();
     let extent = Extent { depth, start, end };
     push_item(

@@ -5,17 +5,17 @@ ghost use Rattle.hir_input.specs.Attr.{meta_view};
 ghost use Rattle.hir_input.specs.Syntax.{item_view, module_from};
 ghost use Rattle.rust_items.specs.Found.{Finds, log_view};
 ghost use Rattle.rust_items.specs.Items as spec;
-ghost use Rattle.rust_items.specs.Kinds.{named_node};
-ghost use Rattle.rust_items.specs.Views.{front_view, inside_view};
+ghost use Rattle.rust_items.specs.Views.{inside_view};
+ghost use Rattle.rust_leaves.specs.Kinds.{named_node};
+ghost use Rattle.rust_leaves.specs.Views.{front_view};
 
 use crate::externs::{extern_block, is_list_end};
-use crate::front::{Extent, Front, leaf_turn, push_item, take_front};
-use crate::head::Head;
 use crate::log::{Log, ProblemKind};
-use crate::named::{item_name, joined};
+use crate::turn::{Extent, leaf_turn, push_item};
 use hir_input::ast::{Item, Module, Visibility};
 use hir_input::{AstIdKind, Meta, Name};
 use rust_cursor::Cursor;
+use rust_leaves::{Front, Head, item_name, joined, take_front};
 use rust_metas::inner_attributes;
 use std::alloc::{AllocError, Global};
 
@@ -90,9 +90,10 @@ fn module_inside<'t>(
     alloc: Global,
     cursor: &mut Cursor<'t>,
     left: usize,
+    start: usize,
     log: &mut Log<'t>,
 ) -> Result<Inside, AllocError>
-    ensures { Finds inside_view (spec.inside left (log_view log.old) cursor.old) result (log_view log.new) cursor.new }
+    ensures { Finds inside_view (spec.inside left start (log_view log.old) cursor.old) result (log_view log.new) cursor.new }
 {
     if cursor.symbol() != b'{' {
         return Ok(no_inside(alloc, false));
@@ -103,7 +104,7 @@ fn module_inside<'t>(
         return Ok(no_inside(alloc, true));
     }
     cursor.bump();
-    let attrs = inner_attributes(alloc, cursor)?;
+    let attrs = inner_attributes(alloc, cursor, start)?;
     let items = items(alloc, cursor, false, left - 1, log)?;
     let is_ended = cursor.eat(b'}');
     Ok(Inside {
@@ -119,14 +120,15 @@ fn inside_unless<'t>(
     cursor: &mut Cursor<'t>,
     semicolon: bool,
     left: usize,
+    start: usize,
     log: &mut Log<'t>,
 ) -> Result<Inside, AllocError>
-    ensures { Finds inside_view (spec.inside_unless semicolon (spec.inside left) (log_view log.old) cursor.old) result (log_view log.new) cursor.new }
+    ensures { Finds inside_view (spec.inside_unless semicolon (spec.inside left start) (log_view log.old) cursor.old) result (log_view log.new) cursor.new }
 {
     if semicolon {
         return Ok(no_inside(alloc, false));
     }
-    module_inside(alloc, cursor, left, log)
+    module_inside(alloc, cursor, left, start, log)
 }
 
 /// Takes a module, behind `mod`.
@@ -136,19 +138,18 @@ fn module<'t>(
     alloc: Global,
     cursor: &mut Cursor<'t>,
     left: usize,
-    start: usize,
     front: Front,
     log: &mut Log<'t>,
 ) -> Result<Item, AllocError>
-    ensures { Finds item_view (spec.module_at left start (front_view front) (log_view log.old) cursor.old) result (log_view log.new) cursor.new }
+    ensures { Finds item_view (spec.module_at left (front_view front) (log_view log.old) cursor.old) result (log_view log.new) cursor.new }
 {
     let named = item_name(alloc, cursor)?;
     let semicolon = cursor.eat(b';');
     let mut more = Log::new(alloc);
-    let inside = inside_unless(alloc, cursor, semicolon, left, &mut more)?;
+    let inside = inside_unless(alloc, cursor, semicolon, left, front.start, &mut more)?;
     let extent = Extent {
         depth: depth_of(left),
-        start,
+        start: front.start,
         end: cursor.past(),
     };
     let is_ended = semicolon || inside.is_ended;
@@ -188,18 +189,17 @@ fn turn<'t>(
         cursor.bump();
         return Ok(None);
     }
-    let start = cursor.at();
     let front = take_front(alloc, cursor)?;
     match front.head {
         Head::Module => {
-            let item = module(alloc, cursor, left, start, front, log)?;
+            let item = module(alloc, cursor, left, front, log)?;
             Ok(Some(item))
         }
         Head::ExternBlock => {
-            let item = extern_block(alloc, cursor, depth_of(left), start, front.attrs, log)?;
+            let item = extern_block(alloc, cursor, depth_of(left), front.start, front.attrs, log)?;
             Ok(Some(item))
         }
-        _ => leaf_turn(alloc, cursor, depth_of(left), start, front, log),
+        _ => leaf_turn(alloc, cursor, depth_of(left), front, log),
     }
 }
 

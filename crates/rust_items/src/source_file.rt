@@ -12,7 +12,6 @@ use hir_input::FileAstId;
 use hir_input::ast::Syntax;
 use rust_cursor::Cursor;
 use rust_ids::assign;
-use rust_lexer::{Lexer, Token};
 use rust_metas::inner_attributes;
 use rust_paths::TextRange;
 use std::alloc::{AllocError, Global};
@@ -61,30 +60,6 @@ fn places(
     Ok(places)
 }
 
-/// The place of a token, if it is not ended.
-fn place_if_open(token: &Token<'_>) -> Option<usize>
-    ensures { result ≡ spec.place_if_open token.now }
-{
-    if token.is_terminated() {
-        None
-    } else {
-        Some(token.at())
-    }
-}
-
-/// The place of the last token of a text, if it is not ended.
-#[tactic(auto, unfolding(crate::specs::SourceFiles::unterminated))]
-fn unterminated(text: &str) -> Option<usize>
-    ensures { result ≡ spec.unterminated text.now }
-{
-    let mut last = None;
-    let mut lexer = Lexer::new(text);
-    'tokens: while let Some(token) = lexer.next() {
-        last = place_if_open(&token);
-    }
-    last
-}
-
 /// Reads the items of a text.
 ///
 /// It answers for every text: what is no item is passed over and told among the problems. The only error is that memory
@@ -94,10 +69,10 @@ pub fn read_source_file(alloc: Global, text: &str) -> Result<SourceFile, AllocEr
     ensures { IfOk result (λ file. spec.IsSourceFile text.now file) }
 {
     let mut cursor = Cursor::new(text);
-    let attrs = inner_attributes(alloc, &mut cursor)?;
+    let attrs = inner_attributes(alloc, &mut cursor, 0)?;
     let mut log = Log::new(alloc);
     let items = items(alloc, &mut cursor, true, MOST_DEPTH, &mut log)?;
-    log.push_problem_at(ProblemKind::Unterminated, unterminated(text))?;
+    log.push_problem_at(ProblemKind::Unterminated, cursor.unended())?;
     let ids = assign(alloc, &log.rows)?;
     let places = places(alloc, &ids, &log.spans)?;
     let mut supply = Supply { rest: &ids };

@@ -15,4 +15,6 @@ mod paths;
 #[cfg(test)]
 mod refusals;
 #[cfg(test)]
+mod spans;
+#[cfg(test)]
 mod tokens;

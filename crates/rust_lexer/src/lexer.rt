@@ -1,6 +1,6 @@
 //! The tokens of a text.
 
-ghost use Rattle.std.specs.Prelude.{◌≡◌, ◌<◌, ◌≤◌, ◌+◌, ◌^◌, All, IsTrue, IfOk, Some, IfSome, MatchOption, [], ◌∷◌, length};
+ghost use Rattle.std.specs.Prelude.{◌≡◌, ◌<◌, ◌≤◌, ◌+◌, ◌^◌, All, IsTrue, IfOk, Some, IfSome, IfNone, MatchOption, [], ◌∷◌, length};
 ghost use Rattle.std.specs.Str.{IsUtf8};
 ghost use Rattle.rust_lexer.specs.Tokens.{AreInPlace, text_of};
 ghost use Rattle.rust_lexer.specs.Tokens as spec;
@@ -102,6 +102,9 @@ impl<'a> Iterator for Lexer<'a> {
     ghost remaining = { item_count (λ s. s) };
 
     fn next(&mut self) -> Option<Token<'a>> {
+        if let Front::Token = self.front {
+            return take(&mut self.at, &mut self.rest);
+        }
         let (token, left) = step(self.front, self.at, self.rest)?;
         *self = left;
         Some(token)
@@ -133,6 +136,22 @@ fn first(at: usize, text: &str) -> Option<(Token<'_>, &str)>
         [b, behind @ ..] => Some(split(first_cut(*b, behind), at, text)),
         [] => None,
     }
+}
+
+/// Takes the first token of a text that begins at this place.
+fn take<'a>(at: &mut usize, text: &mut &'a str) -> Option<Token<'a>>
+    requires utf8 { IsUtf8 text.old.now }
+    requires fits { at.old + length text.old.now < 2 ^ 64 }
+    ensures value { MatchOption result (spec.tokens_from 0 at.old text.old.now ≡ [])
+        (λ t. spec.tokens_from 0 at.old text.old.now ≡ t ∷ spec.tokens_from 0 at.new text.new.now) }
+    ensures utf8 { IsUtf8 text.new.now }
+    ensures fits { at.new + length text.new.now < 2 ^ 64 }
+    ensures nothing { IfNone result ((at.new ≡ at.old) × (text.new.now ≡ text.old.now)) }
+{
+    let (token, rest) = first(*at, text)?;
+    *at += token.text().len();
+    *text = rest;
+    Some(token)
 }
 
 /// Whether a `[` is the first token of a text that is neither white space nor a comment.

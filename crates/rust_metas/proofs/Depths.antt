@@ -17,12 +17,12 @@ unfolding conditions condition
 conditions_at zero ts h = absurd (omega arith)
 conditions_at (suc depth) ts h = let less : suc depth - 1 ≡ depth = omega arith in rw less refl
 
-pub meta_deep : (depth : ℕ) (ts : Tokens) → depth ≡ 0 → meta depth ts ≡ (path_meta None root, ts)
+pub meta_deep : (anchor depth : ℕ) (ts : Tokens) → depth ≡ 0 → meta anchor depth ts ≡ (path_meta None root, ts)
 unfolding meta
-meta_deep zero ts e = refl
-meta_deep (suc depth) ts e = cc
+meta_deep anchor zero ts e = refl
+meta_deep anchor (suc depth) ts e = cc
 
-pub meta_at : (depth : ℕ) (ts : Tokens) → 0 < depth → meta depth ts ≡ meta_with (meta (depth - 1)) (condition (depth - 1)) ts
+pub meta_at : (anchor depth : ℕ) (ts : Tokens) → 0 < depth → meta anchor depth ts ≡ meta_with anchor (meta anchor (depth - 1)) (condition (depth - 1)) ts
 unfolding meta
-meta_at zero ts h = absurd (omega arith)
-meta_at (suc depth) ts h = let less : suc depth - 1 ≡ depth = omega arith in rw less refl
+meta_at anchor zero ts h = absurd (omega arith)
+meta_at anchor (suc depth) ts h = let less : suc depth - 1 ≡ depth = omega arith in rw less refl

@@ -1,4 +1,4 @@
--- Attributes.
+-- Attributes. The spans of their literals count from the anchor, which is the first argument.
 use Rattle.std.specs.Prelude.{ℕ, Bool, true, false, not, ◌==◌, ◌&&◌, ◌||◌, if◌then◌else◌, Option, Some, List}
 use Rattle.hir_input.specs.Attr.{MetaView}
 use Rattle.rust_lexer.specs.declared.kind.DocStyle.{DocStyle}
@@ -34,10 +34,10 @@ unfoldable pub is_behind : DocStyle → Tokens → Bool
 is_behind style ts = not (is_doc style ts || is_attribute style ts)
 
 -- a meta in its bracket; what stands behind it there is passed over
-unfoldable pub bracketed : Reader MetaView
-bracketed = do
+unfoldable pub bracketed : ℕ → Reader MetaView
+bracketed anchor = do
   _ ← bump
-  m ← meta deepest
+  m ← meta anchor deepest
   _ ← pass behind_closed
   pure m
 
@@ -46,15 +46,15 @@ opened Outer ts = bumped ts
 opened Inner ts = bumped (bumped ts)
 
 -- OuterAttribute or InnerAttribute
-unfoldable pub attribute : DocStyle → Reader MetaView
-attribute style ts = if is_doc style ts then doc ts else bracketed (opened style ts)
+unfoldable pub attribute : ℕ → DocStyle → Reader MetaView
+attribute anchor style ts = if is_doc style ts then doc anchor ts else bracketed anchor (opened style ts)
 
 -- the attributes of this style that come next
-unfoldable pub attributes : DocStyle → Reader (List MetaView)
-attributes style = turns (is_behind style) (one (attribute style))
+unfoldable pub attributes : ℕ → DocStyle → Reader (List MetaView)
+attributes anchor style = turns (is_behind style) (one (attribute anchor style))
 
-unfoldable pub outer_attributes : Reader (List MetaView)
-outer_attributes = attributes Outer
+unfoldable pub outer_attributes : ℕ → Reader (List MetaView)
+outer_attributes anchor = attributes anchor Outer
 
-unfoldable pub inner_attributes : Reader (List MetaView)
-inner_attributes = attributes Inner
+unfoldable pub inner_attributes : ℕ → Reader (List MetaView)
+inner_attributes anchor = attributes anchor Inner

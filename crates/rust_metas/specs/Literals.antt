@@ -1,4 +1,4 @@
--- Literals and documentation comments.
+-- Literals and documentation comments. Their spans count from a place in the text, the anchor.
 use Rattle.std.specs.Prelude.{ℕ, Bool, true, false, ◌==◌, ◌-◌, ◌&&◌, ◌||◌, min, if◌then◌else◌, Option, Some, None, List, length, take, drop, slice_index, codes}
 use Rattle.std.specs.Str.{bytes_eq}
 use Rattle.hir_input.specs.declared.edition.EditionYear.TheVariants.{E2024}
@@ -24,8 +24,9 @@ root = Root E2024
 abbrev pub place : ℕ → ℕ
 place at = min at 4294967295
 
-abbrev pub span_from : ℕ → ℕ → Span
-span_from start end = record { start = place start; end = place end; ctxt = root }
+-- from here to there, counted from the anchor
+abbrev pub span_from : ℕ → ℕ → ℕ → Span
+span_from anchor start end = record { start = place (start - anchor); end = place (end - anchor); ctxt = root }
 
 -- ---- literals
 
@@ -56,12 +57,12 @@ unfoldable pub is_ended : Tokens → Bool
 is_ended ts = is_at_end ts || symbol ts == 44
 
 -- the literal that comes next
-unfoldable pub next_literal : Tokens → LiteralView
-next_literal ts = record { rendered = text ts; string = string_by (kind ts) (text ts); span = span_from (at ts) (bumped ts).past }
+unfoldable pub next_literal : ℕ → Tokens → LiteralView
+next_literal anchor ts = record { rendered = text ts; string = string_by (kind ts) (text ts); span = span_from anchor (at ts) (bumped ts).past }
 
 -- a literal, if one comes next and nothing stands behind it: any other expression is none
-unfoldable pub value : Reader (Option LiteralView)
-value ts = if is_literal ts && is_ended (bumped ts) then (Some (next_literal ts), bumped ts) else (None, ts)
+unfoldable pub value : ℕ → Reader (Option LiteralView)
+value anchor ts = if is_literal ts && is_ended (bumped ts) then (Some (next_literal anchor ts), bumped ts) else (None, ts)
 
 -- ---- documentation comments
 
@@ -92,5 +93,5 @@ unfoldable pub string_literal : List ℕ → Span → Option LiteralView
 string_literal z span = literal_from (as_text (written z)) (as_text z) span
 
 -- what the documentation comment that comes next says
-unfoldable pub documentation : Reader (Option LiteralView)
-documentation ts = (string_literal (comment_text (kind ts) (text ts)) (span_from (at ts) (bumped ts).past), bumped ts)
+unfoldable pub documentation : ℕ → Reader (Option LiteralView)
+documentation anchor ts = (string_literal (comment_text (kind ts) (text ts)) (span_from anchor (at ts) (bumped ts).past), bumped ts)

@@ -1,4 +1,4 @@
--- Metas.
+-- Metas. The spans of their literals count from the anchor, which is the first argument.
 use Rattle.std.specs.Prelude.{ℕ, zero, suc, Bool, ◌==◌, ◌&&◌, if◌then◌else◌, Option, Some, None, List, [], ◌∷◌, codes}
 use Rattle.std.specs.Str.{bytes_eq}
 use Rattle.hir_input.specs.declared.ast.PathNode.{PathNode}
@@ -18,10 +18,10 @@ use Rattle.rust_metas.specs.Conditions.{behind_comma, condition}
 
 -- ---- a path and its input
 
-abbrev pub assigned : Option PathNode → Reader MetaView
-assigned path = do
+abbrev pub assigned : ℕ → Option PathNode → Reader MetaView
+assigned anchor path = do
   _ ← bump
-  value ← value
+  value ← value anchor
   pure (key_value_meta path value root)
 
 abbrev pub called : Option PathNode → Reader MetaView
@@ -30,13 +30,13 @@ called path = do
   pure (token_tree_meta path tokens root)
 
 -- AttrInput: `=` and a value, a token tree, or nothing
-unfoldable pub input : Option PathNode → Reader MetaView
-input path ts = if symbol ts == 61 then assigned path ts else (if is_at_open ts then called path ts else (path_meta path root, ts))
+unfoldable pub input : ℕ → Option PathNode → Reader MetaView
+input anchor path ts = if symbol ts == 61 then assigned anchor path ts else (if is_at_open ts then called path ts else (path_meta path root, ts))
 
-unfoldable pub plain : Reader MetaView
-plain = do
+unfoldable pub plain : ℕ → Reader MetaView
+plain anchor = do
   path ← path
-  input path
+  input anchor path
 
 -- ---- `unsafe(..)`, `cfg(..)` and `cfg_attr(..)`
 
@@ -77,19 +77,19 @@ cfg_attr_with inner condition = do
   pure (cfg_attr_meta c (metas_from metas))
 
 -- Attr, by what reads the metas and the conditions inside
-abbrev pub meta_with : Reader MetaView → Reader CfgView → Reader MetaView
-meta_with inner condition ts =
+abbrev pub meta_with : ℕ → Reader MetaView → Reader CfgView → Reader MetaView
+meta_with anchor inner condition ts =
     if is_call (codes "unsafe") ts then unsafe_with inner ts
     else (if is_call (codes "cfg") ts then cfg_with condition ts
-    else (if is_call (codes "cfg_attr") ts then cfg_attr_with inner condition ts else plain ts))
+    else (if is_call (codes "cfg_attr") ts then cfg_attr_with inner condition ts else plain anchor ts))
 
--- A meta. The number bounds how deep metas and conditions stand in one another; a deeper meta is one without a path.
-unfoldable pub meta : ℕ → Reader MetaView
-meta zero ts = (path_meta None root, ts)
-meta (suc depth) ts = meta_with (meta depth) (condition depth) ts
+-- A meta. The second number bounds how deep metas and conditions stand in one another; a deeper meta is one without a path.
+unfoldable pub meta : ℕ → ℕ → Reader MetaView
+meta anchor zero ts = (path_meta None root, ts)
+meta anchor (suc depth) ts = meta_with anchor (meta anchor depth) (condition depth) ts
 
-unfoldable pub member_at : ℕ → Reader MetaView
-member_at depth = member (meta depth)
+unfoldable pub member_at : ℕ → ℕ → Reader MetaView
+member_at anchor depth = member (meta anchor depth)
 
 -- ---- documentation
 
@@ -97,7 +97,7 @@ abbrev pub doc_path : PathNode
 doc_path = Readable (record { kind = Plain; names = codes "doc" ∷ [] })
 
 -- a documentation comment as `doc = ".."`
-unfoldable pub doc : Reader MetaView
-doc = do
-  text ← documentation
+unfoldable pub doc : ℕ → Reader MetaView
+doc anchor = do
+  text ← documentation anchor
   pure (key_value_meta (Some doc_path) text root)

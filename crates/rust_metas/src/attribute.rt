@@ -72,24 +72,29 @@ fn is_behind(cursor: &Cursor<'_>, style: DocStyle) -> bool
 
 /// A meta in its bracket. What stands behind it there is passed over.
 #[tactic(auto, unfolding(crate::specs::Attributes::bracketed))]
-fn bracketed(alloc: Global, cursor: &mut Cursor<'_>) -> Result<Meta, AllocError>
-    ensures { Gives meta_view (spec.bracketed cursor.old) result cursor.new }
+fn bracketed(alloc: Global, cursor: &mut Cursor<'_>, anchor: usize) -> Result<Meta, AllocError>
+    ensures { Gives meta_view (spec.bracketed anchor cursor.old) result cursor.new }
 {
     cursor.bump();
-    let meta = meta(alloc, cursor, 128)?;
+    let meta = meta(alloc, cursor, anchor, 128)?;
     cursor.pass_closed();
     Ok(meta)
 }
 
 #[tactic(auto, unfolding(crate::specs::Attributes::attribute))]
-fn attribute(alloc: Global, cursor: &mut Cursor<'_>, style: DocStyle) -> Result<Meta, AllocError>
-    ensures { Gives meta_view (spec.attribute style cursor.old) result cursor.new }
+fn attribute(
+    alloc: Global,
+    cursor: &mut Cursor<'_>,
+    anchor: usize,
+    style: DocStyle,
+) -> Result<Meta, AllocError>
+    ensures { Gives meta_view (spec.attribute anchor style cursor.old) result cursor.new }
 {
     if is_doc(cursor, style) {
-        return doc(alloc, cursor);
+        return doc(alloc, cursor, anchor);
     }
     pass_mark(cursor, style);
-    bracketed(alloc, cursor)
+    bracketed(alloc, cursor, anchor)
 }
 
 /// The attributes of a style that come next.
@@ -97,9 +102,10 @@ fn attribute(alloc: Global, cursor: &mut Cursor<'_>, style: DocStyle) -> Result<
 fn attributes(
     alloc: Global,
     cursor: &mut Cursor<'_>,
+    anchor: usize,
     style: DocStyle,
 ) -> Result<Vec<Meta>, AllocError>
-    ensures { Gives (λ v. map meta_view v.items) (spec.attributes style cursor.old) result cursor.new }
+    ensures { Gives (λ v. map meta_view v.items) (spec.attributes anchor style cursor.old) result cursor.new }
 {
     let mut metas = Vec::new(alloc);
     let most = Cursor::most_turns();
@@ -108,7 +114,7 @@ fn attributes(
             break;
         }
         let past = cursor.past();
-        let meta = attribute(alloc, cursor, style)?;
+        let meta = attribute(alloc, cursor, anchor, style)?;
         metas.push(meta)?;
         cursor.pass_beyond(past);
     }
@@ -118,25 +124,35 @@ fn attributes(
 /// Takes the outer attributes that come next, in order: those in `#[..]`, and the comments `///` and `/** .. */` as
 /// `doc = ".."`. What is no meta in its bracket is one without a path.
 ///
+/// Spans count from the anchor, a byte place in the text; what stands before it is at 0.
+///
 /// # Errors
 ///
 /// `AllocError` where memory is refused. The cursor may then stand anywhere.
 #[tactic(auto, unfolding(crate::specs::Attributes::outer_attributes))]
-pub fn outer_attributes(alloc: Global, cursor: &mut Cursor<'_>) -> Result<Vec<Meta>, AllocError>
-    ensures { Gives (λ v. map meta_view v.items) (spec.outer_attributes cursor.old) result cursor.new }
+pub fn outer_attributes(
+    alloc: Global,
+    cursor: &mut Cursor<'_>,
+    anchor: usize,
+) -> Result<Vec<Meta>, AllocError>
+    ensures { Gives (λ v. map meta_view v.items) (spec.outer_attributes anchor cursor.old) result cursor.new }
 {
-    attributes(alloc, cursor, DocStyle::Outer)
+    attributes(alloc, cursor, anchor, DocStyle::Outer)
 }
 
 /// Takes the inner attributes that come next, in order: those in `#![..]`, and the comments `//!` and `/*! .. */` as
-/// `doc = ".."`.
+/// `doc = ".."`. Spans count from the anchor, as in [`outer_attributes`].
 ///
 /// # Errors
 ///
 /// `AllocError` where memory is refused. The cursor may then stand anywhere.
 #[tactic(auto, unfolding(crate::specs::Attributes::inner_attributes))]
-pub fn inner_attributes(alloc: Global, cursor: &mut Cursor<'_>) -> Result<Vec<Meta>, AllocError>
-    ensures { Gives (λ v. map meta_view v.items) (spec.inner_attributes cursor.old) result cursor.new }
+pub fn inner_attributes(
+    alloc: Global,
+    cursor: &mut Cursor<'_>,
+    anchor: usize,
+) -> Result<Vec<Meta>, AllocError>
+    ensures { Gives (λ v. map meta_view v.items) (spec.inner_attributes anchor cursor.old) result cursor.new }
 {
-    attributes(alloc, cursor, DocStyle::Inner)
+    attributes(alloc, cursor, anchor, DocStyle::Inner)
 }

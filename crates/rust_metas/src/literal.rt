@@ -26,12 +26,13 @@ fn place(at: usize) -> u32
     at.min(4_294_967_295) as u32
 }
 
-fn span_from(start: usize, end: usize) -> Span
-    ensures { result ≡ spec.span_from start end }
+/// A span that counts from the anchor.
+fn span_from(anchor: usize, start: usize, end: usize) -> Span
+    ensures { result ≡ spec.span_from anchor start end }
 {
     Span {
-        start: place(start),
-        end: place(end),
+        start: place(start.saturating_sub(anchor)),
+        end: place(end.saturating_sub(anchor)),
         ctxt: root(),
     }
 }
@@ -107,23 +108,32 @@ pub(crate) fn is_ended(cursor: &Cursor<'_>) -> bool
 
 /// The literal that comes next, up to this place.
 #[tactic(auto, unfolding(crate::specs::Literals::next_literal))]
-fn next_literal(alloc: Global, cursor: &Cursor<'_>, end: usize) -> Result<Literal, AllocError>
+fn next_literal(
+    alloc: Global,
+    cursor: &Cursor<'_>,
+    anchor: usize,
+    end: usize,
+) -> Result<Literal, AllocError>
     requires { end ≡ (bumped cursor.now).past }
-    ensures { IfOk result (λ l. l ≡ spec.next_literal cursor.now) }
+    ensures { IfOk result (λ l. l ≡ spec.next_literal anchor cursor.now) }
 {
     let rendered = String::from_str(alloc, cursor.text())?;
     let string = string_by(alloc, cursor.kind(), cursor.text())?;
     Ok(Literal {
         rendered,
         string,
-        span: span_from(cursor.at(), end),
+        span: span_from(anchor, cursor.at(), end),
     })
 }
 
 /// Takes a literal, if one comes next and nothing stands behind it.
 #[tactic(auto, unfolding(crate::specs::Literals::value))]
-pub(crate) fn value(alloc: Global, cursor: &mut Cursor<'_>) -> Result<Option<Literal>, AllocError>
-    ensures { Gives (λ l. l) (spec.value cursor.old) result cursor.new }
+pub(crate) fn value(
+    alloc: Global,
+    cursor: &mut Cursor<'_>,
+    anchor: usize,
+) -> Result<Option<Literal>, AllocError>
+    ensures { Gives (λ l. l) (spec.value anchor cursor.old) result cursor.new }
 {
     if !is_literal(cursor) {
         return Ok(None);
@@ -133,7 +143,7 @@ pub(crate) fn value(alloc: Global, cursor: &mut Cursor<'_>) -> Result<Option<Lit
     if !is_ended(&ahead) {
         return Ok(None);
     }
-    let literal = next_literal(alloc, cursor, ahead.past())?;
+    let literal = next_literal(alloc, cursor, anchor, ahead.past())?;
     *cursor = ahead;
     Ok(Some(literal))
 }
@@ -208,11 +218,12 @@ fn string_literal(alloc: Global, z: &[u8], span: Span) -> Result<Option<Literal>
 pub(crate) fn documentation(
     alloc: Global,
     cursor: &mut Cursor<'_>,
+    anchor: usize,
 ) -> Result<Option<Literal>, AllocError>
-    ensures { Gives (λ l. l) (spec.documentation cursor.old) result cursor.new }
+    ensures { Gives (λ l. l) (spec.documentation anchor cursor.old) result cursor.new }
 {
     let (kind, text, start) = (cursor.kind(), cursor.text(), cursor.at());
     cursor.bump();
-    let span = span_from(start, cursor.past());
+    let span = span_from(anchor, start, cursor.past());
     string_literal(alloc, comment_text(kind, text), span)
 }

@@ -20,12 +20,13 @@ use std::alloc::{AllocError, Global};
 fn assigned(
     alloc: Global,
     cursor: &mut Cursor<'_>,
+    anchor: usize,
     path: Option<PathNode>,
 ) -> Result<Meta, AllocError>
-    ensures { Gives meta_view (spec.assigned path cursor.old) result cursor.new }
+    ensures { Gives meta_view (spec.assigned anchor path cursor.old) result cursor.new }
 {
     cursor.bump();
-    let value = value(alloc, cursor)?;
+    let value = value(alloc, cursor, anchor)?;
     Ok(Meta::KeyValue {
         path,
         value,
@@ -52,11 +53,16 @@ fn called(
 
 /// What stands behind a path: `=` and a value, a token tree, or nothing.
 #[tactic(auto, unfolding(crate::specs::Metas::input), using(hir_input::proofs::MetaLemmas::meta_views))]
-fn input(alloc: Global, cursor: &mut Cursor<'_>, path: Option<PathNode>) -> Result<Meta, AllocError>
-    ensures { Gives meta_view (spec.input path cursor.old) result cursor.new }
+fn input(
+    alloc: Global,
+    cursor: &mut Cursor<'_>,
+    anchor: usize,
+    path: Option<PathNode>,
+) -> Result<Meta, AllocError>
+    ensures { Gives meta_view (spec.input anchor path cursor.old) result cursor.new }
 {
     if cursor.symbol() == b'=' {
-        return assigned(alloc, cursor, path);
+        return assigned(alloc, cursor, anchor, path);
     }
     if cursor.is_at_open() {
         return called(alloc, cursor, path);
@@ -66,11 +72,11 @@ fn input(alloc: Global, cursor: &mut Cursor<'_>, path: Option<PathNode>) -> Resu
 
 /// A path and its input.
 #[tactic(auto, unfolding(crate::specs::Metas::plain))]
-fn plain(alloc: Global, cursor: &mut Cursor<'_>) -> Result<Meta, AllocError>
-    ensures { Gives meta_view (spec.plain cursor.old) result cursor.new }
+fn plain(alloc: Global, cursor: &mut Cursor<'_>, anchor: usize) -> Result<Meta, AllocError>
+    ensures { Gives meta_view (spec.plain anchor cursor.old) result cursor.new }
 {
     let path = path(alloc, cursor)?;
-    input(alloc, cursor, path)
+    input(alloc, cursor, anchor, path)
 }
 
 /// Whether the word and a bracket come next.
@@ -101,12 +107,17 @@ fn cfg(alloc: Global, cursor: &mut Cursor<'_>, depth: usize) -> Result<Meta, All
 /// `unsafe(..)`.
 #[cycle(metas)]
 #[tactic(auto, using(hir_input::proofs::MetaLemmas::meta_views))]
-fn unsafe_meta(alloc: Global, cursor: &mut Cursor<'_>, depth: usize) -> Result<Meta, AllocError>
-    ensures { Gives meta_view (spec.unsafe_with (spec.meta depth) cursor.old) result cursor.new }
+fn unsafe_meta(
+    alloc: Global,
+    cursor: &mut Cursor<'_>,
+    anchor: usize,
+    depth: usize,
+) -> Result<Meta, AllocError>
+    ensures { Gives meta_view (spec.unsafe_with (spec.meta anchor depth) cursor.old) result cursor.new }
 {
     cursor.bump();
     cursor.bump();
-    let inner = meta(alloc, cursor, depth)?;
+    let inner = meta(alloc, cursor, anchor, depth)?;
     cursor.pass_closed();
     Ok(Meta::Unsafe(Box::new(alloc, inner)?))
 }
@@ -114,22 +125,32 @@ fn unsafe_meta(alloc: Global, cursor: &mut Cursor<'_>, depth: usize) -> Result<M
 /// `cfg_attr(..)`.
 #[cycle(metas)]
 #[tactic(auto, using(hir_input::proofs::MetaLemmas::meta_views))]
-fn cfg_attr(alloc: Global, cursor: &mut Cursor<'_>, depth: usize) -> Result<Meta, AllocError>
-    ensures { Gives meta_view (spec.cfg_attr_with (spec.meta depth) (conditions.condition depth) cursor.old) result cursor.new }
+fn cfg_attr(
+    alloc: Global,
+    cursor: &mut Cursor<'_>,
+    anchor: usize,
+    depth: usize,
+) -> Result<Meta, AllocError>
+    ensures { Gives meta_view (spec.cfg_attr_with (spec.meta anchor depth) (conditions.condition depth) cursor.old) result cursor.new }
 {
     cursor.bump();
     cursor.bump();
     let condition = condition(alloc, cursor, depth)?;
-    let metas = metas(alloc, cursor, depth)?;
+    let metas = metas(alloc, cursor, anchor, depth)?;
     cursor.pass_closed();
     Ok(Meta::CfgAttr { condition, metas })
 }
 
-/// Takes a meta. `depth` bounds how deep metas and conditions stand in one another.
+/// Takes a meta. Spans count from the anchor. `depth` bounds how deep metas and conditions stand in one another.
 #[cycle(metas)]
 #[tactic(auto, using(crate::proofs::Depths::meta_deep, crate::proofs::Depths::meta_at, hir_input::proofs::MetaLemmas::meta_views))]
-pub(crate) fn meta(alloc: Global, cursor: &mut Cursor<'_>, depth: usize) -> Result<Meta, AllocError>
-    ensures { Gives meta_view (spec.meta depth cursor.old) result cursor.new }
+pub(crate) fn meta(
+    alloc: Global,
+    cursor: &mut Cursor<'_>,
+    anchor: usize,
+    depth: usize,
+) -> Result<Meta, AllocError>
+    ensures { Gives meta_view (spec.meta anchor depth cursor.old) result cursor.new }
 {
     if depth == 0 {
         return Ok(Meta::Path {
@@ -137,33 +158,43 @@ pub(crate) fn meta(alloc: Global, cursor: &mut Cursor<'_>, depth: usize) -> Resu
             ctxt: root(),
         });
     }
-    meta_over(alloc, cursor, depth - 1)
+    meta_over(alloc, cursor, anchor, depth - 1)
 }
 
 /// A meta over those inside it.
 #[cycle(metas)]
-fn meta_over(alloc: Global, cursor: &mut Cursor<'_>, depth: usize) -> Result<Meta, AllocError>
-    ensures { Gives meta_view (spec.meta_with (spec.meta depth) (conditions.condition depth) cursor.old) result cursor.new }
+fn meta_over(
+    alloc: Global,
+    cursor: &mut Cursor<'_>,
+    anchor: usize,
+    depth: usize,
+) -> Result<Meta, AllocError>
+    ensures { Gives meta_view (spec.meta_with anchor (spec.meta anchor depth) (conditions.condition depth) cursor.old) result cursor.new }
 {
     if is_call(cursor, "unsafe") {
-        return unsafe_meta(alloc, cursor, depth);
+        return unsafe_meta(alloc, cursor, anchor, depth);
     }
     if is_call(cursor, "cfg") {
         return cfg(alloc, cursor, depth);
     }
     if is_call(cursor, "cfg_attr") {
-        return cfg_attr(alloc, cursor, depth);
+        return cfg_attr(alloc, cursor, anchor, depth);
     }
-    plain(alloc, cursor)
+    plain(alloc, cursor, anchor)
 }
 
 /// A meta and the comma behind it.
 #[cycle(metas)]
 #[tactic(auto, unfolding(crate::specs::Metas::member_at))]
-fn member(alloc: Global, cursor: &mut Cursor<'_>, depth: usize) -> Result<Meta, AllocError>
-    ensures { Gives meta_view (spec.member_at depth cursor.old) result cursor.new }
+fn member(
+    alloc: Global,
+    cursor: &mut Cursor<'_>,
+    anchor: usize,
+    depth: usize,
+) -> Result<Meta, AllocError>
+    ensures { Gives meta_view (spec.member_at anchor depth cursor.old) result cursor.new }
 {
-    let meta = meta(alloc, cursor, depth)?;
+    let meta = meta(alloc, cursor, anchor, depth)?;
     pass_comma(cursor);
     Ok(meta)
 }
@@ -171,8 +202,13 @@ fn member(alloc: Global, cursor: &mut Cursor<'_>, depth: usize) -> Result<Meta, 
 /// Metas up to a bracket that closes.
 #[cycle(metas)]
 #[tactic(auto, unfolding(rust_cursor::specs::Elements::turns, crate::specs::Metas::member_at), using(rust_cursor::proofs::Turns::turns_stop))]
-fn metas(alloc: Global, cursor: &mut Cursor<'_>, depth: usize) -> Result<Vec<Meta>, AllocError>
-    ensures { Gives (λ v. map meta_view v.items) (elements (one (spec.member (spec.meta depth))) cursor.old) result cursor.new }
+fn metas(
+    alloc: Global,
+    cursor: &mut Cursor<'_>,
+    anchor: usize,
+    depth: usize,
+) -> Result<Vec<Meta>, AllocError>
+    ensures { Gives (λ v. map meta_view v.items) (elements (one (spec.member (spec.meta anchor depth))) cursor.old) result cursor.new }
 {
     let mut metas = Vec::new(alloc);
     let most = Cursor::most_turns();
@@ -181,7 +217,7 @@ fn metas(alloc: Global, cursor: &mut Cursor<'_>, depth: usize) -> Result<Vec<Met
             break;
         }
         let past = cursor.past();
-        let meta = member(alloc, cursor, depth)?;
+        let meta = member(alloc, cursor, anchor, depth)?;
         metas.push(meta)?;
         cursor.pass_beyond(past);
     }
@@ -206,11 +242,11 @@ fn doc_path(alloc: Global) -> Result<Option<PathNode>, AllocError>
 
 /// Takes a documentation comment, as `doc = ".."`.
 #[tactic(auto, unfolding(crate::specs::Metas::doc), using(hir_input::proofs::MetaLemmas::meta_views))]
-pub(crate) fn doc(alloc: Global, cursor: &mut Cursor<'_>) -> Result<Meta, AllocError>
-    ensures { Gives meta_view (spec.doc cursor.old) result cursor.new }
+pub(crate) fn doc(alloc: Global, cursor: &mut Cursor<'_>, anchor: usize) -> Result<Meta, AllocError>
+    ensures { Gives meta_view (spec.doc anchor cursor.old) result cursor.new }
 {
     let path = doc_path(alloc)?;
-    let value = documentation(alloc, cursor)?;
+    let value = documentation(alloc, cursor, anchor)?;
     Ok(Meta::KeyValue {
         path,
         value,

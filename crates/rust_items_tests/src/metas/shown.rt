@@ -73,7 +73,7 @@ fn push_metas(text: &mut String, metas: &Vec<Meta>) -> Result<(), Fail> {
 /// The outer attributes at the front of a text, and the word behind them.
 pub fn outer(alloc: Global, source: &str) -> Result<String, Fail> {
     let mut cursor = Cursor::new(source);
-    let metas = outer_attributes(alloc, &mut cursor)?;
+    let metas = outer_attributes(alloc, &mut cursor, 0)?;
     let mut text = String::new(alloc);
     push_metas(&mut text, &metas)?;
     write!(text, " {}", cursor.text())?;
@@ -83,7 +83,7 @@ pub fn outer(alloc: Global, source: &str) -> Result<String, Fail> {
 /// The inner attributes at the front of a text, and the word behind them.
 pub fn inner(alloc: Global, source: &str) -> Result<String, Fail> {
     let mut cursor = Cursor::new(source);
-    let metas = inner_attributes(alloc, &mut cursor)?;
+    let metas = inner_attributes(alloc, &mut cursor, 0)?;
     let mut text = String::new(alloc);
     push_metas(&mut text, &metas)?;
     write!(text, " {}", cursor.text())?;

@@ -1,6 +1,7 @@
 use Rattle.std.proofs.Common.{◌≡◌}
 use Rattle.std.specs.List.{filter}
 use Rattle.rust_lexer.specs.Tokens.{is_significant}
+use Rattle.rust_cursor.specs.Tokens.{last_unended}
 use Rattle.rust_cursor.proofs.cursor.significant.Given as goal
 
 abbrev pub invariant-tokens : goal.invariant-tokens
@@ -8,4 +9,5 @@ invariant-tokens l = record {
   callable : (goal.iterator-tokens).can_next l.lexer;
   finite : (goal.iterator-tokens).is_finite l.lexer;
   same : filter is_significant l.lexer ≡ filter is_significant l.initial.lexer;
+  last : last_unended l.last l.lexer ≡ last_unended l.initial.last l.initial.lexer;
 }

@@ -24,4 +24,4 @@ abbrev pub decreases-meta_over : goal.decreases-meta_over
 decreases-meta_over l = 5 * l.depth + 4
 
 abbrev pub invariant-metas-loop-turn : goal.invariant-metas-loop-turn
-invariant-metas-loop-turn l = turns_from is_at_end (one (member (meta l.depth))) (l.most - l._turn) (map meta_view l.metas.items) l.cursor ≡ elements (one (member (meta l.depth))) l.fn.cursor
+invariant-metas-loop-turn l = turns_from is_at_end (one (member (meta l.anchor l.depth))) (l.most - l._turn) (map meta_view l.metas.items) l.cursor ≡ elements (one (member (meta l.anchor l.depth))) l.fn.cursor

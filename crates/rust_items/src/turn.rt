@@ -1,0 +1,82 @@
+//! What an item leaves in the log, and items that hold none.
+
+ghost use Rattle.std.specs.Prelude.{◌≡◌, OnOk, option_map};
+ghost use Rattle.hir_input.specs.Syntax.{item_view};
+ghost use Rattle.rust_leaves.specs.Views.{front_view, leaf_view};
+ghost use Rattle.rust_items.specs.Found.{Finds, log_view};
+ghost use Rattle.rust_items.specs.Items as spec;
+
+use crate::log::{ItemSpan, Log, ProblemKind};
+use hir_input::AstIdKind;
+use hir_input::ast::Item;
+use rust_cursor::Cursor;
+use rust_ids::Node;
+use rust_leaves::{Front, Leaf, pass_others, take_leaf};
+use rust_paths::TextRange;
+use std::alloc::{AllocError, Global};
+
+/// What of an item goes into the log beside what its name tells.
+#[derive(Clone, Copy)]
+pub(crate) struct Extent {
+    pub depth: usize,
+    pub start: usize,
+    pub end: usize,
+}
+
+/// Adds an item, with a problem if it does not end as it should.
+pub(crate) fn push_item<'t>(
+    log: &mut Log<'t>,
+    extent: Extent,
+    kind: AstIdKind,
+    name: &'t str,
+    named: Option<TextRange>,
+    is_ended: bool,
+) -> Result<(), AllocError>
+    ensures { OnOk result (log_view log.new ≡ spec.and_item extent.depth extent.start extent.end kind name.now named is_ended (log_view log.old)) }
+{
+    let row = Node::new(extent.depth, kind, name);
+    let range = TextRange {
+        start: extent.start,
+        end: extent.end,
+    };
+    log.push_row(row, ItemSpan { range, name: named })?;
+    log.push_problem_if(!is_ended, ProblemKind::Unfinished, extent.start)
+}
+
+/// Adds an item that holds none.
+pub(crate) fn push_leaf<'t>(
+    log: &mut Log<'t>,
+    extent: Extent,
+    leaf: &Leaf<'t>,
+) -> Result<(), AllocError>
+    ensures { OnOk result (log_view log.new ≡ spec.and_leaf extent.depth extent.start extent.end (leaf_view leaf.now) (log_view log.old)) }
+{
+    push_item(log, extent, leaf.kind, leaf.name, leaf.named, leaf.is_ended)?;
+    log.push_problem_at(ProblemKind::TooDeep, leaf.too_deep)
+}
+
+/// An item that holds none, or tokens that begin no item.
+#[tactic(auto, unfolding(crate::specs::Items::leaf_turn))]
+pub(crate) fn leaf_turn<'t>(
+    alloc: Global,
+    cursor: &mut Cursor<'t>,
+    depth: usize,
+    front: Front,
+    log: &mut Log<'t>,
+) -> Result<Option<Item>, AllocError>
+    ensures { Finds (option_map item_view) (spec.leaf_turn depth (front_view front) (log_view log.old) cursor.old) result (log_view log.new) cursor.new }
+{
+    let start = front.start;
+    match take_leaf(alloc, cursor, front)? {
+        Some(leaf) => {
+            let end = cursor.past();
+            push_leaf(log, Extent { depth, start, end }, &leaf)?;
+            Ok(Some(leaf.item))
+        }
+        None => {
+            log.push_problem(ProblemKind::NoItem, start)?;
+            pass_others(cursor);
+            Ok(None)
+        }
+    }
+}

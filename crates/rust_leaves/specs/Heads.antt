@@ -1,0 +1,154 @@
+-- The words that begin an item, and the modifiers before them.
+use Rattle.std.specs.Prelude.{ℕ, zero, suc, Bool, true, false, ◌==◌, ◌&&◌, ◌||◌, if◌then◌else◌, Option, Some, List, [], ◌∷◌, codes}
+use Rattle.std.specs.List.{list_any}
+use Rattle.std.specs.Str.{bytes_eq}
+use Rattle.rust_lexer.specs.declared.kind.TokenKind.{TokenKind}
+use Rattle.rust_lexer.specs.declared.kind.TokenKind.TheVariants as kinds
+use Rattle.rust_cursor.specs.Tokens.{Tokens}
+use Rattle.rust_cursor.specs.Reader.{Reader}
+use Rattle.rust_cursor.specs.Words.{symbol, word, kind, is_at_identifier, is_at_doc, is_at_end, bumped}
+use Rattle.rust_cursor.specs.Brackets.{behind_tree}
+use Rattle.rust_cursor.specs.Elements.{most}
+use Rattle.rust_leaves.specs.declared.head.Head.{Head}
+use Rattle.rust_leaves.specs.declared.head.Head.TheVariants as heads
+
+-- ---- modifiers
+
+-- what may stand behind each modifier: another modifier, or the word of an item
+unfoldable pub follows_const : List ℕ → Bool
+follows_const w =
+    list_any (bytes_eq w) (codes "fn" ∷ codes "unsafe" ∷ codes "extern" ∷ codes "async" ∷ codes "trait" ∷ codes "impl" ∷ codes "auto" ∷ [])
+
+unfoldable pub follows_async : List ℕ → Bool
+follows_async w = list_any (bytes_eq w) (codes "fn" ∷ codes "unsafe" ∷ codes "extern" ∷ codes "gen" ∷ [])
+
+unfoldable pub follows_unsafe : List ℕ → Bool
+follows_unsafe w =
+    list_any (bytes_eq w) (codes "fn" ∷ codes "extern" ∷ codes "trait" ∷ codes "impl" ∷ codes "auto" ∷ codes "mod" ∷ codes "static" ∷ codes "type"
+    ∷ codes "const" ∷ codes "async" ∷ codes "safe" ∷ [])
+
+unfoldable pub follows_safe : List ℕ → Bool
+follows_safe w = list_any (bytes_eq w) (codes "fn" ∷ codes "static" ∷ [])
+
+unfoldable pub follows_default : List ℕ → Bool
+follows_default w =
+    list_any (bytes_eq w) (codes "fn" ∷ codes "unsafe" ∷ codes "const" ∷ codes "type" ∷ codes "impl" ∷ codes "async" ∷ codes "extern" ∷ [])
+
+unfoldable pub follows_extern : List ℕ → Bool
+follows_extern w = list_any (bytes_eq w) (codes "fn" ∷ codes "unsafe" ∷ [])
+
+abbrev pub is_literal_kind : Option TokenKind → Bool
+is_literal_kind (Some (kinds.Literal k)) = true
+is_literal_kind _ = false
+
+-- behind `extern`: the name of an interface stands there, as `"C"`
+unfoldable pub behind_abi : Tokens → Tokens
+behind_abi ts = if is_literal_kind (kind ts) then bumped ts else ts
+
+abbrev pub word_behind_abi : Tokens → List ℕ
+word_behind_abi ts = word (behind_abi ts)
+
+-- a modifier comes next, where this stands behind it
+unfoldable pub is_modifier_before : List ℕ → Tokens → Bool
+is_modifier_before w behind =
+    if bytes_eq w (codes "const") then follows_const (word behind)
+    else (if bytes_eq w (codes "async") then follows_async (word behind)
+    else (if bytes_eq w (codes "unsafe") then follows_unsafe (word behind)
+    else (if bytes_eq w (codes "safe") then follows_safe (word behind)
+    else (if bytes_eq w (codes "default") then follows_default (word behind)
+    else (if bytes_eq w (codes "gen") then bytes_eq (word behind) (codes "fn")
+    else (if bytes_eq w (codes "auto") then bytes_eq (word behind) (codes "trait")
+    else (if bytes_eq w (codes "extern") then follows_extern (word_behind_abi behind) else false)))))))
+
+unfoldable pub is_modifier : Tokens → Bool
+is_modifier ts = is_modifier_before (word ts) (bumped ts)
+
+-- what is left behind a modifier
+unfoldable pub behind_modifier : Tokens → Tokens
+behind_modifier ts = if bytes_eq (word ts) (codes "extern") then behind_abi (bumped ts) else bumped ts
+
+abbrev pub behind_modifiers_from : ℕ → Tokens → Tokens
+behind_modifiers_from zero ts = ts
+behind_modifiers_from (suc n) ts = if is_modifier ts then behind_modifiers_from n (behind_modifier ts) else ts
+
+-- what is left behind all modifiers
+unfoldable pub behind_modifiers : Tokens → Tokens
+behind_modifiers ts = behind_modifiers_from most ts
+
+-- ---- the words
+
+-- `extern`: a crate, a block, or none
+unfoldable pub extern_head : Tokens → Head
+extern_head behind =
+    if bytes_eq (word behind) (codes "crate") then heads.ExternCrate
+    else (if symbol (behind_abi behind) == 123 then heads.ExternBlock else heads.Other)
+
+-- `macro_rules`: of a macro where `!` and a name follow
+unfoldable pub macro_rules_head : Tokens → Head
+macro_rules_head behind = if symbol behind == 33 && is_at_identifier (bumped behind) then heads.MacroRules else heads.Other
+
+-- `union`: an item where a name follows
+unfoldable pub union_head : Tokens → Head
+union_head behind = if is_at_identifier behind then heads.Union else heads.Other
+
+-- the kind of item that a word begins
+unfoldable pub head_by : List ℕ → Tokens → Head
+head_by w behind =
+    if bytes_eq w (codes "use") then heads.Use
+    else (if bytes_eq w (codes "fn") then heads.Fn
+    else (if bytes_eq w (codes "impl") then heads.Impl
+    else (if bytes_eq w (codes "trait") then heads.Trait
+    else (if bytes_eq w (codes "struct") then heads.Struct
+    else (if bytes_eq w (codes "enum") then heads.Enum
+    else (if bytes_eq w (codes "const") then heads.Const
+    else (if bytes_eq w (codes "static") then heads.Static
+    else (if bytes_eq w (codes "type") then heads.TypeAlias
+    else (if bytes_eq w (codes "mod") then heads.Module
+    else (if bytes_eq w (codes "macro") then heads.MacroDef
+    else (if bytes_eq w (codes "union") then union_head behind
+    else (if bytes_eq w (codes "macro_rules") then macro_rules_head behind
+    else (if bytes_eq w (codes "extern") then extern_head behind else heads.Other)))))))))))))
+
+-- what is left behind the words of an item
+abbrev pub behind_head : Head → Tokens → Tokens
+behind_head heads.Other ts = ts
+behind_head heads.ExternCrate ts = bumped (bumped ts)
+behind_head heads.MacroRules ts = bumped (bumped ts)
+behind_head heads.ExternBlock ts = behind_abi (bumped ts)
+behind_head _ ts = bumped ts
+
+-- The words that begin an item.
+unfoldable pub head : Reader Head
+head ts = (head_by (word ts) (bumped ts), behind_head (head_by (word ts) (bumped ts)) ts)
+
+-- ---- what is no item
+
+-- a word that may begin an item
+unfoldable pub is_first_word : List ℕ → Bool
+is_first_word w =
+    list_any (bytes_eq w) (codes "pub" ∷ codes "fn" ∷ codes "use" ∷ codes "mod" ∷ codes "struct" ∷ codes "enum" ∷ codes "trait" ∷ codes "impl"
+    ∷ codes "type" ∷ codes "static" ∷ codes "const" ∷ codes "extern" ∷ codes "unsafe" ∷ codes "async" ∷ codes "macro" ∷ [])
+
+abbrev pub is_called_here : Tokens → Bool
+is_called_here ts = is_at_identifier ts && symbol (bumped ts) == 33
+
+-- something may begin an item: an attribute, such a word, or a name with `!` behind it
+unfoldable pub may_begin : Tokens → Bool
+may_begin ts =
+    if symbol ts == 35 || is_at_doc ts then true
+    else (if is_first_word (word ts) then true else is_called_here ts)
+
+-- no more is passed over
+unfoldable pub is_behind_others : Tokens → Bool
+is_behind_others ts = is_at_end ts || may_begin ts
+
+abbrev pub behind_others_from : ℕ → Tokens → Tokens
+behind_others_from zero ts = ts
+behind_others_from (suc n) ts = if is_behind_others ts then ts else behind_others_from n (behind_tree ts)
+
+abbrev pub behind_more_others : Tokens → Tokens
+behind_more_others ts = behind_others_from most ts
+
+-- what is left behind tokens that begin no item
+unfoldable pub behind_others : Tokens → Tokens
+behind_others ts = if is_at_end ts then ts else behind_more_others (behind_tree ts)

@@ -1,0 +1,179 @@
+-- The items that hold no items, kind by kind. Each begins behind its attributes, its visibility, its modifiers and its word.
+use Rattle.std.specs.Prelude.{ℕ, Bool, ◌==◌, ◌&&◌, if◌then◌else◌, Option, Some, None, is_some, List, [], ◌++◌, codes}
+use Rattle.hir_input.specs.declared.ids.AstIdKind.{AstIdKind}
+use Rattle.hir_input.specs.declared.ids.AstIdKind.TheVariants as kind
+use Rattle.hir_input.specs.declared.ids.SyntaxContext.TheVariants as context
+use Rattle.hir_input.specs.declared.edition.EditionYear.TheVariants as year
+use Rattle.hir_input.specs.declared.expand_to.ExpandTo.TheVariants as expand_to
+use Rattle.hir_input.specs.declared.ast.PathNode.{PathNode}
+use Rattle.hir_input.specs.declared.ast.Visibility.{Visibility}
+use Rattle.hir_input.specs.Attr.{MetaView}
+use Rattle.hir_input.specs.UseTreeView.{UseTreeView}
+use Rattle.hir_input.specs.Syntax.{NodeView, NamedView, PlainKind, fn_kind, union_kind, enum_kind, static_kind, trait_kind, type_alias_kind, macro_def_kind, ast_kind, ItemView, plain_item, const_item, struct_item, use_item, extern_crate, impl_item, macro_call, macro_rules}
+use Rattle.rust_cursor.specs.Tokens.{Tokens}
+use Rattle.rust_cursor.specs.Reader.{Reader, ◌>>=◌, pure, look}
+use Rattle.rust_cursor.specs.Words.{symbol, eat, eat_word, bumped, is_at_open}
+use Rattle.rust_paths.specs.Paths.{path}
+use Rattle.rust_paths.specs.UseTrees.{Found, use_tree, rename}
+use Rattle.rust_leaves.specs.declared.head.Head.{Head}
+use Rattle.rust_leaves.specs.declared.head.Head.TheVariants as head
+use Rattle.rust_leaves.specs.Fronts.{FrontRead}
+use Rattle.rust_leaves.specs.Texts.{bare, last_text}
+use Rattle.rust_leaves.specs.Leaves.{NameRead, RestRead, LeafRead, no_name, named, crate_named, item_end, value_end, call_end, block_attributes, struct_fields, has_trait}
+
+-- the ids are given later
+abbrev pub node : List MetaView → List ℕ → NodeView
+node attrs body = record { hash = 0; number = 0; attrs = attrs; body = body }
+
+abbrev pub named_node : List MetaView → Option (List ℕ) → Option Visibility → List ℕ → NamedView
+named_node attrs name visibility body = record { node = node attrs body; name = name; visibility = visibility }
+
+abbrev pub leaf_read : ItemView → AstIdKind → NameRead → Bool → LeafRead
+leaf_read item kind n is_ended = record { item = item; kind = kind; name = n.hashed; named = n.range; is_ended = is_ended; too_deep = None }
+
+abbrev pub plain_read : PlainKind → List MetaView → Option Visibility → NameRead → RestRead → LeafRead
+plain_read k attrs visibility n r = leaf_read (plain_item k (named_node attrs n.name visibility r.body)) (ast_kind k) n r.is_ended
+
+-- Function
+unfoldable pub function : ℕ → List MetaView → Option Visibility → Reader LeafRead
+function start attrs visibility = do
+  n ← named
+  inner ← look (block_attributes start)
+  r ← item_end
+  pure (plain_read fn_kind (attrs ++ inner) visibility n r)
+
+-- Union, Enumeration, Trait, and macros 2.0: a name, and all that is left
+abbrev pub block_item : PlainKind → List MetaView → Option Visibility → Reader LeafRead
+block_item k attrs visibility = do
+  n ← named
+  r ← item_end
+  pure (plain_read k attrs visibility n r)
+
+unfoldable pub union_item : List MetaView → Option Visibility → Reader LeafRead
+union_item = block_item union_kind
+
+unfoldable pub enumeration : List MetaView → Option Visibility → Reader LeafRead
+enumeration = block_item enum_kind
+
+unfoldable pub trait_item : List MetaView → Option Visibility → Reader LeafRead
+trait_item = block_item trait_kind
+
+unfoldable pub macro_def : List MetaView → Option Visibility → Reader LeafRead
+macro_def = block_item macro_def_kind
+
+-- TypeAlias
+unfoldable pub type_alias : List MetaView → Option Visibility → Reader LeafRead
+type_alias attrs visibility = do
+  n ← named
+  r ← value_end
+  pure (plain_read type_alias_kind attrs visibility n r)
+
+-- StaticItem
+unfoldable pub static_value : List MetaView → Option Visibility → Reader LeafRead
+static_value attrs visibility = do
+  _ ← eat_word (codes "mut")
+  n ← named
+  r ← value_end
+  pure (plain_read static_kind attrs visibility n r)
+
+-- ConstantItem: `_` is no name
+unfoldable pub constant : List MetaView → Option Visibility → Reader LeafRead
+constant attrs visibility = do
+  n ← named
+  _ ← eat_word (codes "_")
+  r ← value_end
+  pure (leaf_read (const_item (named_node attrs n.name visibility r.body)) kind.Const n r.is_ended)
+
+-- Struct
+unfoldable pub structure : List MetaView → Option Visibility → Reader LeafRead
+structure attrs visibility = do
+  n ← named
+  fields ← look struct_fields
+  r ← item_end
+  pure (leaf_read (struct_item (named_node attrs n.name visibility r.body) fields) kind.Struct n r.is_ended)
+
+-- Implementation
+unfoldable pub implementation : ℕ → List MetaView → Reader LeafRead
+implementation start attrs = do
+  is_trait ← look has_trait
+  inner ← look (block_attributes start)
+  r ← item_end
+  pure (leaf_read (impl_item (node (attrs ++ inner) r.body) is_trait) kind.Impl no_name r.is_ended)
+
+-- ExternCrate
+unfoldable pub crate_item : List MetaView → Option Visibility → Reader LeafRead
+crate_item attrs visibility = do
+  n ← crate_named
+  alias ← rename
+  semicolon ← eat 59
+  pure (leaf_read (extern_crate (named_node attrs n.name visibility []) alias) kind.ExternCrate n semicolon)
+
+abbrev pub use_read : List MetaView → Option Visibility → Found (Option UseTreeView) → Bool → LeafRead
+use_read attrs visibility tree is_ended = record {
+  item = use_item (record { node = node attrs []; visibility = visibility; use_tree = tree.value });
+  kind = kind.Use;
+  name = [];
+  named = None;
+  is_ended = is_ended;
+  too_deep = tree.too_deep;
+}
+
+-- UseDeclaration
+unfoldable pub use_declaration : List MetaView → Option Visibility → Reader LeafRead
+use_declaration attrs visibility = do
+  tree ← use_tree
+  semicolon ← eat 59
+  pure (use_read attrs visibility tree semicolon)
+
+-- MacroRulesDefinition
+unfoldable pub macro_definition : List MetaView → Reader LeafRead
+macro_definition attrs = do
+  n ← named
+  r ← call_end
+  pure (leaf_read (macro_rules (node attrs r.body) n.name) kind.MacroRules n r.is_ended)
+
+-- behind a path: a macro is called
+unfoldable pub is_called : Tokens → Bool
+is_called ts = symbol ts == 33 && is_at_open (bumped ts)
+
+abbrev pub called : List MetaView → Option PathNode → List ℕ → RestRead → LeafRead
+called attrs path last r =
+    let c = macro_call (record { node = node attrs r.body; path = path; expand_to = expand_to.Items; ctxt = context.Root year.E2024 }) in
+    record { item = c; kind = kind.MacroCall; name = last; named = None; is_ended = r.is_ended; too_deep = None }
+
+-- a macro's name is hashed as the last word of its path
+abbrev pub call_behind : List MetaView → Option PathNode → List ℕ → Reader LeafRead
+call_behind attrs path last = do
+  r ← call_end
+  pure (called attrs path last r)
+
+abbrev pub some_read : {A : Type 0} → A × Tokens → Option A × Tokens
+some_read r = (Some r.0, r.1)
+
+-- MacroInvocationSemi, or nothing, where none is written
+unfoldable pub invocation : List MetaView → Reader (Option LeafRead)
+invocation attrs ts =
+    if is_some (path ts).0 && is_called (path ts).1
+    then some_read (call_behind attrs (path ts).0 (bare (last_text (path ts).1.past ts)) (bumped (path ts).1))
+    else (None, ts)
+
+-- an item that holds no items, by its word, if one is written
+abbrev pub leaf_by : Head → ℕ → List MetaView → Option Visibility → Reader (Option LeafRead)
+leaf_by head.Use start attrs v ts = some_read (use_declaration attrs v ts)
+leaf_by head.ExternCrate start attrs v ts = some_read (crate_item attrs v ts)
+leaf_by head.Fn start attrs v ts = some_read (function start attrs v ts)
+leaf_by head.Impl start attrs v ts = some_read (implementation start attrs ts)
+leaf_by head.Trait start attrs v ts = some_read (trait_item attrs v ts)
+leaf_by head.Struct start attrs v ts = some_read (structure attrs v ts)
+leaf_by head.Union start attrs v ts = some_read (union_item attrs v ts)
+leaf_by head.Enum start attrs v ts = some_read (enumeration attrs v ts)
+leaf_by head.Const start attrs v ts = some_read (constant attrs v ts)
+leaf_by head.Static start attrs v ts = some_read (static_value attrs v ts)
+leaf_by head.TypeAlias start attrs v ts = some_read (type_alias attrs v ts)
+leaf_by head.MacroDef start attrs v ts = some_read (macro_def attrs v ts)
+leaf_by head.MacroRules start attrs v ts = some_read (macro_definition attrs ts)
+leaf_by _ start attrs v ts = invocation attrs ts
+
+-- an item that holds no items, behind what stands in front of it
+unfoldable pub leaf : FrontRead → Reader (Option LeafRead)
+leaf h ts = leaf_by h.head h.start h.attrs h.visibility ts

@@ -1,0 +1,116 @@
+-- What items are made of, but for those that hold items.
+use Rattle.std.specs.Prelude.{ℕ, Bool, false, not, ◌==◌, ◌&&◌, if◌then◌else◌, Option, Some, None, List, [], codes}
+use Rattle.std.specs.Str.{bytes_eq}
+use Rattle.hir_input.specs.declared.ids.AstIdKind.{AstIdKind}
+use Rattle.hir_input.specs.declared.ast.Visibility.{Visibility}
+use Rattle.hir_input.specs.Attr.{MetaView}
+use Rattle.hir_input.specs.Syntax.{FieldsView, ItemView, record_fields, tuple_fields, no_fields}
+use Rattle.rust_cursor.specs.Tokens.{Tokens}
+use Rattle.rust_cursor.specs.Reader.{Reader, ◌>>=◌, pure, pass}
+use Rattle.rust_cursor.specs.Words.{symbol, word, text, at, eat, bumped, is_at_open}
+use Rattle.rust_cursor.specs.Elements.{elements, one}
+use Rattle.rust_cursor.specs.Extents.{item_rest, value_rest}
+use Rattle.rust_cursor.specs.Angles.{behind_angles, behind_field, to_block, is_trait_impl}
+use Rattle.rust_paths.specs.declared.names.TextRange.{TextRange}
+use Rattle.rust_paths.specs.Names.{Placed, placed_name, as_name}
+use Rattle.rust_paths.specs.Visibilities.{visibility}
+use Rattle.rust_metas.specs.Attributes.{outer_attributes, inner_attributes}
+use Rattle.rust_leaves.specs.Texts.{bare, ends_well, is_cut, spaced_tree}
+
+-- a name if one is written, the name that is hashed, and the name's place
+pub record NameRead : Type 0 where
+  pub name : Option (List ℕ)
+  pub hashed : List ℕ
+  pub range : Option TextRange
+
+-- what stands behind an item's header, and whether the item ends as it should
+pub record RestRead : Type 0 where
+  pub body : List ℕ
+  pub is_ended : Bool
+
+-- an item that holds no items: with what its id is made from, its name's place, whether it is ended, and a use list that is too deep
+pub record LeafRead : Type 0 where
+  pub item : ItemView
+  pub kind : AstIdKind
+  pub name : List ℕ
+  pub named : Option TextRange
+  pub is_ended : Bool
+  pub too_deep : Option ℕ
+
+-- ---- names
+
+abbrev pub no_name : NameRead
+no_name = record { name = None; hashed = []; range = None }
+
+abbrev pub name_read : Option Placed → List ℕ → NameRead
+name_read None text = no_name
+name_read (Some p) text = record { name = Some p.name; hashed = bare text; range = Some (record { start = p.start; end = p.end }) }
+
+-- the name of an item, if it is written
+unfoldable pub named : Reader NameRead
+named ts = (name_read (placed_name ts).0 (text ts), (placed_name ts).1)
+
+-- the name of a crate, which may be `self`
+unfoldable pub crate_named : Reader NameRead
+crate_named ts =
+    if bytes_eq (word ts) (codes "self")
+    then (record { name = as_name (Some (word ts)); hashed = word ts; range = Some (record { start = at ts; end = (bumped ts).past }) }, bumped ts)
+    else named ts
+
+-- ---- ends
+
+-- up to a semicolon or a block
+unfoldable pub item_end : Reader RestRead
+item_end ts = (record { body = (item_rest ts).0; is_ended = ends_well (item_rest ts).0 && not (is_cut ts (item_rest ts).1) }, (item_rest ts).1)
+
+-- up to a semicolon
+unfoldable pub value_end : Reader RestRead
+value_end ts = (record { body = (value_rest ts).0; is_ended = ends_well (value_rest ts).0 && not (is_cut ts (value_rest ts).1) }, (value_rest ts).1)
+
+abbrev pub semicolon_end : List ℕ → Reader RestRead
+semicolon_end body = do
+  semicolon ← eat 59
+  pure (record { body = body; is_ended = semicolon })
+
+-- what a macro is given in its brackets; a semicolon ends those that are no braces
+unfoldable pub call_end : Reader RestRead
+call_end ts =
+    if is_at_open ts
+    then (if symbol ts == 123 then (record { body = (spaced_tree ts).0; is_ended = not (is_cut ts (spaced_tree ts).1) }, (spaced_tree ts).1)
+    else semicolon_end (spaced_tree ts).0 (spaced_tree ts).1)
+    else (record { body = []; is_ended = false }, ts)
+
+-- ---- parts
+
+-- the inner attributes at the beginning of an item's block; spans count from the item's start
+unfoldable pub block_attributes : ℕ → Tokens → List MetaView
+block_attributes start ts = if symbol (to_block ts) == 123 then (inner_attributes start (bumped (to_block ts))).0 else []
+
+-- TupleField: its visibility; attributes and the type are passed over
+unfoldable pub field : Reader (Option Visibility)
+field = do
+  _ ← outer_attributes 0
+  v ← visibility
+  _ ← pass behind_field
+  _ ← eat 44
+  pure v
+
+unfoldable pub fields : Reader (List (Option Visibility))
+fields = elements (one field)
+
+abbrev pub is_record_behind_where : Tokens → Bool
+is_record_behind_where ts = bytes_eq (word ts) (codes "where") && symbol (to_block ts) == 123
+
+abbrev pub fields_at : Tokens → FieldsView
+fields_at ts =
+    if symbol ts == 40 then tuple_fields (fields (bumped ts)).0
+    else (if symbol ts == 123 then record_fields
+    else (if is_record_behind_where ts then record_fields else no_fields))
+
+-- StructStruct or TupleStruct: what stands behind a struct's name and generics
+unfoldable pub struct_fields : Tokens → FieldsView
+struct_fields ts = fields_at (behind_angles ts)
+
+-- behind `impl`: the items are those of a trait
+unfoldable pub has_trait : Tokens → Bool
+has_trait ts = is_trait_impl (behind_angles ts)

@@ -1,0 +1,147 @@
+-- Statements: what begins one, how far it goes, and the macro calls in the place of one.
+use Rattle.std.specs.Prelude.{ℕ, zero, suc, Bool, true, false, not, ◌==◌, ◌&&◌, ◌||◌, if◌then◌else◌, Option, Some, None, is_some, List, [], ◌∷◌, codes}
+use Rattle.std.specs.List.{list_any}
+use Rattle.std.specs.Str.{bytes_eq}
+use Rattle.hir_input.specs.declared.ids.SyntaxContext.TheVariants as context
+use Rattle.hir_input.specs.declared.edition.EditionYear.TheVariants as year
+use Rattle.hir_input.specs.declared.expand_to.ExpandTo.TheVariants as expand_to
+use Rattle.hir_input.specs.declared.ast.PathNode.{PathNode}
+use Rattle.hir_input.specs.Attr.{MetaView}
+use Rattle.hir_input.specs.Syntax.{CallView}
+use Rattle.rust_lexer.specs.declared.kind.TokenKind.{TokenKind}
+use Rattle.rust_lexer.specs.declared.kind.TokenKind.TheVariants as kinds
+use Rattle.rust_cursor.specs.Tokens.{Tokens}
+use Rattle.rust_cursor.specs.Reader.{Reader}
+use Rattle.rust_cursor.specs.Words.{symbol, word, kind, bumped, is_at_end, is_at_identifier}
+use Rattle.rust_cursor.specs.Brackets.{behind_tree}
+use Rattle.rust_cursor.specs.Elements.{most}
+use Rattle.rust_cursor.specs.Extents.{begins_item}
+use Rattle.rust_paths.specs.Paths.{path}
+use Rattle.rust_leaves.specs.declared.head.Head.{Head}
+use Rattle.rust_leaves.specs.declared.head.Head.TheVariants as heads
+use Rattle.rust_leaves.specs.declared.statements.Scan.{Scan}
+use Rattle.rust_leaves.specs.declared.statements.Scan.TheVariants as scans
+use Rattle.rust_leaves.specs.declared.statements.Step.{Step}
+use Rattle.rust_leaves.specs.declared.statements.Step.TheVariants as steps
+use Rattle.rust_leaves.specs.Heads.{is_modifier, head_by}
+use Rattle.rust_leaves.specs.Texts.{bare, last_text, spaced_tree}
+use Rattle.rust_leaves.specs.Kinds.{node, is_called, some_read}
+
+-- ---- items
+
+abbrev pub is_other : Head → Bool
+is_other heads.Other = true
+is_other _ = false
+
+-- `const` and `static`: of an item where a name follows, `_` or `mut`; else of a block or a closure
+unfoldable pub names_value : Tokens → Bool
+names_value behind = is_at_identifier behind && not (bytes_eq (word behind) (codes "move") || bytes_eq (word behind) (codes "async"))
+
+-- the words of an item come next
+unfoldable pub is_item_head : Tokens → Bool
+is_item_head ts =
+    if is_other (head_by (word ts) (bumped ts)) then false
+    else (if bytes_eq (word ts) (codes "const") || bytes_eq (word ts) (codes "static") then names_value (bumped ts) else true)
+
+-- an item comes next, behind its attributes, and no expression
+unfoldable pub is_item : Tokens → Bool
+is_item ts = if bytes_eq (word ts) (codes "pub") || is_modifier ts then true else is_item_head ts
+
+-- ---- where a statement ends
+
+-- a word in front of a block that is an expression with it
+unfoldable pub is_block_word : List ℕ → Bool
+is_block_word w =
+    list_any (bytes_eq w) (codes "async" ∷ codes "const" ∷ codes "gen" ∷ codes "loop" ∷ codes "move" ∷ codes "try" ∷ codes "unsafe" ∷ [])
+
+-- a word of an expression that ends with a block
+unfoldable pub is_control_word : List ℕ → Bool
+is_control_word w = list_any (bytes_eq w) (codes "for" ∷ codes "if" ∷ codes "match" ∷ codes "while" ∷ [])
+
+abbrev pub is_label_kind : Option TokenKind → Bool
+is_label_kind (Some kinds.Lifetime) = true
+is_label_kind (Some kinds.RawLifetime) = true
+is_label_kind _ = false
+
+-- behind a label and its colon
+unfoldable pub behind_label : Tokens → Tokens
+behind_label ts = if is_label_kind (kind ts) then bumped (bumped ts) else ts
+
+unfoldable pub behind_block_word : Tokens → Tokens
+behind_block_word ts = if is_block_word (word ts) then bumped ts else ts
+
+-- behind a label, and behind at most two words in front of a block, as in `async move { .. }`
+unfoldable pub block_start : Tokens → Tokens
+block_start ts = behind_block_word (behind_block_word (behind_label ts))
+
+-- an expression that ends with its block comes next, behind these
+abbrev pub is_block_at : Tokens → Bool
+is_block_at ts = symbol ts == 123 || is_control_word (word ts)
+
+-- a block behind this token stands inside what comes before the statement's own block, as in `if let x = { .. } { .. }`
+unfoldable pub leads_inside : Tokens → Bool
+leads_inside ts = is_block_word (word ts) || (symbol ts == 61 || (symbol ts == 38 || symbol ts == 124))
+
+-- how a statement goes on behind a token or a bracket of it that is not its own block
+unfoldable pub scan_behind : Scan → Tokens → Scan
+scan_behind scans.Plain ts = scans.Plain
+scan_behind scans.Header ts = if leads_inside ts then scans.Inside else scans.Header
+scan_behind scans.Inside ts = if leads_inside ts then scans.Inside else scans.Header
+
+-- how it goes on behind its block: with `else`, as an operand of `.` or `?`, or not
+unfoldable pub step_behind_block : Tokens → Step
+step_behind_block ts =
+    if bytes_eq (word ts) (codes "else") then steps.On scans.Header
+    else (if symbol ts == 46 || symbol ts == 63 then steps.On scans.Plain else steps.Stop)
+
+abbrev pub is_header : Scan → Bool
+is_header scans.Header = true
+is_header _ = false
+
+-- a token of a statement, or what stands in brackets
+unfoldable pub part_step : Scan → Reader Step
+part_step s ts =
+    (if is_header s && symbol ts == 123 then step_behind_block (behind_tree ts) else steps.On (scan_behind s ts), behind_tree ts)
+
+-- A step of a statement: it ends with a semicolon, and before a bracket that closes or a word that can begin an item only.
+unfoldable pub statement_step : Scan → Reader Step
+statement_step s ts =
+    if is_at_end ts || begins_item ts then (steps.Stop, ts)
+    else (if symbol ts == 59 then (steps.End, bumped ts) else part_step s ts)
+
+-- whether a semicolon ended it, and what is left
+abbrev pub by_step : Step → (Scan → Reader Bool) → Reader Bool
+by_step steps.Stop more ts = (false, ts)
+by_step steps.End more ts = (true, ts)
+by_step (steps.On s) more ts = more s ts
+
+abbrev pub statement_from : ℕ → Scan → Reader Bool
+statement_from zero s ts = (false, ts)
+statement_from (suc n) s ts = by_step (statement_step s ts).0 (statement_from n) (statement_step s ts).1
+
+abbrev pub statement_up_to : Scan → Reader Bool
+statement_up_to s = statement_from most s
+
+-- A `let`, or another statement that is neither an item nor a macro call alone. Whether a semicolon ended it.
+unfoldable pub statement : Reader Bool
+statement ts = if is_block_at (block_start ts) then statement_up_to scans.Header (block_start ts) else statement_up_to scans.Plain ts
+
+-- ---- macro calls
+
+-- a macro call, the name that is hashed, and whether its bracket is a brace
+pub record CallRead : Type 0 where
+  pub call : CallView
+  pub name : List ℕ
+  pub is_braced : Bool
+
+abbrev pub call_tree : List MetaView → Option PathNode → List ℕ → Reader CallRead
+call_tree attrs p name ts =
+    let c : CallView = record { node = node attrs (spaced_tree ts).0; path = p; expand_to = expand_to.Statements; ctxt = context.Root year.E2024 } in
+    (record { call = c; name = name; is_braced = symbol ts == 123 }, (spaced_tree ts).1)
+
+-- MacroInvocation, up to its bracket, if one is written
+unfoldable pub statement_call : List MetaView → Reader (Option CallRead)
+statement_call attrs ts =
+    if is_some (path ts).0 && is_called (path ts).1
+    then some_read (call_tree attrs (path ts).0 (bare (last_text (path ts).1.past ts)) (bumped (path ts).1))
+    else (None, ts)

@@ -1,0 +1,109 @@
+//! Macro calls and macros by example.
+
+ghost use Rattle.std.specs.Prelude.{◌≡◌, Some, map, option_map};
+ghost use Rattle.hir_input.specs.Attr.{meta_view};
+ghost use Rattle.rust_cursor.specs.Reader.{Gives};
+ghost use Rattle.rust_leaves.specs.Kinds as spec;
+ghost use Rattle.rust_leaves.specs.Views.{leaf_view};
+
+use crate::leaf::Leaf;
+use crate::named::{call_end, item_name};
+use crate::texts::{bare, last_text};
+use hir_input::ast::{Item, MacroCall, MacroRules, PathNode};
+use hir_input::{AstIdKind, EditionYear, ExpandTo, Meta, SyntaxContext};
+use rust_cursor::Cursor;
+use rust_paths::path;
+use std::alloc::{AllocError, Global};
+
+#[tactic(auto, unfolding(crate::specs::Kinds::macro_definition), using(hir_input::proofs::SyntaxViews::item_views))]
+pub(crate) fn macro_definition<'t>(
+    alloc: Global,
+    cursor: &mut Cursor<'t>,
+    attrs: Vec<Meta>,
+) -> Result<Leaf<'t>, AllocError>
+    ensures { Gives leaf_view (spec.macro_definition (map meta_view attrs.items) cursor.old) result cursor.new }
+{
+    let named = item_name(alloc, cursor)?;
+    let rest = call_end(alloc, cursor)?;
+    let item = Item::MacroRules(MacroRules {
+        hash: 0,
+        number: 0,
+        attrs,
+        name: named.name,
+        body: rest.body,
+    });
+    Ok(Leaf {
+        item,
+        kind: AstIdKind::MacroRules,
+        name: named.hashed,
+        named: named.range,
+        is_ended: rest.is_ended,
+        too_deep: None,
+    })
+}
+
+/// Whether a `!` and a bracket come next.
+#[tactic(auto, unfolding(crate::specs::Kinds::is_called))]
+pub(crate) fn is_called(cursor: &Cursor<'_>) -> bool
+    ensures { result ≡ spec.is_called cursor.now }
+{
+    if cursor.symbol() != b'!' {
+        return false;
+    }
+    let mut behind = cursor.ahead();
+    behind.bump();
+    behind.is_at_open()
+}
+
+#[tactic(auto, using(hir_input::proofs::SyntaxViews::item_views))]
+fn call_behind<'t>(
+    alloc: Global,
+    cursor: &mut Cursor<'t>,
+    attrs: Vec<Meta>,
+    path: Option<PathNode>,
+    name: &'t str,
+) -> Result<Leaf<'t>, AllocError>
+    ensures { Gives leaf_view (spec.call_behind (map meta_view attrs.items) path name.now cursor.old) result cursor.new }
+{
+    let rest = call_end(alloc, cursor)?;
+    let item = Item::MacroCall(MacroCall {
+        hash: 0,
+        number: 0,
+        attrs,
+        path,
+        expand_to: ExpandTo::Items,
+        ctxt: SyntaxContext::Root(EditionYear::E2024),
+        body: rest.body,
+    });
+    Ok(Leaf {
+        item,
+        kind: AstIdKind::MacroCall,
+        name,
+        named: None,
+        is_ended: rest.is_ended,
+        too_deep: None,
+    })
+}
+
+/// Takes a macro call, or nothing where none is written.
+#[tactic(auto, unfolding(crate::specs::Kinds::invocation))]
+pub(crate) fn invocation<'t>(
+    alloc: Global,
+    cursor: &mut Cursor<'t>,
+    attrs: Vec<Meta>,
+) -> Result<Option<Leaf<'t>>, AllocError>
+    ensures { Gives (option_map leaf_view) (spec.invocation (map meta_view attrs.items) cursor.old) result cursor.new }
+{
+    let mut ahead = cursor.ahead();
+    let path = path(alloc, &mut ahead)?;
+    if path.is_none() {
+        return Ok(None);
+    }
+    if !is_called(&ahead) {
+        return Ok(None);
+    }
+    let name = bare(last_text(cursor, ahead.past()));
+    ahead.bump();
+    *cursor = ahead;
+    Ok(Some(call_behind(alloc, cursor, attrs, path, name)?))
+}

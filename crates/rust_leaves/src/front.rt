@@ -1,0 +1,64 @@
+//! What stands before an item's own parts.
+
+ghost use Rattle.std.specs.Prelude.{map};
+ghost use Rattle.hir_input.specs.Attr.{meta_view};
+ghost use Rattle.rust_cursor.specs.Reader.{Gives};
+ghost use Rattle.rust_leaves.specs.Fronts as spec;
+ghost use Rattle.rust_leaves.specs.Views.{front_view};
+
+use crate::head::{Head, pass_modifiers, take_head};
+use hir_input::Meta;
+use hir_input::ast::Visibility;
+use rust_cursor::Cursor;
+use rust_metas::outer_attributes;
+use rust_paths::visibility;
+use std::alloc::{AllocError, Global};
+
+/// What stands before an item's own parts.
+#[derive(Drop)]
+pub struct Front {
+    /// The byte place where the item begins, with its attributes. Their spans count from it.
+    pub start: usize,
+    pub attrs: Vec<Meta>,
+    pub visibility: Option<Visibility>,
+    pub head: Head,
+}
+
+/// Takes a visibility, modifiers and the words that begin an item, as far as they come, behind the item's attributes.
+///
+/// # Errors
+///
+/// `AllocError` where memory is refused. The cursor may then stand anywhere.
+#[tactic(auto, unfolding(crate::specs::Fronts::front_behind))]
+pub fn front_behind(
+    alloc: Global,
+    cursor: &mut Cursor<'_>,
+    start: usize,
+    attrs: Vec<Meta>,
+) -> Result<Front, AllocError>
+    ensures { Gives front_view (spec.front_behind start (map meta_view attrs.items) cursor.old) result cursor.new }
+{
+    let visibility = visibility(alloc, cursor)?;
+    pass_modifiers(cursor);
+    let head = take_head(cursor);
+    Ok(Front {
+        start,
+        attrs,
+        visibility,
+        head,
+    })
+}
+
+/// Takes attributes, a visibility, modifiers and the words that begin an item, as far as they come.
+///
+/// # Errors
+///
+/// `AllocError` where memory is refused. The cursor may then stand anywhere.
+#[tactic(auto, unfolding(crate::specs::Fronts::front))]
+pub fn take_front(alloc: Global, cursor: &mut Cursor<'_>) -> Result<Front, AllocError>
+    ensures { Gives front_view (spec.front cursor.old) result cursor.new }
+{
+    let start = cursor.at();
+    let attrs = outer_attributes(alloc, cursor, start)?;
+    front_behind(alloc, cursor, start, attrs)
+}

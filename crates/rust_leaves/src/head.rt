@@ -1,0 +1,340 @@
+//! The words that begin an item, and the modifiers before them.
+
+ghost use Rattle.std.specs.Prelude.{◌≡◌};
+ghost use Rattle.rust_leaves.specs.Heads as spec;
+
+use rust_cursor::Cursor;
+use rust_lexer::TokenKind;
+
+/// What kind of item the words begin that were taken.
+#[derive(Clone, Copy)]
+pub enum Head {
+    Const,
+    Enum,
+    ExternBlock,
+    ExternCrate,
+    Fn,
+    Impl,
+    MacroDef,
+    MacroRules,
+    Module,
+    Static,
+    Struct,
+    Trait,
+    TypeAlias,
+    Union,
+    Use,
+    /// No word of an item: it may be a macro call.
+    Other,
+}
+
+#[tactic(auto, unfolding(crate::specs::Heads::follows_const))]
+fn follows_const(word: &str) -> bool
+    ensures { result ≡ spec.follows_const word.now }
+{
+    matches!(
+        word,
+        "fn" | "unsafe" | "extern" | "async" | "trait" | "impl" | "auto"
+    )
+}
+
+#[tactic(auto, unfolding(crate::specs::Heads::follows_async))]
+fn follows_async(word: &str) -> bool
+    ensures { result ≡ spec.follows_async word.now }
+{
+    matches!(word, "fn" | "unsafe" | "extern" | "gen")
+}
+
+#[tactic(auto, unfolding(crate::specs::Heads::follows_unsafe))]
+fn follows_unsafe(word: &str) -> bool
+    ensures { result ≡ spec.follows_unsafe word.now }
+{
+    matches!(
+        word,
+        "fn" | "extern"
+            | "trait"
+            | "impl"
+            | "auto"
+            | "mod"
+            | "static"
+            | "type"
+            | "const"
+            | "async"
+            | "safe"
+    )
+}
+
+#[tactic(auto, unfolding(crate::specs::Heads::follows_safe))]
+fn follows_safe(word: &str) -> bool
+    ensures { result ≡ spec.follows_safe word.now }
+{
+    matches!(word, "fn" | "static")
+}
+
+#[tactic(auto, unfolding(crate::specs::Heads::follows_default))]
+fn follows_default(word: &str) -> bool
+    ensures { result ≡ spec.follows_default word.now }
+{
+    matches!(
+        word,
+        "fn" | "unsafe" | "const" | "type" | "impl" | "async" | "extern"
+    )
+}
+
+#[tactic(auto, unfolding(crate::specs::Heads::follows_extern))]
+fn follows_extern(word: &str) -> bool
+    ensures { result ≡ spec.follows_extern word.now }
+{
+    matches!(word, "fn" | "unsafe")
+}
+
+fn is_literal_kind(kind: Option<TokenKind>) -> bool
+    ensures { result ≡ spec.is_literal_kind kind }
+{
+    matches!(kind, Some(TokenKind::Literal(_)))
+}
+
+/// Passes over the name of an interface, if it comes next.
+#[tactic(auto, unfolding(crate::specs::Heads::behind_abi))]
+fn pass_abi(cursor: &mut Cursor<'_>)
+    ensures { cursor.new ≡ spec.behind_abi cursor.old }
+{
+    if is_literal_kind(cursor.kind()) {
+        cursor.bump();
+    }
+}
+
+fn extern_modifies(behind: &Cursor<'_>) -> bool
+    ensures { result ≡ spec.follows_extern (spec.word_behind_abi behind.now) }
+{
+    let mut ahead = behind.ahead();
+    pass_abi(&mut ahead);
+    follows_extern(ahead.word())
+}
+
+#[tactic(auto, unfolding(crate::specs::Heads::is_modifier_before))]
+fn is_modifier_before(word: &str, behind: &Cursor<'_>) -> bool
+    ensures { result ≡ spec.is_modifier_before word.now behind.now }
+{
+    match word {
+        "const" => follows_const(behind.word()),
+        "async" => follows_async(behind.word()),
+        "unsafe" => follows_unsafe(behind.word()),
+        "safe" => follows_safe(behind.word()),
+        "default" => follows_default(behind.word()),
+        "gen" => behind.word() == "fn",
+        "auto" => behind.word() == "trait",
+        "extern" => extern_modifies(behind),
+        _ => false,
+    }
+}
+
+/// Whether a modifier comes next.
+#[tactic(auto, unfolding(crate::specs::Heads::is_modifier))]
+pub(crate) fn is_modifier(cursor: &Cursor<'_>) -> bool
+    ensures { result ≡ spec.is_modifier cursor.now }
+{
+    let mut behind = cursor.ahead();
+    behind.bump();
+    is_modifier_before(cursor.word(), &behind)
+}
+
+#[tactic(auto, unfolding(crate::specs::Heads::behind_modifier))]
+fn pass_modifier(cursor: &mut Cursor<'_>)
+    ensures { cursor.new ≡ spec.behind_modifier cursor.old }
+{
+    let is_extern = cursor.word() == "extern";
+    cursor.bump();
+    if is_extern {
+        pass_abi(cursor);
+    }
+}
+
+/// Passes over `const`, `async`, `unsafe`, `safe`, `default`, `gen`, `auto` and `extern "C"`, where they are modifiers.
+#[tactic(auto, unfolding(crate::specs::Heads::behind_modifiers), using(crate::proofs::Steps::modifiers_more, crate::proofs::Steps::modifiers_stop))]
+pub(crate) fn pass_modifiers(cursor: &mut Cursor<'_>)
+    ensures { cursor.new ≡ spec.behind_modifiers cursor.old }
+{
+    let most = Cursor::most_turns();
+    for _turn in 0..most {
+        if !is_modifier(cursor) {
+            break;
+        }
+        pass_modifier(cursor);
+    }
+}
+
+#[tactic(auto, unfolding(crate::specs::Heads::extern_head))]
+fn extern_head(behind: &Cursor<'_>) -> Head
+    ensures { result ≡ spec.extern_head behind.now }
+{
+    if behind.word() == "crate" {
+        return Head::ExternCrate;
+    }
+    let mut ahead = behind.ahead();
+    pass_abi(&mut ahead);
+    if ahead.symbol() == b'{' {
+        Head::ExternBlock
+    } else {
+        Head::Other
+    }
+}
+
+#[tactic(auto, unfolding(crate::specs::Heads::macro_rules_head))]
+fn macro_rules_head(behind: &Cursor<'_>) -> Head
+    ensures { result ≡ spec.macro_rules_head behind.now }
+{
+    if behind.symbol() != b'!' {
+        return Head::Other;
+    }
+    let mut ahead = behind.ahead();
+    ahead.bump();
+    if ahead.is_at_identifier() {
+        Head::MacroRules
+    } else {
+        Head::Other
+    }
+}
+
+#[tactic(auto, unfolding(crate::specs::Heads::union_head))]
+fn union_head(behind: &Cursor<'_>) -> Head
+    ensures { result ≡ spec.union_head behind.now }
+{
+    if behind.is_at_identifier() {
+        Head::Union
+    } else {
+        Head::Other
+    }
+}
+
+#[tactic(auto, unfolding(crate::specs::Heads::head_by))]
+pub(crate) fn head_by(word: &str, behind: &Cursor<'_>) -> Head
+    ensures { result ≡ spec.head_by word.now behind.now }
+{
+    match word {
+        "use" => Head::Use,
+        "fn" => Head::Fn,
+        "impl" => Head::Impl,
+        "trait" => Head::Trait,
+        "struct" => Head::Struct,
+        "enum" => Head::Enum,
+        "const" => Head::Const,
+        "static" => Head::Static,
+        "type" => Head::TypeAlias,
+        "mod" => Head::Module,
+        "macro" => Head::MacroDef,
+        "union" => union_head(behind),
+        "macro_rules" => macro_rules_head(behind),
+        "extern" => extern_head(behind),
+        _ => Head::Other,
+    }
+}
+
+fn pass_head(head: Head, cursor: &mut Cursor<'_>)
+    ensures { cursor.new ≡ spec.behind_head head cursor.old }
+{
+    match head {
+        Head::Other => {}
+        Head::ExternCrate | Head::MacroRules => {
+            cursor.bump();
+            cursor.bump();
+        }
+        Head::ExternBlock => {
+            cursor.bump();
+            pass_abi(cursor);
+        }
+        _ => cursor.bump(),
+    }
+}
+
+/// Takes the words that begin an item, if they come next.
+#[tactic(auto, unfolding(crate::specs::Heads::head))]
+pub(crate) fn take_head(cursor: &mut Cursor<'_>) -> Head
+    ensures { spec.head cursor.old ≡ (result, cursor.new) }
+{
+    let mut behind = cursor.ahead();
+    behind.bump();
+    let head = head_by(cursor.word(), &behind);
+    pass_head(head, cursor);
+    head
+}
+
+#[tactic(auto, unfolding(crate::specs::Heads::is_first_word))]
+fn is_first_word(word: &str) -> bool
+    ensures { result ≡ spec.is_first_word word.now }
+{
+    matches!(
+        word,
+        "pub"
+            | "fn"
+            | "use"
+            | "mod"
+            | "struct"
+            | "enum"
+            | "trait"
+            | "impl"
+            | "type"
+            | "static"
+            | "const"
+            | "extern"
+            | "unsafe"
+            | "async"
+            | "macro"
+    )
+}
+
+fn is_called_here(cursor: &Cursor<'_>) -> bool
+    ensures { result ≡ spec.is_called_here cursor.now }
+{
+    if !cursor.is_at_identifier() {
+        return false;
+    }
+    let mut behind = cursor.ahead();
+    behind.bump();
+    behind.symbol() == b'!'
+}
+
+#[tactic(auto, unfolding(crate::specs::Heads::may_begin))]
+fn may_begin(cursor: &Cursor<'_>) -> bool
+    ensures { result ≡ spec.may_begin cursor.now }
+{
+    if cursor.symbol() == b'#' || cursor.is_at_doc() {
+        return true;
+    }
+    if is_first_word(cursor.word()) {
+        return true;
+    }
+    is_called_here(cursor)
+}
+
+#[tactic(auto, unfolding(crate::specs::Heads::is_behind_others))]
+fn is_behind_others(cursor: &Cursor<'_>) -> bool
+    ensures { result ≡ spec.is_behind_others cursor.now }
+{
+    cursor.is_at_end() || may_begin(cursor)
+}
+
+#[tactic(auto, using(crate::proofs::Steps::others_more, crate::proofs::Steps::others_stop))]
+fn pass_more_others(cursor: &mut Cursor<'_>)
+    ensures { cursor.new ≡ spec.behind_more_others cursor.old }
+{
+    let most = Cursor::most_turns();
+    for _turn in 0..most {
+        if is_behind_others(cursor) {
+            break;
+        }
+        cursor.pass_tree();
+    }
+}
+
+/// Passes over tokens that begin no item, up to where one may begin or a bracket closes.
+#[tactic(auto, unfolding(crate::specs::Heads::behind_others))]
+pub fn pass_others(cursor: &mut Cursor<'_>)
+    ensures { cursor.new ≡ spec.behind_others cursor.old }
+{
+    if cursor.is_at_end() {
+        return;
+    }
+    cursor.pass_tree();
+    pass_more_others(cursor);
+}

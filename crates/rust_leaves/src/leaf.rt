@@ -1,0 +1,337 @@
+//! Items that hold no items.
+
+ghost use Rattle.std.specs.Prelude.{◌≡◌, map, option_map};
+ghost use Rattle.hir_input.specs.Attr.{meta_view};
+ghost use Rattle.rust_cursor.specs.Reader.{Gives};
+ghost use Rattle.rust_leaves.specs.Kinds as spec;
+ghost use Rattle.rust_leaves.specs.Views.{front_view, leaf_view};
+
+use crate::calls::{invocation, macro_definition};
+use crate::front::Front;
+use crate::head::Head;
+use crate::named::{item_end, item_name, value_end, with_inner};
+use crate::structs::{has_trait, structure};
+use crate::uses::{crate_item, use_declaration};
+use hir_input::ast::{
+    Const, Enum, Fn, Impl, Item, MacroDef, Static, Trait, TypeAlias, Union, Visibility,
+};
+use hir_input::{AstIdKind, Meta};
+use rust_cursor::Cursor;
+use rust_paths::TextRange;
+use std::alloc::{AllocError, Global};
+
+/// An item that was read and holds no items.
+#[derive(Drop)]
+pub struct Leaf<'t> {
+    pub item: Item,
+    /// The kind of its id.
+    pub kind: AstIdKind,
+    /// The name that is hashed.
+    pub name: &'t str,
+    /// Where the name stands.
+    pub named: Option<TextRange>,
+    /// Whether it ends as it should.
+    pub is_ended: bool,
+    /// The place of a list of a use that is too deep.
+    pub too_deep: Option<usize>,
+}
+
+#[tactic(auto, unfolding(crate::specs::Kinds::function), using(hir_input::proofs::SyntaxViews::item_views))]
+fn function<'t>(
+    alloc: Global,
+    cursor: &mut Cursor<'t>,
+    start: usize,
+    attrs: Vec<Meta>,
+    visibility: Option<Visibility>,
+) -> Result<Leaf<'t>, AllocError>
+    ensures { Gives leaf_view (spec.function start (map meta_view attrs.items) visibility cursor.old) result cursor.new }
+{
+    let named = item_name(alloc, cursor)?;
+    let attrs = with_inner(alloc, cursor, start, attrs)?;
+    let rest = item_end(alloc, cursor)?;
+    let item = Item::Fn(Fn {
+        hash: 0,
+        number: 0,
+        attrs,
+        name: named.name,
+        visibility,
+        body: rest.body,
+    });
+    Ok(Leaf {
+        item,
+        kind: AstIdKind::Fn,
+        name: named.hashed,
+        named: named.range,
+        is_ended: rest.is_ended,
+        too_deep: None,
+    })
+}
+
+#[tactic(auto, unfolding(crate::specs::Kinds::union_item), using(hir_input::proofs::SyntaxViews::item_views))]
+fn union_item<'t>(
+    alloc: Global,
+    cursor: &mut Cursor<'t>,
+    attrs: Vec<Meta>,
+    visibility: Option<Visibility>,
+) -> Result<Leaf<'t>, AllocError>
+    ensures { Gives leaf_view (spec.union_item (map meta_view attrs.items) visibility cursor.old) result cursor.new }
+{
+    let named = item_name(alloc, cursor)?;
+    let rest = item_end(alloc, cursor)?;
+    let item = Item::Union(Union {
+        hash: 0,
+        number: 0,
+        attrs,
+        name: named.name,
+        visibility,
+        body: rest.body,
+    });
+    Ok(Leaf {
+        item,
+        kind: AstIdKind::Union,
+        name: named.hashed,
+        named: named.range,
+        is_ended: rest.is_ended,
+        too_deep: None,
+    })
+}
+
+#[tactic(auto, unfolding(crate::specs::Kinds::enumeration), using(hir_input::proofs::SyntaxViews::item_views))]
+fn enumeration<'t>(
+    alloc: Global,
+    cursor: &mut Cursor<'t>,
+    attrs: Vec<Meta>,
+    visibility: Option<Visibility>,
+) -> Result<Leaf<'t>, AllocError>
+    ensures { Gives leaf_view (spec.enumeration (map meta_view attrs.items) visibility cursor.old) result cursor.new }
+{
+    let named = item_name(alloc, cursor)?;
+    let rest = item_end(alloc, cursor)?;
+    let item = Item::Enum(Enum {
+        hash: 0,
+        number: 0,
+        attrs,
+        name: named.name,
+        visibility,
+        body: rest.body,
+    });
+    Ok(Leaf {
+        item,
+        kind: AstIdKind::Enum,
+        name: named.hashed,
+        named: named.range,
+        is_ended: rest.is_ended,
+        too_deep: None,
+    })
+}
+
+#[tactic(auto, unfolding(crate::specs::Kinds::trait_item), using(hir_input::proofs::SyntaxViews::item_views))]
+fn trait_item<'t>(
+    alloc: Global,
+    cursor: &mut Cursor<'t>,
+    attrs: Vec<Meta>,
+    visibility: Option<Visibility>,
+) -> Result<Leaf<'t>, AllocError>
+    ensures { Gives leaf_view (spec.trait_item (map meta_view attrs.items) visibility cursor.old) result cursor.new }
+{
+    let named = item_name(alloc, cursor)?;
+    let rest = item_end(alloc, cursor)?;
+    let item = Item::Trait(Trait {
+        hash: 0,
+        number: 0,
+        attrs,
+        name: named.name,
+        visibility,
+        body: rest.body,
+    });
+    Ok(Leaf {
+        item,
+        kind: AstIdKind::Trait,
+        name: named.hashed,
+        named: named.range,
+        is_ended: rest.is_ended,
+        too_deep: None,
+    })
+}
+
+#[tactic(auto, unfolding(crate::specs::Kinds::macro_def), using(hir_input::proofs::SyntaxViews::item_views))]
+fn macro_def<'t>(
+    alloc: Global,
+    cursor: &mut Cursor<'t>,
+    attrs: Vec<Meta>,
+    visibility: Option<Visibility>,
+) -> Result<Leaf<'t>, AllocError>
+    ensures { Gives leaf_view (spec.macro_def (map meta_view attrs.items) visibility cursor.old) result cursor.new }
+{
+    let named = item_name(alloc, cursor)?;
+    let rest = item_end(alloc, cursor)?;
+    let item = Item::MacroDef(MacroDef {
+        hash: 0,
+        number: 0,
+        attrs,
+        name: named.name,
+        visibility,
+        body: rest.body,
+    });
+    Ok(Leaf {
+        item,
+        kind: AstIdKind::MacroDef,
+        name: named.hashed,
+        named: named.range,
+        is_ended: rest.is_ended,
+        too_deep: None,
+    })
+}
+
+#[tactic(auto, unfolding(crate::specs::Kinds::type_alias), using(hir_input::proofs::SyntaxViews::item_views))]
+fn type_alias<'t>(
+    alloc: Global,
+    cursor: &mut Cursor<'t>,
+    attrs: Vec<Meta>,
+    visibility: Option<Visibility>,
+) -> Result<Leaf<'t>, AllocError>
+    ensures { Gives leaf_view (spec.type_alias (map meta_view attrs.items) visibility cursor.old) result cursor.new }
+{
+    let named = item_name(alloc, cursor)?;
+    let rest = value_end(alloc, cursor)?;
+    let item = Item::TypeAlias(TypeAlias {
+        hash: 0,
+        number: 0,
+        attrs,
+        name: named.name,
+        visibility,
+        body: rest.body,
+    });
+    Ok(Leaf {
+        item,
+        kind: AstIdKind::TypeAlias,
+        name: named.hashed,
+        named: named.range,
+        is_ended: rest.is_ended,
+        too_deep: None,
+    })
+}
+
+#[tactic(auto, unfolding(crate::specs::Kinds::static_value), using(hir_input::proofs::SyntaxViews::item_views))]
+fn static_value<'t>(
+    alloc: Global,
+    cursor: &mut Cursor<'t>,
+    attrs: Vec<Meta>,
+    visibility: Option<Visibility>,
+) -> Result<Leaf<'t>, AllocError>
+    ensures { Gives leaf_view (spec.static_value (map meta_view attrs.items) visibility cursor.old) result cursor.new }
+{
+    cursor.eat_word("mut");
+    let named = item_name(alloc, cursor)?;
+    let rest = value_end(alloc, cursor)?;
+    let item = Item::Static(Static {
+        hash: 0,
+        number: 0,
+        attrs,
+        name: named.name,
+        visibility,
+        body: rest.body,
+    });
+    Ok(Leaf {
+        item,
+        kind: AstIdKind::Static,
+        name: named.hashed,
+        named: named.range,
+        is_ended: rest.is_ended,
+        too_deep: None,
+    })
+}
+
+#[tactic(auto, unfolding(crate::specs::Kinds::constant), using(hir_input::proofs::SyntaxViews::item_views))]
+fn constant<'t>(
+    alloc: Global,
+    cursor: &mut Cursor<'t>,
+    attrs: Vec<Meta>,
+    visibility: Option<Visibility>,
+) -> Result<Leaf<'t>, AllocError>
+    ensures { Gives leaf_view (spec.constant (map meta_view attrs.items) visibility cursor.old) result cursor.new }
+{
+    let named = item_name(alloc, cursor)?;
+    cursor.eat_word("_");
+    let rest = value_end(alloc, cursor)?;
+    let item = Item::Const(Const {
+        hash: 0,
+        number: 0,
+        attrs,
+        name: named.name,
+        visibility,
+        body: rest.body,
+    });
+    Ok(Leaf {
+        item,
+        kind: AstIdKind::Const,
+        name: named.hashed,
+        named: named.range,
+        is_ended: rest.is_ended,
+        too_deep: None,
+    })
+}
+
+#[tactic(auto, unfolding(crate::specs::Kinds::implementation), using(hir_input::proofs::SyntaxViews::item_views))]
+fn implementation<'t>(
+    alloc: Global,
+    cursor: &mut Cursor<'t>,
+    start: usize,
+    attrs: Vec<Meta>,
+) -> Result<Leaf<'t>, AllocError>
+    ensures { Gives leaf_view (spec.implementation start (map meta_view attrs.items) cursor.old) result cursor.new }
+{
+    let is_trait_impl = has_trait(cursor);
+    let attrs = with_inner(alloc, cursor, start, attrs)?;
+    let rest = item_end(alloc, cursor)?;
+    let item = Item::Impl(Impl {
+        hash: 0,
+        number: 0,
+        attrs,
+        is_trait_impl,
+        body: rest.body,
+    });
+    Ok(Leaf {
+        item,
+        kind: AstIdKind::Impl,
+        name: "",
+        named: None,
+        is_ended: rest.is_ended,
+        too_deep: None,
+    })
+}
+
+/// Takes an item that holds no items, behind the words that begin it, or nothing where none is written.
+///
+/// # Errors
+///
+/// `AllocError` where memory is refused. The cursor may then stand anywhere.
+#[tactic(auto, unfolding(crate::specs::Kinds::leaf))]
+pub fn take_leaf<'t>(
+    alloc: Global,
+    cursor: &mut Cursor<'t>,
+    front: Front,
+) -> Result<Option<Leaf<'t>>, AllocError>
+    ensures { Gives (option_map leaf_view) (spec.leaf (front_view front) cursor.old) result cursor.new }
+{
+    let start = front.start;
+    let attrs = front.attrs;
+    let visibility = front.visibility;
+    let leaf = match front.head {
+        Head::Use => use_declaration(alloc, cursor, attrs, visibility)?,
+        Head::ExternCrate => crate_item(alloc, cursor, attrs, visibility)?,
+        Head::Fn => function(alloc, cursor, start, attrs, visibility)?,
+        Head::Impl => implementation(alloc, cursor, start, attrs)?,
+        Head::Trait => trait_item(alloc, cursor, attrs, visibility)?,
+        Head::Struct => structure(alloc, cursor, attrs, visibility)?,
+        Head::Union => union_item(alloc, cursor, attrs, visibility)?,
+        Head::Enum => enumeration(alloc, cursor, attrs, visibility)?,
+        Head::Const => constant(alloc, cursor, attrs, visibility)?,
+        Head::Static => static_value(alloc, cursor, attrs, visibility)?,
+        Head::TypeAlias => type_alias(alloc, cursor, attrs, visibility)?,
+        Head::MacroDef => macro_def(alloc, cursor, attrs, visibility)?,
+        Head::MacroRules => macro_definition(alloc, cursor, attrs)?,
+        Head::Module | Head::ExternBlock | Head::Other => return invocation(alloc, cursor, attrs),
+    };
+    Ok(Some(leaf))
+}

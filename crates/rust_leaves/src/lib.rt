@@ -1,0 +1,18 @@
+//! Reads the items of Rust source text that hold no items, what stands in front of any, and statements.
+#![tactic(auto)]
+
+mod calls;
+mod front;
+mod head;
+mod leaf;
+mod named;
+mod statements;
+mod structs;
+mod texts;
+mod uses;
+
+pub use front::{Front, front_behind, take_front};
+pub use head::{Head, pass_others};
+pub use leaf::{Leaf, take_leaf};
+pub use named::{Named, item_name, joined};
+pub use statements::{Call, is_item, pass_statement, statement_call};

@@ -1,0 +1,127 @@
+//! Structs, and what an impl is of.
+
+ghost use Rattle.std.specs.Prelude.{◌≡◌, ◌++◌, IfOk, OnOk, map, [], ◌∷◌};
+ghost use Rattle.hir_input.specs.Attr.{meta_view};
+ghost use Rattle.hir_input.specs.Syntax.{fields_view};
+ghost use Rattle.rust_cursor.specs.Reader.{Gives};
+ghost use Rattle.rust_leaves.specs.Kinds as kinds;
+ghost use Rattle.rust_leaves.specs.Leaves as spec;
+ghost use Rattle.rust_leaves.specs.Views.{field_view, leaf_view};
+
+use crate::leaf::Leaf;
+use crate::named::{item_end, item_name};
+use hir_input::ast::{Item, Struct, StructKind, TupleField, Visibility};
+use hir_input::{AstIdKind, Meta};
+use rust_cursor::Cursor;
+use rust_metas::outer_attributes;
+use rust_paths::visibility;
+use std::alloc::{AllocError, Global};
+
+/// Behind `impl`, whether the items are those of a trait.
+#[tactic(auto, unfolding(crate::specs::Leaves::has_trait))]
+pub(crate) fn has_trait(cursor: &Cursor<'_>) -> bool
+    ensures { result ≡ spec.has_trait cursor.now }
+{
+    let mut behind = cursor.ahead();
+    behind.pass_angles();
+    behind.is_trait_impl()
+}
+
+#[tactic(auto, unfolding(crate::specs::Leaves::field))]
+fn field(alloc: Global, cursor: &mut Cursor<'_>) -> Result<TupleField, AllocError>
+    ensures { Gives field_view (spec.field cursor.old) result cursor.new }
+{
+    let _attrs = outer_attributes(alloc, cursor, 0)?;
+    let visibility = visibility(alloc, cursor)?;
+    cursor.pass_field();
+    cursor.eat(b',');
+    Ok(TupleField { visibility })
+}
+
+#[tactic(auto, unfolding(crate::specs::Leaves::fields, rust_cursor::specs::Elements::turns), using(rust_cursor::proofs::Turns::turns_stop))]
+fn fields(alloc: Global, cursor: &mut Cursor<'_>) -> Result<Vec<TupleField>, AllocError>
+    ensures { Gives (λ v. map field_view v.items) (spec.fields cursor.old) result cursor.new }
+{
+    let mut fields = Vec::new(alloc);
+    let most = Cursor::most_turns();
+    for _turn in 0..most {
+        if cursor.is_at_end() {
+            break;
+        }
+        let past = cursor.past();
+        let field = field(alloc, cursor)?;
+        fields.push(field)?;
+        cursor.pass_beyond(past);
+    }
+    Ok(fields)
+}
+
+fn is_record_behind_where(cursor: &Cursor<'_>) -> bool
+    ensures { result ≡ spec.is_record_behind_where cursor.now }
+{
+    if cursor.word() != "where" {
+        return false;
+    }
+    let mut ahead = cursor.ahead();
+    ahead.pass_to_block();
+    ahead.symbol() == b'{'
+}
+
+fn fields_at(alloc: Global, cursor: &mut Cursor<'_>) -> Result<StructKind, AllocError>
+    ensures { IfOk result (λ kind. fields_view kind ≡ spec.fields_at cursor.old) }
+{
+    match cursor.symbol() {
+        b'(' => {
+            cursor.bump();
+            Ok(StructKind::Tuple(fields(alloc, cursor)?))
+        }
+        b'{' => Ok(StructKind::Record),
+        _ => {
+            if is_record_behind_where(cursor) {
+                return Ok(StructKind::Record);
+            }
+            Ok(StructKind::Unit)
+        }
+    }
+}
+
+/// How the fields of a struct are written, behind its name.
+#[tactic(auto, unfolding(crate::specs::Leaves::struct_fields))]
+fn struct_fields(alloc: Global, cursor: &Cursor<'_>) -> Result<StructKind, AllocError>
+    ensures { IfOk result (λ kind. fields_view kind ≡ spec.struct_fields cursor.now) }
+{
+    let mut ahead = cursor.ahead();
+    ahead.pass_angles();
+    fields_at(alloc, &mut ahead)
+}
+
+#[tactic(auto, unfolding(crate::specs::Kinds::structure), using(hir_input::proofs::SyntaxViews::item_views))]
+pub(crate) fn structure<'t>(
+    alloc: Global,
+    cursor: &mut Cursor<'t>,
+    attrs: Vec<Meta>,
+    visibility: Option<Visibility>,
+) -> Result<Leaf<'t>, AllocError>
+    ensures { Gives leaf_view (kinds.structure (map meta_view attrs.items) visibility cursor.old) result cursor.new }
+{
+    let named = item_name(alloc, cursor)?;
+    let kind = struct_fields(alloc, cursor)?;
+    let rest = item_end(alloc, cursor)?;
+    let item = Item::Struct(Struct {
+        hash: 0,
+        number: 0,
+        attrs,
+        name: named.name,
+        visibility,
+        kind,
+        body: rest.body,
+    });
+    Ok(Leaf {
+        item,
+        kind: AstIdKind::Struct,
+        name: named.hashed,
+        named: named.range,
+        is_ended: rest.is_ended,
+        too_deep: None,
+    })
+}
