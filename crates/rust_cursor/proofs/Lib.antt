@@ -6,3 +6,4 @@ pub mod Scans
 pub mod Reaches
 pub mod Leads
 pub mod Laid
+pub mod Rests

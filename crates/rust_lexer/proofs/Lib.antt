@@ -1,3 +1,5 @@
 pub mod Boundaries
 pub mod Laws
 pub mod Steps
+pub mod Counted
+pub mod Standing

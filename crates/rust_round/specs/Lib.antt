@@ -1,0 +1,5 @@
+pub mod Gaps
+pub mod Words
+pub mod Standing
+pub mod Trees
+pub mod Laws
