@@ -10,7 +10,7 @@ use Rattle.rust_cursor.specs.Brackets.{closing}
 use Rattle.rust_cursor.specs.Extents.{depth_behind, begins_item, goes_on, last_behind, item_rest, value_rest}
 use Rattle.rust_cursor.proofs.Steps.{closing_open, closing_close, closing_here, closing_other}
 use Rattle.rust_cursor.proofs.Rests.{taking_rest, item_rest_taking, value_rest_taking, and_next, stops_here, ends_here, rest_more, rest_end}
-use Rattle.rust_items.specs.Texts.{open_step, has_open_from}
+use Rattle.rust_leaves.specs.Texts.{open_step, has_open_from}
 use Rattle.rust_round.specs.Words.{Word}
 use Rattle.rust_round.specs.Trees.{mark, Bracket, round, square, curly, open_of, close_of, Tree, single, group, Trees, no_trees, tree_and, tree_words, trees_words, IsTree, AreTrees, first_of, GoesOn, and_word, and_words}
 use Rattle.rust_round.specs.Trees as trees
