@@ -1,9 +1,8 @@
--- For the crate's own functions: rows by the ids of items, and what the code holds as plain data.
-use Rattle.std.specs.Prelude.{ℕ, Bool, false, List, [], map, option_copied}
+-- For the crate's own functions: rows by the ids of items.
+use Rattle.std.specs.Prelude.{ℕ, Bool, false, List, [], map}
 use Rattle.item_tree.specs.Node.{Unfolding}
 use Rattle.item_tree.specs.Walk.{of_id}
 use Rattle.item_rows.specs.declared.rows.Around as code_around
-use Rattle.item_rows.specs.declared.rows.Row as code_row
 use Rattle.item_rows.specs.Rows.{Around, RowView, node_rows, is_enabled}
 
 -- the row of the item of an id, and those of all that stand in it
@@ -15,6 +14,3 @@ enabled_at u i = of_id u false is_enabled i
 
 abbrev pub around_view : code_around.Around → Around
 around_view a = record { level = a.level; scope = map (λ name. name.now) a.scope.items; is_active = a.is_active }
-
-abbrev pub row_view : code_row.Row → RowView
-row_view r = record { level = r.level; scope = map (λ name. name.now) r.scope.items; id = r.id; name = option_copied r.name; visibility = option_copied r.visibility; is_active = r.is_active }

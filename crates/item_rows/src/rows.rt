@@ -4,7 +4,8 @@ ghost use Rattle.std.specs.List.{flat_map, sum_by};
 ghost use Rattle.item_tree.specs.Shown.{IsContained};
 ghost use Rattle.item_tree.specs.Walk.{AreContained, count_at, of_id};
 ghost use Rattle.item_rows.specs.Rows as spec;
-ghost use Rattle.item_rows.specs.Inner.{around_view, enabled_at, row_view, rows_at};
+ghost use Rattle.item_rows.specs.Inner.{around_view, enabled_at, rows_at};
+ghost use Rattle.item_rows.specs.Views.{row_view};
 
 use def_collector::{name_at, visibility_at};
 use hir_input::{AstIdKind, FileAstId, Name};

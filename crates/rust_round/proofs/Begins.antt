@@ -66,18 +66,18 @@ bumped_past ts t left e = rw e refl
 shows : (w : Word) (ts : Tokens) (t : Piece) (left : List Piece) → ts.left ≡ t ∷ left → t.kind ≡ w.kind → t.text ≡ w.text → IsAt w.link ts.past t.at → 0 < length w.text → Shows w ts
 unfolding symbol word kind text is_empty is_at_open is_at_end is_at_identifier is_at_doc at
 shows w ts t left e k x l n = record {
-    kind_is = rw e (ap Some k);
-    text_is = rw e x;
-    symbol_is = rw (e, k, x) refl;
-    word_is = rw (e, k, x) refl;
-    some = rw e refl;
-    open_is = rw (e, k) refl;
-    end_is = rw (e, k) refl;
-    identifier_is = rw (e, k) refl;
-    doc_is = rw (e, k) refl;
-    at_is = rw e l;
-    past = let p = bumped_past ts t left e in let q = link_past w.link ts.past t.at l in let r : length t.text ≡ length w.text = ap length x in omega (arith, p, q, r, n);
-  }
+  kind_is = rw e (ap Some k);
+  text_is = rw e x;
+  symbol_is = rw (e, k, x) refl;
+  word_is = rw (e, k, x) refl;
+  some = rw e refl;
+  open_is = rw (e, k) refl;
+  end_is = rw (e, k) refl;
+  identifier_is = rw (e, k) refl;
+  doc_is = rw (e, k) refl;
+  at_is = rw e l;
+  past = let p = bumped_past ts t left e in let q = link_past w.link ts.past t.at l in let r : length t.text ≡ length w.text = ap length x in omega (arith, p, q, r, n);
+}
 
 -- no word is empty
 abbrev pub AreSome : List Word → Type 0
@@ -87,9 +87,10 @@ AreSome (w ∷ ws) = (0 < length w.text) × AreSome ws
 pub begins : (ws : List Word) (ts : Tokens) (left : List Piece) → ts.left ≡ left → AreTokens ts.past ws left → AreSome ws → Begins ws ts
 begins [] ts left e h n = tt
 begins (w ∷ ws) ts [] e h n = absurd h
-begins (w ∷ ws) ts (t ∷ left) e h n =
-    (shows w ts t left e h.0 h.1 h.2 n.0,
-    begins ws (bumped ts) left (bumped_left ts t left e) (subst (λ (p : ℕ). AreTokens p ws left) (sym (bumped_past ts t left e)) h.3) n.1)
+begins (w ∷ ws) ts (t ∷ left) e h n = (
+  shows w ts t left e h.0 h.1 h.2 n.0,
+  begins ws (bumped ts) left (bumped_left ts t left e) (subst (λ (p : ℕ). AreTokens p ws left) (sym (bumped_past ts t left e)) h.3) n.1,
+)
 
 empty_left : (ts : Tokens) → ts.left ≡ [] → is_empty ts ≡ true
 unfolding is_empty

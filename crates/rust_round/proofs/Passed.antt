@@ -131,16 +131,20 @@ takes_nothing is_value done last d ts = (last, refl)
 pub takes_append : (is_value : Bool) (done : List ℕ) (last d e f : ℕ) (ws vs : List Word) (ts : Tokens) → Takes is_value done last d e ws ts
     → ((last' : ℕ) → Takes is_value (and_words done ws) last' e f vs (behind ws ts)) → Takes is_value done last d f (ws ++ vs) ts
 takes_append is_value done last d e f ws vs ts first more =
-    let next = more first.0 in
-    (next.0, first.1 ∙ next.1
-    ∙ ap (λ l. taking_rest is_value l next.0 f (behind vs (behind ws ts))) (sym (and_words-append ws vs done))
-    ∙ ap (λ k. taking_rest is_value (and_words done (ws ++ vs)) next.0 f k) (sym (behind_append ws vs ts)))
+    let next = more first.0 in (
+      next.0,
+      first.1 ∙ next.1
+          ∙ ap (λ l. taking_rest is_value l next.0 f (behind vs (behind ws ts))) (sym (and_words-append ws vs done))
+          ∙ ap (λ k. taking_rest is_value (and_words done (ws ++ vs)) next.0 f k) (sym (behind_append ws vs ts)),
+    )
 
 pub takes_word : (is_value : Bool) (done : List ℕ) (last d e : ℕ) (w : Word) (ts : Tokens) → Shows w ts → stops_here d ts ≡ false → depth_behind d ts ≡ e
     → ends_here is_value e ts ≡ false → Takes is_value done last d e (w ∷ []) ts
-takes_word is_value done last d e w ts s stop depth end =
-    (last_behind last ts, rest_more is_value done last d e ts s.some stop depth end
-    ∙ ap (λ l. taking_rest is_value l (last_behind last ts) e (bumped ts)) (next_word w done ts s))
+takes_word is_value done last d e w ts s stop depth end = (
+  last_behind last ts,
+  rest_more is_value done last d e ts s.some stop depth end
+      ∙ ap (λ l. taking_rest is_value l (last_behind last ts) e (bumped ts)) (next_word w done ts s),
+)
 
 pub depth_single : (w : Word) (d : ℕ) (ts : Tokens) → Shows w ts → IsTree (single w) → depth_behind d ts ≡ d
 unfolding depth_behind

@@ -1,11 +1,11 @@
 //! Outlines as lines of text.
 ghost use Rattle.std.specs.Prelude.{◌≡◌, ◌++◌, ◌∷◌, [], IfOk, OnOk, option_copied, string_bytes, map};
 ghost use Rattle.line_index.specs.Positions.{position_of};
-ghost use Rattle.item_rows.specs.Inner.{row_view};
+ghost use Rattle.item_rows.specs.Views.{row_view};
 ghost use Rattle.item_rows.specs.Rows as rows;
 ghost use Rattle.source_listing.specs.Lines as spec;
 ghost use Rattle.source_listing.specs.Places.{AreDistinct, place_of, place_text, stands_at};
-ghost use Rattle.source_listing.specs.Inner.{choice_view, source_view};
+ghost use Rattle.source_listing.specs.Views.{choice_view, source_view};
 
 use crate::places::Places;
 use hir_input::{AstIdKind, Edition, Name};

@@ -1,7 +1,7 @@
 //! Problems as lines of text.
 ghost use Rattle.std.specs.Prelude.{◌≡◌, IfOk, OnOk, ◌++◌, string_bytes};
 ghost use Rattle.source_listing.specs.Lines as spec;
-ghost use Rattle.source_listing.specs.Inner.{source_view};
+ghost use Rattle.source_listing.specs.Views.{source_view};
 
 use crate::lines::{Source, push_place};
 use line_index::LineIndex;

@@ -52,7 +52,10 @@ fn main(rt: HostRuntime) -> io::Result<()> {
     let times = number(args.next());
     let what = what.as_ref().map_or("", |word| word.as_str());
     let tokens = repeat_lexer(if what == "reader" { 0 } else { times }, &text);
-    let (items, problems) =
-        repeat_reader(rt.alloc(), if what == "lexer" { 0 } else { times }, &text)?;
+    let (items, problems) = repeat_reader(
+        rt.alloc(),
+        if what == "lexer" { 0 } else { times },
+        &text,
+    )?;
     println!(rt; "{tokens} tokens, {items} items, {problems} problems")
 }

@@ -195,10 +195,7 @@ impl<'t> Cursor<'t> {
 fn is_lifetime(kind: Option<TokenKind>) -> bool
     ensures { result ≡ spec.is_lifetime kind }
 {
-    matches!(
-        kind,
-        Some(TokenKind::Lifetime | TokenKind::RawLifetime)
-    )
+    matches!(kind, Some(TokenKind::Lifetime | TokenKind::RawLifetime))
 }
 
 #[tactic(auto, unfolding(crate::specs::Angles::is_closed))]

@@ -1,7 +1,8 @@
 use Rattle.std.proofs.Common.{map, ap, ◌∙◌, ◌∷◌, []}
 use Rattle.std.proofs.lemmas.List.{map-append}
 use Rattle.std.proofs.lemmas.Result.{on_ok_weaker}
-use Rattle.item_rows.specs.Inner.{around_view, row_view}
+use Rattle.item_rows.specs.Inner.{around_view}
+use Rattle.item_rows.specs.Views.{row_view}
 use Rattle.item_rows.proofs.Ids.{row_adds}
 use Rattle.item_rows.proofs.rows.+push.Goals as goal
 

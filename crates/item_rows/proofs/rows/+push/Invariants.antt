@@ -1,7 +1,8 @@
 use Rattle.std.proofs.Common.{◌≡◌, ◌+◌, ◌*◌, ◌++◌, map, take}
 use Rattle.std.specs.List.{sum_by, flat_map}
 use Rattle.item_tree.specs.Walk.{count_at}
-use Rattle.item_rows.specs.Inner.{around_view, row_view, rows_at}
+use Rattle.item_rows.specs.Inner.{around_view, rows_at}
+use Rattle.item_rows.specs.Views.{row_view}
 use Rattle.item_rows.proofs.rows.+push.Given as goal
 
 abbrev pub decreases-push_all : goal.decreases-push_all

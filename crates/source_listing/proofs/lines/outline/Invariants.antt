@@ -1,7 +1,7 @@
 use Rattle.std.proofs.Common.{◌≡◌, map, take, string_bytes}
-use Rattle.item_rows.specs.Inner.{row_view}
+use Rattle.item_rows.specs.Views.{row_view}
 use Rattle.source_listing.specs.Lines as spec
-use Rattle.source_listing.specs.Inner.{choice_view, source_view}
+use Rattle.source_listing.specs.Views.{choice_view, source_view}
 use Rattle.source_listing.proofs.lines.outline.Given as goal
 
 abbrev pub invariant-loop-row : goal.invariant-loop-row

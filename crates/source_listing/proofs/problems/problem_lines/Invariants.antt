@@ -1,7 +1,7 @@
 use Rattle.std.proofs.Common.{◌≡◌, ◌++◌, take, string_bytes}
 use Rattle.std.specs.List.{flat_map}
 use Rattle.source_listing.specs.Lines as spec
-use Rattle.source_listing.specs.Inner.{source_view}
+use Rattle.source_listing.specs.Views.{source_view}
 use Rattle.source_listing.proofs.problems.problem_lines.Given as goal
 
 abbrev pub invariant-loop-problem : goal.invariant-loop-problem
