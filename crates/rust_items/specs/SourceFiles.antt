@@ -27,7 +27,7 @@ behind_attributes text = (inner_attributes 0 (tokens_of text)).1
 abbrev pub read_of : List ℕ → List ItemView × (Found × Tokens)
 read_of text = items true 128 nothing_found (behind_attributes text)
 
--- What is found in a text. A literal or a comment that is not ended is the last token of a text.
+-- What is found in a text. That a token is not ended is told of the last one alone; an open `'` ends with its line and is not told.
 unfoldable pub found_in : List ℕ → Found
 found_in text = and_problem_at problem.Unterminated (read_of text).1.1.unended (read_of text).1.0
 
