@@ -57,7 +57,10 @@ fn significant<'t>(lexer: &mut Lexer<'t>, last: &mut Option<usize>) -> Option<To
     ensures last { last_unended last.new lexer.new ≡ last_unended last.old lexer.old }
 {
     'tokens: while let Some(token) = lexer.next() {
-        *last = place_if_open(&token);
+        // Of the tokens that are behind one another, only the last one tells.
+        if lexer.is_empty() {
+            *last = place_if_open(&token);
+        }
         if token.is_significant() {
             return Some(token);
         }
@@ -220,7 +223,9 @@ impl<'t> Cursor<'t> {
         let mut last = self.last;
         let mut lexer = self.lexer.copy();
         'tokens: while let Some(token) = lexer.next() {
-            last = place_if_open(&token);
+            if lexer.is_empty() {
+                last = place_if_open(&token);
+            }
         }
         last
     }

@@ -95,3 +95,8 @@ text_of ts = flat_map (λ t. t.text) ts
 abbrev pub AreInPlace : ℕ → List Piece → Type 0
 AreInPlace at [] = Unit {0}
 AreInPlace at (t ∷ ts) = (t.at ≡ at) × AreInPlace (at + length t.text) ts
+
+-- no token is left
+abbrev pub is_nil : List Piece → Bool
+is_nil [] = true
+is_nil (t ∷ ts) = false

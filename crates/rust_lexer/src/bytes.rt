@@ -2,6 +2,7 @@
 
 ghost use Rattle.std.specs.Prelude.{◌≡◌, ◌≢◌, ◌<◌, ◌≤◌, length, slice_index};
 ghost use Rattle.rust_lexer.specs.Bytes as spec;
+ghost use Rattle.rust_lexer.specs.Inner as inner;
 
 use unicode_ident::{is_xid_continue, is_xid_start};
 
@@ -26,6 +27,77 @@ pub(crate) enum Class {
     Continuation,
 }
 
+const WORD: u8 = 1;
+
+const WHITE: u8 = 2;
+
+const LETTER: u8 = 4;
+
+const OPEN: u8 = 8;
+
+const CLOSE: u8 = 16;
+
+const PUNCT: u8 = 32;
+
+// For each byte `@`, with the flags above.
+static CLASSES: [u8; 256] = *b"\
+    @@@@@@@@@BBBBB@@@@@@@@@@@@@@@@@@\
+    B`@````@HP`````@AAAAAAAAAA``````\
+    `EEEEEEEEEEEEEEEEEEEEEEEEEEH@P`E\
+    @EAAEEEEEEEEEEEEEEAEEEEEEEEH`P`@\
+    AAAAAAAAAAAAAAAAAAAAAAAAAAAAAAAA\
+    AAAAAAAAAAAAAAAAAAAAAAAAAAAAAAAA\
+    @@@@@@@@@@@@@@@@@@@@@@@@@@@@@@@@\
+    @@@@@@@@@@@@@@@@@@@@@@@@@@@@@@@@";
+
+/// Whether a byte goes on with an identifier, whatever stands behind it.
+#[inline(always)]
+fn is_word_byte(b: u8) -> bool
+    ensures { result ≡ inner.is_word_byte b }
+{
+    CLASSES[b as usize] & WORD != 0
+}
+
+/// Whether a byte is white space of ASCII.
+#[inline(always)]
+pub(crate) fn is_blank(b: u8) -> bool
+    ensures { result ≡ inner.is_blank b }
+{
+    CLASSES[b as usize] & WHITE != 0
+}
+
+/// Whether a byte is a letter of ASCII or `_`, but none that may begin a literal.
+#[inline(always)]
+pub(crate) fn is_letter(b: u8) -> bool
+    ensures { result ≡ inner.is_letter b }
+{
+    CLASSES[b as usize] & LETTER != 0
+}
+
+/// Whether a byte is a bracket, or a mark that begins no comment.
+#[inline(always)]
+pub(crate) fn is_mark(b: u8) -> bool
+    ensures { result ≡ inner.is_mark b }
+{
+    CLASSES[b as usize] & (OPEN | CLOSE | PUNCT) != 0
+}
+
+/// Whether a byte is a bracket that opens.
+#[inline(always)]
+pub(crate) fn is_open(b: u8) -> bool
+    ensures { result ≡ inner.is_open b }
+{
+    CLASSES[b as usize] & OPEN != 0
+}
+
+/// Whether a byte is a bracket that closes.
+#[inline(always)]
+pub(crate) fn is_close(b: u8) -> bool
+    ensures { result ≡ inner.is_close b }
+{
+    CLASSES[b as usize] & CLOSE != 0
+}
+
 /// Whether a byte before these is white space past ASCII.
 fn is_wide_white(b: u8, behind: &[u8]) -> bool
     ensures { result ≡ spec.is_wide_white b behind.now }
@@ -41,7 +113,7 @@ fn is_wide_white(b: u8, behind: &[u8]) -> bool
 pub(crate) fn is_white(b: u8, behind: &[u8]) -> bool
     ensures { result ≡ spec.is_white b behind.now }
 {
-    b == b' ' || (9 <= b && b <= 13) || is_wide_white(b, behind)
+    is_blank(b) || is_wide_white(b, behind)
 }
 
 /// Whether a byte continues a character.
@@ -75,6 +147,15 @@ fn code(b: u8, behind: &[u8]) -> u32
     first % 8 * 262144 + second * 4096 + third * 64 + low(byte(behind, 2))
 }
 
+/// The character past ASCII that begins with this byte, before these.
+#[cold]
+#[inline(never)]
+fn wide_char(b: u8, behind: &[u8]) -> Option<char>
+    ensures { result ≡ inner.wide_char b behind.now }
+{
+    char::from_u32(code(b, behind))
+}
+
 /// Whether an identifier may begin with a character past ASCII.
 #[tactic(auto, unfolding(crate::specs::Bytes::is_wide_start))]
 fn is_wide_start(b: u8, behind: &[u8]) -> bool
@@ -83,7 +164,7 @@ fn is_wide_start(b: u8, behind: &[u8]) -> bool
     if b < 192 {
         return false;
     }
-    match char::from_u32(code(b, behind)) {
+    match wide_char(b, behind) {
         Some(c) => is_xid_start(c),
         None => false,
     }
@@ -97,7 +178,7 @@ fn is_wide_continue(b: u8, behind: &[u8]) -> bool
     if b < 192 {
         return false;
     }
-    match char::from_u32(code(b, behind)) {
+    match wide_char(b, behind) {
         Some(c) => is_xid_continue(c),
         None => false,
     }
@@ -116,12 +197,7 @@ pub(crate) fn is_in(class: Class, b: u8, behind: &[u8]) -> bool
 {
     match class {
         Class::White => is_white(b, behind) || is_continuation(b),
-        Class::Word => {
-            b.is_ascii_alphanumeric()
-                || b == b'_'
-                || is_continuation(b)
-                || is_wide_continue(b, behind)
-        }
+        Class::Word => is_word_byte(b) || is_wide_continue(b, behind),
         Class::Line => b != b'\n',
         Class::Hash => b == b'#',
         Class::Low => b == b'_',
@@ -140,6 +216,7 @@ pub(crate) fn byte(z: &[u8], at: usize) -> u8
 }
 
 /// How many bytes at the front are of the class.
+#[inline(always)]
 pub(crate) fn run(class: Class, mut z: &[u8]) -> usize
     ensures value { result ≡ spec.run class z.entry.now }
     ensures within { result ≤ length z.entry.now }

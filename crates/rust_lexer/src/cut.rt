@@ -3,7 +3,10 @@
 ghost use Rattle.std.specs.Prelude.{◌≡◌, ◌≤◌, length, IfSome, IsTrue};
 ghost use Rattle.rust_lexer.specs.Cut as spec;
 
-use crate::bytes::{Class, byte, is_start, is_white, is_word, is_word_start, run};
+use crate::bytes::{
+    Class, byte, is_blank, is_close, is_letter, is_mark, is_open, is_start, is_white, is_word,
+    is_word_start, run,
+};
 use crate::comment::{block, block_style, line_style};
 use crate::kind::{LiteralKind, TokenKind};
 use crate::number::number;
@@ -206,20 +209,25 @@ fn apostrophe(z: &[u8]) -> Cut
 }
 
 /// The kind of a token of one byte.
+#[inline]
 fn symbol_kind(first: u8) -> TokenKind
     ensures { result ≡ spec.symbol_kind first }
 {
-    match first {
-        b'(' | b'[' | b'{' => TokenKind::OpenDelim,
-        b')' | b']' | b'}' => TokenKind::CloseDelim,
-        b'!' | b'#'..=b'&' | b'*'..=b'/' | b':'..=b'@' | b'^' | b'|' | b'~' => TokenKind::Punct,
-        _ => TokenKind::Unknown,
+    if is_open(first) {
+        TokenKind::OpenDelim
+    } else if is_close(first) {
+        TokenKind::CloseDelim
+    } else if is_mark(first) || first == b'/' {
+        TokenKind::Punct
+    } else {
+        TokenKind::Unknown
     }
 }
 
 /// Cuts off the token that begins with this byte, before these.
+#[inline(never)]
 #[tactic(auto, unfolding(crate::specs::Cut::first_cut))]
-pub(crate) fn first_cut(first: u8, z: &[u8]) -> Cut
+fn any_cut(first: u8, z: &[u8]) -> Cut
     ensures value { result ≡ spec.first_cut first z.now }
     ensures within { result.len ≤ length z.now }
 {
@@ -245,4 +253,29 @@ pub(crate) fn first_cut(first: u8, z: &[u8]) -> Cut
             len: 0,
         }
     }
+}
+
+/// The same, with the most frequent tokens first.
+#[inline(always)]
+#[tactic(auto, using(crate::proofs::Frequent::mark_first, crate::proofs::Frequent::blank_first, crate::proofs::Frequent::letter_first))]
+pub(crate) fn first_cut(first: u8, z: &[u8]) -> Cut
+    ensures value { result ≡ spec.first_cut first z.now }
+    ensures within { result.len ≤ length z.now }
+{
+    if is_mark(first) {
+        return Cut {
+            kind: symbol_kind(first),
+            len: 0,
+        };
+    }
+    if is_blank(first) {
+        return Cut {
+            kind: TokenKind::Whitespace,
+            len: run(Class::White, z),
+        };
+    }
+    if is_letter(first) {
+        return plain(z);
+    }
+    any_cut(first, z)
 }

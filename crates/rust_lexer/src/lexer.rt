@@ -90,6 +90,13 @@ impl<'a> Lexer<'a> {
             front: self.front,
         }
     }
+
+    /// Whether no token is left.
+    pub fn is_empty(&self) -> bool
+        ensures { result ≡ spec.is_nil self.now }
+    {
+        self.rest.is_empty()
+    }
 }
 
 impl<'a> Iterator for Lexer<'a> {
@@ -101,6 +108,7 @@ impl<'a> Iterator for Lexer<'a> {
 
     ghost remaining = { item_count (λ s. s) };
 
+    #[inline(always)]
     fn next(&mut self) -> Option<Token<'a>> {
         if let Front::Token = self.front {
             return take(&mut self.at, &mut self.rest);
@@ -112,6 +120,7 @@ impl<'a> Iterator for Lexer<'a> {
 }
 
 /// Splits off the token that is cut so, with the bytes that continue its last character.
+#[inline(always)]
 fn split(cut: Cut, at: usize, text: &str) -> (Token<'_>, &str)
     requires within { cut.len < length text.now }
     requires fits { at + length text.now < 2 ^ 64 }
@@ -125,6 +134,7 @@ fn split(cut: Cut, at: usize, text: &str) -> (Token<'_>, &str)
 }
 
 /// The first token of a text that begins at this place, and the text behind it.
+#[inline(always)]
 fn first(at: usize, text: &str) -> Option<(Token<'_>, &str)>
     requires { at + length text.now < 2 ^ 64 }
     ensures value { MatchOption result (spec.tokens_from 0 at text.now ≡ [])
@@ -139,6 +149,7 @@ fn first(at: usize, text: &str) -> Option<(Token<'_>, &str)>
 }
 
 /// Takes the first token of a text that begins at this place.
+#[inline(always)]
 fn take<'a>(at: &mut usize, text: &mut &'a str) -> Option<Token<'a>>
     requires utf8 { IsUtf8 text.old.now }
     requires fits { at.old + length text.old.now < 2 ^ 64 }
@@ -280,6 +291,8 @@ fn step_mark(at: usize, text: &str) -> Option<(Token<'_>, Lexer<'_>)>
 }
 
 /// The first token of a text that begins at this place, and those behind it.
+#[cold]
+#[inline(never)]
 fn step(front: Front, at: usize, text: &str) -> Option<(Token<'_>, Lexer<'_>)>
     requires { at + length text.now < 2 ^ 64 }
     ensures { MatchOption result (spec.pieces front at text.now ≡ []) (λ p. spec.pieces front at text.now ≡ p.0 ∷ p.1) }

@@ -1,0 +1,39 @@
+-- The most frequent tokens, by their first byte alone.
+use Rattle.std.proofs.Common.{◌≡◌, ℕ, ◌==◌, ◌||◌, true, false, List, refl, arith}
+use Rattle.std.specs.Prelude.{nat_le}
+use Rattle.std.specs.Char.{is_ascii_alphabetic, is_ascii_digit}
+use Rattle.std.proofs.lemmas.Bool.Decides.{nat_tests}
+use Rattle.rust_lexer.specs.declared.bytes.Class.TheVariants as class
+use Rattle.rust_lexer.specs.declared.kind.TokenKind.TheVariants as kind
+use Rattle.rust_lexer.specs.Bytes.{is_white, is_wide_start, run}
+use Rattle.rust_lexer.specs.Cut.{cut, first_cut, plain, symbol_kind}
+use Rattle.rust_lexer.specs.Inner.{is_blank, is_letter, is_mark}
+
+pub mark_first : (b : ℕ) (z : List ℕ) → is_mark b ≡ true → first_cut b z ≡ cut (symbol_kind b) 0
+unfolding first_cut is_wide_start
+mark_first b z e =
+    let white : is_white b z ≡ false = grind (arith, nat_tests) in
+    let digit : is_ascii_digit b ≡ false = grind (arith, nat_tests) in
+    let letter : (is_ascii_alphabetic b || b == 95) ≡ false = grind (arith, nat_tests) in
+    let low : nat_le 192 b ≡ false = grind (arith, nat_tests) in
+    let slash : (b == 47) ≡ false = grind (arith, nat_tests) in
+    let quote : (b == 34) ≡ false = grind (arith, nat_tests) in
+    let apostrophe : (b == 39) ≡ false = grind (arith, nat_tests) in
+    rw (white, digit, letter, low, slash, quote, apostrophe) refl
+
+pub blank_first : (b : ℕ) (z : List ℕ) → is_blank b ≡ true → first_cut b z ≡ cut kind.Whitespace (run class.White z)
+unfolding first_cut
+blank_first b z e =
+    let white : is_white b z ≡ true = grind (arith, nat_tests) in
+    rw white refl
+
+pub letter_first : (b : ℕ) (z : List ℕ) → is_letter b ≡ true → first_cut b z ≡ plain z
+unfolding first_cut
+letter_first b z e =
+    let white : is_white b z ≡ false = grind (arith, nat_tests) in
+    let digit : is_ascii_digit b ≡ false = grind (arith, nat_tests) in
+    let letter : (is_ascii_alphabetic b || b == 95) ≡ true = grind (arith, nat_tests) in
+    let r : (b == 114) ≡ false = grind (arith, nat_tests) in
+    let byte : (b == 98) ≡ false = grind (arith, nat_tests) in
+    let c : (b == 99) ≡ false = grind (arith, nat_tests) in
+    rw (white, digit, letter, r, byte, c) refl

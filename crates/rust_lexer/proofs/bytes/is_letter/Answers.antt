@@ -1,0 +1,9 @@
+use Rattle.std.proofs.Common.{refl, arith}
+use Rattle.rust_lexer.specs.declared.bytes.TheConstants.{CLASSES}
+use Rattle.rust_lexer.specs.Inner.{is_letter}
+use Rattle.rust_lexer.proofs.Table.{agree_below, from_table}
+use Rattle.rust_lexer.proofs.bytes.is_letter.Goals as goal
+
+pub returns : goal.returns
+unfolding agree_below
+returns c = from_table CLASSES 4 is_letter c.args.b (omega arith) refl

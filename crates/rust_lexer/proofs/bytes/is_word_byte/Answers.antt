@@ -1,0 +1,9 @@
+use Rattle.std.proofs.Common.{refl, arith}
+use Rattle.rust_lexer.specs.declared.bytes.TheConstants.{CLASSES}
+use Rattle.rust_lexer.specs.Inner.{is_word_byte}
+use Rattle.rust_lexer.proofs.Table.{agree_below, from_table}
+use Rattle.rust_lexer.proofs.bytes.is_word_byte.Goals as goal
+
+pub returns : goal.returns
+unfolding agree_below
+returns c = from_table CLASSES 1 is_word_byte c.args.b (omega arith) refl
