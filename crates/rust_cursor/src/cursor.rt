@@ -50,10 +50,14 @@ fn place_if_open(token: &Token<'_>) -> Option<usize>
     }
 }
 
-/// The next token that is neither white space nor a plain comment. The place of the last token that was passed is put down, if
-/// that is not ended.
-fn significant<'t>(lexer: &mut Lexer<'t>, last: &mut Option<usize>) -> Option<Token<'t>>
-    ensures found { filter is_significant lexer.old ≡ left_of result lexer.new }
+/// Puts down the next token that is neither white space nor a plain comment, in its place. The place of the last token that was
+/// passed is put down too, if that is not ended.
+fn find_significant<'t>(
+    lexer: &mut Lexer<'t>,
+    last: &mut Option<usize>,
+    next: &mut Option<Token<'t>>,
+)
+    ensures found { filter is_significant lexer.old ≡ left_of next.new lexer.new }
     ensures last { last_unended last.new lexer.new ≡ last_unended last.old lexer.old }
 {
     'tokens: while let Some(token) = lexer.next() {
@@ -62,10 +66,11 @@ fn significant<'t>(lexer: &mut Lexer<'t>, last: &mut Option<usize>) -> Option<To
             *last = place_if_open(&token);
         }
         if token.is_significant() {
-            return Some(token);
+            *next = Some(token);
+            return;
         }
     }
-    None
+    *next = None;
 }
 
 impl<'t> Cursor<'t> {
@@ -76,7 +81,8 @@ impl<'t> Cursor<'t> {
     {
         let mut lexer = Lexer::new(text);
         let mut last = None;
-        let next = significant(&mut lexer, &mut last);
+        let mut next = None;
+        find_significant(&mut lexer, &mut last, &mut next);
         Cursor {
             past: 0,
             next,
@@ -237,7 +243,7 @@ impl<'t> Cursor<'t> {
     {
         if let Some(token) = &self.next {
             self.past = token.end();
-            self.next = significant(&mut self.lexer, &mut self.last);
+            find_significant(&mut self.lexer, &mut self.last, &mut self.next);
         }
     }
 }
