@@ -1,11 +1,10 @@
 -- Items are taken to their ends.
-use Rattle.std.proofs.Common.{◌≡◌, ℕ, zero, suc, ◌==◌, ◌||◌, ◌&&◌, Bool, true, false, List, [], ◌∷◌, ◌++◌, refl, ap, ◌∙◌, sym}
+use Rattle.std.proofs.Common.{◌≡◌, ℕ, Bool, true, false, List, [], ◌∷◌, ◌++◌, refl, ap, ◌∙◌, sym}
 use Rattle.rust_cursor.specs.Tokens.{Tokens}
-use Rattle.rust_cursor.specs.Words.{symbol, word, is_at_end, bumped}
+use Rattle.rust_cursor.specs.Words.{is_at_end, bumped}
 use Rattle.rust_cursor.specs.Extents.{begins_item, goes_on, item_rest, value_rest}
-use Rattle.rust_cursor.proofs.Rests.{taking_rest, item_rest_taking, value_rest_taking, and_next, stops_here, ends_here, rest_end}
-use Rattle.rust_round.specs.Words.{Word}
-use Rattle.rust_round.specs.Trees.{mark, curly, open_of, close_of, Trees, group, tree_words, trees_words, AreTrees, GoesOn, and_word, and_words, spaced}
+use Rattle.rust_cursor.proofs.Rests.{taking_rest, item_rest_taking, value_rest_taking, stops_here, ends_here, rest_end}
+use Rattle.rust_round.specs.Trees.{mark, curly, open_of, close_of, Trees, group, tree_words, trees_words, AreTrees, GoesOn, and_words, spaced}
 use Rattle.rust_round.proofs.Begins.{Shows, Begins, behind, behind_append, begins_left, begins_right}
 use Rattle.rust_round.proofs.Passed.{and_words-append, Takes, takes_append, takes_word, takes_trees_in, takes_header, depth_single, depth_open, depth_close, goes_inside, stops_bracket, no_end_inside, next_word}
 

@@ -1,16 +1,13 @@
 -- What passes over trees.
-use Rattle.std.proofs.Common.{◌≡◌, ◌<◌, ◌≤◌, ℕ, zero, suc, ◌+◌, ◌-◌, ◌==◌, ◌||◌, ◌&&◌, Bool, true, false, List, [], ◌∷◌, ◌++◌, length, refl, ap, ◌∙◌, sym, subst, arith, append_assoc}
-use Rattle.std.specs.Prelude.{if◌then◌else◌, not}
+use Rattle.std.proofs.Common.{◌≡◌, ℕ, zero, suc, ◌+◌, ◌==◌, Bool, true, false, List, [], ◌∷◌, ◌++◌, refl, ap, ◌∙◌, sym, subst, arith, append_assoc}
 use Rattle.std.proofs.lemmas.Bool.Decides.{nat_tests}
-use Rattle.rust_lexer.specs.declared.kind.TokenKind.{TokenKind}
-use Rattle.rust_lexer.proofs.Counted.{when}
 use Rattle.rust_cursor.specs.Tokens.{Tokens}
-use Rattle.rust_cursor.specs.Words.{opens, closes, documents, symbol, word, is_empty, is_at_open, is_at_end, is_at_identifier, bumped}
+use Rattle.rust_cursor.specs.Words.{opens, closes, symbol, is_empty, is_at_open, is_at_end, bumped}
 use Rattle.rust_cursor.specs.Brackets.{closing}
-use Rattle.rust_cursor.specs.Extents.{depth_behind, begins_item, goes_on, last_behind, item_rest, value_rest}
+use Rattle.rust_cursor.specs.Extents.{depth_behind, begins_item, last_behind}
 use Rattle.rust_cursor.proofs.Steps.{closing_open, closing_close, closing_here, closing_other}
-use Rattle.rust_cursor.proofs.Rests.{taking_rest, item_rest_taking, value_rest_taking, and_next, stops_here, ends_here, rest_more, rest_end}
-use Rattle.rust_leaves.specs.Texts.{open_step, has_open_from}
+use Rattle.rust_cursor.proofs.Rests.{taking_rest, and_next, stops_here, ends_here, rest_more}
+use Rattle.rust_leaves.specs.Texts.{has_open_from}
 use Rattle.rust_round.specs.Words.{Word}
 use Rattle.rust_round.specs.Trees.{mark, Bracket, round, square, curly, open_of, close_of, Tree, single, group, Trees, no_trees, tree_and, tree_words, trees_words, IsTree, AreTrees, first_of, GoesOn, and_word, and_words}
 use Rattle.rust_round.specs.Trees as trees

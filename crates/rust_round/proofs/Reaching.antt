@@ -1,10 +1,10 @@
 -- What stands before a block is passed over.
-use Rattle.std.proofs.Common.{◌≡◌, ◌<◌, ◌≤◌, ℕ, zero, suc, ◌+◌, ◌-◌, ◌==◌, ◌||◌, ◌&&◌, Bool, true, false, List, [], ◌∷◌, ◌++◌, refl, ap, ◌∙◌, sym, subst, arith, append_assoc}
+use Rattle.std.proofs.Common.{◌≡◌, ℕ, suc, ◌+◌, ◌-◌, ◌==◌, ◌||◌, ◌&&◌, Bool, true, false, List, [], ◌∷◌, ◌++◌, refl, ap, ◌∙◌, sym, subst, arith, append_assoc}
 use Rattle.std.specs.Prelude.{if◌then◌else◌}
 use Rattle.std.proofs.lemmas.Bool.Decides.{nat_tests}
 use Rattle.rust_cursor.specs.Tokens.{Tokens}
-use Rattle.rust_cursor.specs.Words.{symbol, at, is_at_end, is_glued, bumped}
-use Rattle.rust_cursor.specs.Extents.{depth_behind, begins_item}
+use Rattle.rust_cursor.specs.Words.{symbol, at, is_glued, bumped}
+use Rattle.rust_cursor.specs.Extents.{depth_behind}
 use Rattle.rust_cursor.specs.Angles.{to_block}
 use Rattle.rust_cursor.proofs.Blocks.{reaching_block, to_block_reaching, is_dash_here, angles_here, block_inside, block_flat, block_here}
 use Rattle.rust_round.specs.Words.{Link, joined, apart, free, Word, IsAt}

@@ -5,7 +5,7 @@ use Rattle.rust_lexer.specs.declared.kind.TokenKind.TheVariants as kind
 use Rattle.rust_lexer.specs.Symbol.{symbol_from}
 use Rattle.rust_cursor.specs.Words.{opens, closes, documents, identifies, word_by}
 use Rattle.rust_cursor.specs.Extents.{is_item_word}
-use Rattle.rust_round.specs.Words.{Link, joined, apart, free, Word}
+use Rattle.rust_round.specs.Words.{Link, joined, free, Word}
 
 -- ---- words
 

@@ -1,13 +1,12 @@
 -- What stands in front of an item, and its name.
-use Rattle.std.proofs.Common.{◌≡◌, ℕ, ◌==◌, ◌||◌, ◌&&◌, Bool, true, false, Option, Some, None, List, [], ◌∷◌, ◌++◌, codes, refl, ap, ◌∙◌, sym}
+use Rattle.std.proofs.Common.{◌≡◌, ℕ, ◌==◌, true, false, Some, None, List, [], ◌∷◌, ◌++◌, codes, refl, ap, ◌∙◌}
 use Rattle.std.specs.Str.{bytes_eq}
-use Rattle.hir_input.specs.Attr.{MetaView}
 use Rattle.rust_lexer.specs.declared.kind.DocStyle.{DocStyle}
 use Rattle.rust_lexer.specs.declared.kind.TokenKind.{TokenKind}
 use Rattle.rust_lexer.specs.declared.kind.TokenKind.TheVariants as kinds
 use Rattle.rust_lexer.specs.declared.kind.DocStyle.TheVariants.{Outer, Inner}
 use Rattle.rust_cursor.specs.Tokens.{Tokens}
-use Rattle.rust_cursor.specs.Words.{symbol, word, kind, text, at, is_at_identifier, bumped, documents}
+use Rattle.rust_cursor.specs.Words.{at, bumped, documents}
 use Rattle.rust_cursor.specs.Elements.{turns, one, most}
 use Rattle.rust_cursor.proofs.Turns.{turns_stop}
 use Rattle.rust_paths.specs.Names.{placed_name, name, next_name}
@@ -16,14 +15,14 @@ use Rattle.rust_metas.specs.Literals.{style_by}
 use Rattle.rust_metas.specs.Attributes.{is_style, is_doc, is_attribute, is_behind, attribute, attributes, outer_attributes, inner_attributes}
 use Rattle.rust_leaves.specs.declared.head.Head.{Head}
 use Rattle.rust_leaves.specs.declared.head.Head.TheVariants as heads
-use Rattle.rust_leaves.specs.Heads.{is_modifier, is_modifier_before, behind_modifiers, head, head_by, union_head, follows_const}
+use Rattle.rust_leaves.specs.Heads.{is_modifier, is_modifier_before, behind_modifiers, head, head_by, union_head}
 use Rattle.rust_leaves.specs.Fronts.{FrontRead, front, front_behind}
 use Rattle.rust_leaves.specs.Leaves.{NameRead, named}
 use Rattle.rust_leaves.proofs.Steps.{modifiers_stop}
 use Rattle.rust_round.specs.Words.{Word}
 use Rattle.rust_round.specs.Trees as trees
-use Rattle.rust_round.proofs.Begins.{Shows, Begins, behind, begins_right}
-use Rattle.rust_written.specs.Written.{Scope, unwritten, everywhere, in_crate, in_super, in_self, scope_words, scope_view, BlockKind, functions, unions, enums, traits, block_word, ValueKind, statics, aliases, constants, value_word, IsNamed, IsValueName}
+use Rattle.rust_round.proofs.Begins.{Shows, Begins, behind}
+use Rattle.rust_written.specs.Written.{Scope, unwritten, everywhere, in_crate, in_super, in_self, scope_words, scope_view, BlockKind, functions, unions, enums, traits, block_word, ValueKind, statics, aliases, constants, value_word, IsNamed, IsValue}
 
 -- ---- no attributes
 
@@ -95,29 +94,29 @@ block_head traits = heads.Trait
 
 pub block_heads : (k : BlockKind) (n : List ℕ) (ts : Tokens) → Shows (trees.word (block_word k)) ts → Shows (trees.word n) (bumped ts) → Heads (block_head k) ts
 unfolding is_modifier is_modifier_before head head_by union_head
-block_heads functions n ts s m = record { modifier = rw s.word_is refl; head = rw s.word_is refl; }
-block_heads unions n ts s m = record { modifier = rw s.word_is refl; head = rw (s.word_is, m.identifier_is) refl; }
-block_heads enums n ts s m = record { modifier = rw s.word_is refl; head = rw s.word_is refl; }
-block_heads traits n ts s m = record { modifier = rw s.word_is refl; head = rw s.word_is refl; }
+block_heads functions n ts s m = record { modifier = rw s.word_is refl; head = rw s.word_is refl }
+block_heads unions n ts s m = record { modifier = rw s.word_is refl; head = rw (s.word_is, m.identifier_is) refl }
+block_heads enums n ts s m = record { modifier = rw s.word_is refl; head = rw s.word_is refl }
+block_heads traits n ts s m = record { modifier = rw s.word_is refl; head = rw s.word_is refl }
 
 abbrev pub value_head : ValueKind → Head
 value_head statics = heads.Static
 value_head aliases = heads.TypeAlias
 value_head constants = heads.Const
 
-pub value_heads : (k : ValueKind) (n : List ℕ) (ts : Tokens) → IsValueName k n → Shows (trees.word (value_word k)) ts → Shows (trees.word n) (bumped ts) → Heads (value_head k) ts
+pub value_heads : (k : ValueKind) (n : List ℕ) (t : trees.Trees) (ts : Tokens) → IsValue k n t → Shows (trees.word (value_word k)) ts → Shows (trees.word n) (bumped ts) → Heads (value_head k) ts
 unfolding is_modifier is_modifier_before head head_by
-value_heads statics n ts h s m = record { modifier = rw s.word_is refl; head = rw s.word_is refl; }
-value_heads aliases n ts h s m = record { modifier = rw s.word_is refl; head = rw s.word_is refl; }
-value_heads constants n ts h s m = record { modifier = rw (s.word_is, m.word_is, h) refl; head = rw s.word_is refl; }
+value_heads statics n t ts h s m = record { modifier = rw s.word_is refl; head = rw s.word_is refl }
+value_heads aliases n t ts h s m = record { modifier = rw s.word_is refl; head = rw s.word_is refl }
+value_heads constants n t ts h s m = record { modifier = rw (s.word_is, m.word_is, h.0) refl; head = rw s.word_is refl }
 
 pub struct_heads : (ts : Tokens) → Shows (trees.word (codes "struct")) ts → Heads heads.Struct ts
 unfolding is_modifier is_modifier_before head head_by
-struct_heads ts s = record { modifier = rw s.word_is refl; head = rw s.word_is refl; }
+struct_heads ts s = record { modifier = rw s.word_is refl; head = rw s.word_is refl }
 
 pub module_heads : (ts : Tokens) → Shows (trees.word (codes "mod")) ts → Heads heads.Module ts
 unfolding is_modifier is_modifier_before head head_by
-module_heads ts s = record { modifier = rw s.word_is refl; head = rw s.word_is refl; }
+module_heads ts s = record { modifier = rw s.word_is refl; head = rw s.word_is refl }
 
 -- ---- all that stands in front
 

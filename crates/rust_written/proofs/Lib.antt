@@ -1,3 +1,5 @@
 pub mod Fronts
-
-
+pub mod Leaves
+pub mod Items
+pub mod Texts
+pub mod Outlines

@@ -6,7 +6,7 @@ use Rattle.rust_ids.specs.Ids.{AreIds}
 use Rattle.rust_cursor.specs.Elements.{most}
 use Rattle.rust_items.specs.declared.source_file.SourceFile.{SourceFile}
 use Rattle.rust_items.specs.Ids.{with_ids}
-use Rattle.rust_items.specs.SourceFiles.{items_in, found_in, IsSourceFile}
+use Rattle.rust_items.specs.SourceFiles.{IsSourceFile}
 use Rattle.rust_round.specs.Words.{Spells}
 use Rattle.rust_round.specs.Laws.{IsPlain}
 use Rattle.rust_written.specs.Written.{Items, words, views, rows, AreItems, outline}

@@ -1,10 +1,11 @@
 -- Items, the words that write them, and what they are read as.
-use Rattle.std.specs.Prelude.{◌≡◌, ℕ, zero, suc, ◌+◌, ◌==◌, ◌||◌, Bool, true, false, Option, Some, None, List, [], ◌∷◌, ◌++◌, codes}
+use Rattle.std.specs.Prelude.{◌≡◌, ℕ, zero, suc, ◌==◌, ◌||◌, Bool, true, false, Option, Some, None, List, [], ◌∷◌, ◌++◌, codes}
+use Rattle.std.specs.Str.{bytes_eq}
 use Rattle.hir_input.specs.declared.ids.AstIdKind.{AstIdKind}
 use Rattle.hir_input.specs.declared.ids.AstIdKind.TheVariants as kind
 use Rattle.hir_input.specs.declared.ast.Visibility.{Visibility}
 use Rattle.hir_input.specs.declared.ast.Visibility.TheVariants.{Pub, PubCrate, PubSuper, PubSelf}
-use Rattle.hir_input.specs.Syntax.{NamedView, FieldsView, record_fields, no_fields, PlainKind, fn_kind, union_kind, enum_kind, static_kind, trait_kind, type_alias_kind, ast_kind, ItemView, plain_item, const_item, struct_item, module_from}
+use Rattle.hir_input.specs.Syntax.{NamedView, record_fields, no_fields, PlainKind, fn_kind, union_kind, enum_kind, static_kind, trait_kind, type_alias_kind, ast_kind, ItemView, plain_item, const_item, struct_item, module_from}
 use Rattle.rust_cursor.specs.Words.{documents}
 use Rattle.rust_paths.specs.Names.{plain_name, is_name}
 use Rattle.rust_ids.specs.Row.{Row}
@@ -12,7 +13,7 @@ use Rattle.rust_leaves.specs.Heads.{follows_const}
 use Rattle.rust_leaves.specs.Kinds.{named_node}
 use Rattle.rust_leaves.specs.Texts.{bare}
 use Rattle.rust_round.specs.Words.{Word}
-use Rattle.rust_round.specs.Trees.{word, mark, open_mark, close_mark, symbol_of, curly, open_of, close_of, Trees, no_trees, tree_and, group, tree_words, trees_words, AreTrees, first_of, GoesOn, no_angles, angles_behind_all, AreClear, spaced}
+use Rattle.rust_round.specs.Trees.{word, mark, open_mark, close_mark, symbol_of, text_of, curly, open_of, close_of, Trees, no_trees, group, tree_words, trees_words, AreTrees, first_of, GoesOn, no_angles, angles_behind_all, AreClear, spaced}
 
 -- ---- visibilities
 
@@ -180,16 +181,16 @@ abbrev pub IsOfKind : BlockKind → Trees → Trees → Type 0
 IsOfKind functions h b = IsFunction h b
 IsOfKind _ h b = Unit {0}
 
--- behind `const` a word as `auto` would be read as that of an item
-abbrev pub IsValueName : ValueKind → List ℕ → Type 0
-IsValueName constants n = follows_const n ≡ false
-IsValueName _ n = Unit {0}
+-- behind `const` a word as `auto` would be read as that of an item, and a `_` behind the name with it
+abbrev pub IsValue : ValueKind → List ℕ → Trees → Type 0
+IsValue constants n t = (follows_const n ≡ false) × (bytes_eq (text_of (first_of t (mark 59))) (codes "_") ≡ false)
+IsValue _ n t = Unit {0}
 
 -- Names are names, brackets stand in pairs, and no part of an item ends it or begins another; modules stand in one another at most so deep.
 abbrev mutual
   pub IsItem : ℕ → Item → Type 0
   IsItem left (blocked k v n h b) = IsNamed n × AreTrees h × AreTrees b × GoesOn false h (open_of curly) × IsOfKind k h b
-  IsItem left (valued k v n t) = IsNamed n × AreTrees t × GoesOn true t (mark 59) × IsValueName k n
+  IsItem left (valued k v n t) = IsNamed n × AreTrees t × GoesOn true t (mark 59) × IsValue k n t
   IsItem left (unit_struct v n) = IsNamed n
   IsItem left (record_struct v n b) = IsNamed n × AreTrees b
   IsItem left (file_module v n) = IsNamed n
