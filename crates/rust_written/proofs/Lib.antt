@@ -3,3 +3,5 @@ pub mod Leaves
 pub mod Items
 pub mod Texts
 pub mod Outlines
+pub mod Spelled
+pub mod Examples

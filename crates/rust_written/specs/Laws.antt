@@ -1,5 +1,5 @@
 -- The laws.
-use Rattle.std.specs.Prelude.{◌≡◌, ◌≤◌, ℕ, List, [], length}
+use Rattle.std.specs.Prelude.{true, ◌≡◌, ◌≤◌, ℕ, List, [], length}
 use Rattle.hir_input.specs.Bodies.{without_bodies}
 use Rattle.hir_input.specs.Syntax.{source_file, items_from, syntax_view}
 use Rattle.rust_ids.specs.Ids.{AreIds}
@@ -9,6 +9,7 @@ use Rattle.rust_items.specs.Ids.{with_ids}
 use Rattle.rust_items.specs.SourceFiles.{IsSourceFile}
 use Rattle.rust_round.specs.Words.{Spells}
 use Rattle.rust_round.specs.Laws.{IsPlain}
+use Rattle.rust_written.specs.Spelled.{are_standing, text_of}
 use Rattle.rust_written.specs.Written.{Items, words, views, rows, AreItems, outline}
 use Rattle.hir_input.specs.declared.ids.FileAstId.{FileAstId}
 
@@ -32,3 +33,7 @@ ReadAgain = (is : Items) (text : List ℕ) (file : SourceFile) → Writes is tex
 abbrev pub TypingInside : Type 0
 TypingInside = (before after : Items) (old new : List ℕ) (read again : SourceFile) → Writes before old → Writes after new → outline before ≡ outline after
     → IsSourceFile old read → IsSourceFile new again → without_bodies (syntax_view read.syntax) ≡ without_bodies (syntax_view again.syntax)
+
+-- Well formed items of words of ASCII are spelled by a text, and so are read again.
+abbrev pub Writable : Type 0
+Writable = (is : Items) → AreItems 128 is → are_standing (words is) ≡ true → length (text_of is) ≤ most → Writes is (text_of is)
