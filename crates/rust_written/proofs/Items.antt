@@ -26,17 +26,9 @@ use Rattle.rust_round.specs.Trees.{Trees, no_trees, mark, open_mark, close_mark,
 use Rattle.rust_round.specs.Trees as trees
 use Rattle.rust_round.proofs.Begins.{Shows, Begins, behind, behind_append, begins_left, begins_right, past_behind}
 use Rattle.rust_written.specs.Written.{Scope, unwritten, everywhere, in_crate, in_super, in_self, scope_words, scope_view, BlockKind, functions, unions, enums, traits, block_word, block_kind, ValueKind, statics, aliases, constants, value_word, value_id, Item, Items, blocked, valued, unit_struct, record_struct, file_module, module_of, no_more, also, braced, ended, item_words, words, item_view, views, row, item_rows, rows, IsNamed, IsItem, AreItems}
+use Rattle.rust_written.proofs.Uses.{fewer_left}
 use Rattle.rust_written.proofs.Fronts.{inner_none, first_shows, block_head, block_heads, value_head, value_heads, struct_heads, module_heads, Heads, front_at, front_reads, named_at, named_reads}
 use Rattle.rust_written.proofs.Leaves.{Reads, blocked_reads, value_reads, unit_reads, record_reads}
-
--- ---- how many tokens are left
-
-pub fewer_left : (ws : List Word) (ts : Tokens) → Begins ws ts → length ws + length (behind ws ts).left ≡ length ts.left
-fewer_left [] ts b = omega arith
-fewer_left (w ∷ ws) ts b =
-    let one : length (bumped ts).left + 1 ≡ length ts.left = shorter ts b.0.some in
-    let more : length ws + length (behind ws (bumped ts)).left ≡ length (bumped ts).left = fewer_left ws (bumped ts) b.1 in
-    omega arith
 
 -- ---- what is read in a turn
 

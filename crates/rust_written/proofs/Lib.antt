@@ -1,3 +1,4 @@
+pub mod Uses
 pub mod Fronts
 pub mod Leaves
 pub mod Items
