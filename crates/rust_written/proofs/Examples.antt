@@ -1,12 +1,20 @@
--- Two examples: the texts of items, what they are read as, and that the laws speak of them.
-use Rattle.std.proofs.Common.{◌≡◌, ℕ, true, false, Option, Some, None, List, [], ◌∷◌, codes, refl, arith}
+-- Three examples: the texts of items, what they are read as, and that the laws speak of them.
+use Rattle.std.proofs.Common.{Bool, ◌≡◌, ℕ, true, false, Option, Some, None, List, [], ◌∷◌, codes, refl, arith}
 use Rattle.hir_input.specs.declared.ast.Visibility.{Visibility}
 use Rattle.hir_input.specs.declared.ast.Visibility.TheVariants.{Pub, PubCrate}
 use Rattle.hir_input.specs.declared.ids.AstIdKind.TheVariants as kind
 use Rattle.hir_input.specs.Syntax.{NamedView, fn_kind, enum_kind, no_fields, no_items, item_and, plain_item, const_item, struct_item, bare_module, listed_module, items_from}
 use Rattle.rust_cursor.specs.Elements.{most}
 use Rattle.rust_round.specs.Trees.{word, mark, joined_mark, Tree, single, group, Trees, no_trees, tree_and, round, curly, close_of, first_of, AreTrees, GoesOn}
-use Rattle.rust_written.specs.Written.{unwritten, everywhere, in_crate, functions, enums, constants, Items, blocked, valued, unit_struct, file_module, module_of, no_more, also, views, row, rows, IsNamed, begins_plain, AreItems}
+use Rattle.rust_written.specs.Written.{unwritten, everywhere, in_crate, functions, enums, constants, Items, blocked, valued, unit_struct, file_module, module_of, used, no_more, also, views, row, rows, IsNamed, begins_plain, AreItems}
+use Rattle.hir_input.specs.declared.ast.PathNode.{PathNode}
+use Rattle.hir_input.specs.declared.ast.PathNode.TheVariants.{Readable}
+use Rattle.hir_input.specs.declared.ast.Rename.{Rename}
+use Rattle.hir_input.specs.declared.mod_path.PathKind.{PathKind}
+use Rattle.hir_input.specs.declared.mod_path.PathKind.TheVariants as path
+use Rattle.hir_input.specs.Syntax.{use_item}
+use Rattle.hir_input.specs.UseTreeView.{UseTreeView, bare_tree, listed_tree, trees_from}
+use Rattle.rust_written.specs.UseTrees.{named, self_segment, crate_segment, as_name, as_nothing, UseTrees, path_tree, star_tree, list_tree, no_uses, use_and, IsPlainName}
 use Rattle.rust_written.specs.Spelled.{text_of}
 use Rattle.rust_paths.specs.Names.{plain_name, is_strict_keyword, is_reserved_keyword}
 use Rattle.rust_leaves.specs.Texts.{bare}
@@ -127,3 +135,51 @@ outer_well =
 pub outer_writes : Writes outer (text_of outer)
 unfolding most
 outer_writes = writable outer outer_well refl (omega arith)
+
+-- ---- a use
+
+abbrev uses : Items
+uses =
+    let inner : UseTrees = use_and (path_tree (record { absolute = false; first = self_segment; more = [] }) (as_name (codes "me")))
+    (use_and (star_tree (Some (record { absolute = false; first = named (codes "b"); more = [] })))
+    (use_and (list_tree None (use_and (path_tree (record { absolute = true; first = named (codes "c"); more = named (codes "D") ∷ [] }) as_nothing) no_uses)) no_uses)) in
+    also (used everywhere (list_tree (Some (record { absolute = false; first = crate_segment; more = named (codes "a") ∷ [] })) inner)) no_more
+
+uses_text : text_of uses ≡ codes " pub use crate :: a :: { self as me , b :: * , { :: c :: D as _ } } ;"
+uses_text = refl
+
+-- the path of these names
+abbrev readable : PathKind → List (List ℕ) → Option PathNode
+readable kind names = Some (Readable (record { kind = kind; names = names }))
+
+abbrev bare_use : Option PathNode → Bool → Option Rename → UseTreeView
+bare_use path star rename = bare_tree (record { path = path; star = star; rename = rename })
+
+abbrev listed_use : Option PathNode → List UseTreeView → UseTreeView
+listed_use path list = listed_tree (record { path = path; star = false; rename = None }) (trees_from list)
+
+uses_read : items_from (views uses)
+    ≡ item_and (use_item (record {
+      node = record { hash = 0; number = 0; attrs = []; body = [] };
+      visibility = Some Pub;
+      use_tree = Some (listed_use (readable path.Crate (codes "a" ∷ []))
+          (bare_use (readable (path.Super 0) []) false (Some (record { name = Some (codes "me") }))
+          ∷ bare_use (readable path.Plain (codes "b" ∷ [])) true None
+          ∷ listed_use None (bare_use (readable path.Abs (codes "c" ∷ codes "D" ∷ [])) false (Some (record { name = None })) ∷ [])
+          ∷ []));
+    })) no_items
+uses_read = refl
+
+uses_well : AreItems 128 uses
+unfolding plain_name is_strict_keyword is_reserved_keyword
+uses_well =
+    let a : IsPlainName (codes "a") = record { plain = refl; name = refl } in
+    let b : IsPlainName (codes "b") = record { plain = refl; name = refl } in
+    let c : IsPlainName (codes "c") = record { plain = refl; name = refl } in
+    let d : IsPlainName (codes "D") = record { plain = refl; name = refl } in
+    let me : IsPlainName (codes "me") = record { plain = refl; name = refl } in
+    (((tt, (a, tt)), (((tt, tt), me), ((b, tt), ((tt, (((c, (d, tt)), tt), tt)), tt)))), tt)
+
+pub uses_writes : Writes uses (text_of uses)
+unfolding most
+uses_writes = writable uses uses_well refl (omega arith)

@@ -114,6 +114,10 @@ pub struct_heads : (ts : Tokens) → Shows (trees.word (codes "struct")) ts → 
 unfolding is_modifier is_modifier_before head head_by
 struct_heads ts s = record { modifier = rw s.word_is refl; head = rw s.word_is refl }
 
+pub use_heads : (ts : Tokens) → Shows (trees.word (codes "use")) ts → Heads heads.Use ts
+unfolding is_modifier is_modifier_before head head_by
+use_heads ts s = record { modifier = rw s.word_is refl; head = rw s.word_is refl }
+
 pub module_heads : (ts : Tokens) → Shows (trees.word (codes "mod")) ts → Heads heads.Module ts
 unfolding is_modifier is_modifier_before head head_by
 module_heads ts s = record { modifier = rw s.word_is refl; head = rw s.word_is refl }

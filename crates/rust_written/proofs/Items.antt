@@ -25,10 +25,11 @@ use Rattle.rust_round.specs.Words.{Word}
 use Rattle.rust_round.specs.Trees.{Trees, no_trees, mark, open_mark, close_mark, curly, trees_words}
 use Rattle.rust_round.specs.Trees as trees
 use Rattle.rust_round.proofs.Begins.{Shows, Begins, behind, behind_append, begins_left, begins_right, past_behind}
-use Rattle.rust_written.specs.Written.{Scope, unwritten, everywhere, in_crate, in_super, in_self, scope_words, scope_view, BlockKind, functions, unions, enums, traits, block_word, block_kind, ValueKind, statics, aliases, constants, value_word, value_id, Item, Items, blocked, valued, unit_struct, record_struct, file_module, module_of, no_more, also, braced, ended, item_words, words, item_view, views, row, item_rows, rows, IsNamed, IsItem, AreItems}
+use Rattle.rust_written.specs.Written.{Scope, unwritten, everywhere, in_crate, in_super, in_self, scope_words, scope_view, BlockKind, functions, unions, enums, traits, block_word, block_kind, ValueKind, statics, aliases, constants, value_word, value_id, Item, Items, blocked, valued, unit_struct, record_struct, file_module, module_of, used, no_more, also, braced, ended, item_words, words, item_view, views, row, item_rows, rows, IsNamed, IsItem, AreItems}
+use Rattle.rust_written.specs.UseTrees.{UseTree, use_words, IsUse}
 use Rattle.rust_written.proofs.Uses.{fewer_left}
-use Rattle.rust_written.proofs.Fronts.{inner_none, first_shows, block_head, block_heads, value_head, value_heads, struct_heads, module_heads, Heads, front_at, front_reads, named_at, named_reads}
-use Rattle.rust_written.proofs.Leaves.{Reads, blocked_reads, value_reads, unit_reads, record_reads}
+use Rattle.rust_written.proofs.Fronts.{inner_none, first_shows, block_head, block_heads, value_head, value_heads, struct_heads, use_heads, module_heads, Heads, front_at, front_reads, named_at, named_reads}
+use Rattle.rust_written.proofs.Leaves.{Reads, blocked_reads, value_reads, unit_reads, record_reads, used_reads}
 
 -- ---- what is read in a turn
 
@@ -62,16 +63,16 @@ leaf_found_is depth r l f ts us e = rw e refl
 -- an item without items
 leaf_turns : (left : ℕ) (v : Scope) (h : Head) (w n : List ℕ) (item : ItemView) (k : AstIdKind) (ws : List Word) (f : Found) (ts : Tokens) → IsLeafHead h → is_at_end ts ≡ false
     → front ts ≡ (front_at (at ts) v h, bumped (behind (scope_words v) ts)) → Reads h v (at ts) item k n ws (bumped (behind (scope_words v) ts))
-    → Turns left item (row (depth_of left) k n ∷ []) (scope_words v ++ trees.word w ∷ trees.word n ∷ ws) f ts
+    → Turns left item (row (depth_of left) k n ∷ []) (scope_words v ++ trees.word w ∷ ws) f ts
 leaf_turns left v h w n item k ws f ts i e fronts reads =
     let us = bumped (behind (scope_words v) ts) in
     let l : LeafRead = record { item = item; kind = k; name = n; named = reads.0; is_ended = reads.1; too_deep = None } in
-    let rest = behind ws (bumped us) in (
+    let rest = behind ws us in (
       and_leaf (depth_of left) (at ts) rest.past l f,
       turn_behind left (front_at (at ts) v h) f ts us e fronts
           ∙ leaf_by_head left h (front_at (at ts) v h) f us i
           ∙ leaf_found_is (depth_of left) (front_at (at ts) v h) l f us rest reads.2
-          ∙ ap (λ r. (Some item, (and_leaf (depth_of left) (at ts) rest.past l f, r))) (sym (behind_append (scope_words v) (trees.word w ∷ trees.word n ∷ ws) ts)),
+          ∙ ap (λ r. (Some item, (and_leaf (depth_of left) (at ts) rest.past l f, r))) (sym (behind_append (scope_words v) (trees.word w ∷ ws) ts)),
       rows_if reads.1 (depth_of left) (at ts) rest.past k n reads.0 f,
     )
 
@@ -83,6 +84,7 @@ item_first (valued k v n t) more ts s = first_shows v (value_word k) (trees.word
 item_first (unit_struct v n) more ts s = first_shows v (codes "struct") (trees.word n ∷ ended no_trees) ts (begins_left (item_words (unit_struct v n)) more ts s)
 item_first (record_struct v n b) more ts s = first_shows v (codes "struct") (trees.word n ∷ braced b) ts (begins_left (item_words (record_struct v n b)) more ts s)
 item_first (file_module v n) more ts s = first_shows v (codes "mod") (trees.word n ∷ mark 59 ∷ []) ts (begins_left (item_words (file_module v n)) more ts s)
+item_first (used v t) more ts s = first_shows v (codes "use") (use_words t ++ mark 59 ∷ []) ts (begins_left (item_words (used v t)) more ts s)
 item_first (module_of v n is) more ts s = first_shows v (codes "mod") (trees.word n ∷ open_mark 123 ∷ (words is ++ close_mark 125 ∷ [])) ts (begins_left (item_words (module_of v n is)) more ts s)
 
 -- nothing goes on with an item
@@ -131,7 +133,7 @@ blocked_turns left k v n h b f ts is begun e =
     let inner = begins_right (scope_words v) (trees.word (block_word k) ∷ trees.word n ∷ ws) ts begun in
     let fronts = front_of v (block_head k) (block_word k) (trees.word n ∷ ws) ts (no_pub_block k) begun (block_heads k n us inner.0 inner.1.0) in
     let next : goes_on (behind ws (bumped (bumped us))) ≡ false = ap goes_on (sym (behind_name v (block_word k) n ws ts)) ∙ e in
-    leaf_turns left v (block_head k) (block_word k) n (item_view (blocked k v n h b)) (ast_kind (block_kind k)) ws f ts (leaf_block k) fronts.0 fronts.1
+    leaf_turns left v (block_head k) (block_word k) n (item_view (blocked k v n h b)) (ast_kind (block_kind k)) (trees.word n ∷ ws) f ts (leaf_block k) fronts.0 fronts.1
     (blocked_reads k v n h b (at ts) (bumped us) is.0 is.1 is.2 is.3 is.4 inner.1.0 inner.1.1 next)
 
 valued_turns : (left : ℕ) (k : ValueKind) (v : Scope) (n : List ℕ) (t : Trees) (f : Found) (ts : Tokens) → IsItem left (valued k v n t) → Begins (item_words (valued k v n t)) ts
@@ -140,7 +142,7 @@ valued_turns left k v n t f ts is begun =
     let us = behind (scope_words v) ts in
     let inner = begins_right (scope_words v) (trees.word (value_word k) ∷ trees.word n ∷ ended t) ts begun in
     let fronts = front_of v (value_head k) (value_word k) (trees.word n ∷ ended t) ts (no_pub_value k) begun (value_heads k n t us is.3 inner.0 inner.1.0) in
-    leaf_turns left v (value_head k) (value_word k) n (item_view (valued k v n t)) (value_id k) (ended t) f ts (leaf_value k) fronts.0 fronts.1
+    leaf_turns left v (value_head k) (value_word k) n (item_view (valued k v n t)) (value_id k) (trees.word n ∷ ended t) f ts (leaf_value k) fronts.0 fronts.1
     (value_reads k v n t (at ts) (bumped us) is.0 is.1 is.2 is.3 inner.1.0 inner.1.1)
 
 unit_turns : (left : ℕ) (v : Scope) (n : List ℕ) (f : Found) (ts : Tokens) → IsNamed n → Begins (item_words (unit_struct v n)) ts
@@ -149,7 +151,7 @@ unit_turns left v n f ts is begun =
     let us = behind (scope_words v) ts in
     let inner = begins_right (scope_words v) (trees.word (codes "struct") ∷ trees.word n ∷ ended no_trees) ts begun in
     let fronts = front_of v heads.Struct (codes "struct") (trees.word n ∷ ended no_trees) ts refl begun (struct_heads us inner.0) in
-    leaf_turns left v heads.Struct (codes "struct") n (item_view (unit_struct v n)) kind.Struct (ended no_trees) f ts tt fronts.0 fronts.1
+    leaf_turns left v heads.Struct (codes "struct") n (item_view (unit_struct v n)) kind.Struct (trees.word n ∷ ended no_trees) f ts tt fronts.0 fronts.1
     (unit_reads v n (at ts) (bumped us) is inner.1.0 inner.1.1)
 
 record_turns : (left : ℕ) (v : Scope) (n : List ℕ) (b : Trees) (f : Found) (ts : Tokens) → IsItem left (record_struct v n b) → Begins (item_words (record_struct v n b)) ts
@@ -159,8 +161,20 @@ record_turns left v n b f ts is begun e =
     let inner = begins_right (scope_words v) (trees.word (codes "struct") ∷ trees.word n ∷ braced b) ts begun in
     let fronts = front_of v heads.Struct (codes "struct") (trees.word n ∷ braced b) ts refl begun (struct_heads us inner.0) in
     let next : goes_on (behind (braced b) (bumped (bumped us))) ≡ false = ap goes_on (sym (behind_name v (codes "struct") n (braced b) ts)) ∙ e in
-    leaf_turns left v heads.Struct (codes "struct") n (item_view (record_struct v n b)) kind.Struct (braced b) f ts tt fronts.0 fronts.1
+    leaf_turns left v heads.Struct (codes "struct") n (item_view (record_struct v n b)) kind.Struct (trees.word n ∷ braced b) f ts tt fronts.0 fronts.1
     (record_reads v n b (at ts) (bumped us) is.0 is.1 inner.1.0 inner.1.1 next)
+
+used_turns : (left : ℕ) (v : Scope) (t : UseTree) (f : Found) (ts : Tokens) → length ts.left ≤ most → IsUse 128 t → Begins (item_words (used v t)) ts
+    → Turns left (item_view (used v t)) (item_rows (depth_of left) (used v t)) (item_words (used v t)) f ts
+used_turns left v t f ts few is begun =
+    let us = behind (scope_words v) ts in
+    let ws = use_words t ++ mark 59 ∷ [] in
+    let inner = begins_right (scope_words v) (trees.word (codes "use") ∷ ws) ts begun in
+    let front : length (scope_words v) + length us.left ≡ length ts.left = fewer_left (scope_words v) ts (begins_left (scope_words v) (trees.word (codes "use") ∷ ws) ts begun) in
+    let one : length (bumped us).left + 1 ≡ length us.left = shorter us inner.0.some in
+    let fronts = front_of v heads.Use (codes "use") ws ts refl begun (use_heads us inner.0) in
+    leaf_turns left v heads.Use (codes "use") [] (item_view (used v t)) kind.Use ws f ts tt fronts.0 fronts.1
+    (used_reads v t (at ts) (bumped us) is (omega (arith, front, one, few)) inner.1)
 
 -- ---- modules
 
@@ -285,6 +299,7 @@ item_some (valued k v n t) = scope_some v (trees.word (value_word k)) (trees.wor
 item_some (unit_struct v n) = scope_some v (trees.word (codes "struct")) (trees.word n ∷ ended no_trees)
 item_some (record_struct v n b) = scope_some v (trees.word (codes "struct")) (trees.word n ∷ braced b)
 item_some (file_module v n) = scope_some v (trees.word (codes "mod")) (trees.word n ∷ mark 59 ∷ [])
+item_some (used v t) = scope_some v (trees.word (codes "use")) (use_words t ++ mark 59 ∷ [])
 item_some (module_of v n is) = scope_some v (trees.word (codes "mod")) (trees.word n ∷ open_mark 123 ∷ (words is ++ close_mark 125 ∷ []))
 
 -- before a module's items, and behind them
@@ -356,6 +371,7 @@ mutual
   turn_reads (unit_struct v n) left f ts deep few is begun e = unit_turns left v n f ts is begun
   turn_reads (record_struct v n b) left f ts deep few is begun e = record_turns left v n b f ts is begun e
   turn_reads (file_module v n) left f ts deep few is begun e = file_turns left v n f ts is begun
+  turn_reads (used v t) left f ts deep few is begun e = used_turns left v t f ts few is begun
   turn_reads (module_of v n is) zero f ts deep few i begun e = absurd i
   turn_reads (module_of v n is) (suc left) f ts deep few i begun e =
       listed_turns left v n is f ts deep few i.0 begun (λ us l b. let shut = (begins_right (words is) (close_mark 125 ∷ []) us b).0 in

@@ -1,5 +1,5 @@
 -- Items that hold no items.
-use Rattle.std.proofs.Common.{◌≡◌, ℕ, ◌==◌, ◌||◌, Bool, true, false, Option, Some, None, List, [], ◌∷◌, ◌++◌, codes, refl, ap, ◌∙◌, sym}
+use Rattle.std.proofs.Common.{◌≤◌, length, ◌≡◌, ℕ, ◌==◌, ◌||◌, Bool, true, false, Option, Some, None, List, [], ◌∷◌, ◌++◌, codes, refl, ap, ◌∙◌, sym}
 use Rattle.std.specs.Str.{bytes_eq}
 use Rattle.rust_lexer.proofs.Counted.{when}
 use Rattle.hir_input.specs.declared.ids.AstIdKind.{AstIdKind}
@@ -19,10 +19,19 @@ use Rattle.rust_leaves.specs.declared.head.Head.{Head}
 use Rattle.rust_leaves.specs.declared.head.Head.TheVariants as heads
 use Rattle.rust_leaves.specs.Leaves.{NameRead, RestRead, named, item_end, value_end, block_attributes, fields_at, struct_fields}
 use Rattle.rust_leaves.specs.Kinds.{named_node, plain_read, leaf_read, function, block_item, union_item, enumeration, trait_item, type_alias, static_value, constant, structure, leaf}
+use Rattle.hir_input.specs.UseTreeView.{UseTreeView}
+use Rattle.hir_input.specs.Syntax.{use_item}
+use Rattle.rust_cursor.specs.Words.{eat}
+use Rattle.rust_cursor.specs.Elements.{most}
+use Rattle.rust_paths.specs.UseTrees.{use_tree}
+use Rattle.rust_paths.specs.UseTrees as use_spec
+use Rattle.rust_leaves.specs.Kinds.{node, use_read, use_declaration}
+use Rattle.rust_written.specs.UseTrees.{UseTree, use_words, use_view, IsUse}
+use Rattle.rust_written.proofs.Uses.{IsUseEnd, use_reads}
 use Rattle.rust_round.specs.Words.{Word}
 use Rattle.rust_round.specs.Trees.{Trees, no_trees, mark, curly, open_of, close_of, first_of, trees_words, AreTrees, GoesOn, spaced}
 use Rattle.rust_round.specs.Trees as trees
-use Rattle.rust_round.proofs.Begins.{Shows, Begins, behind, begins_right}
+use Rattle.rust_round.proofs.Begins.{Shows, Begins, behind, behind_append, begins_left, begins_right}
 use Rattle.rust_round.proofs.Passed.{shows_first}
 use Rattle.rust_round.proofs.Ends.{item_semicolon, value_semicolon, item_block}
 use Rattle.rust_round.proofs.Reaching.{to_block_header}
@@ -55,10 +64,10 @@ values_end t ts h g b = value_ends (ended t) ts (value_semicolon t ts h g b)
 
 -- ---- a leaf
 
--- behind its front, an item without items is read as this, and its name and these words are taken
+-- behind its front, an item without items is read as this, and these words are taken
 abbrev pub Reads : Head → Scope → ℕ → ItemView → AstIdKind → List ℕ → List Word → Tokens → Type 0
 Reads h v start item kind n ws ts =
-    (range : Option TextRange) × (e : Bool) × (leaf (front_at start v h) ts ≡ (Some (record { item = item; kind = kind; name = n; named = range; is_ended = e; too_deep = None }), behind ws (bumped ts)))
+    (range : Option TextRange) × (e : Bool) × (leaf (front_at start v h) ts ≡ (Some (record { item = item; kind = kind; name = n; named = range; is_ended = e; too_deep = None }), behind ws ts))
 
 -- ---- functions, unions, enums and traits
 
@@ -90,7 +99,7 @@ block_reads k v n ws ts us m e = rw (m, e.1) refl
 
 pub blocked_reads : (k : BlockKind) (v : Scope) (n : List ℕ) (h b : Trees) (start : ℕ) (ts : Tokens) → IsNamed n → AreTrees h → AreTrees b → GoesOn false h (open_of curly) → IsOfKind k h b
     → Shows (trees.word n) ts → Begins (trees_words h ++ braced b) (bumped ts) → goes_on (behind (trees_words h ++ braced b) (bumped ts)) ≡ false
-    → Reads (block_head k) v start (plain_item (block_kind k) (named_by v n (trees_words h ++ braced b))) (ast_kind (block_kind k)) n (trees_words h ++ braced b) ts
+    → Reads (block_head k) v start (plain_item (block_kind k) (named_by v n (trees_words h ++ braced b))) (ast_kind (block_kind k)) n (trees.word n ∷ (trees_words h ++ braced b)) ts
 unfolding leaf union_item enumeration trait_item
 blocked_reads functions v n h b start ts m i j g f s begun e =
     let ends = block_ends h b (bumped ts) i j g begun e in
@@ -134,7 +143,7 @@ unfolding constant
 const_steps v n ws ts us m w e = rw (m, w, e.1) refl
 
 pub value_reads : (k : ValueKind) (v : Scope) (n : List ℕ) (t : Trees) (start : ℕ) (ts : Tokens) → IsNamed n → AreTrees t → GoesOn true t (mark 59) → IsValue k n t → Shows (trees.word n) ts
-    → Begins (ended t) (bumped ts) → Reads (value_head k) v start (value_item k (named_by v n (ended t))) (value_id k) n (ended t) ts
+    → Begins (ended t) (bumped ts) → Reads (value_head k) v start (value_item k (named_by v n (ended t))) (value_id k) n (trees.word n ∷ ended t) ts
 unfolding leaf
 value_reads aliases v n t start ts m i g u s b =
     let ends = values_end t (bumped ts) i g b in
@@ -171,16 +180,39 @@ unfolding structure
 struct_steps v n shape ws ts us m f e = rw (m, f, e.1) refl
 
 pub struct_reads : (v : Scope) (n : List ℕ) (shape : FieldsView) (ws : List Word) (start : ℕ) (ts : Tokens) → IsNamed n → Shows (trees.word n) ts → struct_fields (bumped ts) ≡ shape → Ends item_end ws (bumped ts)
-    → Reads heads.Struct v start (struct_item (named_by v n ws) shape) kind.Struct n ws ts
+    → Reads heads.Struct v start (struct_item (named_by v n ws) shape) kind.Struct n (trees.word n ∷ ws) ts
 unfolding leaf
 struct_reads v n shape ws start ts m s f ends =
     ((named_at n ts).range, ends.0, ap (λ r. (Some r.0, r.1)) (struct_steps (scope_view v) (named_at n ts) shape ws ts (bumped ts) (named_reads n ts m s) f ends))
 
 pub unit_reads : (v : Scope) (n : List ℕ) (start : ℕ) (ts : Tokens) → IsNamed n → Shows (trees.word n) ts → Begins (ended no_trees) (bumped ts)
-    → Reads heads.Struct v start (struct_item (named_by v n (ended no_trees)) no_fields) kind.Struct n (ended no_trees) ts
+    → Reads heads.Struct v start (struct_item (named_by v n (ended no_trees)) no_fields) kind.Struct n (trees.word n ∷ ended no_trees) ts
 unit_reads v n start ts m s b = struct_reads v n no_fields (ended no_trees) start ts m s (unit_fields (bumped ts) b.0) (semicolon_ends (bumped ts) b)
 
 pub record_reads : (v : Scope) (n : List ℕ) (b : Trees) (start : ℕ) (ts : Tokens) → IsNamed n → AreTrees b → Shows (trees.word n) ts → Begins (braced b) (bumped ts) → goes_on (behind (braced b) (bumped ts)) ≡ false
-    → Reads heads.Struct v start (struct_item (named_by v n (braced b)) record_fields) kind.Struct n (braced b) ts
+    → Reads heads.Struct v start (struct_item (named_by v n (braced b)) record_fields) kind.Struct n (trees.word n ∷ braced b) ts
 record_reads v n b start ts m i s begun e =
     struct_reads v n record_fields (braced b) start ts m s (block_fields (bumped ts) begun.0) (block_ends no_trees b (bumped ts) tt i tt begun e)
+
+-- ---- uses
+
+use_steps : (v : Option Visibility) (tree : use_spec.Found (Option UseTreeView)) (e : Bool) (ts us vs : Tokens) → use_tree ts ≡ (tree, us) → eat 59 us ≡ (e, vs) → use_declaration [] v ts ≡ (use_read [] v tree e, vs)
+unfolding use_declaration
+use_steps v tree e ts us vs t s = rw (t, s) refl
+
+eaten : (ts : Tokens) → Shows (mark 59) ts → eat 59 ts ≡ (true, bumped ts)
+unfolding eat
+eaten ts s = rw s.symbol_is refl
+
+pub used_reads : (v : Scope) (t : UseTree) (start : ℕ) (ts : Tokens) → IsUse 128 t → length ts.left ≤ most → Begins (use_words t ++ mark 59 ∷ []) ts
+    → Reads heads.Use v start (use_item (record { node = node [] []; visibility = scope_view v; use_tree = Some (use_view t) })) kind.Use [] (use_words t ++ mark 59 ∷ []) ts
+unfolding leaf
+used_reads v t start ts h l b =
+    let us = behind (use_words t) ts in
+    let last : Shows (mark 59) us = (begins_right (use_words t) (mark 59 ∷ []) ts b).0 in
+    let end : IsUseEnd us = record { colon = rw last.symbol_is refl; word = last.word_is } in (
+      None,
+      true,
+      ap (λ r. (Some r.0, r.1)) (use_steps (scope_view v) (use_spec.whole (Some (use_view t))) true ts us (bumped us) (use_reads t ts h l (begins_left (use_words t) (mark 59 ∷ []) ts b) end) (eaten us last))
+          ∙ ap (λ k. (Some (use_read [] (scope_view v) (use_spec.whole (Some (use_view t))) true), k)) (sym (behind_append (use_words t) (mark 59 ∷ []) ts)),
+    )

@@ -8,7 +8,7 @@ use Rattle.hir_input.specs.declared.ids.AstIdKind.TheVariants as kind
 use Rattle.rust_ids.specs.Ids.{AreIds}
 use Rattle.rust_ids.proofs.Consequences.{determined}
 use Rattle.rust_items.specs.Ids.{first, numbered_named, numbered_node, held_with_ids, with_ids}
-use Rattle.rust_written.specs.Written.{Item, Items, blocked, valued, unit_struct, record_struct, file_module, module_of, no_more, also, statics, aliases, constants, item_view, views, item_rows, rows, named_by, item_outline, outline}
+use Rattle.rust_written.specs.Written.{Item, Items, blocked, valued, unit_struct, record_struct, file_module, module_of, used, no_more, also, statics, aliases, constants, item_view, views, item_rows, rows, named_by, item_outline, outline}
 use Rattle.rust_written.specs.Laws.{IsRead, TypingInside}
 use Rattle.rust_written.proofs.Texts.{read_again}
 
@@ -26,6 +26,7 @@ mutual
   item_view_outline (unit_struct v n) = refl
   item_view_outline (record_struct v n b) = refl
   item_view_outline (file_module v n) = refl
+  item_view_outline (used v t) = refl
   item_view_outline (module_of v n is) = ap (listed_module (named_without_body (named_by v n [])) false) (views_outline is)
 
   views_outline : (is : Items) → bodiless (views (outline is)) ≡ bodiless (views is)
@@ -39,6 +40,7 @@ mutual
   item_rows_outline depth (unit_struct v n) = refl
   item_rows_outline depth (record_struct v n b) = refl
   item_rows_outline depth (file_module v n) = refl
+  item_rows_outline depth (used v t) = refl
   item_rows_outline depth (module_of v n is) = ap (λ l. (record { depth = depth; kind = kind.Module; name = n }) ∷ l) (rows_outline (suc depth) is)
 
   rows_outline : (depth : ℕ) (is : Items) → rows depth (outline is) ≡ rows depth is

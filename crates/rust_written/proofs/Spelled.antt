@@ -13,7 +13,8 @@ use Rattle.rust_round.specs.Standing.{is_letter, is_word_byte, ends_word, is_mar
 use Rattle.rust_round.specs.Words.{Link, joined, apart, free, Word, Stands, Spells}
 use Rattle.rust_round.specs.Trees as trees
 use Rattle.rust_round.proofs.Again.{words_stand, marks_stand}
-use Rattle.rust_written.specs.Written.{Scope, unwritten, everywhere, in_crate, in_super, in_self, scope_words, Item, Items, blocked, valued, unit_struct, record_struct, file_module, module_of, no_more, also, words, item_words, block_word, value_word, braced, ended}
+use Rattle.rust_written.specs.UseTrees.{use_words}
+use Rattle.rust_written.specs.Written.{Scope, unwritten, everywhere, in_crate, in_super, in_self, scope_words, Item, Items, blocked, valued, unit_struct, record_struct, file_module, module_of, used, no_more, also, words, item_words, block_word, value_word, braced, ended}
 use Rattle.rust_written.specs.Spelled.{lead, spell, text_of, is_ascii_word, is_opening, is_closing, is_mark_before, stands_by, are_standing}
 use Rattle.rust_written.specs.Laws.{Writable}
 
@@ -103,6 +104,7 @@ plain_item (valued k v n t) more = plain_scope v (value_word k) (trees.word n �
 plain_item (unit_struct v n) more = plain_scope v (codes "struct") (trees.word n ∷ ended trees.no_trees) more
 plain_item (record_struct v n b) more = plain_scope v (codes "struct") (trees.word n ∷ braced b) more
 plain_item (file_module v n) more = plain_scope v (codes "mod") (trees.word n ∷ trees.mark 59 ∷ []) more
+plain_item (used v t) more = plain_scope v (codes "use") (use_words t ++ trees.mark 59 ∷ []) more
 plain_item (module_of v n is) more = plain_scope v (codes "mod") (trees.word n ∷ trees.open_mark 123 ∷ (words is ++ trees.close_mark 125 ∷ [])) more
 
 plain_items : (is : Items) → IsPlain (text_of is)

@@ -1,26 +1,24 @@
 -- Use trees are read again.
-use Rattle.std.proofs.Common.{◌≡◌, ◌<◌, ◌≤◌, ℕ, zero, suc, ◌+◌, ◌==◌, ◌||◌, ◌&&◌, Bool, true, false, Option, Some, None, option_map, List, [], ◌∷◌, ◌++◌, codes, map, length, refl, ap, ◌∙◌, sym, subst, arith, append_assoc, append-nil, length-append}
-use Rattle.std.specs.Prelude.{if◌then◌else◌, not, is_some}
+use Rattle.std.proofs.Common.{◌≡◌, ◌<◌, ◌≤◌, ℕ, zero, suc, ◌+◌, ◌==◌, ◌||◌, Bool, true, false, Option, Some, None, option_map, List, [], ◌∷◌, ◌++◌, codes, map, length, refl, ap, ◌∙◌, sym, subst, arith, append_assoc, append-nil, length-append}
+use Rattle.std.specs.Prelude.{if◌then◌else◌}
 use Rattle.std.specs.Str.{bytes_eq}
 use Rattle.std.proofs.lemmas.Bool.Decides.{nat_tests}
-use Rattle.std.proofs.lemmas.Bool.{ne_eqb}
 use Rattle.std.proofs.lemmas.Slice.Eq.{bytes_eq-Decides}
 use Rattle.hir_input.specs.declared.ast.PathNode.{PathNode}
 use Rattle.hir_input.specs.declared.ast.Rename.{Rename}
 use Rattle.hir_input.specs.UseTreeView.{UseTreeView, tree_from}
-use Rattle.hir_input.specs.Words as meanings
 use Rattle.rust_lexer.proofs.Counted.{when}
 use Rattle.rust_cursor.specs.Tokens.{Tokens}
 use Rattle.rust_cursor.specs.Reader.{Reader}
-use Rattle.rust_cursor.specs.Words.{symbol, word, kind, text, at, is_empty, is_at_end, bumped, closes, eat_word, is_pair, is_glued, eat_pair}
-use Rattle.rust_cursor.specs.Brackets.{closing, behind_closed}
-use Rattle.rust_cursor.specs.Elements.{most, turns, turns_from, elements, one, beyond}
+use Rattle.rust_cursor.specs.Words.{symbol, word, kind, at, is_at_end, bumped, closes, eat_word, is_pair, is_glued, eat_pair}
+use Rattle.rust_cursor.specs.Brackets.{behind_closed}
+use Rattle.rust_cursor.specs.Elements.{most, turns, turns_from, one, beyond}
 use Rattle.rust_cursor.proofs.Steps.{shorter}
 use Rattle.rust_cursor.proofs.Turns.{turns_stop}
 use Rattle.rust_paths.specs.Meaning.{path_node}
 use Rattle.rust_paths.specs.Names.{plain_name, is_strict_keyword, is_reserved_keyword, is_path_keyword, has_name, name, next_name}
 use Rattle.rust_paths.specs.Paths.{is_raw, is_dollar_crate, is_segment, other_segment, segment, is_colons, is_joint, is_path_colons, more_from, more_segments, front, is_path_start, use_path}
-use Rattle.rust_paths.specs.UseTrees.{Found, whole, bare, listed, with_list, some_list, all_found, star_or_list, tree_behind, rename, alias, tree_with, comma_from, behind_comma, element_with, values, first_too_deep, trees, list, use_tree, tree_at}
+use Rattle.rust_paths.specs.UseTrees.{Found, whole, bare, listed, with_list, some_list, all_found, star_or_list, tree_behind, rename, alias, tree_with, comma_from, behind_comma, element_with, values, first_too_deep, list, use_tree, tree_at}
 use Rattle.rust_paths.proofs.Steps.{more_stop}
 use Rattle.rust_paths.proofs.Trees.{comma_end}
 use Rattle.rust_round.specs.Words.{Word}

@@ -5,14 +5,15 @@ use Rattle.hir_input.specs.declared.ids.AstIdKind.{AstIdKind}
 use Rattle.hir_input.specs.declared.ids.AstIdKind.TheVariants as kind
 use Rattle.hir_input.specs.declared.ast.Visibility.{Visibility}
 use Rattle.hir_input.specs.declared.ast.Visibility.TheVariants.{Pub, PubCrate, PubSuper, PubSelf}
-use Rattle.hir_input.specs.Syntax.{NamedView, record_fields, no_fields, PlainKind, fn_kind, union_kind, enum_kind, static_kind, trait_kind, type_alias_kind, ast_kind, ItemView, plain_item, const_item, struct_item, module_from}
+use Rattle.hir_input.specs.Syntax.{NamedView, record_fields, no_fields, PlainKind, fn_kind, union_kind, enum_kind, static_kind, trait_kind, type_alias_kind, ast_kind, ItemView, plain_item, const_item, struct_item, use_item, module_from}
 use Rattle.rust_cursor.specs.Words.{documents}
 use Rattle.rust_paths.specs.Names.{plain_name, is_name}
 use Rattle.rust_ids.specs.Row.{Row}
 use Rattle.rust_leaves.specs.Heads.{follows_const}
-use Rattle.rust_leaves.specs.Kinds.{named_node}
+use Rattle.rust_leaves.specs.Kinds.{node, named_node}
 use Rattle.rust_leaves.specs.Texts.{bare}
 use Rattle.rust_round.specs.Words.{Word}
+use Rattle.rust_written.specs.UseTrees.{UseTree, use_words, use_view, IsUse}
 use Rattle.rust_round.specs.Trees.{word, mark, open_mark, close_mark, symbol_of, text_of, curly, open_of, close_of, Trees, no_trees, group, tree_words, trees_words, AreTrees, first_of, GoesOn, no_angles, angles_behind_all, AreClear, spaced}
 
 -- ---- visibilities
@@ -88,7 +89,7 @@ value_id constants = kind.Const
 
 mutual
   -- what stands between the name and the block, and in the block; or between the name and the semicolon; a struct without
-  -- fields, or with a block of them; a module with a semicolon, or with items
+  -- fields, or with a block of them; a module with a semicolon, or with items; a use tree
   pub data Item : Type 0 where
     blocked : BlockKind → Scope → List ℕ → Trees → Trees → Item
     valued : ValueKind → Scope → List ℕ → Trees → Item
@@ -96,6 +97,7 @@ mutual
     record_struct : Scope → List ℕ → Trees → Item
     file_module : Scope → List ℕ → Item
     module_of : Scope → List ℕ → Items → Item
+    used : Scope → UseTree → Item
 
   pub data Items : Type 0 where
     no_more : Items
@@ -117,6 +119,7 @@ abbrev mutual
   item_words (unit_struct v n) = scope_words v ++ word (codes "struct") ∷ word n ∷ ended no_trees
   item_words (record_struct v n b) = scope_words v ++ word (codes "struct") ∷ word n ∷ braced b
   item_words (file_module v n) = scope_words v ++ word (codes "mod") ∷ word n ∷ mark 59 ∷ []
+  item_words (used v t) = scope_words v ++ word (codes "use") ∷ (use_words t ++ mark 59 ∷ [])
   item_words (module_of v n is) = scope_words v ++ word (codes "mod") ∷ word n ∷ open_mark 123 ∷ (words is ++ close_mark 125 ∷ [])
 
   pub words : Items → List Word
@@ -136,6 +139,7 @@ abbrev mutual
   item_view (unit_struct v n) = struct_item (named_by v n (ended no_trees)) no_fields
   item_view (record_struct v n b) = struct_item (named_by v n (braced b)) record_fields
   item_view (file_module v n) = module_from (named_by v n []) true None
+  item_view (used v t) = use_item (record { node = node [] []; visibility = scope_view v; use_tree = Some (use_view t) })
   item_view (module_of v n is) = module_from (named_by v n []) false (Some (views is))
 
   pub views : Items → List ItemView
@@ -154,6 +158,7 @@ abbrev mutual
   item_rows depth (unit_struct v n) = row depth kind.Struct n ∷ []
   item_rows depth (record_struct v n b) = row depth kind.Struct n ∷ []
   item_rows depth (file_module v n) = row depth kind.Module n ∷ []
+  item_rows depth (used v t) = row depth kind.Use [] ∷ []
   item_rows depth (module_of v n is) = row depth kind.Module n ∷ rows (suc depth) is
 
   pub rows : ℕ → Items → List Row
@@ -194,6 +199,7 @@ abbrev mutual
   IsItem left (unit_struct v n) = IsNamed n
   IsItem left (record_struct v n b) = IsNamed n × AreTrees b
   IsItem left (file_module v n) = IsNamed n
+  IsItem left (used v t) = IsUse 128 t
   IsItem zero (module_of v n is) = ⊥
   IsItem (suc left) (module_of v n is) = IsNamed n × AreItems left is
 
@@ -211,6 +217,7 @@ abbrev mutual
   item_outline (unit_struct v n) = unit_struct v n
   item_outline (record_struct v n b) = record_struct v n no_trees
   item_outline (file_module v n) = file_module v n
+  item_outline (used v t) = used v t
   item_outline (module_of v n is) = module_of v n (outline is)
 
   pub outline : Items → Items
