@@ -1,5 +1,5 @@
 -- The trees of texts, and texts that differ in what is typed inside items.
-use Rattle.std.specs.Prelude.{◌≡◌, ℕ, Bool, false, List, IsTrue}
+use Rattle.std.specs.Prelude.{◌≡◌, ℕ, Bool, false, List, IsTrue, ◌↔◌}
 use Rattle.hir_input.specs.Syntax.{syntax_view}
 use Rattle.item_tree.specs.declared.crate_data.CrateData.{CrateData}
 use Rattle.item_tree.specs.Lowered.{kept_without_bodies}
@@ -14,6 +14,14 @@ pub record IsTreeOf (krate : CrateData) (skipped : List (List ℕ)) (text : List
   pub file : SourceFile
   pub read : IsSourceFile text file
   pub kept : tree ≡ kept_without_bodies krate false skipped (syntax_view file.syntax)
+
+-- the answer is whether the trees of two texts are equal
+pub record IsCompared (krate : CrateData) (skipped : List (List ℕ)) (old new : List ℕ) (same : Bool) : Type 0 where
+  pub left : Unfolding
+  pub right : Unfolding
+  pub of_old : IsTreeOf krate skipped old left
+  pub of_new : IsTreeOf krate skipped new right
+  pub decides : IsTrue same ↔ (left ≡ right)
 
 -- the answer is yes, where the texts write items that have the same outline
 abbrev pub IsSameWhereTyped : List ℕ → List ℕ → Bool → Type 0

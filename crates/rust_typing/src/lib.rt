@@ -4,7 +4,7 @@
 ghost use Rattle.std.specs.Prelude.{◌≡◌, false, IfOk};
 ghost use Rattle.hir_input.specs.Syntax.{syntax_view};
 ghost use Rattle.item_tree.specs.Lowered.{kept_without_bodies};
-ghost use Rattle.rust_typing.specs.Typing.{IsSameWhereTyped, IsTreeOf};
+ghost use Rattle.rust_typing.specs.Typing.{IsCompared, IsSameWhereTyped, IsTreeOf};
 
 use hir_input::Name;
 use item_tree::{CrateData, ItemTree, LowerError, lower_syntax};
@@ -50,6 +50,7 @@ pub fn is_same_tree(
     old: &str,
     new: &str,
 ) -> Result<bool, LowerError>
+    ensures trees { IfOk result (IsCompared krate.now skipped.now old.now new.now) }
     ensures typing { IfOk result (IsSameWhereTyped old.now new.now) }
 {
     let left = text_tree(alloc, krate, skipped, old)?;
