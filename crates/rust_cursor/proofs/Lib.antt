@@ -7,3 +7,4 @@ pub mod Reaches
 pub mod Leads
 pub mod Laid
 pub mod Rests
+pub mod Blocks

@@ -1,10 +1,8 @@
 -- Words at the front of what is left of the tokens.
-use Rattle.std.proofs.Common.{◌≡◌, ◌<◌, ◌≤◌, ℕ, zero, suc, ◌+◌, ◌==◌, ◌||◌, ◌&&◌, Bool, true, false, List, [], ◌∷◌, ◌++◌, length, refl, ap, ◌∙◌, sym, subst, arith, None, Some}
-use Rattle.std.specs.Prelude.{slice_index}
+use Rattle.std.proofs.Common.{◌≡◌, ◌<◌, ◌≤◌, ℕ, ◌+◌, true, false, List, [], ◌∷◌, ◌++◌, length, refl, ap, sym, subst, arith, Some}
 use Rattle.rust_lexer.specs.Piece.{Piece}
-use Rattle.rust_lexer.specs.Symbol.{symbol_from, symbol_of}
-use Rattle.rust_cursor.specs.Tokens.{Tokens, end_of}
-use Rattle.rust_cursor.specs.Words.{opens, closes, documents, identifies, word_by, is_open, is_close, symbol, word, kind, text, at, is_empty, is_at_open, is_at_end, is_at_identifier, is_at_doc, bumped, is_glued}
+use Rattle.rust_cursor.specs.Tokens.{Tokens}
+use Rattle.rust_cursor.specs.Words.{opens, closes, documents, identifies, symbol, word, kind, text, at, is_empty, is_at_open, is_at_end, is_at_identifier, is_at_doc, bumped}
 use Rattle.rust_round.specs.Words.{Link, joined, apart, free, Word, IsAt, AreTokens}
 use Rattle.rust_round.specs.Trees as trees
 

@@ -1,3 +1,5 @@
 pub mod Again
 pub mod Begins
 pub mod Passed
+pub mod Ends
+pub mod Reaching

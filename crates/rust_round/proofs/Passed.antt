@@ -1,16 +1,13 @@
 -- What passes over trees.
-use Rattle.std.proofs.Common.{◌≡◌, ◌<◌, ◌≤◌, ℕ, zero, suc, ◌+◌, ◌-◌, ◌==◌, ◌||◌, ◌&&◌, Bool, true, false, List, [], ◌∷◌, ◌++◌, length, refl, ap, ◌∙◌, sym, subst, arith, append_assoc}
-use Rattle.std.specs.Prelude.{if◌then◌else◌, not}
+use Rattle.std.proofs.Common.{◌≡◌, ℕ, zero, suc, ◌+◌, ◌==◌, Bool, true, false, List, [], ◌∷◌, ◌++◌, refl, ap, ◌∙◌, sym, subst, arith, append_assoc}
 use Rattle.std.proofs.lemmas.Bool.Decides.{nat_tests}
-use Rattle.rust_lexer.specs.declared.kind.TokenKind.{TokenKind}
-use Rattle.rust_lexer.proofs.Counted.{when}
 use Rattle.rust_cursor.specs.Tokens.{Tokens}
-use Rattle.rust_cursor.specs.Words.{opens, closes, documents, symbol, word, is_empty, is_at_open, is_at_end, is_at_identifier, bumped}
+use Rattle.rust_cursor.specs.Words.{opens, closes, symbol, is_empty, is_at_open, is_at_end, bumped}
 use Rattle.rust_cursor.specs.Brackets.{closing}
-use Rattle.rust_cursor.specs.Extents.{depth_behind, begins_item, goes_on, last_behind, item_rest, value_rest}
+use Rattle.rust_cursor.specs.Extents.{depth_behind, begins_item, last_behind}
 use Rattle.rust_cursor.proofs.Steps.{closing_open, closing_close, closing_here, closing_other}
-use Rattle.rust_cursor.proofs.Rests.{taking_rest, item_rest_taking, value_rest_taking, and_next, stops_here, ends_here, rest_more, rest_end}
-use Rattle.rust_leaves.specs.Texts.{open_step, has_open_from}
+use Rattle.rust_cursor.proofs.Rests.{taking_rest, and_next, stops_here, ends_here, rest_more}
+use Rattle.rust_leaves.specs.Texts.{has_open_from}
 use Rattle.rust_round.specs.Words.{Word}
 use Rattle.rust_round.specs.Trees.{mark, Bracket, round, square, curly, open_of, close_of, Tree, single, group, Trees, no_trees, tree_and, tree_words, trees_words, IsTree, AreTrees, first_of, GoesOn, and_word, and_words}
 use Rattle.rust_round.specs.Trees as trees
@@ -22,20 +19,20 @@ not_zero d = grind (arith, nat_tests)
 suc_not_zero : (d : ℕ) → (suc d == 0) ≡ false
 suc_not_zero d = grind (arith, nat_tests)
 
-goes_inside : (d : ℕ) (ts : Tokens) → stops_here (suc d) ts ≡ false
+pub goes_inside : (d : ℕ) (ts : Tokens) → stops_here (suc d) ts ≡ false
 goes_inside d ts = rw (suc_not_zero d) refl
 
-opens_open : (b : Bracket) → opens (open_of b).kind ≡ true
+pub opens_open : (b : Bracket) → opens (open_of b).kind ≡ true
 opens_open round = refl
 opens_open square = refl
 opens_open curly = refl
 
-open_ends_not : (b : Bracket) → closes (open_of b).kind ≡ false
+pub open_ends_not : (b : Bracket) → closes (open_of b).kind ≡ false
 open_ends_not round = refl
 open_ends_not square = refl
 open_ends_not curly = refl
 
-close_opens_not : (b : Bracket) → opens (close_of b).kind ≡ false
+pub close_opens_not : (b : Bracket) → opens (close_of b).kind ≡ false
 close_opens_not round = refl
 close_opens_not square = refl
 close_opens_not curly = refl
@@ -118,7 +115,7 @@ pub and_words-append : (ws vs : List Word) (done : List ℕ) → and_words done 
 and_words-append [] vs done = refl
 and_words-append (w ∷ ws) vs done = and_words-append ws vs (and_word done w)
 
-next_word : (w : Word) (done : List ℕ) (ts : Tokens) → Shows w ts → and_next done ts ≡ and_word done w
+pub next_word : (w : Word) (done : List ℕ) (ts : Tokens) → Shows w ts → and_next done ts ≡ and_word done w
 next_word w done ts s = rw (s.doc_is, s.text_is) refl
 
 -- these words are taken behind a text, from one depth to another
@@ -160,7 +157,7 @@ depth_close b d ts s =
     let opens_it : is_at_open ts ≡ false = s.open_is ∙ close_opens_not b in
     let end : is_at_end ts ≡ true = s.end_is ∙ closes_close b in rw (opens_it, end) (omega arith)
 
-no_end_inside : (is_value : Bool) (d : ℕ) (ts : Tokens) → ends_here is_value (suc d) ts ≡ false
+pub no_end_inside : (is_value : Bool) (d : ℕ) (ts : Tokens) → ends_here is_value (suc d) ts ≡ false
 no_end_inside true d ts = rw (suc_not_zero d) refl
 no_end_inside false d ts = rw (suc_not_zero d) refl
 
@@ -188,22 +185,22 @@ mutual
 
 -- ---- what begins no item and ends none
 
-begins_same : (w next : Word) (ts : Tokens) → Shows w ts → Shows next (bumped ts) → begins_item ts ≡ trees.begins_item w next
+pub begins_same : (w next : Word) (ts : Tokens) → Shows w ts → Shows next (bumped ts) → begins_item ts ≡ trees.begins_item w next
 unfolding begins_item
 begins_same w next ts s n = rw (s.word_is, n.symbol_is, n.identifier_is, n.word_is) refl
 
-shows_first : (is : Trees) (last : Word) (more : List Word) (ts : Tokens) → Begins (trees_words is ++ last ∷ more) ts → Shows (first_of is last) ts
+pub shows_first : (is : Trees) (last : Word) (more : List Word) (ts : Tokens) → Begins (trees_words is ++ last ∷ more) ts → Shows (first_of is last) ts
 shows_first no_trees last more ts b = b.0
 shows_first (tree_and (single w) is) last more ts b = b.0
 shows_first (tree_and (group br is') is) last more ts b = b.0
 
-bracket_begins : (k : Bracket) (ts : Tokens) → Shows (open_of k) ts → begins_item ts ≡ false
+pub bracket_begins : (k : Bracket) (ts : Tokens) → Shows (open_of k) ts → begins_item ts ≡ false
 unfolding begins_item
 bracket_begins round ts s = rw s.word_is refl
 bracket_begins square ts s = rw s.word_is refl
 bracket_begins curly ts s = rw s.word_is refl
 
-stops_bracket : (k : Bracket) (ts : Tokens) → Shows (open_of k) ts → stops_here 0 ts ≡ false
+pub stops_bracket : (k : Bracket) (ts : Tokens) → Shows (open_of k) ts → stops_here 0 ts ≡ false
 stops_bracket k ts s =
     let end : is_at_end ts ≡ false = s.end_is ∙ open_ends_not k in
     let item = bracket_begins k ts s in
@@ -242,7 +239,7 @@ may_stand is_value round is' is end g = tt
 may_stand is_value square is' is end g = tt
 may_stand is_value curly is' is end g = g.0
 
-goes_behind : (is_value : Bool) (k : Bracket) (is' is : Trees) (end : Word) → GoesOn is_value (tree_and (group k is') is) end → GoesOn is_value is end
+pub goes_behind : (is_value : Bool) (k : Bracket) (is' is : Trees) (end : Word) → GoesOn is_value (tree_and (group k is') is) end → GoesOn is_value is end
 goes_behind is_value round is' is end g = g
 goes_behind is_value square is' is end g = g
 goes_behind is_value curly is' is end g = g.1

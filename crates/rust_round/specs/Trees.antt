@@ -5,7 +5,7 @@ use Rattle.rust_lexer.specs.declared.kind.TokenKind.TheVariants as kind
 use Rattle.rust_lexer.specs.Symbol.{symbol_from}
 use Rattle.rust_cursor.specs.Words.{opens, closes, documents, identifies, word_by}
 use Rattle.rust_cursor.specs.Extents.{is_item_word}
-use Rattle.rust_round.specs.Words.{Link, joined, apart, free, Word}
+use Rattle.rust_round.specs.Words.{Link, joined, free, Word}
 
 -- ---- words
 
@@ -138,14 +138,14 @@ abbrev pub angles_behind_all : Angles → Trees → Angles
 angles_behind_all a no_trees = a
 angles_behind_all a (tree_and t ts) = angles_behind_all (angles_behind a t) ts
 
--- A `>` behind a `-` or a `=` is written right behind it, or apart from it.
+-- A `>` behind a `-` or a `=` is written right behind it, or apart from it; no brace stands alone.
 abbrev pub is_free : Link → Bool
 is_free free = true
 is_free _ = false
 
 abbrev pub AreClear : Angles → Trees → Type 0
 AreClear a no_trees = Unit {0}
-AreClear a (tree_and (single w) ts) = (a.dash && symbol_of w == 62 && is_free w.link ≡ false) × AreClear (angles_behind a (single w)) ts
+AreClear a (tree_and (single w) ts) = ((a.dash && symbol_of w == 62 && is_free w.link) ≡ false) × ((symbol_of w == 123) ≡ false) × AreClear (angles_behind a (single w)) ts
 AreClear a (tree_and (group b is) ts) = AreClear (angles_behind a (group b is)) ts
 
 -- ---- texts

@@ -1,0 +1,185 @@
+-- Three examples: the texts of items, what they are read as, and that the laws speak of them.
+use Rattle.std.proofs.Common.{Bool, ◌≡◌, ℕ, true, false, Option, Some, None, List, [], ◌∷◌, codes, refl, arith}
+use Rattle.hir_input.specs.declared.ast.Visibility.{Visibility}
+use Rattle.hir_input.specs.declared.ast.Visibility.TheVariants.{Pub, PubCrate}
+use Rattle.hir_input.specs.declared.ids.AstIdKind.TheVariants as kind
+use Rattle.hir_input.specs.Syntax.{NamedView, fn_kind, enum_kind, no_fields, no_items, item_and, plain_item, const_item, struct_item, bare_module, listed_module, items_from}
+use Rattle.rust_cursor.specs.Elements.{most}
+use Rattle.rust_round.specs.Trees.{word, mark, joined_mark, Tree, single, group, Trees, no_trees, tree_and, round, curly, close_of, first_of, AreTrees, GoesOn}
+use Rattle.rust_written.specs.Written.{unwritten, everywhere, in_crate, functions, enums, constants, Items, blocked, valued, unit_struct, file_module, module_of, used, no_more, also, views, row, rows, IsNamed, begins_plain, AreItems}
+use Rattle.hir_input.specs.declared.ast.PathNode.{PathNode}
+use Rattle.hir_input.specs.declared.ast.PathNode.TheVariants.{Readable}
+use Rattle.hir_input.specs.declared.ast.Rename.{Rename}
+use Rattle.hir_input.specs.declared.mod_path.PathKind.{PathKind}
+use Rattle.hir_input.specs.declared.mod_path.PathKind.TheVariants as path
+use Rattle.hir_input.specs.Syntax.{use_item}
+use Rattle.hir_input.specs.UseTreeView.{UseTreeView, bare_tree, listed_tree, trees_from}
+use Rattle.rust_written.specs.UseTrees.{named, self_segment, crate_segment, as_name, as_nothing, UseTrees, path_tree, star_tree, list_tree, no_uses, use_and, IsPlainName}
+use Rattle.rust_written.specs.Spelled.{text_of}
+use Rattle.rust_paths.specs.Names.{plain_name, is_strict_keyword, is_reserved_keyword}
+use Rattle.rust_leaves.specs.Texts.{bare}
+use Rattle.rust_leaves.specs.Heads.{follows_const}
+use Rattle.hir_input.specs.Bodies.{without_bodies}
+use Rattle.hir_input.specs.Syntax.{syntax_view}
+use Rattle.rust_items.specs.declared.source_file.SourceFile.{SourceFile}
+use Rattle.rust_items.specs.SourceFiles.{IsSourceFile}
+use Rattle.rust_written.specs.Laws.{Writes}
+use Rattle.rust_written.proofs.Outlines.{typing_inside}
+use Rattle.rust_written.proofs.Spelled.{writable}
+
+-- trees one after another
+abbrev trees : List Tree → Trees
+trees [] = no_trees
+trees (t ∷ ts) = tree_and t (trees ts)
+
+abbrev name : List ℕ → Tree
+name text = single (word text)
+
+abbrev sign : ℕ → Tree
+sign c = single (mark c)
+
+-- what is read of a name, a visibility and a body
+abbrev seen : List ℕ → Option Visibility → List ℕ → NamedView
+seen name visibility body = record { node = record { hash = 0; number = 0; attrs = []; body = body }; name = Some name; visibility = visibility }
+
+-- ---- a function
+
+abbrev function : Trees → Items
+function body =
+    let params = group round (trees (name (codes "x") ∷ sign 58 ∷ name (codes "u8") ∷ [])) in
+    let answer = sign 45 ∷ single (joined_mark 62) ∷ name (codes "Vec") ∷ sign 60 ∷ name (codes "u8") ∷ sign 62 ∷ [] in
+    also (blocked functions everywhere (codes "f") (trees (params ∷ answer)) body) no_more
+
+abbrev short_body : Trees
+short_body = trees (name (codes "x") ∷ [])
+
+function_text : text_of (function short_body) ≡ codes " pub fn f ( x : u8 ) -> Vec < u8 > { x }"
+function_text = refl
+
+function_read : items_from (views (function short_body)) ≡ item_and (plain_item fn_kind (seen (codes "f") (Some Pub) (codes "( x : u8 ) - > Vec < u8 > { x }"))) no_items
+function_read = refl
+
+-- it is well formed, as is its body
+abbrev plain : (false ≡ false) × (false ≡ false)
+plain = (refl, refl)
+
+function_named : IsNamed (codes "f")
+unfolding plain_name is_strict_keyword is_reserved_keyword bare
+function_named = record { plain = refl; name = refl; bare = refl }
+
+function_well : (body : Trees) → AreTrees body → begins_plain (first_of body (close_of curly)) ≡ false → AreItems 128 (function body)
+function_well body b first = (
+  (
+    function_named,
+    ((plain, (plain, (plain, tt))), (plain, (plain, (plain, (plain, (plain, (plain, tt))))))),
+    b,
+    (refl, refl, refl, (refl, refl, refl, (refl, refl, refl, (refl, refl, refl, (refl, refl, refl, (refl, refl, refl, tt)))))),
+    record { clear = (refl, refl, (refl, refl, (refl, refl, (refl, refl, (refl, refl, (refl, refl, tt)))))); closed = refl; body = first },
+  ),
+  tt,
+)
+
+pub function_writes : Writes (function short_body) (text_of (function short_body))
+unfolding most
+function_writes = writable (function short_body) (function_well short_body (plain, tt) refl) refl (omega arith)
+
+-- another body, in which brackets stand in pairs, is another text and the same outline
+abbrev long_body : Trees
+long_body = trees (name (codes "let") ∷ name (codes "y") ∷ sign 61 ∷ group curly (trees (name (codes "x") ∷ sign 43 ∷ name (codes "x") ∷ [])) ∷ sign 59 ∷ name (codes "y") ∷ [])
+
+long_text : text_of (function long_body) ≡ codes " pub fn f ( x : u8 ) -> Vec < u8 > { let y = { x + x } ; y }"
+long_text = refl
+
+pub long_writes : Writes (function long_body) (text_of (function long_body))
+unfolding most
+long_writes = writable (function long_body) (function_well long_body (plain, (plain, (plain, ((plain, (plain, (plain, tt))), (plain, (plain, tt)))))) refl) refl (omega arith)
+
+pub body_typed : (read again : SourceFile) → IsSourceFile (text_of (function short_body)) read → IsSourceFile (text_of (function long_body)) again
+    → without_bodies (syntax_view read.syntax) ≡ without_bodies (syntax_view again.syntax)
+body_typed read again s t = typing_inside (function short_body) (function long_body) _ _ read again function_writes long_writes refl s t
+
+-- ---- modules
+
+abbrev outer : Items
+outer =
+    let inner : Items = also (unit_struct in_crate (codes "Unit"))
+    (also (blocked enums unwritten (codes "Kind") no_trees (trees (name (codes "A") ∷ sign 44 ∷ name (codes "B") ∷ [])))
+    (also (valued constants unwritten (codes "SIZE") (trees (sign 58 ∷ name (codes "u8") ∷ sign 61 ∷ name (codes "A") ∷ []))) no_more)) in
+    also (module_of unwritten (codes "outer") inner) (also (file_module everywhere (codes "file")) no_more)
+
+outer_text : text_of outer ≡ codes " mod outer { pub ( crate ) struct Unit ; enum Kind { A , B } const SIZE : u8 = A ; } pub mod file ;"
+outer_text = refl
+
+outer_read : items_from (views outer)
+    ≡ item_and (listed_module (seen (codes "outer") None []) false (item_and (struct_item (seen (codes "Unit") (Some PubCrate) (codes ";")) no_fields)
+    (item_and (plain_item enum_kind (seen (codes "Kind") None (codes "{ A , B }"))) (item_and (const_item (seen (codes "SIZE") None (codes ": u8 = A ;"))) no_items))))
+    (item_and (bare_module (seen (codes "file") (Some Pub) []) true) no_items)
+outer_read = refl
+
+outer_rows : rows 0 outer
+    ≡ row 0 kind.Module (codes "outer") ∷ row 1 kind.Struct (codes "Unit") ∷ row 1 kind.Enum (codes "Kind") ∷ row 1 kind.Const (codes "SIZE") ∷ row 0 kind.Module (codes "file") ∷ []
+outer_rows = refl
+
+outer_well : AreItems 128 outer
+unfolding plain_name is_strict_keyword is_reserved_keyword bare follows_const
+outer_well =
+    let unit : IsNamed (codes "Unit") = record { plain = refl; name = refl; bare = refl } in
+    let choice : IsNamed (codes "Kind") = record { plain = refl; name = refl; bare = refl } in
+    let size : IsNamed (codes "SIZE") = record { plain = refl; name = refl; bare = refl } in
+    let file : IsNamed (codes "file") = record { plain = refl; name = refl; bare = refl } in
+    let holds : IsNamed (codes "outer") = record { plain = refl; name = refl; bare = refl } in
+    let numbers : GoesOn true (trees (sign 58 ∷ name (codes "u8") ∷ sign 61 ∷ name (codes "A") ∷ [])) (mark 59) =
+    (refl, refl, refl, (refl, refl, refl, (refl, refl, refl, (refl, refl, refl, tt)))) in
+    ((holds, (unit, ((choice, tt, (plain, (plain, (plain, tt))), tt, tt), ((size, (plain, (plain, (plain, (plain, tt)))), numbers, (refl, refl)), tt)))), (file, tt))
+
+pub outer_writes : Writes outer (text_of outer)
+unfolding most
+outer_writes = writable outer outer_well refl (omega arith)
+
+-- ---- a use
+
+abbrev uses : Items
+uses =
+    let inner : UseTrees = use_and (path_tree (record { absolute = false; first = self_segment; more = [] }) (as_name (codes "me")))
+    (use_and (star_tree (Some (record { absolute = false; first = named (codes "b"); more = [] })))
+    (use_and (list_tree None (use_and (path_tree (record { absolute = true; first = named (codes "c"); more = named (codes "D") ∷ [] }) as_nothing) no_uses)) no_uses)) in
+    also (used everywhere (list_tree (Some (record { absolute = false; first = crate_segment; more = named (codes "a") ∷ [] })) inner)) no_more
+
+uses_text : text_of uses ≡ codes " pub use crate :: a :: { self as me , b :: * , { :: c :: D as _ } } ;"
+uses_text = refl
+
+-- the path of these names
+abbrev readable : PathKind → List (List ℕ) → Option PathNode
+readable kind names = Some (Readable (record { kind = kind; names = names }))
+
+abbrev bare_use : Option PathNode → Bool → Option Rename → UseTreeView
+bare_use path star rename = bare_tree (record { path = path; star = star; rename = rename })
+
+abbrev listed_use : Option PathNode → List UseTreeView → UseTreeView
+listed_use path list = listed_tree (record { path = path; star = false; rename = None }) (trees_from list)
+
+uses_read : items_from (views uses)
+    ≡ item_and (use_item (record {
+      node = record { hash = 0; number = 0; attrs = []; body = [] };
+      visibility = Some Pub;
+      use_tree = Some (listed_use (readable path.Crate (codes "a" ∷ []))
+          (bare_use (readable (path.Super 0) []) false (Some (record { name = Some (codes "me") }))
+          ∷ bare_use (readable path.Plain (codes "b" ∷ [])) true None
+          ∷ listed_use None (bare_use (readable path.Abs (codes "c" ∷ codes "D" ∷ [])) false (Some (record { name = None })) ∷ [])
+          ∷ []));
+    })) no_items
+uses_read = refl
+
+uses_well : AreItems 128 uses
+unfolding plain_name is_strict_keyword is_reserved_keyword
+uses_well =
+    let a : IsPlainName (codes "a") = record { plain = refl; name = refl } in
+    let b : IsPlainName (codes "b") = record { plain = refl; name = refl } in
+    let c : IsPlainName (codes "c") = record { plain = refl; name = refl } in
+    let d : IsPlainName (codes "D") = record { plain = refl; name = refl } in
+    let me : IsPlainName (codes "me") = record { plain = refl; name = refl } in
+    (((tt, (a, tt)), (((tt, tt), me), ((b, tt), ((tt, (((c, (d, tt)), tt), tt)), tt)))), tt)
+
+pub uses_writes : Writes uses (text_of uses)
+unfolding most
+uses_writes = writable uses uses_well refl (omega arith)

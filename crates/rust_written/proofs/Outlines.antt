@@ -1,0 +1,101 @@
+-- What stands between names and ends is in no item but its body text.
+use Rattle.std.proofs.Common.{◌≡◌, ℕ, suc, List, [], ◌∷◌, ◌++◌, refl, ap, ◌∙◌, sym, subst}
+use Rattle.hir_input.specs.declared.ids.FileAstId.{FileAstId}
+use Rattle.hir_input.specs.Bodies.{item_without_bodies, items_without_bodies, named_without_body, node_without_body, without_bodies}
+use Rattle.hir_input.specs.Syntax.{ItemView, ItemViews, plain_item, const_item, struct_item, bare_module, listed_module, use_item, extern_crate, bare_extern_block, listed_extern_block, impl_item, macro_call, macro_rules, asm_item, no_items, item_and, items_from, source_file}
+use Rattle.std.specs.Prelude.{false}
+use Rattle.hir_input.specs.declared.ids.AstIdKind.TheVariants as kind
+use Rattle.rust_ids.specs.Ids.{AreIds}
+use Rattle.rust_ids.proofs.Consequences.{determined}
+use Rattle.rust_items.specs.Ids.{first, numbered_named, numbered_node, held_with_ids, with_ids}
+use Rattle.rust_written.specs.Written.{Item, Items, blocked, valued, unit_struct, record_struct, file_module, module_of, used, no_more, also, statics, aliases, constants, item_view, views, item_rows, rows, named_by, item_outline, outline}
+use Rattle.rust_written.specs.Laws.{IsRead, TypingInside}
+use Rattle.rust_written.proofs.Texts.{read_again}
+
+-- ---- outlines
+
+abbrev bodiless : List ItemView → ItemViews
+bodiless is = items_without_bodies (items_from is)
+
+mutual
+  item_view_outline : (i : Item) → item_without_bodies (item_view (item_outline i)) ≡ item_without_bodies (item_view i)
+  item_view_outline (blocked k v n h b) = refl
+  item_view_outline (valued statics v n t) = refl
+  item_view_outline (valued aliases v n t) = refl
+  item_view_outline (valued constants v n t) = refl
+  item_view_outline (unit_struct v n) = refl
+  item_view_outline (record_struct v n b) = refl
+  item_view_outline (file_module v n) = refl
+  item_view_outline (used v t) = refl
+  item_view_outline (module_of v n is) = ap (listed_module (named_without_body (named_by v n [])) false) (views_outline is)
+
+  views_outline : (is : Items) → bodiless (views (outline is)) ≡ bodiless (views is)
+  views_outline no_more = refl
+  views_outline (also i is) = ap (λ x. item_and x (bodiless (views (outline is)))) (item_view_outline i) ∙ ap (item_and (item_without_bodies (item_view i))) (views_outline is)
+
+mutual
+  item_rows_outline : (depth : ℕ) (i : Item) → item_rows depth (item_outline i) ≡ item_rows depth i
+  item_rows_outline depth (blocked k v n h b) = refl
+  item_rows_outline depth (valued k v n t) = refl
+  item_rows_outline depth (unit_struct v n) = refl
+  item_rows_outline depth (record_struct v n b) = refl
+  item_rows_outline depth (file_module v n) = refl
+  item_rows_outline depth (used v t) = refl
+  item_rows_outline depth (module_of v n is) = ap (λ l. (record { depth = depth; kind = kind.Module; name = n }) ∷ l) (rows_outline (suc depth) is)
+
+  rows_outline : (depth : ℕ) (is : Items) → rows depth (outline is) ≡ rows depth is
+  rows_outline depth no_more = refl
+  rows_outline depth (also i is) = ap (λ l. l ++ rows depth (outline is)) (item_rows_outline depth i) ∙ ap (λ l. item_rows depth i ++ l) (rows_outline depth is)
+
+-- ---- ids stand beside bodies
+
+mutual
+  held_bodiless : (own : List FileAstId) (i : ItemView) (ids : List FileAstId)
+      → held_with_ids (first own).0 (item_without_bodies i) ids ≡ (item_without_bodies (held_with_ids (first own).0 i ids).0, (held_with_ids (first own).0 i ids).1)
+  held_bodiless own (listed_module m semicolon is) ids = ap (λ r. (listed_module (numbered_named (first own).0 (named_without_body m)) semicolon r.0, r.1)) (with_bodiless is ids)
+  held_bodiless own (listed_extern_block m is) ids = ap (λ r. (listed_extern_block (numbered_node (first own).0 (node_without_body m)) r.0, r.1)) (with_bodiless is ids)
+  held_bodiless own (plain_item k m) ids = refl
+  held_bodiless own (const_item m) ids = refl
+  held_bodiless own (struct_item m _) ids = refl
+  held_bodiless own (bare_module m semicolon) ids = refl
+  held_bodiless own (use_item u) ids = refl
+  held_bodiless own (extern_crate m rename) ids = refl
+  held_bodiless own (bare_extern_block m) ids = refl
+  held_bodiless own (impl_item m is_trait) ids = refl
+  held_bodiless own (macro_call c) ids = refl
+  held_bodiless own (macro_rules m name) ids = refl
+  held_bodiless own (asm_item m) ids = refl
+
+  with_bodiless : (is : ItemViews) (ids : List FileAstId) → with_ids (items_without_bodies is) ids ≡ (items_without_bodies (with_ids is ids).0, (with_ids is ids).1)
+  with_bodiless no_items ids = refl
+  with_bodiless (item_and i is) ids =
+      let head = held_with_ids (first ids).0 i (first ids).1 in
+      ap (λ h. (item_and h.0 (with_ids (items_without_bodies is) h.1).0, (with_ids (items_without_bodies is) h.1).1)) (held_bodiless ids i (first ids).1)
+      ∙ ap (λ r. (item_and (item_without_bodies head.0) r.0, r.1)) (with_bodiless is head.1)
+
+-- ---- the law
+
+-- the bodiless items of what is written, with ids
+abbrev bare_items : Items → List FileAstId → ItemViews
+bare_items is ids = (with_ids (bodiless (views is)) ids).0
+
+bare_syntax : (is : Items) (ids : List FileAstId) → without_bodies (source_file [] (with_ids (items_from (views is)) ids).0) ≡ source_file [] (bare_items is ids)
+bare_syntax is ids = ap (λ r. source_file [] r.0) (sym (with_bodiless (items_from (views is)) ids))
+
+same_bare : (before after : Items) (ids : List FileAstId) → outline before ≡ outline after → bare_items before ids ≡ bare_items after ids
+same_bare before after ids e = ap (λ l. (with_ids l ids).0) (sym (views_outline before) ∙ ap (λ o. bodiless (views o)) e ∙ views_outline after)
+
+same_rows : (before after : Items) → outline before ≡ outline after → rows 0 before ≡ rows 0 after
+same_rows before after e = sym (rows_outline 0 before) ∙ ap (rows 0) e ∙ rows_outline 0 after
+
+pub typing_inside : TypingInside
+typing_inside before after old new read again w x e s t =
+    let r : IsRead before read = read_again before old read w s in
+    let q : IsRead after again = read_again after new again x t in
+    let ids : r.ids ≡ q.ids = determined (rows 0 after) r.ids q.ids (subst (λ l. AreIds l r.ids) (same_rows before after e) r.are_ids) q.are_ids in
+    ap without_bodies r.syntax
+    ∙ bare_syntax before r.ids
+    ∙ ap (λ l. source_file [] (bare_items before l)) ids
+    ∙ ap (λ l. source_file [] l) (same_bare before after q.ids e)
+    ∙ sym (bare_syntax after q.ids)
+    ∙ sym (ap without_bodies q.syntax)

@@ -1,0 +1,115 @@
+-- Words are spelled by a text.
+use Rattle.std.proofs.Common.{◌≡◌, ℕ, ◌&&◌, Bool, true, false, List, [], ◌∷◌, ◌++◌, codes, refl, subst}
+use Rattle.std.specs.Prelude.{not, slice_index}
+use Rattle.std.specs.List.{list_all}
+use Rattle.std.proofs.lemmas.Bool.{and_parts}
+use Rattle.rust_lexer.specs.declared.kind.TokenKind.{TokenKind}
+use Rattle.rust_lexer.specs.declared.kind.TokenKind.TheVariants as kinds
+use Rattle.rust_lexer.specs.Bytes.{is_continuation}
+use Rattle.rust_lexer.specs.Cut.{symbol_kind, is_punctuation, first_cut}
+use Rattle.rust_round.specs.Gaps.{white}
+use Rattle.rust_round.specs.Laws.{IsPlain}
+use Rattle.rust_round.specs.Standing.{is_letter, is_word_byte, ends_word, is_mark, IsAsciiWord}
+use Rattle.rust_round.specs.Words.{Link, joined, apart, free, Word, Stands, Spells}
+use Rattle.rust_round.specs.Trees as trees
+use Rattle.rust_round.proofs.Again.{words_stand, marks_stand}
+use Rattle.rust_written.specs.UseTrees.{use_words}
+use Rattle.rust_written.specs.Written.{Scope, unwritten, everywhere, in_crate, in_super, in_self, scope_words, Item, Items, blocked, valued, unit_struct, record_struct, file_module, module_of, used, no_more, also, words, item_words, block_word, value_word, braced, ended}
+use Rattle.rust_written.specs.Spelled.{lead, spell, text_of, is_ascii_word, is_opening, is_closing, is_mark_before, stands_by, are_standing}
+use Rattle.rust_written.specs.Laws.{Writable}
+
+-- ---- words
+
+ascii_word : (text : List ℕ) → is_ascii_word text ≡ true → IsAsciiWord text
+ascii_word [] e = absurd cc
+ascii_word (b ∷ z) e = and_parts (is_letter b) (list_all is_word_byte z) e
+
+not_true : (b : Bool) → not b ≡ true → b ≡ false
+not_true true e = absurd cc
+not_true false e = refl
+
+mark_before : (k : TokenKind) (of_kind : Bool) (b : ℕ) (rest : List ℕ) (l : Link) → is_mark_before of_kind rest b ≡ true → (of_kind ≡ true → symbol_kind b ≡ k) → Stands (record { kind = k; text = b ∷ []; link = l }) rest
+mark_before k of_kind b rest l e is =
+    let both = and_parts of_kind (is_mark b && not (is_continuation (slice_index rest 0))) e in
+    let more = and_parts (is_mark b) (not (is_continuation (slice_index rest 0))) both.1 in
+    subst (λ (j : TokenKind). Stands (record { kind = j; text = b ∷ []; link = l }) rest) (is both.0) (marks_stand b rest l more.0 (not_true (is_continuation (slice_index rest 0)) more.1))
+
+opening : (b : ℕ) → is_opening b ≡ true → symbol_kind b ≡ kinds.OpenDelim
+opening b e = rw e refl
+
+closing : (b : ℕ) → (not (is_opening b) && is_closing b) ≡ true → symbol_kind b ≡ kinds.CloseDelim
+closing b e =
+    let both = and_parts (not (is_opening b)) (is_closing b) e in
+    let other : is_opening b ≡ false = not_true (is_opening b) both.0 in
+    let shut : is_closing b ≡ true = both.1 in
+    rw (other, shut) refl
+
+punctuation : (b : ℕ) → (not (is_opening b) && (not (is_closing b) && is_punctuation b)) ≡ true → symbol_kind b ≡ kinds.Punct
+punctuation b e =
+    let both = and_parts (not (is_opening b)) (not (is_closing b) && is_punctuation b) e in
+    let more = and_parts (not (is_closing b)) (is_punctuation b) both.1 in
+    let other : is_opening b ≡ false = not_true (is_opening b) both.0 in
+    let next : is_closing b ≡ false = not_true (is_closing b) more.0 in
+    let last : is_punctuation b ≡ true = more.1 in
+    rw (other, next, last) refl
+
+stands_parts : (k : TokenKind) (text rest : List ℕ) (l : Link) → stands_by k text rest ≡ true → Stands (record { kind = k; text = text; link = l }) rest
+stands_parts kinds.Ident text rest l e =
+    let both = and_parts (is_ascii_word text) (ends_word (slice_index rest 0)) e in
+    words_stand text rest l (ascii_word text both.0) both.1
+stands_parts kinds.OpenDelim (b ∷ []) rest l e = mark_before kinds.OpenDelim (is_opening b) b rest l e (opening b)
+stands_parts kinds.CloseDelim (b ∷ []) rest l e = mark_before kinds.CloseDelim (not (is_opening b) && is_closing b) b rest l e (closing b)
+stands_parts kinds.Punct (b ∷ []) rest l e = mark_before kinds.Punct (not (is_opening b) && (not (is_closing b) && is_punctuation b)) b rest l e (punctuation b)
+stands_parts kinds.OpenDelim [] rest l e = absurd cc
+stands_parts kinds.OpenDelim (b ∷ c ∷ z) rest l e = absurd cc
+stands_parts kinds.CloseDelim [] rest l e = absurd cc
+stands_parts kinds.CloseDelim (b ∷ c ∷ z) rest l e = absurd cc
+stands_parts kinds.Punct [] rest l e = absurd cc
+stands_parts kinds.Punct (b ∷ c ∷ z) rest l e = absurd cc
+stands_parts _ text rest l e = absurd cc
+
+stands : (w : Word) (rest : List ℕ) → stands_by w.kind w.text rest ≡ true → Stands w rest
+stands w rest e = stands_parts w.kind w.text rest w.link e
+
+spelled_word : (l : Link) (k : TokenKind) (text : List ℕ) (ws : List Word) → Stands (record { kind = k; text = text; link = l }) (spell ws) → Spells ws (spell ws)
+    → Spells (record { kind = k; text = text; link = l } ∷ ws) (lead l (text ++ spell ws))
+spelled_word joined k text ws s more = ([], spell ws, tt, tt, s, refl, more)
+spelled_word apart k text ws s more = (white 32 ∷ [], spell ws, (refl, tt), tt, s, refl, more)
+spelled_word free k text ws s more = (white 32 ∷ [], spell ws, (refl, tt), tt, s, refl, more)
+
+-- words that stand are spelled
+pub spelled : (ws : List Word) → are_standing ws ≡ true → Spells ws (spell ws)
+spelled [] e = ([], tt, refl)
+spelled (w ∷ ws) e =
+    let both = and_parts (stands_by w.kind w.text (spell ws)) (are_standing ws) e in
+    spelled_word w.link w.kind w.text ws (stands w (spell ws) both.0) (spelled ws both.1)
+
+-- ---- items
+
+-- a text with a blank in front is no shebang line
+plain_blank : (z : List ℕ) → IsPlain (32 ∷ z)
+unfolding first_cut
+plain_blank z = (refl, refl)
+
+plain_scope : (v : Scope) (w : List ℕ) (ws more : List Word) → IsPlain (spell ((scope_words v ++ trees.word w ∷ ws) ++ more))
+plain_scope unwritten w ws more = plain_blank _
+plain_scope everywhere w ws more = plain_blank _
+plain_scope in_crate w ws more = plain_blank _
+plain_scope in_super w ws more = plain_blank _
+plain_scope in_self w ws more = plain_blank _
+
+plain_item : (i : Item) (more : List Word) → IsPlain (spell (item_words i ++ more))
+plain_item (blocked k v n h b) more = plain_scope v (block_word k) (trees.word n ∷ (trees.trees_words h ++ braced b)) more
+plain_item (valued k v n t) more = plain_scope v (value_word k) (trees.word n ∷ ended t) more
+plain_item (unit_struct v n) more = plain_scope v (codes "struct") (trees.word n ∷ ended trees.no_trees) more
+plain_item (record_struct v n b) more = plain_scope v (codes "struct") (trees.word n ∷ braced b) more
+plain_item (file_module v n) more = plain_scope v (codes "mod") (trees.word n ∷ trees.mark 59 ∷ []) more
+plain_item (used v t) more = plain_scope v (codes "use") (use_words t ++ trees.mark 59 ∷ []) more
+plain_item (module_of v n is) more = plain_scope v (codes "mod") (trees.word n ∷ trees.open_mark 123 ∷ (words is ++ trees.close_mark 125 ∷ [])) more
+
+plain_items : (is : Items) → IsPlain (text_of is)
+plain_items no_more = (refl, refl)
+plain_items (also i is) = plain_item i (words is)
+
+pub writable : Writable
+writable is are s l = record { are = are; plain = plain_items is; spells = spelled (words is) s; short = l }

@@ -1,0 +1,124 @@
+-- A text that spells items is read as these.
+use Rattle.std.proofs.Common.{◌≡◌, ◌<◌, ◌≤◌, ℕ, true, false, Option, Some, None, List, [], ◌∷◌, length, refl, ap, ◌∙◌, subst, arith}
+use Rattle.std.specs.List.{filter}
+use Rattle.std.proofs.lemmas.List.Sums.{length-filter, count_by-le-length}
+use Rattle.hir_input.specs.Syntax.{items_from, source_file}
+use Rattle.rust_lexer.specs.Piece.{Piece}
+use Rattle.rust_lexer.specs.declared.kind.TokenKind.{TokenKind}
+use Rattle.rust_lexer.specs.Tokens.{is_significant, tokens}
+use Rattle.rust_lexer.specs.declared.kind.DocStyle.TheVariants.{Inner}
+use Rattle.rust_lexer.proofs.Laws.{tokens_few}
+use Rattle.rust_cursor.specs.Tokens.{Tokens, tokens_of}
+use Rattle.rust_cursor.specs.Words.{symbol, kind, is_empty}
+use Rattle.rust_cursor.specs.Elements.{most}
+use Rattle.rust_cursor.specs.Extents.{goes_on}
+use Rattle.rust_metas.specs.Attributes.{inner_attributes, is_behind, is_doc, is_attribute}
+use Rattle.rust_ids.specs.Ids.{AreIds}
+use Rattle.rust_items.specs.declared.log.ProblemKind.TheVariants as problem
+use Rattle.rust_items.specs.Found.{Found, nothing_found, and_problem_at}
+use Rattle.rust_items.specs.Ids.{with_ids}
+use Rattle.rust_items.specs.Items.{finding, finding_from, is_list_end, turn}
+use Rattle.rust_items.specs.SourceFiles.{read_of, found_in, items_in}
+use Rattle.rust_round.specs.Words.{Word, Spells, IsCutOff, AreTokens}
+use Rattle.rust_round.specs.Trees as trees
+use Rattle.rust_round.proofs.Again.{tokens_again}
+use Rattle.rust_round.proofs.Begins.{Begins, behind, begins, over, AreSome}
+use Rattle.rust_written.specs.Written.{Items, no_more, also, words, views, rows}
+use Rattle.rust_written.specs.Laws.{Writes, ReadAgain}
+use Rattle.rust_written.proofs.Fronts.{inner_none, inner_empty}
+use Rattle.rust_written.proofs.Items.{item_first, finds_reads}
+
+-- ---- the tokens of a text
+
+some_text : (k : TokenKind) (text rest : List ℕ) → IsCutOff k text rest → 0 < length text
+some_text k [] rest h = absurd h
+some_text k (b ∷ z) rest h = omega arith
+
+no_word_empty : (ws : List Word) (text : List ℕ) → Spells ws text → AreSome ws
+no_word_empty [] text h = tt
+no_word_empty (w ∷ ws) text h = (some_text w.kind w.text h.1 h.4.one, no_word_empty ws h.1 h.6)
+
+text_begins : (ws : List Word) (text : List ℕ) → AreTokens 0 ws (filter is_significant (tokens text)) → AreSome ws → Begins ws (tokens_of text) × (is_empty (behind ws (tokens_of text)) ≡ true)
+unfolding tokens_of
+text_begins ws text h some =
+    (begins ws (tokens_of text) (filter is_significant (tokens text)) refl h some, over ws (tokens_of text) (filter is_significant (tokens text)) refl h)
+
+text_few : (text : List ℕ) → length (tokens_of text).left ≤ length text
+unfolding tokens_of
+text_few text =
+    let counted = length-filter is_significant (tokens text) in
+    let fewer = count_by-le-length is_significant (tokens text) in
+    let all = tokens_few text in
+    omega (arith, counted, fewer, all)
+
+-- ---- the end
+
+no_inner_left : (past : ℕ) (left : List Piece) (u : Option ℕ) → (let here : Tokens = record { past = past; left = left; unended = u } in is_empty here ≡ true → is_behind Inner here ≡ true)
+unfolding is_behind is_doc is_attribute kind symbol is_empty
+no_inner_left past [] u e = refl
+no_inner_left past (t ∷ ts) u e = absurd cc
+
+end_inner : (ts : Tokens) → is_empty ts ≡ true → is_behind Inner ts ≡ true
+end_inner ts e = no_inner_left ts.past ts.left ts.unended e
+
+nothing_goes_on : (past : ℕ) (left : List Piece) (u : Option ℕ) → (let here : Tokens = record { past = past; left = left; unended = u } in is_empty here ≡ true → goes_on here ≡ false)
+unfolding symbol is_empty
+nothing_goes_on past [] u e = refl
+nothing_goes_on past (t ∷ ts) u e = absurd cc
+
+end_goes_on : (ts : Tokens) → is_empty ts ≡ true → goes_on ts ≡ false
+end_goes_on ts e = nothing_goes_on ts.past ts.left ts.unended e
+
+ends_list : (ts : Tokens) → is_empty ts ≡ true → is_list_end true ts ≡ true
+unfolding is_list_end
+ends_list ts e = rw e refl
+
+-- ---- a text
+
+no_attributes : (is : Items) (ts : Tokens) → Begins (words is) ts → is_empty (behind (words is) ts) ≡ true → inner_attributes 0 ts ≡ ([], ts)
+no_attributes no_more ts b e = inner_empty 0 ts (end_inner ts e)
+no_attributes (also i is) ts b e = let first = item_first i (words is) ts b in inner_none 0 (trees.word first.0) ts first.1 refl refl
+
+abbrev turns_top : List ℕ → Tokens → Type 0
+turns_top text ts = read_of text ≡ finding_from (is_list_end true) (turn 128) most [] nothing_found ts
+
+all_turns : (text : List ℕ) → inner_attributes 0 (tokens_of text) ≡ ([], tokens_of text) → turns_top text (tokens_of text)
+unfolding finding
+all_turns text e = ap (λ r. finding_from (is_list_end true) (turn 128) most [] nothing_found r.1) e
+
+-- what is read of a text, and found in it
+record IsReadOf (is : Items) (text : List ℕ) : Type 0 where
+  pub attributes : inner_attributes 0 (tokens_of text) ≡ ([], tokens_of text)
+  pub items : items_in text ≡ items_from (views is)
+  pub rows : (found_in text).rows ≡ rows 0 is
+
+same_rows : (at : Option ℕ) (f : Found) → (and_problem_at problem.Unterminated at f).rows ≡ f.rows
+same_rows None f = refl
+same_rows (Some n) f = refl
+
+read_text : (is : Items) (text : List ℕ) → Writes is text → IsReadOf is text
+unfolding items_in found_in
+read_text is text w =
+    let ts = tokens_of text in
+    let b = text_begins (words is) text (tokens_again (words is) text w.plain w.spells) (no_word_empty (words is) text w.spells) in
+    let bound = w.short in
+    let count = text_few text in
+    let few : length ts.left ≤ most = omega (arith, bound, count) in
+    let none = no_attributes is ts b.0 b.1 in
+    let end = behind (words is) ts in
+    let found = finds_reads is true 128 nothing_found ts (omega arith) few w.are b.0 (ends_list end b.1) (end_goes_on end b.1) most [] few in
+    let all = all_turns text none ∙ found.1 in
+    record {
+      attributes = none;
+      items = ap (λ r. items_from r.0) all;
+      rows = same_rows (read_of text).1.1.unended (read_of text).1.0 ∙ ap (λ r. r.1.0.rows) all ∙ found.2;
+    }
+
+pub read_again : ReadAgain
+read_again is text file w s =
+    let r = read_text is text w in
+    record {
+      ids = s.ids;
+      are_ids = subst (λ l. AreIds l s.ids) r.rows s.are_ids;
+      syntax = s.syntax ∙ ap (λ a. source_file a.0 (with_ids (items_in text) s.ids).0) r.attributes ∙ ap (λ l. source_file [] (with_ids l s.ids).0) r.items;
+    }

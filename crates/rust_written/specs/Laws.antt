@@ -1,0 +1,39 @@
+-- The laws.
+use Rattle.std.specs.Prelude.{true, ◌≡◌, ◌≤◌, ℕ, List, [], length}
+use Rattle.hir_input.specs.Bodies.{without_bodies}
+use Rattle.hir_input.specs.Syntax.{source_file, items_from, syntax_view}
+use Rattle.rust_ids.specs.Ids.{AreIds}
+use Rattle.rust_cursor.specs.Elements.{most}
+use Rattle.rust_items.specs.declared.source_file.SourceFile.{SourceFile}
+use Rattle.rust_items.specs.Ids.{with_ids}
+use Rattle.rust_items.specs.SourceFiles.{IsSourceFile}
+use Rattle.rust_round.specs.Words.{Spells}
+use Rattle.rust_round.specs.Laws.{IsPlain}
+use Rattle.rust_written.specs.Spelled.{are_standing, text_of}
+use Rattle.rust_written.specs.Written.{Items, words, views, rows, AreItems, outline}
+use Rattle.hir_input.specs.declared.ids.FileAstId.{FileAstId}
+
+-- a text of so few bytes spells these items
+pub record Writes (is : Items) (text : List ℕ) : Type 0 where
+  pub are : AreItems 128 is
+  pub plain : IsPlain text
+  pub spells : Spells (words is) text
+  pub short : length text ≤ most
+
+-- a text that spells items is read as exactly these, with the ids that they are to have
+pub record IsRead (is : Items) (file : SourceFile) : Type 0 where
+  pub ids : List FileAstId
+  pub are_ids : AreIds (rows 0 is) ids
+  pub syntax : syntax_view file.syntax ≡ source_file [] (with_ids (items_from (views is)) ids).0
+
+abbrev pub ReadAgain : Type 0
+ReadAgain = (is : Items) (text : List ℕ) (file : SourceFile) → Writes is text → IsSourceFile text file → IsRead is file
+
+-- Typing between names and ends changes no syntax but for its body texts, and no id.
+abbrev pub TypingInside : Type 0
+TypingInside = (before after : Items) (old new : List ℕ) (read again : SourceFile) → Writes before old → Writes after new → outline before ≡ outline after
+    → IsSourceFile old read → IsSourceFile new again → without_bodies (syntax_view read.syntax) ≡ without_bodies (syntax_view again.syntax)
+
+-- Well formed items of words of ASCII are spelled by a text, and so are read again.
+abbrev pub Writable : Type 0
+Writable = (is : Items) → AreItems 128 is → are_standing (words is) ≡ true → length (text_of is) ≤ most → Writes is (text_of is)

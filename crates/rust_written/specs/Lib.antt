@@ -1,0 +1,4 @@
+pub mod UseTrees
+pub mod Written
+pub mod Spelled
+pub mod Laws

@@ -1,0 +1,225 @@
+-- Items, the words that write them, and what they are read as.
+use Rattle.std.specs.Prelude.{◌≡◌, ℕ, zero, suc, ◌==◌, ◌||◌, Bool, true, false, Option, Some, None, List, [], ◌∷◌, ◌++◌, codes}
+use Rattle.std.specs.Str.{bytes_eq}
+use Rattle.hir_input.specs.declared.ids.AstIdKind.{AstIdKind}
+use Rattle.hir_input.specs.declared.ids.AstIdKind.TheVariants as kind
+use Rattle.hir_input.specs.declared.ast.Visibility.{Visibility}
+use Rattle.hir_input.specs.declared.ast.Visibility.TheVariants.{Pub, PubCrate, PubSuper, PubSelf}
+use Rattle.hir_input.specs.Syntax.{NamedView, record_fields, no_fields, PlainKind, fn_kind, union_kind, enum_kind, static_kind, trait_kind, type_alias_kind, ast_kind, ItemView, plain_item, const_item, struct_item, use_item, module_from}
+use Rattle.rust_cursor.specs.Words.{documents}
+use Rattle.rust_paths.specs.Names.{plain_name, is_name}
+use Rattle.rust_ids.specs.Row.{Row}
+use Rattle.rust_leaves.specs.Heads.{follows_const}
+use Rattle.rust_leaves.specs.Kinds.{node, named_node}
+use Rattle.rust_leaves.specs.Texts.{bare}
+use Rattle.rust_round.specs.Words.{Word}
+use Rattle.rust_written.specs.UseTrees.{UseTree, use_words, use_view, IsUse}
+use Rattle.rust_round.specs.Trees.{word, mark, open_mark, close_mark, symbol_of, text_of, curly, open_of, close_of, Trees, no_trees, group, tree_words, trees_words, AreTrees, first_of, GoesOn, no_angles, angles_behind_all, AreClear, spaced}
+
+-- ---- visibilities
+
+-- none, `pub`, `pub(crate)`, `pub(super)` and `pub(self)`
+pub data Scope : Type 0 where
+  unwritten : Scope
+  everywhere : Scope
+  in_crate : Scope
+  in_super : Scope
+  in_self : Scope
+
+abbrev pub within : List ℕ → List Word
+within w = word (codes "pub") ∷ open_mark 40 ∷ word w ∷ close_mark 41 ∷ []
+
+abbrev pub scope_words : Scope → List Word
+scope_words unwritten = []
+scope_words everywhere = word (codes "pub") ∷ []
+scope_words in_crate = within (codes "crate")
+scope_words in_super = within (codes "super")
+scope_words in_self = within (codes "self")
+
+abbrev pub scope_view : Scope → Option Visibility
+scope_view unwritten = None
+scope_view everywhere = Some Pub
+scope_view in_crate = Some PubCrate
+scope_view in_super = Some PubSuper
+scope_view in_self = Some PubSelf
+
+-- ---- kinds
+
+-- items that end with a block
+pub data BlockKind : Type 0 where
+  functions : BlockKind
+  unions : BlockKind
+  enums : BlockKind
+  traits : BlockKind
+
+-- items that end with a semicolon
+pub data ValueKind : Type 0 where
+  statics : ValueKind
+  aliases : ValueKind
+  constants : ValueKind
+
+abbrev pub block_word : BlockKind → List ℕ
+block_word functions = codes "fn"
+block_word unions = codes "union"
+block_word enums = codes "enum"
+block_word traits = codes "trait"
+
+abbrev pub block_kind : BlockKind → PlainKind
+block_kind functions = fn_kind
+block_kind unions = union_kind
+block_kind enums = enum_kind
+block_kind traits = trait_kind
+
+abbrev pub value_word : ValueKind → List ℕ
+value_word statics = codes "static"
+value_word aliases = codes "type"
+value_word constants = codes "const"
+
+abbrev pub value_item : ValueKind → NamedView → ItemView
+value_item statics n = plain_item static_kind n
+value_item aliases n = plain_item type_alias_kind n
+value_item constants n = const_item n
+
+abbrev pub value_id : ValueKind → AstIdKind
+value_id statics = kind.Static
+value_id aliases = kind.TypeAlias
+value_id constants = kind.Const
+
+-- ---- items
+
+mutual
+  -- what stands between the name and the block, and in the block; or between the name and the semicolon; a struct without
+  -- fields, or with a block of them; a module with a semicolon, or with items; a use tree
+  pub data Item : Type 0 where
+    blocked : BlockKind → Scope → List ℕ → Trees → Trees → Item
+    valued : ValueKind → Scope → List ℕ → Trees → Item
+    unit_struct : Scope → List ℕ → Item
+    record_struct : Scope → List ℕ → Trees → Item
+    file_module : Scope → List ℕ → Item
+    module_of : Scope → List ℕ → Items → Item
+    used : Scope → UseTree → Item
+
+  pub data Items : Type 0 where
+    no_more : Items
+    also : Item → Items → Items
+
+-- ---- the words
+
+-- trees between braces
+abbrev pub braced : Trees → List Word
+braced b = tree_words (group curly b)
+
+abbrev pub ended : Trees → List Word
+ended t = trees_words t ++ mark 59 ∷ []
+
+abbrev mutual
+  pub item_words : Item → List Word
+  item_words (blocked k v n h b) = scope_words v ++ word (block_word k) ∷ word n ∷ (trees_words h ++ braced b)
+  item_words (valued k v n t) = scope_words v ++ word (value_word k) ∷ word n ∷ ended t
+  item_words (unit_struct v n) = scope_words v ++ word (codes "struct") ∷ word n ∷ ended no_trees
+  item_words (record_struct v n b) = scope_words v ++ word (codes "struct") ∷ word n ∷ braced b
+  item_words (file_module v n) = scope_words v ++ word (codes "mod") ∷ word n ∷ mark 59 ∷ []
+  item_words (used v t) = scope_words v ++ word (codes "use") ∷ (use_words t ++ mark 59 ∷ [])
+  item_words (module_of v n is) = scope_words v ++ word (codes "mod") ∷ word n ∷ open_mark 123 ∷ (words is ++ close_mark 125 ∷ [])
+
+  pub words : Items → List Word
+  words no_more = []
+  words (also i is) = item_words i ++ words is
+
+-- ---- what they are read as
+
+-- without attributes, and without an id as yet
+abbrev pub named_by : Scope → List ℕ → List Word → NamedView
+named_by v n body = named_node [] (Some n) (scope_view v) (spaced body)
+
+abbrev mutual
+  pub item_view : Item → ItemView
+  item_view (blocked k v n h b) = plain_item (block_kind k) (named_by v n (trees_words h ++ braced b))
+  item_view (valued k v n t) = value_item k (named_by v n (ended t))
+  item_view (unit_struct v n) = struct_item (named_by v n (ended no_trees)) no_fields
+  item_view (record_struct v n b) = struct_item (named_by v n (braced b)) record_fields
+  item_view (file_module v n) = module_from (named_by v n []) true None
+  item_view (used v t) = use_item (record { node = node [] []; visibility = scope_view v; use_tree = Some (use_view t) })
+  item_view (module_of v n is) = module_from (named_by v n []) false (Some (views is))
+
+  pub views : Items → List ItemView
+  views no_more = []
+  views (also i is) = item_view i ∷ views is
+
+-- ---- what their ids are made from
+
+abbrev pub row : ℕ → AstIdKind → List ℕ → Row
+row depth kind name = record { depth = depth; kind = kind; name = name }
+
+abbrev mutual
+  pub item_rows : ℕ → Item → List Row
+  item_rows depth (blocked k v n h b) = row depth (ast_kind (block_kind k)) n ∷ []
+  item_rows depth (valued k v n t) = row depth (value_id k) n ∷ []
+  item_rows depth (unit_struct v n) = row depth kind.Struct n ∷ []
+  item_rows depth (record_struct v n b) = row depth kind.Struct n ∷ []
+  item_rows depth (file_module v n) = row depth kind.Module n ∷ []
+  item_rows depth (used v t) = row depth kind.Use [] ∷ []
+  item_rows depth (module_of v n is) = row depth kind.Module n ∷ rows (suc depth) is
+
+  pub rows : ℕ → Items → List Row
+  rows depth no_more = []
+  rows depth (also i is) = item_rows depth i ++ rows depth is
+
+-- ---- which are well formed
+
+-- a name: no keyword, not `_`, and without `r#`
+pub record IsNamed (n : List ℕ) : Type 0 where
+  pub plain : plain_name n ≡ Some n
+  pub name : is_name n ≡ true
+  pub bare : bare n ≡ n
+
+-- in a function's header each angle bracket is closed, and its body begins with no `#` and no documentation
+abbrev pub begins_plain : Word → Bool
+begins_plain w = symbol_of w == 35 || documents w.kind
+
+pub record IsFunction (h b : Trees) : Type 0 where
+  pub clear : AreClear no_angles h
+  pub closed : (angles_behind_all no_angles h).count ≡ 0
+  pub body : begins_plain (first_of b (close_of curly)) ≡ false
+
+abbrev pub IsOfKind : BlockKind → Trees → Trees → Type 0
+IsOfKind functions h b = IsFunction h b
+IsOfKind _ h b = Unit {0}
+
+-- behind `const` a word as `auto` would be read as that of an item, and a `_` behind the name with it
+abbrev pub IsValue : ValueKind → List ℕ → Trees → Type 0
+IsValue constants n t = (follows_const n ≡ false) × (bytes_eq (text_of (first_of t (mark 59))) (codes "_") ≡ false)
+IsValue _ n t = Unit {0}
+
+-- Names are names, brackets stand in pairs, and no part of an item ends it or begins another; modules stand in one another at most so deep.
+abbrev mutual
+  pub IsItem : ℕ → Item → Type 0
+  IsItem left (blocked k v n h b) = IsNamed n × AreTrees h × AreTrees b × GoesOn false h (open_of curly) × IsOfKind k h b
+  IsItem left (valued k v n t) = IsNamed n × AreTrees t × GoesOn true t (mark 59) × IsValue k n t
+  IsItem left (unit_struct v n) = IsNamed n
+  IsItem left (record_struct v n b) = IsNamed n × AreTrees b
+  IsItem left (file_module v n) = IsNamed n
+  IsItem left (used v t) = IsUse 128 t
+  IsItem zero (module_of v n is) = ⊥
+  IsItem (suc left) (module_of v n is) = IsNamed n × AreItems left is
+
+  pub AreItems : ℕ → Items → Type 0
+  AreItems left no_more = Unit {0}
+  AreItems left (also i is) = IsItem left i × AreItems left is
+
+-- ---- what is not typed inside
+
+-- the same without what stands between names and ends
+abbrev mutual
+  pub item_outline : Item → Item
+  item_outline (blocked k v n h b) = blocked k v n no_trees no_trees
+  item_outline (valued k v n t) = valued k v n no_trees
+  item_outline (unit_struct v n) = unit_struct v n
+  item_outline (record_struct v n b) = record_struct v n no_trees
+  item_outline (file_module v n) = file_module v n
+  item_outline (used v t) = used v t
+  item_outline (module_of v n is) = module_of v n (outline is)
+
+  pub outline : Items → Items
+  outline no_more = no_more
+  outline (also i is) = also (item_outline i) (outline is)
