@@ -1,4 +1,5 @@
 pub mod Places
 pub mod Lines
+pub mod Search
 pub mod Views
 pub mod Inner

@@ -4,6 +4,8 @@
 mod lines;
 mod places;
 mod problems;
+mod search;
 
 pub use lines::{Choice, Source, outline};
 pub use problems::problem_lines;
+pub use search::{Query, found_lines};

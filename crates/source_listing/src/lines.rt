@@ -5,6 +5,7 @@ ghost use Rattle.item_rows.specs.Views.{row_view};
 ghost use Rattle.item_rows.specs.Rows as rows;
 ghost use Rattle.source_listing.specs.Lines as spec;
 ghost use Rattle.source_listing.specs.Places.{AreDistinct, place_of, place_text, stands_at};
+ghost use Rattle.source_listing.specs.Search.{found_line};
 ghost use Rattle.source_listing.specs.Views.{choice_view, source_view};
 
 use crate::places::Places;
@@ -127,11 +128,27 @@ fn push_end(is_active: bool, out: &mut String) -> Result<(), AllocError>
 
 /// What the lines of a file are made from.
 #[derive(Drop)]
-struct Printer<'a> {
-    path: &'a str,
-    lines: LineIndex<'a>,
-    places: Places<'a>,
-    edition: &'a Edition,
+pub(crate) struct Printer<'a> {
+    pub(crate) path: &'a str,
+    pub(crate) lines: LineIndex<'a>,
+    pub(crate) places: Places<'a>,
+    pub(crate) edition: &'a Edition,
+}
+
+impl<'a> Printer<'a> {
+    pub(crate) fn new(source: Source<'a>, places: &'a [ItemPlace], edition: &'a Edition) -> Self
+        ensures path { result.path.now ≡ source.entry.path.now }
+        ensures lines { result.lines ≡ source.entry.text.now }
+        ensures places { result.places.all.now ≡ places.entry.now }
+        ensures edition { result.edition ≡ edition.entry }
+    {
+        Printer {
+            path: source.path,
+            lines: LineIndex::new(source.text),
+            places: Places::new(places),
+            edition,
+        }
+    }
 }
 
 impl Printer<'_> {
@@ -172,6 +189,19 @@ impl Printer<'_> {
         push_end(row.is_active, out)
     }
 
+    /// The place, the kind and the name of an item.
+    pub(crate) fn push_found(&mut self, row: &Row<'_>, out: &mut String) -> Result<(), AllocError>
+        requires { AreDistinct self.old.places.all.now }
+        ensures text { let s : spec.Source = record { path = self.old.path.now; text = self.old.lines } in
+            OnOk result (string_bytes out.new ≡ string_bytes out.old ++ found_line s self.old.edition.now.reserved.items self.old.places.all.now (row_view row.now)) }
+        ensures same { (self.new.lines ≡ self.old.lines) × (self.new.places.all.now ≡ self.old.places.all.now) × (self.new.path ≡ self.old.path) × (self.new.edition ≡ self.old.edition) }
+    {
+        self.push_item_place(row, out)?;
+        out.push_str(word(row.id.kind))?;
+        push_name(self.edition, row.name, out)?;
+        out.push_str("\n")
+    }
+
     /// The line of an item, if that is chosen.
     fn push_chosen(
         &mut self,
@@ -207,12 +237,7 @@ pub fn outline(
     requires { AreDistinct places.now }
     ensures { IfOk result (λ text. string_bytes text ≡ spec.outline_text (source_view source.entry) edition.now.reserved.items places.now (choice_view choice) (rows.rows tree.now.forest)) }
 {
-    let mut printer = Printer {
-        path: source.path,
-        lines: LineIndex::new(source.text),
-        places: Places::new(places),
-        edition,
-    };
+    let mut printer = Printer::new(source, places, edition);
     let mut out = String::new(alloc);
     let rows = item_rows(alloc, tree)?;
     for row in &rows {
