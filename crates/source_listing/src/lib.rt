@@ -5,7 +5,9 @@ mod lines;
 mod places;
 mod problems;
 mod search;
+mod tags;
 
 pub use lines::{Choice, Source, outline};
 pub use problems::problem_lines;
 pub use search::{Query, found_lines};
+pub use tags::push_tags;

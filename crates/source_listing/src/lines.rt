@@ -33,7 +33,7 @@ pub struct Choice {
 }
 
 impl Choice {
-    fn lists(self, row: &Row<'_>) -> bool
+    pub(crate) fn lists(self, row: &Row<'_>) -> bool
         ensures { result ≡ spec.is_listed (choice_view self) (row_view row.now) }
     {
         let is_within = match self.depth {

@@ -33,7 +33,7 @@ fn push_segment(name: &Name, path: &mut String) -> Result<(), AllocError>
     path.push_str(name.text())
 }
 
-fn push_scope(scope: &[&Name], path: &mut String) -> Result<(), AllocError>
+pub(crate) fn push_scope(scope: &[&Name], path: &mut String) -> Result<(), AllocError>
     ensures { OnOk result (string_bytes path.new ≡ string_bytes path.old ++ flat_map (λ n. spec.segment n.now) scope.now) }
 {
     for name in scope {
