@@ -61,11 +61,12 @@ part() {
     return "$status"
 }
 
-planned=8
+planned=9
 # The gate leaves the programs and the tests as it built them; after one that failed they would be those of an earlier text.
 if part 'the merge gate' rt ci; then
     part 'the requests' tests/requests.sh "$program"
     part 'the outlines' tests/requests.sh "$outlines" outlines
+    part 'the command line' tests/itemtree.py
     part 'refused memory' tests/refused_memory.sh "$program" "$outlines" "${tests[@]}"
     part 'what must not compile' tests/must_not_compile.sh
     part 'damaged requests' tests/hostile_bytes.py "$program" --seconds 60 --count 8000

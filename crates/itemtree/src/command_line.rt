@@ -4,7 +4,7 @@ use std::alloc::Global;
 
 static YEARS: [&str; 4] = ["2015", "2018", "2021", "2024"];
 
-fn files(alloc: Global) -> Arg<'static> {
+fn files<'a>(alloc: Global) -> Arg<'a> {
     Arg::new(alloc, "files")
         .value_name("FILE")
         .required(true)
@@ -13,19 +13,19 @@ fn files(alloc: Global) -> Arg<'static> {
         .help("Rust files; a folder stands for its .rs files at every depth, and - for standard input")
 }
 
-fn flag(alloc: Global, name: &'static str, help: &'static str) -> Arg<'static> {
+fn flag<'a>(alloc: Global, name: &'static str, help: &'static str) -> Arg<'a> {
     Arg::new(alloc, name)
         .long(name)
         .action(ArgAction::SetTrue)
         .help(help)
 }
 
-fn value(
+fn value<'a>(
     alloc: Global,
     name: &'static str,
     value: &'static str,
     help: &'static str,
-) -> Arg<'static> {
+) -> Arg<'a> {
     Arg::new(alloc, name)
         .long(name)
         .value_name(value)
@@ -33,12 +33,12 @@ fn value(
         .help(help)
 }
 
-fn values(
+fn values<'a>(
     alloc: Global,
     name: &'static str,
     value: &'static str,
     help: &'static str,
-) -> Arg<'static> {
+) -> Arg<'a> {
     Arg::new(alloc, name)
         .long(name)
         .value_name(value)
@@ -47,10 +47,10 @@ fn values(
 }
 
 /// The options that every command has.
-fn with_options(
+fn with_options<'a>(
     alloc: Global,
-    command: Command<'static>,
-) -> Result<Command<'static>, Error> {
+    command: Command<'a>,
+) -> Result<Command<'a>, Error> {
     let edition = value(alloc, "edition", "YEAR", "Whose reserved words are written as r#..")
         .value_parser(YEARS.as_slice())
         .default_value("2024");
@@ -63,16 +63,16 @@ fn with_options(
     Ok(command)
 }
 
-fn on_files(
+fn on_files<'a>(
     alloc: Global,
     name: &'static str,
     about: &'static str,
-) -> Result<Command<'static>, Error> {
+) -> Result<Command<'a>, Error> {
     let command = Command::new(alloc, name).about(about);
     with_options(alloc, command)
 }
 
-fn outline(alloc: Global) -> Result<Command<'static>, Error> {
+fn outline<'a>(alloc: Global) -> Result<Command<'a>, Error> {
     let depth = value(alloc, "depth", "N", "Only items in fewer than N others")
         .value_parser(clap::value_parser!(u32));
     let command = on_files(alloc, "outline", "Lists the items of files")?
@@ -81,19 +81,19 @@ fn outline(alloc: Global) -> Result<Command<'static>, Error> {
     Ok(command)
 }
 
-fn page(alloc: Global) -> Result<Command<'static>, Error> {
+fn page<'a>(alloc: Global) -> Result<Command<'a>, Error> {
     let command = on_files(alloc, "page", "Writes the debug pages of item trees, as rust-analyzer shows them")?
         .arg(files(alloc))?;
     Ok(command)
 }
 
-fn check(alloc: Global) -> Result<Command<'static>, Error> {
+fn check<'a>(alloc: Global) -> Result<Command<'a>, Error> {
     let command = on_files(alloc, "check", "Tells what could not be read; status 1 if there is any")?
         .arg(files(alloc))?;
     Ok(command)
 }
 
-fn imports(alloc: Global) -> Result<Command<'static>, Error> {
+fn imports<'a>(alloc: Global) -> Result<Command<'a>, Error> {
     let command = on_files(alloc, "imports", "Lists the imports of files")?
         .arg(flag(
             alloc,
@@ -104,7 +104,7 @@ fn imports(alloc: Global) -> Result<Command<'static>, Error> {
     Ok(command)
 }
 
-fn find(alloc: Global) -> Result<Command<'static>, Error> {
+fn find<'a>(alloc: Global) -> Result<Command<'a>, Error> {
     let name = Arg::new(alloc, "name")
         .value_name("NAME")
         .required(true)
@@ -115,7 +115,7 @@ fn find(alloc: Global) -> Result<Command<'static>, Error> {
     Ok(command)
 }
 
-fn tags(alloc: Global) -> Result<Command<'static>, Error> {
+fn tags<'a>(alloc: Global) -> Result<Command<'a>, Error> {
     let output = Arg::new(alloc, "output")
         .short('o')
         .long("output")
@@ -129,7 +129,7 @@ fn tags(alloc: Global) -> Result<Command<'static>, Error> {
 }
 
 /// The whole command line.
-pub(crate) fn command(alloc: Global) -> Result<Command<'static>, Error> {
+pub(crate) fn command<'a>(alloc: Global) -> Result<Command<'a>, Error> {
     let command = Command::new(alloc, "itemtree")
         .version("0.1.0")
         .about("Answers what people ask of Rust files")

@@ -10,6 +10,8 @@ mod words;
 
 use crate::command_line::command;
 use crate::commands::{Failure, run_command};
+use clap::{ArgMatches, Error};
+use std::alloc::Global;
 use std::env;
 use std::io;
 use std::process::ExitCode;
@@ -23,6 +25,12 @@ fn arguments(rt: &HostRuntime) -> io::Result<Vec<String>> {
     Ok(words)
 }
 
+/// What is asked on a command line.
+fn parse<'a>(alloc: Global, words: &'a [String]) -> Result<ArgMatches<'a>, Error> {
+    let command = command(alloc)?;
+    command.try_get_matches_from(words)
+}
+
 fn main(rt: HostRuntime) -> ExitCode {
     let words: Vec<String> = match arguments(&rt) {
         Ok(words) => words,
@@ -31,7 +39,7 @@ fn main(rt: HostRuntime) -> ExitCode {
             return ExitCode::from(2);
         }
     };
-    let matches = match command(rt.alloc()).and_then(|command| command.try_get_matches_from(&words)) {
+    let matches = match parse(rt.alloc(), &words) {
         Ok(matches) => matches,
         Err(error) => {
             let _ = error.print(&rt);
