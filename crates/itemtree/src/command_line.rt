@@ -95,11 +95,6 @@ fn check<'a>(alloc: Global) -> Result<Command<'a>, Error> {
 
 fn imports<'a>(alloc: Global) -> Result<Command<'a>, Error> {
     let command = on_files(alloc, "imports", "Lists the imports of files")?
-        .arg(flag(
-            alloc,
-            "duplicates",
-            "Only those that repeat an earlier one of the same module",
-        ))?
         .arg(files(alloc))?;
     Ok(command)
 }

@@ -3,7 +3,7 @@ use crate::files::{files_of_folder, is_a_folder, read};
 use crate::options::read_options;
 use crate::tags::write_tags;
 use clap::ArgMatches;
-use itemtree_commands::{Options, check, find, outline, page, push_tags};
+use itemtree_commands::{Options, check, find, imports, outline, page, push_tags};
 use source_listing::{Query, Source};
 use source_tree::SourceError;
 use std::alloc::{AllocError, Global};
@@ -42,6 +42,7 @@ impl From<AllocError> for Failure {
 enum Action {
     Outline { depth: Option<usize> },
     Page,
+    Imports,
     Find { path: String, is_anywhere: bool },
     Tags { lines: Vec<String> },
     Check,
@@ -58,6 +59,7 @@ impl Action {
         match self {
             Action::Outline { depth } => Ok((outline(alloc, source, options, *depth)?, true)),
             Action::Page => Ok((page(alloc, source.text, options)?, true)),
+            Action::Imports => Ok((imports(alloc, source, options)?, true)),
             Action::Find { path, is_anywhere } => {
                 let query = Query {
                     path: path.as_str(),
@@ -175,6 +177,7 @@ fn action_of(
             Ok(Action::Outline { depth })
         }
         "page" => Ok(Action::Page),
+        "imports" => Ok(Action::Imports),
         "find" => path_of_names(alloc, matches.get_str("name").unwrap_or("")),
         "tags" => {
             let lines = Vec::new(alloc);
@@ -199,7 +202,7 @@ fn finish(run: Run<'_>, matches: &ArgMatches<'_>) -> Result<u8, Failure> {
             Ok(status)
         }
         Action::Find { .. } => Ok(if has_written { status } else { 1 }),
-        Action::Outline { .. } | Action::Page | Action::Check => Ok(status),
+        Action::Outline { .. } | Action::Page | Action::Imports | Action::Check => Ok(status),
     }
 }
 

@@ -2,6 +2,7 @@
 use Rattle.std.specs.Prelude.{◌≡◌, ◌↔◌, ℕ, Bool, IsTrue, Option, None, List, ◌++◌, length, string_bytes}
 use Rattle.item_tree.specs.Page.{page}
 use Rattle.item_rows.specs.Rows.{rows}
+use Rattle.source_listing.specs.Imports.{import_lines}
 use Rattle.source_listing.specs.Lines.{Choice, Source, outline_text, problem_lines}
 use Rattle.source_listing.specs.Search.{Query, found_lines}
 use Rattle.source_listing.specs.Tags.{tags}
@@ -23,6 +24,10 @@ choice o depth = record { depth = depth; only_active = o.only_active }
 abbrev pub IsOutline : Options → Option ℕ → Source → List ℕ → Type 0
 IsOutline o depth s out =
     (t : SourceTree) × HasTree o s.text t × (out ≡ outline_text s o.edition.reserved.items t.places.items (choice o depth) (rows t.tree.forest))
+
+-- the lines of the imports
+abbrev pub AreImports : Options → Source → List ℕ → Type 0
+AreImports o s out = (t : SourceTree) × HasTree o s.text t × (out ≡ import_lines s o.edition.reserved.items t.places.items t.tree.forest)
 
 -- the lines of the items that are looked for
 abbrev pub AreFound : Options → Query → Source → List ℕ → Type 0

@@ -109,6 +109,23 @@ pub fn find(
     Ok(text)
 }
 
+/// `itemtree imports`: a line for each import.
+///
+/// Its errors are those of `source_tree`.
+pub fn imports(
+    alloc: Global,
+    source: Source<'_>,
+    options: &Options,
+) -> Result<String, SourceError>
+    ensures text { IfOk result (λ out. spec.AreImports options.now (source_view source.entry) (string_bytes out)) }
+    ensures refused { IfErr result (spec.HasNoTree options.now source.entry.text.now) }
+{
+    let file = read(alloc, source.text, options)?;
+    let edition = &options.edition;
+    let text = source_listing::import_lines(alloc, source, &file.places, &file.tree, edition)?;
+    Ok(text)
+}
+
 /// `itemtree tags`: adds the tags of the file.
 ///
 /// Its errors are those of `source_tree`.

@@ -1,5 +1,6 @@
 pub mod Places
 pub mod Lines
+pub mod Imports
 pub mod Search
 pub mod Tags
 pub mod Views

@@ -9,7 +9,7 @@ ghost use Rattle.source_listing.specs.Search.{found_line};
 ghost use Rattle.source_listing.specs.Views.{choice_view, source_view};
 
 use crate::places::Places;
-use hir_input::{AstIdKind, Edition, Name};
+use hir_input::{AstIdKind, Edition, FileAstId, Name};
 use item_rows::{Row, item_rows};
 use item_tree::{ItemTree, RawVisibility, VisibilityExplicitness};
 use line_index::{LineIndex, Position};
@@ -152,14 +152,18 @@ impl<'a> Printer<'a> {
 }
 
 impl Printer<'_> {
-    /// Where an item stands.
-    fn push_item_place(&mut self, row: &Row<'_>, out: &mut String) -> Result<(), AllocError>
+    /// Where the item of an id stands.
+    pub(crate) fn push_place_of(
+        &mut self,
+        id: FileAstId,
+        out: &mut String,
+    ) -> Result<(), AllocError>
         requires { AreDistinct self.old.places.all.now }
         ensures text { let s : spec.Source = record { path = self.old.path.now; text = self.old.lines } in
-            OnOk result (string_bytes out.new ≡ string_bytes out.old ++ spec.item_place s (place_of row.now.id self.old.places.all.now)) }
+            OnOk result (string_bytes out.new ≡ string_bytes out.old ++ spec.item_place s (place_of id self.old.places.all.now)) }
         ensures same { (self.new.lines ≡ self.old.lines) × (self.new.places.all.now ≡ self.old.places.all.now) × (self.new.path ≡ self.old.path) × (self.new.edition ≡ self.old.edition) }
     {
-        match self.places.find(row.id) {
+        match self.places.find(id) {
             Some(place) => {
                 let at = match place.name {
                     Some(name) => name.start,
@@ -181,7 +185,7 @@ impl Printer<'_> {
             OnOk result (string_bytes out.new ≡ string_bytes out.old ++ spec.item_line s self.old.edition.now.reserved.items self.old.places.all.now (row_view row.now)) }
         ensures same { (self.new.lines ≡ self.old.lines) × (self.new.places.all.now ≡ self.old.places.all.now) × (self.new.path ≡ self.old.path) × (self.new.edition ≡ self.old.edition) }
     {
-        self.push_item_place(row, out)?;
+        self.push_place_of(row.id, out)?;
         push_indent(row.level, out)?;
         push_visibility(self.edition, row.visibility, out)?;
         out.push_str(word(row.id.kind))?;
@@ -196,7 +200,7 @@ impl Printer<'_> {
             OnOk result (string_bytes out.new ≡ string_bytes out.old ++ found_line s self.old.edition.now.reserved.items self.old.places.all.now (row_view row.now)) }
         ensures same { (self.new.lines ≡ self.old.lines) × (self.new.places.all.now ≡ self.old.places.all.now) × (self.new.path ≡ self.old.path) × (self.new.edition ≡ self.old.edition) }
     {
-        self.push_item_place(row, out)?;
+        self.push_place_of(row.id, out)?;
         out.push_str(word(row.id.kind))?;
         push_name(self.edition, row.name, out)?;
         out.push_str("\n")
