@@ -7,6 +7,7 @@ set -uo pipefail
 cd "$(dirname "$(realpath "${BASH_SOURCE[0]}")")" || exit 1
 program=crates/item_tree_tool/out/item_tree_tool
 outlines=crates/outline_tool/out/outline_tool
+itemtree=crates/itemtree/out/itemtree
 tests=()
 for name in hir_input_tests item_tree_tests item_tree_db_tests rust_items_tests; do
     tests+=("crates/$name/out/${name}_tests")
@@ -61,12 +62,13 @@ part() {
     return "$status"
 }
 
-planned=8
+planned=9
 # The gate leaves the programs and the tests as it built them; after one that failed they would be those of an earlier text.
 if part 'the merge gate' rt ci; then
     part 'the requests' tests/requests.sh "$program"
     part 'the outlines' tests/requests.sh "$outlines" outlines
-    part 'refused memory' tests/refused_memory.sh "$program" "$outlines" "${tests[@]}"
+    part 'the command line' tests/itemtree.py
+    part 'refused memory' tests/refused_memory.sh "$program" "$outlines" "$itemtree" "${tests[@]}"
     part 'what must not compile' tests/must_not_compile.sh
     part 'damaged requests' tests/hostile_bytes.py "$program" --seconds 60 --count 8000
     part 'streams' tests/streams.sh "$program"

@@ -2,17 +2,19 @@
 # Refuses each request for memory in turn, one a run, until a run makes no further request; and from a mark on all of them, in
 # tests of what takes no memory. As many subjects are tried at once as there are processors.
 #
-#   refused_memory.sh PROGRAM OUTLINES TESTS ..
+#   refused_memory.sh PROGRAM OUTLINES ITEMTREE TESTS ..
 #
 # The program on each request of tests/requests that it answers, and OUTLINES on each of tests/outlines, has to end with status 5,
-# the line `out of memory` and nothing written.
+# the line `out of memory` and nothing written. ITEMTREE with each of its commands on a small file has to end with status 1, a line
+# that ends so, and nothing written.
 # Each test of the binaries TESTS whose name holds `when_memory_is_refused` has to pass in every run. Each whose name holds
 # `where_no_memory_is_left` has to pass where all requests between its marks are refused, and to make only the one there by
 # which it sees that.
 set -uo pipefail
 program=$(realpath "$1")
 outlines=$(realpath "$2")
-shift 2
+itemtree=$(realpath "$3")
+shift 3
 mapfile -t binaries < <(realpath "$@")
 here=$(cd "$(dirname "${BASH_SOURCE[0]}")" && pwd)
 work=$(mktemp -d)
@@ -52,6 +54,20 @@ try_request() {
     judge $? "$2: status $status with no request for memory refused"
 }
 
+# A command of itemtree, in one word, on a small file.
+try_command() {
+    local request command
+    read -ra command <<< "$2"
+    for ((request = 1; ; request++)); do
+        refuse "$request" "$1" "${command[@]}" "$here/itemtree/shapes.rs"
+        [ "$made" -ge "$request" ] || break
+        [ "$status" = 1 ] && [ ! -s "$own/out" ] && [[ $(cat "$own/err") = *'out of memory' ]]
+        judge $? "itemtree $2: status $status with request $request for memory refused"
+    done
+    [ "$status" = 0 ]
+    judge $? "itemtree $2: status $status with no request for memory refused"
+}
+
 # A test of a binary.
 try_test() {
     local request
@@ -76,7 +92,7 @@ try() {
     "$@"
     echo "counts: $1 $passed $failed"
 }
-export -f refuse ended_out_of_memory judge try_request try_test try_marked try
+export -f refuse ended_out_of_memory judge try_request try_command try_test try_marked try
 
 # Each subject is three words, ended by a null byte each, since a path may hold any other.
 subjects() {
@@ -84,6 +100,7 @@ subjects() {
     cd "$here" || exit 2
     for name in requests/*/*.out; do printf '%s\0' try_request "$program" "${name%.out}"; done
     for name in outlines/*/*.out; do printf '%s\0' try_request "$outlines" "${name%.out}"; done
+    for name in outline page imports 'find area' 'tags -o -' check; do printf '%s\0' try_command "$itemtree" "$name"; done
     for binary in "${binaries[@]}"; do
         while IFS= read -r name; do
             case $name in
@@ -100,6 +117,7 @@ grep -v '^counts: ' "$work/told"
 awk '/^counts: / { passed += $3; failed += $4; subjects[$2]++; refused[$2] += $3 + $4 - 1 }
      END {
          printf "%d requests of the programs: %d times memory was refused\n", subjects["try_request"], refused["try_request"]
+         printf "%d commands of itemtree: %d times memory was refused\n", subjects["try_command"], refused["try_command"]
          printf "%d tests: %d times memory was refused\n", subjects["try_test"], refused["try_test"]
          printf "%d tests: no memory was left\n", subjects["try_marked"]
          printf "refused_memory: %d passed, %d failed\n", passed, failed

@@ -1,10 +1,15 @@
 -- What the code holds, as plain data.
 use Rattle.source_listing.specs.declared.lines.Source as code_source
 use Rattle.source_listing.specs.declared.lines.Choice as code_choice
+use Rattle.source_listing.specs.declared.search.Query as code_query
 use Rattle.source_listing.specs.Lines.{Source, Choice}
+use Rattle.source_listing.specs.Search.{Query}
 
 abbrev pub source_view : code_source.Source → Source
 source_view s = record { path = s.path.now; text = s.text.now }
 
 abbrev pub choice_view : code_choice.Choice → Choice
 choice_view c = record { depth = c.depth; only_active = c.only_active }
+
+abbrev pub query_view : code_query.Query → Query
+query_view q = record { path = q.path.now; is_anywhere = q.is_anywhere; only_active = q.only_active }

@@ -5,10 +5,11 @@ ghost use Rattle.item_rows.specs.Views.{row_view};
 ghost use Rattle.item_rows.specs.Rows as rows;
 ghost use Rattle.source_listing.specs.Lines as spec;
 ghost use Rattle.source_listing.specs.Places.{AreDistinct, place_of, place_text, stands_at};
+ghost use Rattle.source_listing.specs.Search.{found_line};
 ghost use Rattle.source_listing.specs.Views.{choice_view, source_view};
 
 use crate::places::Places;
-use hir_input::{AstIdKind, Edition, Name};
+use hir_input::{AstIdKind, Edition, FileAstId, Name};
 use item_rows::{Row, item_rows};
 use item_tree::{ItemTree, RawVisibility, VisibilityExplicitness};
 use line_index::{LineIndex, Position};
@@ -32,7 +33,7 @@ pub struct Choice {
 }
 
 impl Choice {
-    fn lists(self, row: &Row<'_>) -> bool
+    pub(crate) fn lists(self, row: &Row<'_>) -> bool
         ensures { result ≡ spec.is_listed (choice_view self) (row_view row.now) }
     {
         let is_within = match self.depth {
@@ -127,22 +128,42 @@ fn push_end(is_active: bool, out: &mut String) -> Result<(), AllocError>
 
 /// What the lines of a file are made from.
 #[derive(Drop)]
-struct Printer<'a> {
-    path: &'a str,
-    lines: LineIndex<'a>,
-    places: Places<'a>,
-    edition: &'a Edition,
+pub(crate) struct Printer<'a> {
+    pub(crate) path: &'a str,
+    pub(crate) lines: LineIndex<'a>,
+    pub(crate) places: Places<'a>,
+    pub(crate) edition: &'a Edition,
+}
+
+impl<'a> Printer<'a> {
+    pub(crate) fn new(source: Source<'a>, places: &'a [ItemPlace], edition: &'a Edition) -> Self
+        ensures path { result.path.now ≡ source.entry.path.now }
+        ensures lines { result.lines ≡ source.entry.text.now }
+        ensures places { result.places.all.now ≡ places.entry.now }
+        ensures edition { result.edition ≡ edition.entry }
+    {
+        Printer {
+            path: source.path,
+            lines: LineIndex::new(source.text),
+            places: Places::new(places),
+            edition,
+        }
+    }
 }
 
 impl Printer<'_> {
-    /// Where an item stands.
-    fn push_item_place(&mut self, row: &Row<'_>, out: &mut String) -> Result<(), AllocError>
+    /// Where the item of an id stands.
+    pub(crate) fn push_place_of(
+        &mut self,
+        id: FileAstId,
+        out: &mut String,
+    ) -> Result<(), AllocError>
         requires { AreDistinct self.old.places.all.now }
         ensures text { let s : spec.Source = record { path = self.old.path.now; text = self.old.lines } in
-            OnOk result (string_bytes out.new ≡ string_bytes out.old ++ spec.item_place s (place_of row.now.id self.old.places.all.now)) }
+            OnOk result (string_bytes out.new ≡ string_bytes out.old ++ spec.item_place s (place_of id self.old.places.all.now)) }
         ensures same { (self.new.lines ≡ self.old.lines) × (self.new.places.all.now ≡ self.old.places.all.now) × (self.new.path ≡ self.old.path) × (self.new.edition ≡ self.old.edition) }
     {
-        match self.places.find(row.id) {
+        match self.places.find(id) {
             Some(place) => {
                 let at = match place.name {
                     Some(name) => name.start,
@@ -164,12 +185,25 @@ impl Printer<'_> {
             OnOk result (string_bytes out.new ≡ string_bytes out.old ++ spec.item_line s self.old.edition.now.reserved.items self.old.places.all.now (row_view row.now)) }
         ensures same { (self.new.lines ≡ self.old.lines) × (self.new.places.all.now ≡ self.old.places.all.now) × (self.new.path ≡ self.old.path) × (self.new.edition ≡ self.old.edition) }
     {
-        self.push_item_place(row, out)?;
+        self.push_place_of(row.id, out)?;
         push_indent(row.level, out)?;
         push_visibility(self.edition, row.visibility, out)?;
         out.push_str(word(row.id.kind))?;
         push_name(self.edition, row.name, out)?;
         push_end(row.is_active, out)
+    }
+
+    /// The place, the kind and the name of an item.
+    pub(crate) fn push_found(&mut self, row: &Row<'_>, out: &mut String) -> Result<(), AllocError>
+        requires { AreDistinct self.old.places.all.now }
+        ensures text { let s : spec.Source = record { path = self.old.path.now; text = self.old.lines } in
+            OnOk result (string_bytes out.new ≡ string_bytes out.old ++ found_line s self.old.edition.now.reserved.items self.old.places.all.now (row_view row.now)) }
+        ensures same { (self.new.lines ≡ self.old.lines) × (self.new.places.all.now ≡ self.old.places.all.now) × (self.new.path ≡ self.old.path) × (self.new.edition ≡ self.old.edition) }
+    {
+        self.push_place_of(row.id, out)?;
+        out.push_str(word(row.id.kind))?;
+        push_name(self.edition, row.name, out)?;
+        out.push_str("\n")
     }
 
     /// The line of an item, if that is chosen.
@@ -207,12 +241,7 @@ pub fn outline(
     requires { AreDistinct places.now }
     ensures { IfOk result (λ text. string_bytes text ≡ spec.outline_text (source_view source.entry) edition.now.reserved.items places.now (choice_view choice) (rows.rows tree.now.forest)) }
 {
-    let mut printer = Printer {
-        path: source.path,
-        lines: LineIndex::new(source.text),
-        places: Places::new(places),
-        edition,
-    };
+    let mut printer = Printer::new(source, places, edition);
     let mut out = String::new(alloc);
     let rows = item_rows(alloc, tree)?;
     for row in &rows {

@@ -7,6 +7,6 @@ use Rattle.source_listing.proofs.lines.Printer.push_item.Goals as goal
 
 pub returns-clause-text : goal.returns-clause-text
 returns-clause-text c =
-    on_ok_weaker c.push_end.result (six_pushed (string_bytes c.args.out.now) _ _ (spec.visibility_text c.args.self.now.edition.now.reserved.items (option_copied c.args.row.now.visibility)) _ (spec.name_text c.args.self.now.edition.now.reserved.items (option_copied c.args.row.now.name)) _ (string_bytes c.push_item_place.new.out) (string_bytes c.push_indent.new.out) (string_bytes c.push_visibility.new.out)
-    (string_bytes c.push_str.new.self) (string_bytes c.push_name.new.out) (string_bytes c.push_end.new.out) c.in_ok-push_item_place.ensures.text c.in_ok-push_indent.ensures (search rules)
+    on_ok_weaker c.push_end.result (six_pushed (string_bytes c.args.out.now) _ _ (spec.visibility_text c.args.self.now.edition.now.reserved.items (option_copied c.args.row.now.visibility)) _ (spec.name_text c.args.self.now.edition.now.reserved.items (option_copied c.args.row.now.name)) _ (string_bytes c.push_place_of.new.out) (string_bytes c.push_indent.new.out) (string_bytes c.push_visibility.new.out)
+    (string_bytes c.push_str.new.self) (string_bytes c.push_name.new.out) (string_bytes c.push_end.new.out) c.in_ok-push_place_of.ensures.text c.in_ok-push_indent.ensures (search rules)
     (c.in_ok-push_str.ensures.bytes ∙ ap (λ w. string_bytes c.push_visibility.new.out ++ w) c.word.ensures) (search rules)) c.push_end.ensures

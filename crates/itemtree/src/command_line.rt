@@ -1,0 +1,140 @@
+//! The command line.
+use clap::{Arg, ArgAction, Command, Error};
+use std::alloc::Global;
+
+static YEARS: [&str; 4] = ["2015", "2018", "2021", "2024"];
+
+fn files<'a>(alloc: Global) -> Arg<'a> {
+    Arg::new(alloc, "files")
+        .value_name("FILE")
+        .required(true)
+        .num_args(1..)
+        .action(ArgAction::Append)
+        .help("Rust files; a folder stands for its .rs files at every depth, and - for standard input")
+}
+
+fn flag<'a>(alloc: Global, name: &'static str, help: &'static str) -> Arg<'a> {
+    Arg::new(alloc, name)
+        .long(name)
+        .action(ArgAction::SetTrue)
+        .help(help)
+}
+
+fn value<'a>(
+    alloc: Global,
+    name: &'static str,
+    value: &'static str,
+    help: &'static str,
+) -> Arg<'a> {
+    Arg::new(alloc, name)
+        .long(name)
+        .value_name(value)
+        .action(ArgAction::Set)
+        .help(help)
+}
+
+fn values<'a>(
+    alloc: Global,
+    name: &'static str,
+    value: &'static str,
+    help: &'static str,
+) -> Arg<'a> {
+    Arg::new(alloc, name)
+        .long(name)
+        .value_name(value)
+        .action(ArgAction::Append)
+        .help(help)
+}
+
+/// The options that every command has.
+fn with_options<'a>(
+    alloc: Global,
+    command: Command<'a>,
+) -> Result<Command<'a>, Error> {
+    let edition = value(alloc, "edition", "YEAR", "Whose reserved words are written as r#..")
+        .value_parser(YEARS.as_slice())
+        .default_value("2024");
+    let command = command
+        .arg(values(alloc, "cfg", "SPEC", "A cfg that is set: NAME or KEY=\"VALUE\""))?
+        .arg(flag(alloc, "active", "Leave out what a cfg disables"))?
+        .arg(edition)?
+        .arg(values(alloc, "skip", "NAME", "An attribute to leave out, in place of the usual list"))?
+        .arg(flag(alloc, "docs", "Keep documentation"))?;
+    Ok(command)
+}
+
+fn on_files<'a>(
+    alloc: Global,
+    name: &'static str,
+    about: &'static str,
+) -> Result<Command<'a>, Error> {
+    let command = Command::new(alloc, name).about(about);
+    with_options(alloc, command)
+}
+
+fn outline<'a>(alloc: Global) -> Result<Command<'a>, Error> {
+    let depth = value(alloc, "depth", "N", "Only items in fewer than N others")
+        .value_parser(clap::value_parser!(u32));
+    let command = on_files(alloc, "outline", "Lists the items of files")?
+        .arg(depth)?
+        .arg(files(alloc))?;
+    Ok(command)
+}
+
+fn page<'a>(alloc: Global) -> Result<Command<'a>, Error> {
+    let command = on_files(alloc, "page", "Writes the debug pages of item trees, as rust-analyzer shows them")?
+        .arg(files(alloc))?;
+    Ok(command)
+}
+
+fn check<'a>(alloc: Global) -> Result<Command<'a>, Error> {
+    let command = on_files(alloc, "check", "Tells what could not be read; status 1 if there is any")?
+        .arg(files(alloc))?;
+    Ok(command)
+}
+
+fn imports<'a>(alloc: Global) -> Result<Command<'a>, Error> {
+    let command = on_files(alloc, "imports", "Lists the imports of files")?
+        .arg(files(alloc))?;
+    Ok(command)
+}
+
+fn find<'a>(alloc: Global) -> Result<Command<'a>, Error> {
+    let name = Arg::new(alloc, "name")
+        .value_name("NAME")
+        .required(true)
+        .help("a::b::f from a file's top; f or ::b::f at any depth");
+    let command = on_files(alloc, "find", "Tells where a path of names is declared; status 1 where nowhere")?
+        .arg(name)?
+        .arg(files(alloc))?;
+    Ok(command)
+}
+
+fn tags<'a>(alloc: Global) -> Result<Command<'a>, Error> {
+    let output = Arg::new(alloc, "output")
+        .short('o')
+        .long("output")
+        .value_name("FILE")
+        .default_value("tags")
+        .help("Where to write them; - for standard output");
+    let command = on_files(alloc, "tags", "Writes a tags file, by which editors jump to names")?
+        .arg(output)?
+        .arg(files(alloc))?;
+    Ok(command)
+}
+
+/// The whole command line.
+pub(crate) fn command<'a>(alloc: Global) -> Result<Command<'a>, Error> {
+    let command = Command::new(alloc, "itemtree")
+        .version("0.1.0")
+        .about("Answers what people ask of Rust files")
+        .subcommand_required(true)
+        .arg_required_else_help(true)
+        .subcommand(outline(alloc)?)?
+        .subcommand(page(alloc)?)?
+        .subcommand(imports(alloc)?)?
+        .subcommand(find(alloc)?)?
+        .subcommand(tags(alloc)?)?
+        .subcommand(check(alloc)?)?;
+    Ok(command)
+}

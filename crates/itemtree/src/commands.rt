@@ -1,0 +1,231 @@
+//! The commands, file by file.
+use crate::files::{files_of_folder, is_a_folder, read};
+use crate::options::read_options;
+use crate::tags::write_tags;
+use clap::ArgMatches;
+use itemtree_commands::{Options, check, find, imports, outline, page, push_tags};
+use source_listing::{Query, Source};
+use source_tree::SourceError;
+use std::alloc::{AllocError, Global};
+use std::fmt::Display;
+use std::io;
+use std::io::Write;
+
+/// Why a run ends early.
+#[derive(Debug, Drop)]
+pub(crate) enum Failure {
+    /// Nobody reads what is written.
+    Closed,
+    /// The command line is wrong.
+    Usage(String),
+    Other(io::Error),
+}
+
+impl From<io::Error> for Failure {
+    fn from(error: io::Error) -> Failure {
+        if error.kind() == io::ErrorKind::BrokenPipe {
+            Failure::Closed
+        } else {
+            Failure::Other(error)
+        }
+    }
+}
+
+impl From<AllocError> for Failure {
+    fn from(error: AllocError) -> Failure {
+        Failure::Other(io::Error::from(error))
+    }
+}
+
+/// What is done with each file.
+#[derive(Drop)]
+enum Action {
+    Outline { depth: Option<usize> },
+    Page,
+    Imports,
+    Find { path: String, is_anywhere: bool },
+    Tags { lines: Vec<String> },
+    Check,
+}
+
+impl Action {
+    /// What is written of a file, and whether the file is as it should be.
+    fn answer(
+        &mut self,
+        alloc: Global,
+        options: &Options,
+        source: Source<'_>,
+    ) -> Result<(String, bool), SourceError> {
+        match self {
+            Action::Outline { depth } => Ok((outline(alloc, source, options, *depth)?, true)),
+            Action::Page => Ok((page(alloc, source.text, options)?, true)),
+            Action::Imports => Ok((imports(alloc, source, options)?, true)),
+            Action::Find { path, is_anywhere } => {
+                let query = Query {
+                    path: path.as_str(),
+                    is_anywhere: *is_anywhere,
+                    only_active: options.only_active,
+                };
+                Ok((find(alloc, source, options, query)?, true))
+            }
+            Action::Tags { lines } => {
+                push_tags(alloc, source, options, lines)?;
+                Ok((String::new(alloc), true))
+            }
+            Action::Check => {
+                let checked = check(alloc, source, options)?;
+                Ok((checked.text, checked.is_clean))
+            }
+        }
+    }
+}
+
+/// A command over files.
+#[derive(Drop)]
+struct Run<'a> {
+    rt: &'a HostRuntime,
+    options: &'a Options,
+    action: Action,
+    status: u8,
+    /// Whether anything was written.
+    has_written: bool,
+}
+
+impl Run<'_> {
+    /// Tells on standard error that a file is not done.
+    fn complain(&mut self, path: &str, error: impl Display + Drop) {
+        self.status = 1;
+        let _ = eprintln!(self.rt; "itemtree: {path}: {error}");
+    }
+
+    fn write(&mut self, text: &str, is_good: bool) -> io::Result<()> {
+        if !is_good {
+            self.status = 1;
+        }
+        if !text.is_empty() {
+            self.has_written = true;
+        }
+        self.rt.stdout().write_all(text.as_bytes())
+    }
+
+    fn do_text(&mut self, path: &str, text: &str) -> Result<(), Failure> {
+        let source = Source { path, text };
+        match self.action.answer(self.rt.alloc(), self.options, source) {
+            Ok((text, is_good)) => self.write(&text, is_good)?,
+            Err(error) => self.complain(path, error),
+        }
+        Ok(())
+    }
+
+    fn do_file(&mut self, path: &str) -> Result<(), Failure> {
+        match read(self.rt, path) {
+            Ok(text) => self.do_text(path, &text),
+            Err(error) => {
+                self.complain(path, error);
+                Ok(())
+            }
+        }
+    }
+
+    fn do_folder(&mut self, path: &str) -> Result<(), Failure> {
+        match files_of_folder(self.rt, path) {
+            Ok(files) => {
+                for file in &files {
+                    self.do_file(file)?;
+                }
+                Ok(())
+            }
+            Err(error) => {
+                self.complain(path, error);
+                Ok(())
+            }
+        }
+    }
+
+    fn do_all(&mut self, paths: &[&str]) -> Result<(), Failure> {
+        for path in paths {
+            if is_a_folder(self.rt, path) {
+                self.do_folder(path)?;
+            } else {
+                self.do_file(path)?;
+            }
+        }
+        Ok(())
+    }
+}
+
+/// A path of names, with two colons before each, and whether it may begin in any module: a name alone, and a path with two
+/// colons in front, may.
+fn path_of_names(alloc: Global, words: &str) -> Result<Action, AllocError> {
+    let mut path = String::from_str(alloc, "::")?;
+    let (is_anywhere, names) = match words.strip_prefix("::") {
+        Some(names) => (true, names),
+        None => (!words.contains("::"), words),
+    };
+    path.push_str(names)?;
+    Ok(Action::Find { path, is_anywhere })
+}
+
+fn action_of(
+    alloc: Global,
+    name: &str,
+    matches: &ArgMatches<'_>,
+) -> Result<Action, AllocError> {
+    match name {
+        "outline" => {
+            let depth = matches.get_one::<usize>("depth");
+            Ok(Action::Outline { depth })
+        }
+        "page" => Ok(Action::Page),
+        "imports" => Ok(Action::Imports),
+        "find" => path_of_names(alloc, matches.get_str("name").unwrap_or("")),
+        "tags" => {
+            let lines = Vec::new(alloc);
+            Ok(Action::Tags { lines })
+        }
+        _ => Ok(Action::Check),
+    }
+}
+
+/// Ends a run: writes the tags, and gives the status.
+fn finish(run: Run<'_>, matches: &ArgMatches<'_>) -> Result<u8, Failure> {
+    let Run {
+        rt,
+        action,
+        status,
+        has_written,
+        ..
+    } = run;
+    match action {
+        Action::Tags { lines } => {
+            write_tags(rt, matches.get_str("output").unwrap_or("tags"), lines)?;
+            Ok(status)
+        }
+        Action::Find { .. } => Ok(if has_written { status } else { 1 }),
+        Action::Outline { .. } | Action::Page | Action::Imports | Action::Check => Ok(status),
+    }
+}
+
+/// Does what a command line asks, and gives the status to end with.
+pub(crate) fn run_command(rt: &HostRuntime, matches: &ArgMatches<'_>) -> Result<u8, Failure> {
+    let Some((name, inner)) = matches.subcommand() else {
+        return Ok(2);
+    };
+    let options = match read_options(rt.alloc(), inner)? {
+        Ok(options) => options,
+        Err(word) => {
+            let message = format!(in rt.alloc(); "--cfg {word}: this is neither NAME nor KEY=\"VALUE\"")?;
+            return Err(Failure::Usage(message));
+        }
+    };
+    let action = action_of(rt.alloc(), name, inner)?;
+    let mut run = Run {
+        rt,
+        action,
+        options: &options,
+        status: 0,
+        has_written: false,
+    };
+    run.do_all(inner.get_strs("files").unwrap_or(&[]))?;
+    finish(run, inner)
+}

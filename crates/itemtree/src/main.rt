@@ -1,0 +1,61 @@
+//! Answers what people ask of Rust files: what items they have, what they import, where a name is declared, what changed.
+#![tactic(auto)]
+
+mod command_line;
+mod commands;
+mod files;
+mod options;
+mod tags;
+mod words;
+
+use crate::command_line::command;
+use crate::commands::{Failure, run_command};
+use clap::{ArgMatches, Error};
+use std::alloc::Global;
+use std::env;
+use std::io;
+use std::process::ExitCode;
+
+/// The words of the command line, the program's name first.
+fn arguments(rt: &HostRuntime) -> io::Result<Vec<String>> {
+    let mut words = Vec::new(rt.alloc());
+    for word in env::args(rt)? {
+        words.push(word)?;
+    }
+    Ok(words)
+}
+
+/// What is asked on a command line.
+fn parse<'a>(alloc: Global, words: &'a [String]) -> Result<ArgMatches<'a>, Error> {
+    let command = command(alloc)?;
+    command.try_get_matches_from(words)
+}
+
+fn main(rt: HostRuntime) -> ExitCode {
+    let words: Vec<String> = match arguments(&rt) {
+        Ok(words) => words,
+        Err(error) => {
+            let _ = eprintln!(rt; "itemtree: {error}");
+            return ExitCode::from(2);
+        }
+    };
+    let matches = match parse(rt.alloc(), &words) {
+        Ok(matches) => matches,
+        Err(error) => {
+            let _ = error.print(&rt);
+            return ExitCode::from(if error.use_stderr() { 2 } else { 0 });
+        }
+    };
+    match run_command(&rt, &matches) {
+        Ok(status) => ExitCode::from(status),
+        Err(Failure::Closed) => ExitCode::SUCCESS,
+        Err(Failure::Usage(message)) => {
+            let _ = eprintln!(rt; "itemtree: {message}");
+            ExitCode::from(2)
+        }
+        Err(Failure::Other(error)) => {
+            let _ = eprintln!(rt; "itemtree: {error}");
+            ExitCode::from(1)
+        }
+    }
+}

@@ -1,0 +1,53 @@
+-- What the commands answer, from the text of a file on.
+use Rattle.std.specs.Prelude.{◌≡◌, ◌↔◌, ℕ, Bool, IsTrue, Option, None, List, ◌++◌, length, string_bytes}
+use Rattle.item_tree.specs.Page.{page}
+use Rattle.item_rows.specs.Rows.{rows}
+use Rattle.source_listing.specs.Imports.{import_lines}
+use Rattle.source_listing.specs.Lines.{Choice, Source, outline_text, problem_lines}
+use Rattle.source_listing.specs.Search.{Query, found_lines}
+use Rattle.source_listing.specs.Tags.{tags}
+use Rattle.source_tree.specs.declared.SourceTree.{SourceTree}
+use Rattle.source_tree.specs.declared.SourceError.{SourceError}
+use Rattle.source_tree.specs.Trees.{IsRefused, IsTreeOf}
+use Rattle.itemtree_commands.specs.declared.Options.{Options}
+use Rattle.itemtree_commands.specs.declared.Checked.{Checked}
+
+-- the tree of a text under the options
+abbrev pub HasTree : Options → List ℕ → SourceTree → Type 0
+HasTree o = IsTreeOf o.krate o.skipped.items
+
+-- which items are listed
+abbrev pub choice : Options → Option ℕ → Choice
+choice o depth = record { depth = depth; only_active = o.only_active }
+
+-- the lines of the listed items
+abbrev pub IsOutline : Options → Option ℕ → Source → List ℕ → Type 0
+IsOutline o depth s out =
+    (t : SourceTree) × HasTree o s.text t × (out ≡ outline_text s o.edition.reserved.items t.places.items (choice o depth) (rows t.tree.forest))
+
+-- the lines of the imports
+abbrev pub AreImports : Options → Source → List ℕ → Type 0
+AreImports o s out = (t : SourceTree) × HasTree o s.text t × (out ≡ import_lines s o.edition.reserved.items t.places.items t.tree.forest)
+
+-- the lines of the items that are looked for
+abbrev pub AreFound : Options → Query → Source → List ℕ → Type 0
+AreFound o q s out =
+    (t : SourceTree) × HasTree o s.text t × (out ≡ found_lines s o.edition.reserved.items t.places.items q (rows t.tree.forest))
+
+-- tags behind others
+abbrev pub AddsTags : Options → Source → List (List ℕ) → List (List ℕ) → Type 0
+AddsTags o s old new =
+    (t : SourceTree) × HasTree o s.text t × (new ≡ old ++ tags s t.places.items (choice o None) (rows t.tree.forest))
+
+-- the debug page
+abbrev pub IsPage : Options → List ℕ → List ℕ → Type 0
+IsPage o text out = (t : SourceTree) × HasTree o text t × (out ≡ page o.edition.reserved.items t.tree)
+
+-- the lines of what could not be read, and whether there are any
+abbrev pub IsCheck : Options → Source → Checked → Type 0
+IsCheck o s c =
+    (t : SourceTree) × HasTree o s.text t × (string_bytes c.text ≡ problem_lines s t.problems.items) × (IsTrue c.is_clean ↔ (length t.problems.items ≡ 0))
+
+-- the command has no answer: the text has no tree, or memory is wanting
+abbrev pub HasNoTree : Options → List ℕ → SourceError → Type 0
+HasNoTree o = IsRefused o.krate o.skipped.items

@@ -1,0 +1,161 @@
+//! What the commands of `itemtree` answer for one file, from its text on.
+#![tactic(auto)]
+
+ghost use Rattle.std.specs.Prelude.{◌≡◌, ◌≤◌, ◌^◌, length, map, IfOk, IfErr, OnOk, string_bytes};
+ghost use Rattle.itemtree_commands.specs.Answers as spec;
+ghost use Rattle.source_listing.specs.Views.{choice_view, query_view, source_view};
+ghost use Rattle.source_tree.specs.Trees.{HasOwnIds};
+
+use hir_input::{Edition, Name};
+use item_tree::CrateData;
+use source_listing::{Choice, Query, Source};
+use source_tree::{SourceError, SourceTree, source_tree};
+use std::alloc::Global;
+
+/// What trees are made and written under.
+#[derive(Debug, Drop)]
+pub struct Options {
+    pub krate: CrateData,
+    /// The attributes that are left out.
+    pub skipped: Vec<Name>,
+    pub edition: Edition,
+    /// Whether items that a cfg disables are left out of lists.
+    pub only_active: bool,
+}
+
+impl Options {
+    fn choice(&self, depth: Option<usize>) -> Choice
+        ensures { choice_view result ≡ spec.choice self.now depth }
+    {
+        Choice {
+            depth,
+            only_active: self.only_active,
+        }
+    }
+}
+
+/// What could not be read of a file.
+#[derive(Debug, Drop)]
+pub struct Checked {
+    /// A line for each problem.
+    pub text: String,
+    /// Whether there is none.
+    pub is_clean: bool,
+}
+
+/// The tree of a text under the options.
+fn read(alloc: Global, text: &str, options: &Options) -> Result<SourceTree, SourceError>
+    ensures tree { IfOk result (spec.HasTree options.now text.now) }
+    ensures ids { IfOk result HasOwnIds }
+    ensures short { OnOk result (length text.now ≤ 2 ^ 32) }
+    ensures refused { IfErr result (spec.HasNoTree options.now text.now) }
+{
+    source_tree(alloc, text, &options.krate, &options.skipped)
+}
+
+/// `itemtree outline`: a line for each item, or for those in fewer than so many others.
+///
+/// Its errors are those of `source_tree`.
+pub fn outline(
+    alloc: Global,
+    source: Source<'_>,
+    options: &Options,
+    depth: Option<usize>,
+) -> Result<String, SourceError>
+    ensures text { IfOk result (λ out. spec.IsOutline options.now depth (source_view source.entry) (string_bytes out)) }
+    ensures refused { IfErr result (spec.HasNoTree options.now source.entry.text.now) }
+{
+    let file = read(alloc, source.text, options)?;
+    let choice = options.choice(depth);
+    let edition = &options.edition;
+    let text = source_listing::outline(alloc, source, &file.places, &file.tree, edition, choice)?;
+    Ok(text)
+}
+
+/// `itemtree page`: the debug page of the tree.
+///
+/// Its errors are those of `source_tree`.
+pub fn page(alloc: Global, text: &str, options: &Options) -> Result<String, SourceError>
+    ensures text { IfOk result (λ out. spec.IsPage options.now text.now (string_bytes out)) }
+    ensures refused { IfErr result (spec.HasNoTree options.now text.now) }
+{
+    let file = read(alloc, text, options)?;
+    let page = file.tree.pretty_print(alloc, &options.edition)?;
+    Ok(page)
+}
+
+/// `itemtree find`: a line for each item that is looked for; empty where there is none.
+///
+/// Its errors are those of `source_tree`.
+pub fn find(
+    alloc: Global,
+    source: Source<'_>,
+    options: &Options,
+    query: Query<'_>,
+) -> Result<String, SourceError>
+    ensures text { IfOk result (λ out. spec.AreFound options.now (query_view query.entry) (source_view source.entry) (string_bytes out)) }
+    ensures refused { IfErr result (spec.HasNoTree options.now source.entry.text.now) }
+{
+    let file = read(alloc, source.text, options)?;
+    let edition = &options.edition;
+    let text = source_listing::found_lines(
+        alloc,
+        source,
+        &file.places,
+        &file.tree,
+        edition,
+        query,
+    )?;
+    Ok(text)
+}
+
+/// `itemtree imports`: a line for each import.
+///
+/// Its errors are those of `source_tree`.
+pub fn imports(
+    alloc: Global,
+    source: Source<'_>,
+    options: &Options,
+) -> Result<String, SourceError>
+    ensures text { IfOk result (λ out. spec.AreImports options.now (source_view source.entry) (string_bytes out)) }
+    ensures refused { IfErr result (spec.HasNoTree options.now source.entry.text.now) }
+{
+    let file = read(alloc, source.text, options)?;
+    let edition = &options.edition;
+    let text = source_listing::import_lines(alloc, source, &file.places, &file.tree, edition)?;
+    Ok(text)
+}
+
+/// `itemtree tags`: adds the tags of the file.
+///
+/// Its errors are those of `source_tree`.
+pub fn push_tags(
+    alloc: Global,
+    source: Source<'_>,
+    options: &Options,
+    tags: &mut Vec<String>,
+) -> Result<(), SourceError>
+    ensures tags { OnOk result (spec.AddsTags options.now (source_view source.entry) (map string_bytes tags.old.items) (map string_bytes tags.new.items)) }
+    ensures refused { IfErr result (spec.HasNoTree options.now source.entry.text.now) }
+{
+    let file = read(alloc, source.text, options)?;
+    let choice = options.choice(None);
+    let edition = &options.edition;
+    let (places, tree) = (&file.places, &file.tree);
+    source_listing::push_tags(alloc, source, places, tree, edition, choice, tags)?;
+    Ok(())
+}
+
+/// `itemtree check`: a line for each problem.
+///
+/// Its errors are those of `source_tree`.
+pub fn check(alloc: Global, source: Source<'_>, options: &Options) -> Result<Checked, SourceError>
+    ensures checked { IfOk result (spec.IsCheck options.now (source_view source.entry)) }
+    ensures refused { IfErr result (spec.HasNoTree options.now source.entry.text.now) }
+{
+    let file = read(alloc, source.text, options)?;
+    Ok(Checked {
+        text: source_listing::problem_lines(alloc, source, &file.problems)?,
+        is_clean: file.problems.is_empty(),
+    })
+}

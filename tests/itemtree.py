@@ -1,0 +1,83 @@
+#!/usr/bin/env python3
+"""Runs the examples of docs/ITEMTREE.md and those of tests/itemtree/cases.md, and what cannot be written as an example."""
+import os
+import re
+import shutil
+import subprocess
+import sys
+import tempfile
+
+TOP = os.path.dirname(os.path.dirname(os.path.realpath(__file__)))
+PROGRAM = os.path.join(TOP, 'crates/itemtree/out/itemtree')
+passed = failed = 0
+
+
+def tell(is_right, name, got='', wanted=''):
+    global passed, failed
+    if is_right:
+        passed += 1
+        return
+    failed += 1
+    print(f'itemtree: {name}\n--- wanted\n{wanted}--- got\n{got}', file=sys.stderr)
+
+
+def run(command, folder, seconds=60):
+    env = dict(os.environ, PATH=os.path.dirname(PROGRAM) + ':' + os.environ['PATH'], LC_ALL='C.UTF-8')
+    done = subprocess.run(['bash', '-c', command], cwd=folder, env=env, capture_output=True, timeout=seconds)
+    return (done.stdout + done.stderr).decode('utf-8', 'backslashreplace')
+
+
+def examples(path):
+    """The commands of a page's console blocks, each with what it writes."""
+    for block in re.findall(r'^```console\n(.*?)^```$', open(path, encoding='utf-8').read(), re.M | re.S):
+        for part in re.split(r'^\$ ', block, flags=re.M)[1:]:
+            command, _, output = part.partition('\n')
+            yield command, output
+
+
+def check_examples(path, folder):
+    for command, wanted in examples(path):
+        got = run(command, folder)
+        tell(got == wanted, '$ ' + command, got, wanted)
+
+
+def check_long_line(folder):
+    """A megabyte on one line: the last item is found at its column."""
+    text = 'fn a() {}' * 116_508 + 'fn last() {}'
+    with open(os.path.join(folder, 'long.rs'), 'w', encoding='utf-8') as file:
+        file.write(text)
+    wanted = f'long.rs:1:{len(text) - len("fn last() {}") + 4}: fn last\n'
+    got = run('itemtree find last long.rs', folder)
+    tell(got == wanted, 'a megabyte on one line', got, wanted)
+
+
+def check_closed_pipe(folder):
+    """Nobody reads past the first line: no complaint."""
+    got = run('itemtree outline long.rs | head -1', folder)
+    tell(got == 'long.rs:1:4: fn a\n', 'a closed pipe', got, 'long.rs:1:4: fn a\n')
+
+
+def check_vim(folder):
+    """vim jumps to a name by the tags."""
+    if shutil.which('vim') is None:
+        print('itemtree: vim is not here, so no tags file is opened by it')
+        return
+    run('itemtree tags shapes.rs', folder)
+    got = run('vim -es -t Circle -c "redir! > at" -c "echo line(\'.\')" -c "redir END" -c "qa!" < /dev/null; cat at', folder)
+    tell(got.split() == ['5'], 'vim -t Circle', got, '5\n')
+
+
+def main():
+    with tempfile.TemporaryDirectory() as folder:
+        shutil.copytree(os.path.join(TOP, 'tests/itemtree'), folder, dirs_exist_ok=True)
+        check_examples(os.path.join(TOP, 'docs/ITEMTREE.md'), folder)
+        check_examples(os.path.join(TOP, 'tests/itemtree/cases.md'), folder)
+        check_long_line(folder)
+        check_closed_pipe(folder)
+        check_vim(folder)
+    print(f'itemtree: {passed} passed, {failed} failed')
+    return failed > 0
+
+
+if __name__ == '__main__':
+    sys.exit(main())

@@ -1,0 +1,4 @@
+fn before() {}
+struct { a: u8 }
+) fn between() {}
+const NAME: &str = "never closed;

@@ -1,0 +1,8 @@
+pub struct Unit;
+
+#[cfg(test)]
+mod outline;
+
+fn f() {
+    g();
+}
