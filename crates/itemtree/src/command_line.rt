@@ -123,6 +123,14 @@ fn tags<'a>(alloc: Global) -> Result<Command<'a>, Error> {
     Ok(command)
 }
 
+fn changed<'a>(alloc: Global) -> Result<Command<'a>, Error> {
+    let old = Arg::new(alloc, "old").value_name("OLD").required(true);
+    let new = Arg::new(alloc, "new").value_name("NEW").required(true);
+    let about = "Tells whether two files have different item trees, by the status of diff";
+    let command = on_files(alloc, "changed", about)?.arg(old)?.arg(new)?;
+    Ok(command)
+}
+
 /// The whole command line.
 pub(crate) fn command<'a>(alloc: Global) -> Result<Command<'a>, Error> {
     let command = Command::new(alloc, "itemtree")
@@ -135,6 +143,7 @@ pub(crate) fn command<'a>(alloc: Global) -> Result<Command<'a>, Error> {
         .subcommand(imports(alloc)?)?
         .subcommand(find(alloc)?)?
         .subcommand(tags(alloc)?)?
+        .subcommand(changed(alloc)?)?
         .subcommand(check(alloc)?)?;
     Ok(command)
 }

@@ -3,7 +3,7 @@ use crate::files::{files_of_folder, is_a_folder, read};
 use crate::options::read_options;
 use crate::tags::write_tags;
 use clap::ArgMatches;
-use itemtree_commands::{Options, check, find, imports, outline, page, push_tags};
+use itemtree_commands::{Options, check, find, imports, is_changed, outline, page, push_tags};
 use source_listing::{Query, Source};
 use source_tree::SourceError;
 use std::alloc::{AllocError, Global};
@@ -206,6 +206,34 @@ fn finish(run: Run<'_>, matches: &ArgMatches<'_>) -> Result<u8, Failure> {
     }
 }
 
+/// The status of `diff`: 0 where two trees are equal, 1 where they differ, 2 where one cannot be had.
+fn compare(
+    rt: &HostRuntime,
+    options: &Options,
+    old_path: &str,
+    new_path: &str,
+) -> Result<u8, Failure> {
+    let alloc = rt.alloc();
+    let (old, new) = match (read(rt, old_path), read(rt, new_path)) {
+        (Ok(old), Ok(new)) => (old, new),
+        (Err(error), _) => return unread(rt, old_path, error),
+        (_, Err(error)) => return unread(rt, new_path, error),
+    };
+    match is_changed(alloc, &old, &new, options) {
+        Ok(false) => Ok(0),
+        Ok(true) => {
+            let _ = writeln!(rt.stdout(), "{old_path} and {new_path} have different item trees");
+            Ok(1)
+        }
+        Err(error) => unread(rt, new_path, error),
+    }
+}
+
+fn unread(rt: &HostRuntime, path: &str, error: impl Display + Drop) -> Result<u8, Failure> {
+    let _ = eprintln!(rt; "itemtree: {path}: {error}");
+    Ok(2)
+}
+
 /// Does what a command line asks, and gives the status to end with.
 pub(crate) fn run_command(rt: &HostRuntime, matches: &ArgMatches<'_>) -> Result<u8, Failure> {
     let Some((name, inner)) = matches.subcommand() else {
@@ -218,6 +246,9 @@ pub(crate) fn run_command(rt: &HostRuntime, matches: &ArgMatches<'_>) -> Result<
             return Err(Failure::Usage(message));
         }
     };
+    if let (Some(old), Some(new)) = (inner.get_str("old"), inner.get_str("new")) {
+        return compare(rt, &options, old, new);
+    }
     let action = action_of(rt.alloc(), name, inner)?;
     let mut run = Run {
         rt,

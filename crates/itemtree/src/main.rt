@@ -10,6 +10,7 @@ mod words;
 
 use crate::command_line::command;
 use crate::commands::{Failure, run_command};
+use clap::error::ErrorKind;
 use clap::{ArgMatches, Error};
 use std::alloc::Global;
 use std::env;
@@ -42,6 +43,10 @@ fn main(rt: HostRuntime) -> ExitCode {
     let matches = match parse(rt.alloc(), &words) {
         Ok(matches) => matches,
         Err(error) => {
+            if error.kind() == ErrorKind::OutOfMemory {
+                let _ = eprintln!(rt; "itemtree: out of memory");
+                return ExitCode::from(1);
+            }
             let _ = error.print(&rt);
             return ExitCode::from(if error.use_stderr() { 2 } else { 0 });
         }

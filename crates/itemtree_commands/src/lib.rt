@@ -146,6 +146,23 @@ pub fn push_tags(
     Ok(())
 }
 
+/// `itemtree changed`: whether the trees of two texts differ. Where only bodies, comments or layout became others, they do not.
+///
+/// Its errors are those of `source_tree`, for the old text first.
+pub fn is_changed(
+    alloc: Global,
+    old: &str,
+    new: &str,
+    options: &Options,
+) -> Result<bool, SourceError>
+    ensures changed { IfOk result (spec.AreCompared options.now old.now new.now) }
+    ensures refused { IfErr result (spec.HasNoTreeOfBoth options.now old.now new.now) }
+{
+    let before = read(alloc, old, options)?;
+    let after = read(alloc, new, options)?;
+    Ok(before.tree != after.tree)
+}
+
 /// `itemtree check`: a line for each problem.
 ///
 /// Its errors are those of `source_tree`.
