@@ -20,29 +20,17 @@ fn flag<'a>(alloc: Global, name: &'static str, help: &'static str) -> Arg<'a> {
         .help(help)
 }
 
-fn value<'a>(
+fn option<'a>(
     alloc: Global,
     name: &'static str,
     value: &'static str,
+    action: ArgAction,
     help: &'static str,
 ) -> Arg<'a> {
     Arg::new(alloc, name)
         .long(name)
         .value_name(value)
-        .action(ArgAction::Set)
-        .help(help)
-}
-
-fn values<'a>(
-    alloc: Global,
-    name: &'static str,
-    value: &'static str,
-    help: &'static str,
-) -> Arg<'a> {
-    Arg::new(alloc, name)
-        .long(name)
-        .value_name(value)
-        .action(ArgAction::Append)
+        .action(action)
         .help(help)
 }
 
@@ -51,14 +39,15 @@ fn with_options<'a>(
     alloc: Global,
     command: Command<'a>,
 ) -> Result<Command<'a>, Error> {
-    let edition = value(alloc, "edition", "YEAR", "Whose reserved words are written as r#..")
+    let (set, add) = (ArgAction::Set, ArgAction::Append);
+    let edition = option(alloc, "edition", "YEAR", set, "Whose reserved words are written as r#..")
         .value_parser(YEARS.as_slice())
         .default_value("2024");
     let command = command
-        .arg(values(alloc, "cfg", "SPEC", "A cfg that is set: NAME or KEY=\"VALUE\""))?
+        .arg(option(alloc, "cfg", "SPEC", add, "A cfg that is set: NAME or KEY=\"VALUE\""))?
         .arg(flag(alloc, "active", "Leave out what a cfg disables"))?
         .arg(edition)?
-        .arg(values(alloc, "skip", "NAME", "An attribute to leave out, in place of the usual list"))?
+        .arg(option(alloc, "skip", "NAME", add, "An attribute to leave out, in place of the usual list"))?
         .arg(flag(alloc, "docs", "Keep documentation"))?;
     Ok(command)
 }
@@ -73,7 +62,7 @@ fn on_files<'a>(
 }
 
 fn outline<'a>(alloc: Global) -> Result<Command<'a>, Error> {
-    let depth = value(alloc, "depth", "N", "Only items in fewer than N others")
+    let depth = option(alloc, "depth", "N", ArgAction::Set, "Only items in fewer than N others")
         .value_parser(clap::value_parser!(u32));
     let command = on_files(alloc, "outline", "Lists the items of files")?
         .arg(depth)?

@@ -56,6 +56,7 @@ fn read(alloc: Global, text: &str, options: &Options) -> Result<SourceTree, Sour
 /// `itemtree outline`: a line for each item, or for those in fewer than so many others.
 ///
 /// Its errors are those of `source_tree`.
+#[tactic(auto, using(source_tree::proofs::Refused::no_memory))]
 pub fn outline(
     alloc: Global,
     source: Source<'_>,
@@ -75,6 +76,7 @@ pub fn outline(
 /// `itemtree page`: the debug page of the tree.
 ///
 /// Its errors are those of `source_tree`.
+#[tactic(auto, using(source_tree::proofs::Refused::no_memory))]
 pub fn page(alloc: Global, text: &str, options: &Options) -> Result<String, SourceError>
     ensures text { IfOk result (λ out. spec.IsPage options.now text.now (string_bytes out)) }
     ensures refused { IfErr result (spec.HasNoTree options.now text.now) }
@@ -87,6 +89,7 @@ pub fn page(alloc: Global, text: &str, options: &Options) -> Result<String, Sour
 /// `itemtree find`: a line for each item that is looked for; empty where there is none.
 ///
 /// Its errors are those of `source_tree`.
+#[tactic(auto, using(source_tree::proofs::Refused::no_memory))]
 pub fn find(
     alloc: Global,
     source: Source<'_>,
@@ -112,6 +115,7 @@ pub fn find(
 /// `itemtree imports`: a line for each import.
 ///
 /// Its errors are those of `source_tree`.
+#[tactic(auto, using(source_tree::proofs::Refused::no_memory))]
 pub fn imports(
     alloc: Global,
     source: Source<'_>,
@@ -129,6 +133,7 @@ pub fn imports(
 /// `itemtree tags`: adds the tags of the file.
 ///
 /// Its errors are those of `source_tree`.
+#[tactic(auto, using(source_tree::proofs::Refused::no_memory))]
 pub fn push_tags(
     alloc: Global,
     source: Source<'_>,
@@ -149,6 +154,7 @@ pub fn push_tags(
 /// `itemtree changed`: whether the trees of two texts differ. Where only bodies, comments or layout became others, they do not.
 ///
 /// Its errors are those of `source_tree`, for the old text first.
+#[tactic(auto, using(source_tree::proofs::Refused::no_memory))]
 pub fn is_changed(
     alloc: Global,
     old: &str,
@@ -166,6 +172,7 @@ pub fn is_changed(
 /// `itemtree check`: a line for each problem.
 ///
 /// Its errors are those of `source_tree`.
+#[tactic(auto, using(source_tree::proofs::Refused::no_memory))]
 pub fn check(alloc: Global, source: Source<'_>, options: &Options) -> Result<Checked, SourceError>
     ensures checked { IfOk result (spec.IsCheck options.now (source_view source.entry)) }
     ensures refused { IfErr result (spec.HasNoTree options.now source.entry.text.now) }
