@@ -23,8 +23,9 @@ def tell(is_right, name, got='', wanted=''):
 
 def run(command, folder, seconds=60):
     env = dict(os.environ, PATH=os.path.dirname(PROGRAM) + ':' + os.environ['PATH'], LC_ALL='C.UTF-8')
-    done = subprocess.run(['bash', '-c', command], cwd=folder, env=env, capture_output=True, timeout=seconds)
-    return (done.stdout + done.stderr).decode('utf-8', 'backslashreplace')
+    done = subprocess.run(['bash', '-c', command], cwd=folder, env=env, timeout=seconds,
+                          stdout=subprocess.PIPE, stderr=subprocess.STDOUT)
+    return done.stdout.decode('utf-8', 'backslashreplace')
 
 
 def examples(path):

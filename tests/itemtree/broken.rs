@@ -1,4 +1,3 @@
 fn before() {}
-struct { a: u8 }
 ) fn between() {}
 const NAME: &str = "never closed;
