@@ -6,7 +6,7 @@
 #
 # The program on each request of tests/requests that it answers, and OUTLINES on each of tests/outlines, has to end with status 5,
 # the line `out of memory` and nothing written. ITEMTREE with each of its commands on a small file has to end with status 1, a line
-# that ends so, and nothing written.
+# that ends so, and nothing written but the head of a tags file.
 # Each test of the binaries TESTS whose name holds `when_memory_is_refused` has to pass in every run. Each whose name holds
 # `where_no_memory_is_left` has to pass where all requests between its marks are refused, and to make only the one there by
 # which it sees that.
@@ -61,7 +61,7 @@ try_command() {
     for ((request = 1; ; request++)); do
         refuse "$request" "$1" "${command[@]}" "$here/itemtree/shapes.rs"
         [ "$made" -ge "$request" ] || break
-        [ "$status" = 1 ] && [ ! -s "$own/out" ] && [[ $(cat "$own/err") = *'out of memory' ]]
+        [ "$status" = 1 ] && ! grep -qv '^!_TAG' "$own/out" && [[ $(cat "$own/err") = *'out of memory' ]]
         judge $? "itemtree $2: status $status with request $request for memory refused"
     done
     [ "$status" = 0 ]

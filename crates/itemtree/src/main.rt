@@ -37,7 +37,11 @@ fn main(rt: HostRuntime) -> ExitCode {
         Ok(words) => words,
         Err(error) => {
             let _ = eprintln!(rt; "itemtree: {error}");
-            return ExitCode::from(2);
+            return ExitCode::from(if error.kind() == io::ErrorKind::OutOfMemory {
+                1
+            } else {
+                2
+            });
         }
     };
     let matches = match parse(rt.alloc(), &words) {
