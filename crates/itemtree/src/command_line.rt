@@ -10,7 +10,9 @@ fn files<'a>(alloc: Global) -> Arg<'a> {
         .required(true)
         .num_args(1..)
         .action(ArgAction::Append)
-        .help("Rust files; a folder stands for its .rs files at every depth, and - for standard input")
+        .help(
+            "Rust files; a folder stands for its .rs files at every depth, and - for standard input",
+        )
 }
 
 fn flag<'a>(alloc: Global, name: &'static str, help: &'static str) -> Arg<'a> {
@@ -35,19 +37,34 @@ fn option<'a>(
 }
 
 /// The options that every command has.
-fn with_options<'a>(
-    alloc: Global,
-    command: Command<'a>,
-) -> Result<Command<'a>, Error> {
+fn with_options<'a>(alloc: Global, command: Command<'a>) -> Result<Command<'a>, Error> {
     let (set, add) = (ArgAction::Set, ArgAction::Append);
-    let edition = option(alloc, "edition", "YEAR", set, "Whose reserved words are written as r#..")
-        .value_parser(YEARS.as_slice())
-        .default_value("2024");
+    let edition = option(
+        alloc,
+        "edition",
+        "YEAR",
+        set,
+        "Whose reserved words are written as r#..",
+    )
+    .value_parser(YEARS.as_slice())
+    .default_value("2024");
     let command = command
-        .arg(option(alloc, "cfg", "SPEC", add, "A cfg that is set: NAME or KEY=\"VALUE\""))?
+        .arg(option(
+            alloc,
+            "cfg",
+            "SPEC",
+            add,
+            "A cfg that is set: NAME or KEY=\"VALUE\"",
+        ))?
         .arg(flag(alloc, "active", "Leave out what a cfg disables"))?
         .arg(edition)?
-        .arg(option(alloc, "skip", "NAME", add, "An attribute to leave out, in place of the usual list"))?
+        .arg(option(
+            alloc,
+            "skip",
+            "NAME",
+            add,
+            "An attribute to leave out, in place of the usual list",
+        ))?
         .arg(flag(alloc, "docs", "Keep documentation"))?;
     Ok(command)
 }
@@ -62,8 +79,14 @@ fn on_files<'a>(
 }
 
 fn outline<'a>(alloc: Global) -> Result<Command<'a>, Error> {
-    let depth = option(alloc, "depth", "N", ArgAction::Set, "Only items in fewer than N others")
-        .value_parser(clap::value_parser!(u32));
+    let depth = option(
+        alloc,
+        "depth",
+        "N",
+        ArgAction::Set,
+        "Only items in fewer than N others",
+    )
+    .value_parser(clap::value_parser!(u32));
     let command = on_files(alloc, "outline", "Lists the items of files")?
         .arg(depth)?
         .arg(files(alloc))?;
@@ -71,20 +94,27 @@ fn outline<'a>(alloc: Global) -> Result<Command<'a>, Error> {
 }
 
 fn page<'a>(alloc: Global) -> Result<Command<'a>, Error> {
-    let command = on_files(alloc, "page", "Writes the debug pages of item trees, as rust-analyzer shows them")?
-        .arg(files(alloc))?;
+    let command = on_files(
+        alloc,
+        "page",
+        "Writes the debug pages of item trees, as rust-analyzer shows them",
+    )?
+    .arg(files(alloc))?;
     Ok(command)
 }
 
 fn check<'a>(alloc: Global) -> Result<Command<'a>, Error> {
-    let command = on_files(alloc, "check", "Tells what could not be read; status 1 if there is any")?
-        .arg(files(alloc))?;
+    let command = on_files(
+        alloc,
+        "check",
+        "Tells what could not be read; status 1 if there is any",
+    )?
+    .arg(files(alloc))?;
     Ok(command)
 }
 
 fn imports<'a>(alloc: Global) -> Result<Command<'a>, Error> {
-    let command = on_files(alloc, "imports", "Lists the imports of files")?
-        .arg(files(alloc))?;
+    let command = on_files(alloc, "imports", "Lists the imports of files")?.arg(files(alloc))?;
     Ok(command)
 }
 
@@ -93,9 +123,13 @@ fn find<'a>(alloc: Global) -> Result<Command<'a>, Error> {
         .value_name("NAME")
         .required(true)
         .help("a::b::f from a file's top; f or ::b::f at any depth");
-    let command = on_files(alloc, "find", "Tells where a path of names is declared; status 1 where nowhere")?
-        .arg(name)?
-        .arg(files(alloc))?;
+    let command = on_files(
+        alloc,
+        "find",
+        "Tells where a path of names is declared; status 1 where nowhere",
+    )?
+    .arg(name)?
+    .arg(files(alloc))?;
     Ok(command)
 }
 
@@ -106,9 +140,13 @@ fn tags<'a>(alloc: Global) -> Result<Command<'a>, Error> {
         .value_name("FILE")
         .default_value("tags")
         .help("Where to write them; - for standard output");
-    let command = on_files(alloc, "tags", "Writes a tags file, by which editors jump to names")?
-        .arg(output)?
-        .arg(files(alloc))?;
+    let command = on_files(
+        alloc,
+        "tags",
+        "Writes a tags file, by which editors jump to names",
+    )?
+    .arg(output)?
+    .arg(files(alloc))?;
     Ok(command)
 }
 

@@ -3,7 +3,7 @@ use crate::files::{files_of_folder, is_a_folder, read};
 use crate::options::read_options;
 use crate::tags::write_tags;
 use clap::ArgMatches;
-use itemtree_commands::{Options, check, find, imports, is_changed, outline, page, push_tags};
+use itemtree_commands::{Options, check, find, imports, is_same_tree, outline, page, push_tags};
 use source_listing::{Query, Source};
 use source_tree::SourceError;
 use std::alloc::{AllocError, Global};
@@ -166,11 +166,7 @@ fn path_of_names(alloc: Global, words: &str) -> Result<Action, AllocError> {
     Ok(Action::Find { path, is_anywhere })
 }
 
-fn action_of(
-    alloc: Global,
-    name: &str,
-    matches: &ArgMatches<'_>,
-) -> Result<Action, AllocError> {
+fn action_of(alloc: Global, name: &str, matches: &ArgMatches<'_>) -> Result<Action, AllocError> {
     match name {
         "outline" => {
             let depth = matches.get_one::<usize>("depth");
@@ -219,10 +215,13 @@ fn compare(
         (Err(error), _) => return unread(rt, old_path, error),
         (_, Err(error)) => return unread(rt, new_path, error),
     };
-    match is_changed(alloc, &old, &new, options) {
-        Ok(false) => Ok(0),
-        Ok(true) => {
-            let _ = writeln!(rt.stdout(), "{old_path} and {new_path} have different item trees");
+    match is_same_tree(alloc, &old, &new, options) {
+        Ok(true) => Ok(0),
+        Ok(false) => {
+            let _ = writeln!(
+                rt.stdout(),
+                "{old_path} and {new_path} have different item trees"
+            );
             Ok(1)
         }
         Err(error) => unread(rt, new_path, error),
@@ -242,7 +241,9 @@ pub(crate) fn run_command(rt: &HostRuntime, matches: &ArgMatches<'_>) -> Result<
     let options = match read_options(rt.alloc(), inner)? {
         Ok(options) => options,
         Err(word) => {
-            let message = format!(in rt.alloc(); "--cfg {word}: this is neither NAME nor KEY=\"VALUE\"")?;
+            let message = format!(in rt.alloc();
+                "--cfg {word}: this is neither NAME nor KEY=\"VALUE\""
+            )?;
             return Err(Failure::Usage(message));
         }
     };

@@ -1,7 +1,6 @@
 //! The files that are named on a command line.
 use std::alloc::{AllocError, Global};
-use std::fs;
-use std::io;
+use std::{fs, io};
 
 /// What stands for standard input.
 pub(crate) const STDIN: &str = "-";

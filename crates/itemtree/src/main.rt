@@ -13,9 +13,8 @@ use crate::commands::{Failure, run_command};
 use clap::error::ErrorKind;
 use clap::{ArgMatches, Error};
 use std::alloc::Global;
-use std::env;
-use std::io;
 use std::process::ExitCode;
+use std::{env, io};
 
 /// The words of the command line, the program's name first.
 fn arguments(rt: &HostRuntime) -> io::Result<Vec<String>> {

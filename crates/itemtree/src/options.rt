@@ -12,7 +12,11 @@ fn atom(alloc: Global, spec: &str) -> Result<Option<CfgAtom>, AllocError> {
         let name = String::from_str(alloc, spec.trim())?;
         return Ok(Name::new(name).map(CfgAtom::Flag));
     };
-    let Some(value) = value.trim().strip_prefix('"').and_then(|rest| rest.strip_suffix('"')) else {
+    let Some(value) = value
+        .trim()
+        .strip_prefix('"')
+        .and_then(|rest| rest.strip_suffix('"'))
+    else {
         return Ok(None);
     };
     let key = String::from_str(alloc, key.trim())?;

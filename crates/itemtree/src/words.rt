@@ -3,10 +3,10 @@ use hir_input::{Edition, EditionYear, Name};
 use std::alloc::{AllocError, Global};
 
 const RESERVED: [&str; 43] = [
-    "abstract", "as", "become", "box", "break", "const", "continue", "do", "else", "enum", "extern", "false", "final",
-    "fn", "for", "if", "impl", "in", "let", "loop", "macro", "match", "mod", "move", "mut", "override", "priv", "pub",
-    "ref", "return", "static", "struct", "trait", "true", "type", "typeof", "unsafe", "unsized", "use", "virtual",
-    "where", "while", "yield",
+    "abstract", "as", "become", "box", "break", "const", "continue", "do", "else", "enum",
+    "extern", "false", "final", "fn", "for", "if", "impl", "in", "let", "loop", "macro", "match",
+    "mod", "move", "mut", "override", "priv", "pub", "ref", "return", "static", "struct", "trait",
+    "true", "type", "typeof", "unsafe", "unsized", "use", "virtual", "where", "while", "yield",
 ];
 
 const SINCE_2018: [&str; 4] = ["async", "await", "dyn", "try"];
@@ -53,7 +53,11 @@ pub(crate) fn push_names(
 /// The attributes that are left out, but for documentation where that is asked.
 pub(crate) fn skipped(alloc: Global, keeps_docs: bool) -> Result<Vec<Name>, AllocError> {
     let mut names = Vec::new(alloc);
-    let words = if keeps_docs { &SKIPPED[1..] } else { &SKIPPED[..] };
+    let words = if keeps_docs {
+        &SKIPPED[1..]
+    } else {
+        &SKIPPED[..]
+    };
     push_names(alloc, words, &mut names)?;
     Ok(names)
 }

@@ -1,5 +1,5 @@
 -- What the commands answer, from the text of a file on.
-use Rattle.std.specs.Prelude.{◌≡◌, ◌≢◌, ◌↔◌, ◌⊎◌, ℕ, Bool, IsTrue, Option, None, List, ◌++◌, length, string_bytes}
+use Rattle.std.specs.Prelude.{◌≡◌, ◌↔◌, ◌⊎◌, ℕ, Bool, IsTrue, Option, None, List, ◌++◌, length, string_bytes}
 use Rattle.item_tree.specs.Page.{page}
 use Rattle.item_rows.specs.Rows.{rows}
 use Rattle.source_listing.specs.Imports.{import_lines}
@@ -52,10 +52,10 @@ IsCheck o s c =
 abbrev pub HasNoTree : Options → List ℕ → SourceError → Type 0
 HasNoTree o = IsRefused o.krate o.skipped.items
 
--- whether the trees of two texts differ
+-- whether the trees of two texts are equal
 abbrev pub AreCompared : Options → List ℕ → List ℕ → Bool → Type 0
-AreCompared o old new changed =
-    (before after : SourceTree) × HasTree o old before × HasTree o new after × (IsTrue changed ↔ (before.tree ≢ after.tree))
+AreCompared o old new same =
+    (before after : SourceTree) × HasTree o old before × HasTree o new after × (IsTrue same ↔ (before.tree ≡ after.tree))
 
 abbrev pub HasNoTreeOfBoth : Options → List ℕ → List ℕ → SourceError → Type 0
 HasNoTreeOfBoth o old new e = HasNoTree o old e ⊎ HasNoTree o new e

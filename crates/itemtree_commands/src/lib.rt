@@ -116,11 +116,7 @@ pub fn find(
 ///
 /// Its errors are those of `source_tree`.
 #[tactic(auto, using(source_tree::proofs::Refused::no_memory))]
-pub fn imports(
-    alloc: Global,
-    source: Source<'_>,
-    options: &Options,
-) -> Result<String, SourceError>
+pub fn imports(alloc: Global, source: Source<'_>, options: &Options) -> Result<String, SourceError>
     ensures text { IfOk result (λ out. spec.AreImports options.now (source_view source.entry) (string_bytes out)) }
     ensures refused { IfErr result (spec.HasNoTree options.now source.entry.text.now) }
 {
@@ -151,22 +147,22 @@ pub fn push_tags(
     Ok(())
 }
 
-/// `itemtree changed`: whether the trees of two texts differ. Where only bodies, comments or layout became others, they do not.
+/// `itemtree changed`: whether the trees of two texts are equal, as where only bodies, comments or layout became others.
 ///
 /// Its errors are those of `source_tree`, for the old text first.
 #[tactic(auto, using(source_tree::proofs::Refused::no_memory))]
-pub fn is_changed(
+pub fn is_same_tree(
     alloc: Global,
     old: &str,
     new: &str,
     options: &Options,
 ) -> Result<bool, SourceError>
-    ensures changed { IfOk result (spec.AreCompared options.now old.now new.now) }
+    ensures compared { IfOk result (spec.AreCompared options.now old.now new.now) }
     ensures refused { IfErr result (spec.HasNoTreeOfBoth options.now old.now new.now) }
 {
     let before = read(alloc, old, options)?;
     let after = read(alloc, new, options)?;
-    Ok(before.tree != after.tree)
+    Ok(before.tree == after.tree)
 }
 
 /// `itemtree check`: a line for each problem.
