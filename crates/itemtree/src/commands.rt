@@ -69,7 +69,11 @@ impl Action {
                 Ok((find(alloc, source, options, query)?, true))
             }
             Action::Tags { lines } => {
-                push_tags(alloc, source, options, lines)?;
+                let before = lines.len();
+                if let Err(error) = push_tags(alloc, source, options, lines) {
+                    lines.truncate(before);
+                    return Err(error);
+                }
                 Ok((String::new(alloc), true))
             }
             Action::Check => {
