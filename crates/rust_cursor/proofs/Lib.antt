@@ -1,4 +1,5 @@
 pub mod Few
+pub mod Nesting
 pub mod Steps
 pub mod Turns
 pub mod Depth

@@ -15,7 +15,7 @@ use Rattle.rust_paths.specs.declared.names.TextRange.{TextRange}
 use Rattle.rust_paths.specs.Names.{Placed, placed_name, as_name}
 use Rattle.rust_paths.specs.Visibilities.{visibility}
 use Rattle.rust_metas.specs.Attributes.{outer_attributes, inner_attributes}
-use Rattle.rust_leaves.specs.Texts.{bare, ends_well, is_cut, spaced_tree}
+use Rattle.rust_leaves.specs.Texts.{bare, is_cut, spaced_tree}
 
 -- a name if one is written, the name that is hashed, and the name's place
 pub record NameRead : Type 0 where
@@ -61,11 +61,15 @@ named_or keyword ts =
 
 -- up to a semicolon or a block
 unfoldable pub item_end : Reader RestRead
-item_end ts = (record { body = (item_rest ts).0; is_ended = ends_well (item_rest ts).0 && not (is_cut ts (item_rest ts).1) }, (item_rest ts).1)
+item_end = do
+  read ← item_rest
+  pure (record { body = read.text; is_ended = read.is_ended })
 
 -- up to a semicolon
 unfoldable pub value_end : Reader RestRead
-value_end ts = (record { body = (value_rest ts).0; is_ended = ends_well (value_rest ts).0 && not (is_cut ts (value_rest ts).1) }, (value_rest ts).1)
+value_end = do
+  read ← value_rest
+  pure (record { body = read.text; is_ended = read.is_ended })
 
 abbrev pub semicolon_end : List ℕ → Reader RestRead
 semicolon_end body = do

@@ -2,8 +2,8 @@
 use Rattle.std.specs.Prelude.{ℕ, zero, suc, ◌-◌, slice_get, Bool, true, false, ◌==◌, ◌&&◌, ◌||◌, if◌then◌else◌, Option, Some, None, List, [], ◌∷◌, ◌++◌, length}
 use Rattle.rust_cursor.specs.Tokens.{Tokens}
 use Rattle.rust_cursor.specs.Reader.{Reader}
-use Rattle.rust_cursor.specs.Words.{text, is_empty, is_at_open, is_at_doc, bumped}
-use Rattle.rust_cursor.specs.Brackets.{closing, behind_tree}
+use Rattle.rust_cursor.specs.Words.{symbol, text, is_empty, is_at_open, is_at_doc, bumped}
+use Rattle.rust_cursor.specs.Brackets.{to_closing, behind_tree}
 use Rattle.rust_cursor.specs.Elements.{most}
 use Rattle.rust_paths.specs.Names.{behind_hash}
 
@@ -22,7 +22,7 @@ bare text = or_all (behind_hash text) text
 -- takes a token, or a whole bracket, and tells whether that is not closed
 abbrev pub open_step : Reader Bool
 open_step ts =
-    if is_at_open ts then (is_empty (closing 0 (bumped ts)), bumped (closing 0 (bumped ts))) else (false, bumped ts)
+    if is_at_open ts then (is_empty (to_closing (symbol ts) (bumped ts)), behind_tree ts) else (false, bumped ts)
 
 abbrev pub has_open_from : ℕ → Tokens → Bool
 has_open_from zero ts = false
@@ -35,14 +35,6 @@ has_open ts = has_open_from most ts
 -- what was read from here to there ends inside a bracket, with the text
 abbrev pub is_cut : Tokens → Tokens → Bool
 is_cut ts rest = is_empty rest && has_open ts
-
-abbrev pub is_end_byte : Option ℕ → Bool
-is_end_byte None = false
-is_end_byte (Some b) = b == 59 || b == 125
-
--- a text ends with a semicolon or a brace
-unfoldable pub ends_well : List ℕ → Bool
-ends_well text = is_end_byte (slice_get text (length text - 1))
 
 -- ---- the tokens of a tree, with a blank between each two
 

@@ -8,7 +8,7 @@ ghost use Rattle.rust_cursor.specs.Reader.{Gives};
 ghost use Rattle.rust_leaves.specs.Leaves as spec;
 ghost use Rattle.rust_leaves.specs.Views.{name_view, rest_view};
 
-use crate::texts::{bare, ends_well, is_cut, spaced_tree};
+use crate::texts::{bare, is_cut, spaced_tree};
 use hir_input::{Meta, Name};
 use rust_cursor::Cursor;
 use rust_metas::inner_attributes;
@@ -101,10 +101,11 @@ pub(crate) fn item_name_or<'t>(
 pub(crate) fn item_end(alloc: Global, cursor: &mut Cursor<'_>) -> Result<Rest, AllocError>
     ensures { Gives rest_view (spec.item_end cursor.old) result cursor.new }
 {
-    let from = cursor.ahead();
-    let body = cursor.item_rest(alloc)?;
-    let is_ended = ends_well(body.as_str()) && !is_cut(&from, cursor);
-    Ok(Rest { body, is_ended })
+    let rest = cursor.item_rest(alloc)?;
+    Ok(Rest {
+        body: rest.text,
+        is_ended: rest.is_ended,
+    })
 }
 
 /// Takes what is left of an item that ends with a semicolon.
@@ -112,10 +113,11 @@ pub(crate) fn item_end(alloc: Global, cursor: &mut Cursor<'_>) -> Result<Rest, A
 pub(crate) fn value_end(alloc: Global, cursor: &mut Cursor<'_>) -> Result<Rest, AllocError>
     ensures { Gives rest_view (spec.value_end cursor.old) result cursor.new }
 {
-    let from = cursor.ahead();
-    let body = cursor.value_rest(alloc)?;
-    let is_ended = ends_well(body.as_str()) && !is_cut(&from, cursor);
-    Ok(Rest { body, is_ended })
+    let rest = cursor.value_rest(alloc)?;
+    Ok(Rest {
+        body: rest.text,
+        is_ended: rest.is_ended,
+    })
 }
 
 fn no_call(alloc: Global) -> Rest

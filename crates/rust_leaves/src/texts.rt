@@ -56,11 +56,11 @@ fn pass_closable(cursor: &mut Cursor<'_>) -> bool
         cursor.bump();
         return false;
     }
-    cursor.bump();
-    cursor.pass_to_closing();
-    let is_open = cursor.is_empty();
-    cursor.bump();
-    is_open
+    let mut ahead = cursor.ahead();
+    ahead.bump();
+    ahead.pass_to_closing(cursor.symbol());
+    cursor.pass_tree();
+    ahead.is_empty()
 }
 
 /// Whether what was read from here to there ends inside a bracket, with the text.
@@ -68,17 +68,6 @@ pub(crate) fn is_cut(from: &Cursor<'_>, rest: &Cursor<'_>) -> bool
     ensures { result ≡ spec.is_cut from.now rest.now }
 {
     rest.is_empty() && has_open(from)
-}
-
-/// Whether a text ends with a semicolon or a brace.
-#[tactic(auto, unfolding(crate::specs::Texts::ends_well))]
-pub(crate) fn ends_well(text: &str) -> bool
-    ensures { result ≡ spec.ends_well text.now }
-{
-    match text.as_bytes().last().copied() {
-        Some(byte) => byte == b';' || byte == b'}',
-        None => false,
-    }
 }
 
 #[tactic(auto, unfolding(crate::specs::Texts::and_text))]
