@@ -11,7 +11,7 @@ use Rattle.rust_cursor.specs.declared.cursor.texts.Extent.TheVariants as extents
 use Rattle.rust_cursor.specs.Tokens.{Tokens}
 use Rattle.rust_cursor.specs.Reader.{Reader, ◌>>=◌, pure}
 use Rattle.rust_cursor.specs.Words.{symbol, word, text, at, is_empty, is_at_identifier, is_at_doc, is_pair, bumped}
-use Rattle.rust_cursor.specs.Nests.{flat, is_flat, is_whole, nest_behind}
+use Rattle.rust_cursor.specs.Nests.{flat_behind, is_flat, is_whole, nest_behind}
 
 -- ---- what begins an item
 
@@ -68,6 +68,7 @@ stops_outside extents.Tree nest ts = not (nest.others == 0) && symbol ts == 125
 stops_outside extents.Group nest ts = not (nest.others == 0) && symbol ts == 125
 stops_outside extents.Value nest ts = symbol ts == 125 || begins nest ts
 stops_outside extents.Item nest ts = symbol ts == 125 || begins nest ts
+stops_outside extents.Macro nest ts = symbol ts == 125 || begins nest ts
 
 unfoldable pub stops : Extent → Nest → Tokens → Bool
 stops e nest ts = if is_empty ts then true else (if nest.braces == 0 then stops_outside e nest ts else false)
@@ -82,6 +83,7 @@ ends_flat extents.Tree angles ts = true
 ends_flat extents.Group angles ts = true
 ends_flat extents.Value angles ts = symbol ts == 59
 ends_flat extents.Item angles ts = symbol ts == 59 || (symbol ts == 125 && (angles == 0 || not (goes_on (bumped ts))))
+ends_flat extents.Macro angles ts = symbol ts == 59 || symbol ts == 125
 
 unfoldable pub ends : Extent → Nest → Tokens → Bool
 ends e behind ts = if is_flat behind then ends_flat e behind.angles ts else false
@@ -94,6 +96,7 @@ has_blank extents.Tree last ts = not (at ts == last)
 has_blank extents.Group last ts = true
 has_blank extents.Value last ts = true
 has_blank extents.Item last ts = true
+has_blank extents.Macro last ts = true
 
 -- a text with that of the next token behind it, where the one before ended at this place; documentation is left out
 unfoldable pub more : Extent → ℕ → List ℕ → Tokens → List ℕ
@@ -128,8 +131,13 @@ taking_from e done last nest ts (_ ∷ more_left) =
 unfoldable pub taking : Extent → List ℕ → ℕ → Nest → Reader ExcerptRead
 taking e done last nest ts = taking_from e done last nest ts ts.left
 
+-- what comes first stands behind this: in the brackets of a macro's parameters any tokens may stand
+abbrev pub first_before : Extent → Before
+first_before extents.Macro = befores.Mark
+first_before _ = befores.End
+
 unfoldable pub taken : Extent → Reader ExcerptRead
-taken e ts = taking e [] ts.past flat ts
+taken e ts = taking e [] ts.past (flat_behind (first_before e)) ts
 
 abbrev pub text_taken : Extent → Reader (List ℕ)
 text_taken e = do
@@ -140,9 +148,9 @@ text_taken e = do
 abbrev pub tree_text : Reader (List ℕ)
 tree_text = text_taken extents.Tree
 
--- the same with a blank between each two tokens
-abbrev pub tree_body : Reader (List ℕ)
-tree_body = text_taken extents.Group
+-- the same with a blank between each two tokens, and whether the brackets are closed
+abbrev pub tree_body : Reader ExcerptRead
+tree_body = taken extents.Group
 
 -- What is left of an item that ends with a semicolon, as `type`, `static` and `const`, and whether it ends so.
 abbrev pub value_rest : Reader ExcerptRead
@@ -151,3 +159,7 @@ value_rest = taken extents.Value
 -- what is left of an item that ends with a semicolon or a block, and whether it ends so
 abbrev pub item_rest : Reader ExcerptRead
 item_rest = taken extents.Item
+
+-- what is left of a macro with parameters, which ends so too
+abbrev pub macro_rest : Reader ExcerptRead
+macro_rest = taken extents.Macro

@@ -95,9 +95,13 @@ before_behind before ts = if is_at_doc ts then before else (if can_end ts then b
 
 -- ---- nests
 
+-- in no bracket, behind this
+abbrev pub flat_behind : Before → Nest
+flat_behind before = record { braces = 0; others = 0; free = 0; angles = 0; inner = 0; is_torn = false; before = before }
+
 -- in no bracket, where a type or a value may have ended
 abbrev pub flat : Nest
-flat = record { braces = 0; others = 0; free = 0; angles = 0; inner = 0; is_torn = false; before = befores.End }
+flat = flat_behind befores.End
 
 -- no bracket in braces was left open, and none closed nothing
 abbrev pub is_whole : Nest → Bool

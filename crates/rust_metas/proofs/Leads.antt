@@ -9,12 +9,13 @@ use Rattle.rust_cursor.specs.Tokens.{Tokens}
 use Rattle.rust_cursor.specs.Reader.{Reader}
 use Rattle.rust_cursor.specs.Words.{symbol, word, kind, bumped, is_at_end, is_at_open}
 use Rattle.rust_cursor.specs.Elements.{one}
+use Rattle.rust_cursor.specs.Extents.{begins_item}
 use Rattle.rust_cursor.proofs.Leads.{LeadsTo, here, further, through, Forwards, when, bumped_leads, behind_closed_leads, behind_tree_leads, turns_leads, taken_leads_on}
 use Rattle.rust_paths.proofs.Leads.{name_leads, path_leads}
 use Rattle.rust_metas.specs.Literals.{is_literal_kind, is_truth, is_literal, is_ended, value, documentation}
 use Rattle.rust_metas.specs.Conditions.{comma_from, behind_comma, option_name, pair, named, if_named, ended, condition_with, conditions, condition}
 use Rattle.rust_metas.specs.Metas.{input, plain, is_call, unsafe_with, cfg_with, member, cfg_attr_with, meta_with, meta, doc}
-use Rattle.rust_metas.specs.Attributes.{is_doc, is_behind, bracketed, opened, one_attribute, behind_docs_from, behind_docs, behind_attribute, attribute, attributes, outer_attributes, inner_attributes}
+use Rattle.rust_metas.specs.Attributes.{is_doc, is_behind, behind_bracket, bracketed, opened, one_attribute, behind_docs_from, behind_docs, behind_attribute, attribute, attributes, outer_attributes, inner_attributes}
 
 -- ---- literals
 
@@ -113,9 +114,12 @@ doc_leads : (anchor : ℕ) → Forwards (doc anchor)
 unfolding doc
 doc_leads anchor ts = documentation_leads anchor ts
 
+behind_bracket_leads : (ts : Tokens) → LeadsTo ts (behind_bracket ts)
+behind_bracket_leads ts = when (begins_item ts) (λ e. rw e here) (λ e. rw e (behind_closed_leads _ ts))
+
 bracketed_leads : (anchor : ℕ) → Forwards (bracketed anchor)
 unfolding bracketed
-bracketed_leads anchor ts = further (through (meta_leads anchor _ _) (behind_closed_leads _ _))
+bracketed_leads anchor ts = further (through (meta_leads anchor _ _) (behind_bracket_leads _))
 
 opened_leads : (style : DocStyle) (ts : Tokens) → LeadsTo ts (opened style ts)
 opened_leads Outer ts = bumped_leads ts

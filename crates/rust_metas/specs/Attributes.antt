@@ -7,6 +7,7 @@ use Rattle.rust_cursor.specs.Tokens.{Tokens}
 use Rattle.rust_cursor.specs.Reader.{Reader, ◌>>=◌, pure, pass}
 use Rattle.rust_cursor.specs.Words.{symbol, kind, bump, bumped}
 use Rattle.rust_cursor.specs.Brackets.{behind_closed}
+use Rattle.rust_cursor.specs.Extents.{begins_item}
 use Rattle.rust_cursor.specs.Elements.{most, turns, one}
 use Rattle.rust_metas.specs.Literals.{style_by}
 use Rattle.rust_metas.specs.Metas.{meta, doc}
@@ -33,12 +34,16 @@ is_attribute Inner ts = symbol ts == 35 && (symbol (bumped ts) == 33 && symbol (
 unfoldable pub is_behind : DocStyle → Tokens → Bool
 is_behind style ts = not (is_doc style ts || is_attribute style ts)
 
+-- where a word comes next that can begin an item only, the bracket is not closed
+abbrev pub behind_bracket : Tokens → Tokens
+behind_bracket ts = if begins_item ts then ts else behind_closed 91 ts
+
 -- a meta in its bracket; what stands behind it there is passed over
 unfoldable pub bracketed : ℕ → Reader MetaView
 bracketed anchor = do
   _ ← bump
   m ← meta anchor deepest
-  _ ← pass (behind_closed 91)
+  _ ← pass behind_bracket
   pure m
 
 abbrev pub opened : DocStyle → Tokens → Tokens

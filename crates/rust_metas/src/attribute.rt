@@ -70,14 +70,16 @@ fn is_behind(cursor: &Cursor<'_>, style: DocStyle) -> bool
     !(is_doc(cursor, style) || is_attribute(cursor, style))
 }
 
-/// A meta in its bracket. What stands behind it there is passed over.
+/// A meta in its bracket. What stands behind it there is passed over, but for a word that can begin an item only.
 #[tactic(auto, unfolding(crate::specs::Attributes::bracketed))]
 fn bracketed(alloc: Global, cursor: &mut Cursor<'_>, anchor: usize) -> Result<Meta, AllocError>
     ensures { Gives meta_view (spec.bracketed anchor cursor.old) result cursor.new }
 {
     cursor.bump();
     let meta = meta(alloc, cursor, anchor, 128)?;
-    cursor.pass_closed(b'[');
+    if !cursor.begins_item() {
+        cursor.pass_closed(b'[');
+    }
     Ok(meta)
 }
 

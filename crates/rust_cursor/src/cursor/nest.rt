@@ -43,6 +43,13 @@ impl Nest {
     pub(crate) fn flat() -> Self
         ensures { result ≡ spec.flat }
     {
+        Nest::flat_behind(Before::End)
+    }
+
+    /// In no bracket.
+    pub(crate) fn flat_behind(before: Before) -> Self
+        ensures { result ≡ spec.flat_behind before }
+    {
         Nest {
             braces: 0,
             others: 0,
@@ -50,7 +57,7 @@ impl Nest {
             angles: 0,
             inner: 0,
             is_torn: false,
-            before: Before::End,
+            before,
         }
     }
 

@@ -20,6 +20,8 @@ pub(crate) enum Extent {
     Value,
     /// Up to a semicolon or a block, with a blank between each two.
     Item,
+    /// The same where any tokens may stand in the first bracket.
+    Macro,
 }
 
 /// A text that was taken.
@@ -121,7 +123,9 @@ impl<'t> Cursor<'t> {
     {
         match extent {
             Extent::Tree | Extent::Group => nest.others != 0 && self.symbol() == b'}',
-            Extent::Value | Extent::Item => self.symbol() == b'}' || self.begins(nest),
+            Extent::Value | Extent::Item | Extent::Macro => {
+                self.symbol() == b'}' || self.begins(nest)
+            }
         }
     }
 
@@ -155,6 +159,7 @@ impl<'t> Cursor<'t> {
                 b'}' => angles == 0 || !self.second().goes_on(),
                 _ => false,
             },
+            Extent::Macro => matches!(self.symbol(), b';' | b'}'),
         }
     }
 
@@ -171,7 +176,7 @@ impl<'t> Cursor<'t> {
     {
         match extent {
             Extent::Tree => self.at() != last,
-            Extent::Group | Extent::Value | Extent::Item => true,
+            Extent::Group | Extent::Value | Extent::Item | Extent::Macro => true,
         }
     }
 
@@ -211,7 +216,7 @@ impl<'t> Cursor<'t> {
         let _ = &self.next;
         let mut text = String::new(alloc);
         let mut last = self.past();
-        let mut nest = Nest::flat();
+        let mut nest = Nest::flat_behind(first_before(extent));
         'tokens: while !self.stops(extent, nest) {
             nest = self.nest_behind(nest);
             let is_last = self.ends(extent, nest);
@@ -244,10 +249,10 @@ impl<'t> Cursor<'t> {
     }
 
     /// Takes a token, or what stands in brackets, and gives the texts of its tokens with a blank between each two.
-    pub fn tree_body(&mut self, alloc: Global) -> Result<String, AllocError>
-        ensures { Gives string_bytes (spec.tree_body self.old) result self.new }
+    pub fn tree_body(&mut self, alloc: Global) -> Result<Excerpt, AllocError>
+        ensures { Gives spec.excerpt_view (spec.tree_body self.old) result self.new }
     {
-        self.take_text(alloc, Extent::Group)
+        self.take_excerpt(alloc, Extent::Group)
     }
 
     /// Takes what is left of an item that ends with a semicolon, and gives the texts of its tokens with a blank between each two.
@@ -265,5 +270,21 @@ impl<'t> Cursor<'t> {
         ensures { Gives spec.excerpt_view (spec.item_rest self.old) result self.new }
     {
         self.take_excerpt(alloc, Extent::Item)
+    }
+
+    /// The same of a macro with parameters, in whose bracket any tokens may stand.
+    pub fn macro_rest(&mut self, alloc: Global) -> Result<Excerpt, AllocError>
+        ensures { Gives spec.excerpt_view (spec.macro_rest self.old) result self.new }
+    {
+        self.take_excerpt(alloc, Extent::Macro)
+    }
+}
+
+fn first_before(extent: Extent) -> Before
+    ensures { result ≡ spec.first_before extent }
+{
+    match extent {
+        Extent::Macro => Before::Mark,
+        Extent::Tree | Extent::Group | Extent::Value | Extent::Item => Before::End,
     }
 }

@@ -118,6 +118,6 @@ fn a_body_has_a_blank_between_each_two(rt: HostRuntime) {
     let alloc = rt.alloc();
     let mut cursor = Cursor::new("{a(/* c */b);} d");
     let body = cursor.tree_body(alloc);
-    assert!(rt; body.is_ok_and(|body| body.as_str() == "{ a ( b ) ; }"));
+    assert!(rt; body.is_ok_and(|body| body.text.as_str() == "{ a ( b ) ; }" && body.is_ended));
     assert_eq!(rt; cursor.text(), "d");
 }

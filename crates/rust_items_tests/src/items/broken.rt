@@ -174,6 +174,10 @@ fn words_inside_types_and_values_begin_no_item(rt: HostRuntime) -> Result<(), Fa
             "Const A; Const C; ",
         ),
         (
+            "macro m(struct $a:ident; use $b:path) {} macro n { (fn $a:ident) => {} }",
+            "MacroDef m; MacroDef n; ",
+        ),
+        (
             "struct S(#[a(struct B)] pub u8, pub(crate) u8); const A: u8 = m!(fn f() {});",
             "Struct S; Const A; ",
         ),
@@ -215,6 +219,15 @@ fn a_bracket_without_another_takes_no_items(rt: HostRuntime) -> Result<(), Fail>
             "Module m; MacroCall; Fn f; Unfinished at 8; ",
         ),
         ("use a::{b, (c};\nfn f() {}", "Use; Fn f; "),
+        (
+            "n! { (a; }\nfn f() {}",
+            "MacroCall; Fn f; Unfinished at 0; ",
+        ),
+        ("n!((a]; fn f() {}", "MacroCall; Unfinished at 0; "),
+        (
+            "#[test\nfn f() {}\n#[a(b)\npub struct S;",
+            "Fn f; Struct S; ",
+        ),
         ("#[cfg{a}] fn f() {}", "Fn f; "),
     ] {
         assert_eq!(rt; shown(rt.alloc(), text)?.as_str(), want, "of {text}");
