@@ -21,7 +21,7 @@ nested_none bracket element (suc depth) ts e = let other : (symbol ts == bracket
 
 -- such a bracket stands there
 pub nested_some : {A : Type 0} (bracket : ℕ) (element : Reader (Option (List A)) → Reader (List A)) (depth : ℕ) (ts : Tokens) → 0 < depth → (symbol ts == bracket) ≡ true
-    → nested bracket element depth ts ≡ (Some (elements (element (nested bracket element (depth - 1))) (bumped ts)).0, behind_closed (elements (element (nested bracket element (depth - 1))) (bumped ts)).1)
+    → nested bracket element depth ts ≡ (Some (elements (element (nested bracket element (depth - 1))) (bumped ts)).0, behind_closed bracket (elements (element (nested bracket element (depth - 1))) (bumped ts)).1)
 unfolding nested
 nested_some bracket element zero ts h e = absurd (omega arith)
 nested_some bracket element (suc depth) ts h e = let less : suc depth - 1 ≡ depth = omega arith in rw (e, less) refl

@@ -3,18 +3,20 @@ use Rattle.std.proofs.Common.{◌≡◌, ◌<◌, ◌+◌, ◌-◌, ◌==◌, �
 use Rattle.std.proofs.lemmas.Bool.{cases_Bool, eqb-true}
 use Rattle.rust_lexer.specs.Piece.{Piece}
 use Rattle.rust_lexer.specs.Symbol.{symbol_of}
-use Rattle.rust_cursor.specs.declared.cursor.generics.Nest.{Nest}
+use Rattle.rust_cursor.specs.declared.cursor.nest.Nest.{Nest}
 use Rattle.rust_cursor.specs.declared.cursor.generics.Reach.{Reach}
 use Rattle.rust_cursor.specs.declared.cursor.generics.Reach.TheVariants as reaches
 use Rattle.rust_cursor.specs.declared.cursor.texts.Extent.{Extent}
 use Rattle.rust_cursor.specs.Tokens.{Tokens}
 use Rattle.rust_cursor.specs.Reader.{Reader}
 use Rattle.rust_cursor.specs.Words.{is_close, word_by, by_first, symbol, word, is_empty, is_at_open, is_at_end, bumped, taken_if, eat, eat_word, is_pair, eat_pair}
-use Rattle.rust_cursor.specs.Brackets.{closing, behind_closed, behind_tree}
+use Rattle.rust_cursor.specs.Nests.{flat, nest_behind}
+use Rattle.rust_cursor.specs.Brackets.{is_closing, closing, to_closing, behind_closing, behind_closed, behind_tree}
 use Rattle.rust_cursor.specs.Elements.{beyond, turns_from, turns}
-use Rattle.rust_cursor.specs.Extents.{depth_behind, stops, ends, taking, taken}
-use Rattle.rust_cursor.specs.Angles.{nest_behind, is_reached, is_closed, reaching, reached, flat, behind_angles}
-use Rattle.rust_cursor.proofs.Steps.{shorter, closing_open, closing_close, closing_here, closing_other, closing_none}
+use Rattle.rust_cursor.specs.Extents.{stops, ends, taking, taken}
+use Rattle.rust_cursor.specs.Angles.{is_reached, is_closed, reaching, reached, behind_angles}
+use Rattle.rust_cursor.proofs.Nesting.{shorter}
+use Rattle.rust_cursor.proofs.Steps.{closing_stop, closing_more}
 use Rattle.rust_cursor.proofs.Scans.{taking_stop, taking_end, taking_more}
 use Rattle.rust_cursor.proofs.Reaches.{reaching_stop, reaching_end, reaching_more}
 
@@ -70,25 +72,34 @@ module _ (P : Tokens → Type 0) (none : (ts : Tokens) → is_empty ts ≡ true 
 
 -- ---- brackets
 
-closing_some : (ts : Tokens) → is_empty ts ≡ false → ((depth : ℕ) → LeadsTo (bumped ts) (closing depth (bumped ts))) → (depth : ℕ) → LeadsTo ts (closing depth ts)
-closing_some ts e inner depth =
-    when (is_at_open ts) (λ o. rw (closing_open depth ts o) (further (inner (depth + 1))))
-    (λ o. when (is_at_end ts)
-    (λ c. when (depth == 0) (λ z. let none : depth ≡ 0 = eqb-true depth 0 z in rw (none, closing_here ts o c) here)
-    (λ z. rw (closing_close depth ts e o c z) (further (inner (depth - 1)))))
-    (λ c. rw (closing_other depth ts o c) (further (inner depth))))
+closing_next : (bracket : ℕ) (ts : Tokens) → ((nest : Nest) → LeadsTo (bumped ts) (closing bracket nest (bumped ts))) → (nest : Nest) → LeadsTo ts (closing bracket nest ts)
+closing_next bracket ts inner nest =
+    when (is_closing bracket nest ts) (λ s. rw (closing_stop bracket nest ts s) here) (λ s. rw (closing_more bracket nest ts s) (further (inner _)))
 
-pub closing_leads : (depth : ℕ) (ts : Tokens) → LeadsTo ts (closing depth ts)
-closing_leads depth ts =
-    from_last (λ ts. (depth : ℕ) → LeadsTo ts (closing depth ts)) (λ ts e depth. rw (closing_none depth ts e) here) closing_some ts depth
+closing_empty : (bracket : ℕ) (nest : Nest) (ts : Tokens) → is_empty ts ≡ true → is_closing bracket nest ts ≡ true
+unfolding is_closing
+closing_empty bracket nest ts n = rw n refl
 
-pub behind_closed_leads : (ts : Tokens) → LeadsTo ts (behind_closed ts)
+closing_leads : (bracket : ℕ) (nest : Nest) (ts : Tokens) → LeadsTo ts (closing bracket nest ts)
+closing_leads bracket nest ts =
+    from_last (λ ts. (nest : Nest) → LeadsTo ts (closing bracket nest ts)) (λ ts n nest. rw (closing_stop bracket nest ts (closing_empty bracket nest ts n)) here)
+    (λ ts n inner. closing_next bracket ts inner) ts nest
+
+pub to_closing_leads : (bracket : ℕ) (ts : Tokens) → LeadsTo ts (to_closing bracket ts)
+unfolding to_closing
+to_closing_leads bracket ts = closing_leads bracket flat ts
+
+behind_closing_leads : (bracket : ℕ) (ts : Tokens) → LeadsTo ts (behind_closing bracket ts)
+behind_closing_leads bracket ts =
+    when (bracket == 123) (λ e. rw e (bumped_leads ts)) (λ e. when (symbol ts == 125) (λ f. rw (e, f) here) (λ f. rw (e, f) (bumped_leads ts)))
+
+pub behind_closed_leads : (bracket : ℕ) (ts : Tokens) → LeadsTo ts (behind_closed bracket ts)
 unfolding behind_closed
-behind_closed_leads ts = through (closing_leads 0 ts) (bumped_leads _)
+behind_closed_leads bracket ts = through (to_closing_leads bracket ts) (behind_closing_leads bracket _)
 
 pub behind_tree_leads : (ts : Tokens) → LeadsTo ts (behind_tree ts)
 unfolding behind_tree
-behind_tree_leads ts = when (is_at_open ts) (λ e. rw e (further (behind_closed_leads _))) (λ e. rw e (bumped_leads ts))
+behind_tree_leads ts = when (is_at_open ts) (λ e. rw e (further (behind_closed_leads _ _))) (λ e. rw e (bumped_leads ts))
 
 -- ---- turns
 
@@ -107,21 +118,21 @@ turns_leads ends reader r ts = turns_from_leads ends reader r _ _ ts
 
 -- ---- texts
 
-taking_some : (e : Extent) (ts : Tokens) → ((done : List ℕ) (last depth : ℕ) → LeadsTo (bumped ts) (taking e done last depth (bumped ts)).1)
-    → (done : List ℕ) (last depth : ℕ) → LeadsTo ts (taking e done last depth ts).1
-taking_some e ts inner done last depth =
-    when (stops e depth ts) (λ s. rw (taking_stop e done last depth ts s) here)
-    (λ s. when (ends e (depth_behind depth ts) ts) (λ f. rw (taking_end e done last depth ts s f) (bumped_leads ts))
-    (λ f. rw (taking_more e done last depth ts s f) (further (inner _ _ _))))
+taking_next : (e : Extent) (ts : Tokens) → ((done : List ℕ) (last : ℕ) (nest : Nest) → LeadsTo (bumped ts) (taking e done last nest (bumped ts)).1)
+    → (done : List ℕ) (last : ℕ) (nest : Nest) → LeadsTo ts (taking e done last nest ts).1
+taking_next e ts inner done last nest =
+    when (stops e nest ts) (λ s. rw (taking_stop e done last nest ts s) here)
+    (λ s. when (ends e (nest_behind nest ts) ts) (λ f. rw (taking_end e done last nest ts s f) (bumped_leads ts))
+    (λ f. rw (taking_more e done last nest ts s f) (further (inner _ _ _))))
 
-stops_empty : (e : Extent) (depth : ℕ) (ts : Tokens) → is_empty ts ≡ true → stops e depth ts ≡ true
+stops_empty : (e : Extent) (nest : Nest) (ts : Tokens) → is_empty ts ≡ true → stops e nest ts ≡ true
 unfolding stops
-stops_empty e depth ts n = rw n refl
+stops_empty e nest ts n = rw n refl
 
-pub taking_leads : (e : Extent) (done : List ℕ) (last depth : ℕ) → Forwards (taking e done last depth)
-taking_leads e done last depth ts =
-    from_last (λ ts. (done : List ℕ) (last depth : ℕ) → LeadsTo ts (taking e done last depth ts).1)
-    (λ ts n done last depth. rw (taking_stop e done last depth ts (stops_empty e depth ts n)) here) (λ ts n inner. taking_some e ts inner) ts done last depth
+pub taking_leads : (e : Extent) (done : List ℕ) (last : ℕ) (nest : Nest) → Forwards (taking e done last nest)
+taking_leads e done last nest ts =
+    from_last (λ ts. (done : List ℕ) (last : ℕ) (nest : Nest) → LeadsTo ts (taking e done last nest ts).1)
+    (λ ts n done last nest. rw (taking_stop e done last nest ts (stops_empty e nest ts n)) here) (λ ts n inner. taking_next e ts inner) ts done last nest
 
 pub taken_leads_on : (e : Extent) → Forwards (taken e)
 unfolding taken
@@ -129,8 +140,8 @@ taken_leads_on e ts = taking_leads e _ _ _ ts
 
 -- ---- angle brackets
 
-reaching_some : (r : Reach) (ts : Tokens) → ((nest : Nest) → LeadsTo (bumped ts) (reaching r nest (bumped ts))) → (nest : Nest) → LeadsTo ts (reaching r nest ts)
-reaching_some r ts inner nest =
+reaching_next : (r : Reach) (ts : Tokens) → ((nest : Nest) → LeadsTo (bumped ts) (reaching r nest (bumped ts))) → (nest : Nest) → LeadsTo ts (reaching r nest ts)
+reaching_next r ts inner nest =
     when (is_reached r nest ts) (λ s. rw (reaching_stop r nest ts s) here)
     (λ s. when (is_closed r (nest_behind nest ts)) (λ f. rw (reaching_end r nest ts s f) (bumped_leads ts))
     (λ f. rw (reaching_more r nest ts s f) (further (inner _))))
@@ -142,7 +153,7 @@ reached_empty r nest ts n = rw n refl
 reaching_leads : (r : Reach) (nest : Nest) (ts : Tokens) → LeadsTo ts (reaching r nest ts)
 reaching_leads r nest ts =
     from_last (λ ts. (nest : Nest) → LeadsTo ts (reaching r nest ts)) (λ ts n nest. rw (reaching_stop r nest ts (reached_empty r nest ts n)) here)
-    (λ ts n inner. reaching_some r ts inner) ts nest
+    (λ ts n inner. reaching_next r ts inner) ts nest
 
 pub reached_leads : (r : Reach) (ts : Tokens) → LeadsTo ts (reached r ts)
 unfolding reached

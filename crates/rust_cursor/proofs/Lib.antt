@@ -1,4 +1,5 @@
 pub mod Few
+pub mod Nesting
 pub mod Steps
 pub mod Turns
 pub mod Depth
@@ -7,4 +8,3 @@ pub mod Reaches
 pub mod Leads
 pub mod Laid
 pub mod Rests
-pub mod Blocks

@@ -1,64 +1,39 @@
--- Steps over tokens.
-use Rattle.std.proofs.Common.{◌≡◌, ◌+◌, ◌-◌, ◌==◌, ℕ, Bool, true, false, Option, List, [], ◌∷◌, length, refl, arith}
+-- Steps up to a bracket that closes.
+use Rattle.std.proofs.Common.{◌≡◌, ◌==◌, ℕ, Bool, true, false, Option, List, [], ◌∷◌, refl, sym, ap, ◌∙◌}
 use Rattle.rust_lexer.specs.Piece.{Piece}
+use Rattle.rust_cursor.specs.declared.cursor.nest.Nest.{Nest}
 use Rattle.rust_cursor.specs.Tokens.{Tokens}
-use Rattle.rust_cursor.specs.Words.{by_first, rest, is_empty, is_at_open, is_at_end, bumped}
-use Rattle.rust_cursor.specs.Brackets.{closing, closing_from}
+use Rattle.rust_cursor.specs.Words.{is_empty, bumped}
+use Rattle.rust_cursor.specs.Nests.{nest_behind}
+use Rattle.rust_cursor.specs.Brackets.{is_closing, closing, closing_from}
+use Rattle.rust_cursor.proofs.Nesting.{not_first}
 
-shorter_from : (left : List Piece) → by_first true (λ _. false) left ≡ false → length (rest left) + 1 ≡ length left
-shorter_from [] e = absurd cc
-shorter_from (t ∷ ts) e = omega arith
+stop_from : (bracket : ℕ) (nest : Nest) (ts : Tokens) (left : List Piece) → is_closing bracket nest ts ≡ true → closing_from bracket nest ts left ≡ ts
+stop_from bracket nest ts [] e = refl
+stop_from bracket nest ts (t ∷ more) e = rw e refl
 
--- a token that is taken is one less
-pub shorter : (ts : Tokens) → is_empty ts ≡ false → length (bumped ts).left + 1 ≡ length ts.left
-unfolding is_empty bumped
-shorter ts e = shorter_from ts.left e
-
-open_from : (depth past : ℕ) (left : List Piece) (u : Option ℕ) → (let here : Tokens = record { past = past; left = left; unended = u } in
-    is_at_open here ≡ true → closing depth here ≡ closing (depth + 1) (bumped here))
-unfolding closing is_at_open bumped
-open_from depth past [] u e = absurd cc
-open_from depth past (t ∷ ts) u e = rw e refl
-
--- a bracket that opens
-pub closing_open : (depth : ℕ) (ts : Tokens) → is_at_open ts ≡ true → closing depth ts ≡ closing (depth + 1) (bumped ts)
-closing_open depth ts e = open_from depth ts.past ts.left ts.unended e
-
-close_from : (depth past : ℕ) (left : List Piece) (u : Option ℕ) → (let here : Tokens = record { past = past; left = left; unended = u } in
-    is_empty here ≡ false → is_at_open here ≡ false → is_at_end here ≡ true → (depth == 0) ≡ false → closing depth here ≡ closing (depth - 1) (bumped here))
-unfolding closing is_empty is_at_open is_at_end bumped
-close_from depth past [] u n e f d = absurd cc
-close_from depth past (t ∷ ts) u n e f d = rw (e, f, d) refl
-
--- a bracket that closes another
-pub closing_close : (depth : ℕ) (ts : Tokens) → is_empty ts ≡ false → is_at_open ts ≡ false → is_at_end ts ≡ true → (depth == 0) ≡ false → closing depth ts ≡ closing (depth - 1) (bumped ts)
-closing_close depth ts n e f d = close_from depth ts.past ts.left ts.unended n e f d
-
-here_from : (ts : Tokens) (left : List Piece) → is_at_open ts ≡ false → is_at_end ts ≡ true → closing_from 0 ts left ≡ ts
-here_from ts [] e f = refl
-here_from ts (t ∷ more) e f = rw (e, f) refl
-
--- the bracket that closes
-pub closing_here : (ts : Tokens) → is_at_open ts ≡ false → is_at_end ts ≡ true → closing 0 ts ≡ ts
+-- nothing more is passed over
+pub closing_stop : (bracket : ℕ) (nest : Nest) (ts : Tokens) → is_closing bracket nest ts ≡ true → closing bracket nest ts ≡ ts
 unfolding closing
-closing_here ts e f = here_from ts ts.left e f
+closing_stop bracket nest ts e = stop_from bracket nest ts ts.left e
 
-other_from : (depth past : ℕ) (left : List Piece) (u : Option ℕ) → (let here : Tokens = record { past = past; left = left; unended = u } in
-    is_at_open here ≡ false → is_at_end here ≡ false → closing depth here ≡ closing depth (bumped here))
-unfolding closing is_at_open is_at_end bumped
-other_from depth past [] u e f = absurd cc
-other_from depth past (t ∷ ts) u e f = rw (e, f) refl
+more_from : (bracket : ℕ) (nest : Nest) (past : ℕ) (left : List Piece) (u : Option ℕ) → (let here : Tokens = record { past = past; left = left; unended = u } in
+    is_closing bracket nest here ≡ false → closing bracket nest here ≡ closing bracket (nest_behind nest here) (bumped here))
+unfolding is_closing is_empty closing bumped
+more_from bracket nest past [] u e = absurd cc
+more_from bracket nest past (t ∷ ts) u e = rw e refl
 
--- a token that is no bracket
-pub closing_other : (depth : ℕ) (ts : Tokens) → is_at_open ts ≡ false → is_at_end ts ≡ false → closing depth ts ≡ closing depth (bumped ts)
-closing_other depth ts e f = other_from depth ts.past ts.left ts.unended e f
+-- a token is passed over, and more
+pub closing_more : (bracket : ℕ) (nest : Nest) (ts : Tokens) → is_closing bracket nest ts ≡ false → closing bracket nest ts ≡ closing bracket (nest_behind nest ts) (bumped ts)
+closing_more bracket nest ts e = more_from bracket nest ts.past ts.left ts.unended e
 
-none_from : (depth past : ℕ) (left : List Piece) (u : Option ℕ) → (let here : Tokens = record { past = past; left = left; unended = u } in
-    is_empty here ≡ true → closing depth here ≡ here)
-unfolding closing is_empty
-none_from depth past [] u e = refl
-none_from depth past (t ∷ ts) u e = absurd cc
+-- where a token is passed over, one is left
+pub closing_some : (bracket : ℕ) (nest : Nest) (ts : Tokens) → is_closing bracket nest ts ≡ false → is_empty ts ≡ false
+unfolding is_closing
+closing_some bracket nest ts e = not_first (is_empty ts) _ e
 
--- nothing is left
-pub closing_none : (depth : ℕ) (ts : Tokens) → is_empty ts ≡ true → closing depth ts ≡ ts
-closing_none depth ts e = none_from depth ts.past ts.left ts.unended e
+-- a turn
+pub closing_turn : (bracket : ℕ) (nest behind : Nest) (ts ts' all : Tokens) → is_closing bracket nest ts ≡ false → behind ≡ nest_behind nest ts → ts' ≡ bumped ts → closing bracket nest ts ≡ all → closing bracket behind ts' ≡ all
+closing_turn bracket nest behind ts ts' all s b n told =
+    let step = closing_more bracket nest ts s in
+    cc

@@ -1,29 +1,16 @@
 -- What stands in angle brackets, and what is found beside them.
-use Rattle.std.specs.Prelude.{ℕ, ◌+◌, ◌-◌, ◌==◌, Bool, true, false, not, ◌&&◌, ◌||◌, if◌then◌else◌, Option, Some, List, [], ◌∷◌, codes}
+use Rattle.std.specs.Prelude.{ℕ, ◌==◌, Bool, true, false, not, ◌&&◌, ◌||◌, if◌then◌else◌, Option, Some, List, [], ◌∷◌, codes}
 use Rattle.std.specs.Str.{bytes_eq}
 use Rattle.rust_lexer.specs.declared.kind.TokenKind.{TokenKind}
 use Rattle.rust_lexer.specs.declared.kind.TokenKind.TheVariants as kinds
 use Rattle.rust_lexer.specs.Piece.{Piece}
-use Rattle.rust_cursor.specs.declared.cursor.generics.Nest.{Nest}
+use Rattle.rust_cursor.specs.declared.cursor.nest.Nest.{Nest}
 use Rattle.rust_cursor.specs.declared.cursor.generics.Reach.{Reach}
 use Rattle.rust_cursor.specs.declared.cursor.generics.Reach.TheVariants as reaches
 use Rattle.rust_cursor.specs.Tokens.{Tokens}
-use Rattle.rust_cursor.specs.Words.{symbol, word, kind, is_empty, is_at_end, is_glued, bumped}
-use Rattle.rust_cursor.specs.Extents.{depth_behind, begins_item}
-
--- In how many angle brackets what stands behind the next token is. The `>` of `->` and `=>` closes none.
-abbrev pub angles_behind : Nest → Tokens → ℕ
-angles_behind nest ts =
-    if symbol ts == 60 then nest.angles + 1
-    else (if symbol ts == 62 then (if nest.is_dash && is_glued ts then nest.angles else nest.angles - 1) else nest.angles)
-
--- Where what stands behind the next token is. In brackets of another kind, angle brackets are not counted.
-unfoldable pub nest_behind : Nest → Tokens → Nest
-nest_behind nest ts = record {
-  depth = depth_behind nest.depth ts;
-  angles = if nest.depth == 0 then angles_behind nest ts else nest.angles;
-  is_dash = symbol ts == 45 || symbol ts == 61;
-}
+use Rattle.rust_cursor.specs.Words.{symbol, word, kind, is_empty, is_at_end, bumped}
+use Rattle.rust_cursor.specs.Nests.{flat, is_flat, nest_behind}
+use Rattle.rust_cursor.specs.Extents.{begins}
 
 abbrev pub is_lifetime : Option TokenKind → Bool
 is_lifetime (Some kinds.Lifetime) = true
@@ -38,29 +25,33 @@ begins_binder ts = symbol ts == 60 && (is_lifetime (kind (bumped ts)) || symbol 
 abbrev pub is_lone_for : Tokens → Bool
 is_lone_for ts = bytes_eq (word ts) (codes "for") && not (begins_binder (bumped ts))
 
--- an impl's header is over, in so many angle brackets
-abbrev pub is_barred_header : ℕ → Tokens → Bool
-is_barred_header angles ts =
-    if symbol ts == 59 || begins_item ts then true
+-- the end of what is around
+abbrev pub closes_around : Nest → Tokens → Bool
+closes_around nest ts = symbol ts == 125 || (nest.others == 0 && is_at_end ts)
+
+-- an impl's header is over, in no bracket but so many angle brackets
+abbrev pub is_header_end : ℕ → Tokens → Bool
+is_header_end angles ts =
+    if symbol ts == 59 then true
     else (if angles == 0 then symbol ts == 123 || (bytes_eq (word ts) (codes "where") || is_lone_for ts) else false)
 
--- before an item's block nothing more stands, in so many angle brackets
-abbrev pub is_barred_block : ℕ → Tokens → Bool
-is_barred_block angles ts = if symbol ts == 59 || begins_item ts then true else angles == 0 && symbol ts == 123
+-- before an item's block nothing more stands
+abbrev pub is_block_end : ℕ → Tokens → Bool
+is_block_end angles ts = symbol ts == 59 || (angles == 0 && symbol ts == 123)
 
--- nothing more is passed over from here on, in no bracket and so many angle brackets
-abbrev pub is_barred : Reach → ℕ → Tokens → Bool
-is_barred reaches.Angles angles ts = is_at_end ts || (symbol ts == 59 || begins_item ts)
-is_barred reaches.Field angles ts = is_at_end ts || (angles == 0 && symbol ts == 44)
-is_barred reaches.Header angles ts = is_at_end ts || is_barred_header angles ts
-is_barred reaches.Block angles ts = is_at_end ts || is_barred_block angles ts
+-- nothing more is passed over from here on, in no brace
+abbrev pub is_barred : Reach → Nest → Tokens → Bool
+is_barred reaches.Angles nest ts = closes_around nest ts || (begins nest ts || (nest.others == 0 && symbol ts == 59))
+is_barred reaches.Field nest ts = closes_around nest ts || (nest.others == 0 && (nest.angles == 0 && symbol ts == 44))
+is_barred reaches.Header nest ts = symbol ts == 125 || (begins nest ts || (nest.others == 0 && is_header_end nest.angles ts))
+is_barred reaches.Block nest ts = symbol ts == 125 || (begins nest ts || (nest.others == 0 && is_block_end nest.angles ts))
 
 unfoldable pub is_reached : Reach → Nest → Tokens → Bool
-is_reached reach nest ts = if is_empty ts then true else (if nest.depth == 0 then is_barred reach nest.angles ts else false)
+is_reached reach nest ts = if is_empty ts then true else (if nest.braces == 0 then is_barred reach nest ts else false)
 
 -- the next token is the last, where this is behind it
 unfoldable pub is_closed : Reach → Nest → Bool
-is_closed reaches.Angles nest = nest.depth == 0 && nest.angles == 0
+is_closed reaches.Angles nest = is_flat nest && nest.angles == 0
 is_closed reaches.Field nest = false
 is_closed reaches.Header nest = false
 is_closed reaches.Block nest = false
@@ -74,9 +65,6 @@ reaching_from reach nest ts (_ ∷ more) =
 
 unfoldable pub reaching : Reach → Nest → Tokens → Tokens
 reaching reach nest ts = reaching_from reach nest ts ts.left
-
-abbrev pub flat : Nest
-flat = record { depth = 0; angles = 0; is_dash = false }
 
 unfoldable pub reached : Reach → Tokens → Tokens
 reached reach ts = reaching reach flat ts

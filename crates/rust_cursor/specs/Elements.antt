@@ -38,4 +38,4 @@ perhaps reader ts = (option_to_list (reader ts).0, (reader ts).1)
 unfoldable pub nested : {A : Type 0} → ℕ → (Reader (Option (List A)) → Reader (List A)) → ℕ → Reader (Option (List A))
 nested bracket element zero ts = (None, ts)
 nested bracket element (suc depth) ts =
-    if symbol ts == bracket then (let r = elements (element (nested bracket element depth)) (bumped ts) in (Some r.0, behind_closed r.1)) else (None, ts)
+    if symbol ts == bracket then (let r = elements (element (nested bracket element depth)) (bumped ts) in (Some r.0, behind_closed bracket r.1)) else (None, ts)

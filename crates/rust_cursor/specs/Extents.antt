@@ -1,16 +1,19 @@
 -- The texts of what is taken: what stands in brackets, and what is left of an item.
-use Rattle.std.specs.Prelude.{ℕ, ◌+◌, ◌-◌, ◌==◌, Bool, true, false, not, ◌&&◌, ◌||◌, if◌then◌else◌, List, [], ◌∷◌, ◌++◌, length, codes}
+use Rattle.std.specs.Prelude.{ℕ, ◌==◌, Bool, true, false, not, ◌&&◌, ◌||◌, if◌then◌else◌, List, [], ◌∷◌, ◌++◌, length, string_bytes, codes}
 use Rattle.std.specs.Str.{bytes_eq}
 use Rattle.rust_lexer.specs.Piece.{Piece}
+use Rattle.rust_cursor.specs.declared.cursor.nest.Before.{Before}
+use Rattle.rust_cursor.specs.declared.cursor.nest.Before.TheVariants as befores
+use Rattle.rust_cursor.specs.declared.cursor.nest.Nest.{Nest}
+use Rattle.rust_cursor.specs.declared.cursor.texts.Excerpt.{Excerpt}
 use Rattle.rust_cursor.specs.declared.cursor.texts.Extent.{Extent}
 use Rattle.rust_cursor.specs.declared.cursor.texts.Extent.TheVariants as extents
 use Rattle.rust_cursor.specs.Tokens.{Tokens}
 use Rattle.rust_cursor.specs.Reader.{Reader, ◌>>=◌, pure}
-use Rattle.rust_cursor.specs.Words.{symbol, word, text, at, is_empty, is_at_open, is_at_end, is_at_identifier, is_at_doc, bumped, bump}
+use Rattle.rust_cursor.specs.Words.{symbol, word, text, at, is_empty, is_at_identifier, is_at_doc, is_pair, bumped}
+use Rattle.rust_cursor.specs.Nests.{flat_behind, is_flat, is_whole, nest_behind}
 
--- in how many brackets what stands behind the next token is
-unfoldable pub depth_behind : ℕ → Tokens → ℕ
-depth_behind depth ts = if is_at_open ts then depth + 1 else (if is_at_end ts then depth - 1 else depth)
+-- ---- what begins an item
 
 -- a word that can begin an item only, whatever stands behind it
 abbrev pub is_item_word : List ℕ → Bool
@@ -26,39 +29,74 @@ begins_item ts =
     else (if bytes_eq (word ts) (codes "macro_rules") then symbol (bumped ts) == 33
     else (if bytes_eq (word ts) (codes "extern") then bytes_eq (word (bumped ts)) (codes "crate") else false))))
 
--- nothing more is taken from here on, in no bracket
-abbrev pub stops_flat : Extent → Tokens → Bool
-stops_flat extents.Closed ts = is_at_end ts
-stops_flat extents.Tree ts = false
-stops_flat extents.Group ts = false
-stops_flat extents.Value ts = is_at_end ts || begins_item ts
-stops_flat extents.Item ts = is_at_end ts || begins_item ts
+-- behind `const`: a function, or a name or `_` with a colon
+abbrev pub follows_const : Tokens → Bool
+follows_const ts =
+    if bytes_eq (word ts) (codes "fn") then is_at_identifier (bumped ts)
+    else is_at_identifier ts && (symbol (bumped ts) == 58 && not (is_pair 58 58 (bumped ts)))
 
-unfoldable pub stops : Extent → ℕ → Tokens → Bool
-stops e depth ts = if is_empty ts then true else (if depth == 0 then stops_flat e ts else false)
+-- `impl`, `unsafe impl` or `const`, which stand in types and values too
+unfoldable pub begins_impl_or_const : Tokens → Bool
+begins_impl_or_const ts =
+    if bytes_eq (word ts) (codes "impl") then true
+    else (if bytes_eq (word ts) (codes "unsafe") then bytes_eq (word (bumped ts)) (codes "impl")
+    else (if bytes_eq (word ts) (codes "const") then follows_const (bumped ts) else false))
 
--- a block that one of these follows is a part of what goes on
+-- an item begins behind what can end a type or a value; an attribute may also stand behind a `>` that compares
+abbrev pub begins_behind : Before → Tokens → Bool
+begins_behind befores.End ts = if symbol ts == 35 then symbol (bumped ts) == 91 else begins_impl_or_const ts
+begins_behind befores.Angle ts = begins_impl_or_const ts
+begins_behind _ ts = false
+
+-- The same in a bracket that is no brace, where a field may be `pub` and a closure `use` or `static`.
+unfoldable pub begins_within : Tokens → Bool
+begins_within ts =
+    if bytes_eq (word ts) (codes "pub") then false
+    else (if bytes_eq (word ts) (codes "use") then is_at_identifier (bumped ts)
+    else (if bytes_eq (word ts) (codes "static") then not (bytes_eq (word (bumped ts)) (codes "move") || bytes_eq (word (bumped ts)) (codes "async")) && begins_item ts
+    else begins_item ts))
+
+-- An item begins, in no brace.
+abbrev pub begins : Nest → Tokens → Bool
+begins nest ts = if nest.others == 0 then begins_item ts || begins_behind nest.before ts else nest.free == 0 && begins_within ts
+
+-- ---- how far it goes
+
+-- nothing more is taken from here on, in no brace
+abbrev pub stops_outside : Extent → Nest → Tokens → Bool
+stops_outside extents.Tree nest ts = not (nest.others == 0) && symbol ts == 125
+stops_outside extents.Group nest ts = not (nest.others == 0) && symbol ts == 125
+stops_outside extents.Value nest ts = symbol ts == 125 || begins nest ts
+stops_outside extents.Item nest ts = symbol ts == 125 || begins nest ts
+stops_outside extents.Macro nest ts = symbol ts == 125 || begins nest ts
+
+unfoldable pub stops : Extent → Nest → Tokens → Bool
+stops e nest ts = if is_empty ts then true else (if nest.braces == 0 then stops_outside e nest ts else false)
+
+-- behind a block in angle brackets: what it stands in goes on
 abbrev pub goes_on : Tokens → Bool
 goes_on ts = symbol ts == 62 || symbol ts == 44
 
--- the next token is the last, if no bracket is open behind it
-abbrev pub ends_flat : Extent → Tokens → Bool
-ends_flat extents.Closed ts = false
-ends_flat extents.Tree ts = true
-ends_flat extents.Group ts = true
-ends_flat extents.Value ts = symbol ts == 59
-ends_flat extents.Item ts = symbol ts == 59 || (symbol ts == 125 && not (goes_on (bumped ts)))
+-- the next token is the last, if no bracket but so many angle brackets are open behind it
+abbrev pub ends_flat : Extent → ℕ → Tokens → Bool
+ends_flat extents.Tree angles ts = true
+ends_flat extents.Group angles ts = true
+ends_flat extents.Value angles ts = symbol ts == 59
+ends_flat extents.Item angles ts = symbol ts == 59 || (symbol ts == 125 && (angles == 0 || not (goes_on (bumped ts))))
+ends_flat extents.Macro angles ts = symbol ts == 59 || symbol ts == 125
 
-unfoldable pub ends : Extent → ℕ → Tokens → Bool
-ends e behind ts = if behind == 0 then ends_flat e ts else false
+unfoldable pub ends : Extent → Nest → Tokens → Bool
+ends e behind ts = if is_flat behind then ends_flat e behind.angles ts else false
+
+-- ---- the text
 
 -- Whether a blank stands before the next token where another stands before it. As written, it stands for all white space and comments.
 unfoldable pub has_blank : Extent → ℕ → Tokens → Bool
-has_blank extents.Closed last ts = not (at ts == last)
 has_blank extents.Tree last ts = not (at ts == last)
 has_blank extents.Group last ts = true
 has_blank extents.Value last ts = true
 has_blank extents.Item last ts = true
+has_blank extents.Macro last ts = true
 
 -- a text with that of the next token behind it, where the one before ended at this place; documentation is left out
 unfoldable pub more : Extent → ℕ → List ℕ → Tokens → List ℕ
@@ -70,40 +108,58 @@ more e last done ts =
 unfoldable pub last_behind : ℕ → Tokens → ℕ
 last_behind last ts = if is_at_doc ts then last else (bumped ts).past
 
+-- A text, and whether it ends with its end and its brackets are closed.
+pub record ExcerptRead : Type 0 where
+  pub text : List ℕ
+  pub is_ended : Bool
+
+abbrev pub excerpt : List ℕ → Bool → ExcerptRead
+excerpt text is_ended = record { text = text; is_ended = is_ended }
+
+abbrev pub excerpt_view : Excerpt → ExcerptRead
+excerpt_view e = excerpt (string_bytes e.text) e.is_ended
+
 -- goes on from here, at most as many times as a token is in this list
-abbrev pub taking_from : Extent → List ℕ → ℕ → ℕ → Tokens → List Piece → List ℕ × Tokens
-taking_from e done last depth ts [] = (done, ts)
-taking_from e done last depth ts (_ ∷ more_left) =
-    if stops e depth ts then (done, ts)
-    else (if ends e (depth_behind depth ts) ts then (more e last done ts, bumped ts)
-    else taking_from e (more e last done ts) (last_behind last ts) (depth_behind depth ts) (bumped ts) more_left)
+abbrev pub taking_from : Extent → List ℕ → ℕ → Nest → Tokens → List Piece → ExcerptRead × Tokens
+taking_from e done last nest ts [] = (excerpt done false, ts)
+taking_from e done last nest ts (_ ∷ more_left) =
+    if stops e nest ts then (excerpt done false, ts)
+    else (if ends e (nest_behind nest ts) ts then (excerpt (more e last done ts) (is_whole (nest_behind nest ts)), bumped ts)
+    else taking_from e (more e last done ts) (last_behind last ts) (nest_behind nest ts) (bumped ts) more_left)
 
--- goes on taking in so many brackets, behind a text
-unfoldable pub taking : Extent → List ℕ → ℕ → ℕ → Reader (List ℕ)
-taking e done last depth ts = taking_from e done last depth ts ts.left
+-- goes on taking where this stands, behind a text
+unfoldable pub taking : Extent → List ℕ → ℕ → Nest → Reader ExcerptRead
+taking e done last nest ts = taking_from e done last nest ts ts.left
 
-unfoldable pub taken : Extent → Reader (List ℕ)
-taken e ts = taking e [] ts.past 0 ts
+-- what comes first stands behind this: in the brackets of a macro's parameters any tokens may stand
+abbrev pub first_before : Extent → Before
+first_before extents.Macro = befores.Mark
+first_before _ = befores.End
 
--- the text up to the bracket that closes one that is open, which is taken with it
-unfoldable pub closed_text : Reader (List ℕ)
-closed_text = do
-  text ← taken extents.Closed
-  _ ← bump
-  pure text
+unfoldable pub taken : Extent → Reader ExcerptRead
+taken e ts = taking e [] ts.past (flat_behind (first_before e)) ts
+
+abbrev pub text_taken : Extent → Reader (List ℕ)
+text_taken e = do
+  read ← taken e
+  pure read.text
 
 -- the text of a token, or of what stands in brackets with these
 abbrev pub tree_text : Reader (List ℕ)
-tree_text = taken extents.Tree
+tree_text = text_taken extents.Tree
 
--- the same with a blank between each two tokens
-abbrev pub tree_body : Reader (List ℕ)
+-- the same with a blank between each two tokens, and whether the brackets are closed
+abbrev pub tree_body : Reader ExcerptRead
 tree_body = taken extents.Group
 
--- What is left of an item that ends with a semicolon, as `type`, `static` and `const`.
-abbrev pub value_rest : Reader (List ℕ)
+-- What is left of an item that ends with a semicolon, as `type`, `static` and `const`, and whether it ends so.
+abbrev pub value_rest : Reader ExcerptRead
 value_rest = taken extents.Value
 
--- what is left of an item that ends with a semicolon or a block
-abbrev pub item_rest : Reader (List ℕ)
+-- what is left of an item that ends with a semicolon or a block, and whether it ends so
+abbrev pub item_rest : Reader ExcerptRead
 item_rest = taken extents.Item
+
+-- what is left of a macro with parameters, which ends so too
+abbrev pub macro_rest : Reader ExcerptRead
+macro_rest = taken extents.Macro

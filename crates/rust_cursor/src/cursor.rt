@@ -7,12 +7,14 @@ ghost use Rattle.rust_cursor.specs.Tokens.{last_unended, left_of, place_if_open,
 ghost use Rattle.rust_cursor.specs.Words as spec;
 
 mod generics;
+mod nest;
 mod passing;
 mod taking;
 mod texts;
 
 use rust_lexer::{Lexer, Token, TokenKind};
 use std::marker::Model;
+pub use texts::Excerpt;
 
 /// The tokens of a text that are left, without white space and comments. Documentation comments are among them.
 ///

@@ -3,4 +3,4 @@
 
 mod cursor;
 
-pub use cursor::Cursor;
+pub use cursor::{Cursor, Excerpt};

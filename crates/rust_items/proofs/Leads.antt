@@ -10,6 +10,7 @@ use Rattle.hir_input.specs.Attr.{MetaView}
 use Rattle.hir_input.specs.Syntax.{PlainKind, union_kind, enum_kind, trait_kind, macro_def_kind, no_items}
 use Rattle.rust_cursor.specs.Tokens.{Tokens}
 use Rattle.rust_cursor.specs.Words.{symbol, word, kind, text, at, is_empty, is_at_open, bumped}
+use Rattle.rust_cursor.specs.Extents.{ExcerptRead, tree_body}
 use Rattle.rust_cursor.proofs.Leads.{LeadsTo, here, further, through, Forwards, when, bumped_leads, eat_leads, eat_word_leads, behind_tree_leads, taken_leads_on, Takes, takes, takes_leads, takes_behind, takes_before, symbol_some, word_none}
 use Rattle.rust_paths.specs.declared.names.TextRange.{TextRange}
 use Rattle.rust_paths.specs.Names.{Placed, placed_name}
@@ -20,38 +21,36 @@ use Rattle.rust_leaves.specs.declared.head.Head.{Head}
 use Rattle.rust_leaves.specs.declared.head.Head.TheVariants as heads
 use Rattle.rust_leaves.specs.Heads.{is_literal_kind, behind_abi, is_modifier, behind_modifier, behind_modifiers_from, behind_modifiers, head_by, behind_head, head, is_behind_others, behind_others_from, behind_others}
 use Rattle.rust_cursor.specs.Words.{is_at_end}
-use Rattle.rust_leaves.specs.Texts.{spaced_from, spaced_tree}
-use Rattle.rust_leaves.specs.Leaves.{LeafRead, name_read, named, named_or, item_end, value_end, semicolon_end, call_end}
+use Rattle.rust_leaves.specs.Leaves.{LeafRead, name_read, named, named_or, item_end, macro_end, value_end, semicolon_end, call_end}
 use Rattle.rust_leaves.specs.Kinds.{function, block_item, union_item, enumeration, trait_item, macro_def, type_alias, static_value, constant, structure, implementation, crate_item, use_declaration, macro_definition, is_called, invocation, leaf_by, leaf}
 use Rattle.rust_leaves.specs.Fronts.{FrontRead, front_behind, front}
 use Rattle.rust_items.specs.Places.{id_of, held}
 
 -- ---- texts
 
-spaced_from_leads : (n end : ℕ) (done : List ℕ) → Forwards (spaced_from n end done)
-spaced_from_leads zero end done ts = here
-spaced_from_leads (suc n) end done ts = when (ts.past == end) (λ e. rw e here) (λ e. rw e (further (spaced_from_leads n end _ _)))
-
-spaced_tree_leads : Forwards spaced_tree
-unfolding spaced_tree
-spaced_tree_leads ts = spaced_from_leads _ _ _ ts
+tree_body_leads : Forwards tree_body
+tree_body_leads ts = taken_leads_on _ ts
 
 item_end_leads : Forwards item_end
 unfolding item_end
 item_end_leads ts = taken_leads_on _ ts
 
+macro_end_leads : Forwards macro_end
+unfolding macro_end
+macro_end_leads ts = taken_leads_on _ ts
+
 value_end_leads : Forwards value_end
 unfolding value_end
 value_end_leads ts = taken_leads_on _ ts
 
-semicolon_end_leads : (body : List ℕ) → Forwards (semicolon_end body)
-semicolon_end_leads body ts = eat_leads _ ts
+semicolon_end_leads : (read : ExcerptRead) → Forwards (semicolon_end read)
+semicolon_end_leads read ts = eat_leads _ ts
 
 call_end_leads : Forwards call_end
 unfolding call_end
 call_end_leads ts =
     when (is_at_open ts)
-    (λ e. rw e (when (symbol ts == 123) (λ f. rw f (spaced_tree_leads ts)) (λ f. rw f (through (spaced_tree_leads ts) (semicolon_end_leads (spaced_tree ts).0 _)))))
+    (λ e. rw e (when (symbol ts == 123) (λ f. rw f (tree_body_leads ts)) (λ f. rw f (through (tree_body_leads ts) (semicolon_end_leads (tree_body ts).0 _)))))
     (λ e. rw e here)
 
 -- ---- the words in front
@@ -191,7 +190,7 @@ module _ (start : ℕ) (attrs : List MetaView) (v : Option Visibility) (ts : Tok
 
   macro_def_leaf : IsLeaf ts (macro_def attrs v ts).1 (macro_def attrs v ts).0
   unfolding macro_def
-  macro_def_leaf = block_leaf macro_def_kind
+  macro_def_leaf = record { leads = through (named_leads ts) (macro_end_leads _); id = refl; alone = refl; name = name_before (named_named ts) (macro_end_leads _) }
 
   type_alias_leaf : IsLeaf ts (type_alias attrs v ts).1 (type_alias attrs v ts).0
   unfolding type_alias

@@ -20,12 +20,13 @@ use Rattle.rust_leaves.specs.declared.head.Head.{Head}
 use Rattle.rust_leaves.specs.declared.head.Head.TheVariants as heads
 use Rattle.rust_items.specs.declared.log.ItemSpan.{ItemSpan}
 use Rattle.rust_items.specs.declared.log.ProblemKind.{ProblemKind}
+use Rattle.rust_items.specs.declared.log.ProblemKind.TheVariants as problem
 use Rattle.rust_items.specs.declared.source_file.ItemPlace.{ItemPlace}
 use Rattle.rust_items.specs.Found.{Found, Finder, nothing_found, and_problem, and_problem_if, and_problem_at, and_all}
 use Rattle.rust_leaves.specs.Leaves.{LeafRead, NameRead, no_name, named}
 use Rattle.rust_leaves.specs.Kinds.{node, named_node}
 use Rattle.rust_leaves.specs.Fronts.{FrontRead, front}
-use Rattle.rust_items.specs.Items.{BlockRead, and_item, and_leaf, and_parent, leaf_found, leaf_turn, finding_from, finding, is_list_end, block_of, as_extern, extern_kept, extern_found, extern_turn, extern_inside, extern_block, one_more, unmatched, inside_unless, module_with, by_head, turn_with, inside, turn, depth_of, items}
+use Rattle.rust_items.specs.Items.{BlockRead, and_flaw, and_item, and_leaf, and_parent, leaf_found, leaf_turn, finding_from, finding, is_list_end, block_of, as_extern, extern_kept, extern_found, extern_turn, extern_inside, extern_block, one_more, unmatched, inside_unless, module_with, by_head, turn_with, inside, turn, depth_of, items}
 use Rattle.rust_items.specs.Places.{id_of, held, IsNameIn, IsPlace, ArePlaces, nothing, placed}
 use Rattle.rust_items.proofs.Leads.{IsNamed, nameless, by_token, name_behind, name_before, blank, IsLeaf, IsTaken, LeafFound, TakesBy, front_takes, front_start, named_leads, named_named, behind_others_leads}
 use Rattle.rust_items.proofs.Leads as leads
@@ -91,6 +92,10 @@ adds_problem_if : {f g : Found} {ps : List ItemPlace} (test : Bool) (kind : Prob
 adds_problem_if true kind place a = adds_problem kind place a
 adds_problem_if false kind place a = a
 
+adds_flaw : {f g : Found} {ps : List ItemPlace} (is_ended is_nameless : Bool) (start : ℕ) → Adds f g ps → Adds f (and_flaw is_ended is_nameless start g) ps
+adds_flaw true is_nameless start a = adds_problem_if is_nameless problem.Nameless start a
+adds_flaw false is_nameless start a = adds_problem problem.Unfinished start a
+
 pub adds_problem_at : {f g : Found} {ps : List ItemPlace} (kind : ProblemKind) (place : Option ℕ) → Adds f g ps → Adds f (and_problem_at kind place g) ps
 adds_problem_at kind None a = a
 adds_problem_at kind (Some place) a = adds_problem kind place a
@@ -116,7 +121,7 @@ unnumbered kind start end name = record { id = blank kind; range = record { star
 adds_item : (f : Found) (depth start end : ℕ) (kind : AstIdKind) (hashed : List ℕ) (name : Option TextRange) (is_ended : Bool)
     → Adds f (and_item depth start end kind hashed name is_ended f) (unnumbered kind start end name ∷ [])
 adds_item f depth start end kind hashed name is_ended =
-    adds_problem_if _ _ _ (record { rows = map-append row_kind f.rows (record { depth = depth; kind = kind; name = hashed } ∷ []); spans = refl })
+    adds_flaw is_ended _ start (record { rows = map-append row_kind f.rows (record { depth = depth; kind = kind; name = hashed } ∷ []); spans = refl })
 
 -- ---- what a reader of items finds
 

@@ -1,5 +1,5 @@
 -- Items: those of a list one after another, and those that hold others.
-use Rattle.std.specs.Prelude.{ℕ, zero, suc, ◌+◌, ◌-◌, Bool, true, false, not, ◌==◌, ◌&&◌, ◌||◌, if◌then◌else◌, Option, Some, None, option_to_list, List, [], ◌++◌}
+use Rattle.std.specs.Prelude.{ℕ, zero, suc, ◌+◌, ◌-◌, Bool, true, false, not, ◌==◌, ◌&&◌, ◌||◌, if◌then◌else◌, Option, Some, None, is_none, option_to_list, List, [], ◌++◌}
 use Rattle.hir_input.specs.declared.ids.AstIdKind.{AstIdKind}
 use Rattle.hir_input.specs.declared.ids.AstIdKind.TheVariants as kind
 use Rattle.hir_input.specs.Attr.{MetaView}
@@ -25,10 +25,22 @@ use Rattle.rust_leaves.specs.Kinds.{named_node, node, leaf}
 abbrev pub span_of : ℕ → ℕ → Option TextRange → ItemSpan
 span_of start end name = record { range = record { start = start; end = end }; name = name }
 
--- an item without its end is a problem at its start
+-- a constant may go without a name
+abbrev pub needs_name : AstIdKind → Bool
+needs_name kind.Const = false
+needs_name kind.ExternBlock = false
+needs_name kind.Impl = false
+needs_name kind.MacroCall = false
+needs_name kind.Use = false
+needs_name _ = true
+
+-- an item without its end, or else without the name that it needs, is a problem at its start
+abbrev pub and_flaw : Bool → Bool → ℕ → Found → Found
+and_flaw is_ended is_nameless start f = if is_ended then and_problem_if is_nameless problem.Nameless start f else and_problem problem.Unfinished start f
+
 abbrev pub and_item : ℕ → ℕ → ℕ → AstIdKind → List ℕ → Option TextRange → Bool → Found → Found
 and_item depth start end kind name named is_ended f =
-    and_problem_if (not is_ended) problem.Unfinished start (and_row (record { depth = depth; kind = kind; name = name }) (span_of start end named) f)
+    and_flaw is_ended (is_none named && needs_name kind) start (and_row (record { depth = depth; kind = kind; name = name }) (span_of start end named) f)
 
 abbrev pub and_leaf : ℕ → ℕ → ℕ → LeafRead → Found → Found
 and_leaf depth start end l f = and_problem_at problem.TooDeep l.too_deep (and_item depth start end l.kind l.name l.named l.is_ended f)

@@ -26,6 +26,8 @@ pub enum ProblemKind {
     Unmatched,
     /// An item without its end, at its first token: without a semicolon or a block, or with a bracket that is not closed.
     Unfinished,
+    /// An item without the name that its kind needs, at its first token.
+    Nameless,
     /// A literal or a comment that is not ended.
     Unterminated,
     /// A module, at its `{`, or the list of a use that stands in 128 others and is passed over.

@@ -23,7 +23,7 @@ pub(crate) struct Extent {
     pub end: usize,
 }
 
-/// Adds an item, with a problem if it does not end as it should.
+/// Adds an item, with a problem if it has no end, or no name where it needs one.
 pub(crate) fn push_item<'t>(
     log: &mut Log<'t>,
     extent: Extent,
@@ -40,7 +40,25 @@ pub(crate) fn push_item<'t>(
         end: extent.end,
     };
     log.push_row(row, ItemSpan { range, name: named })?;
-    log.push_problem_if(!is_ended, ProblemKind::Unfinished, extent.start)
+    if !is_ended {
+        return log.push_problem(ProblemKind::Unfinished, extent.start);
+    }
+    let is_nameless = named.is_none() && needs_name(kind);
+    log.push_problem_if(is_nameless, ProblemKind::Nameless, extent.start)
+}
+
+/// Whether an item of the kind has a name; a constant may go without one.
+fn needs_name(kind: AstIdKind) -> bool
+    ensures { result ≡ spec.needs_name kind }
+{
+    match kind {
+        AstIdKind::Const
+        | AstIdKind::ExternBlock
+        | AstIdKind::Impl
+        | AstIdKind::MacroCall
+        | AstIdKind::Use => false,
+        _ => true,
+    }
 }
 
 /// Keeps an item that holds none.

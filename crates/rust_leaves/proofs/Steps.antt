@@ -4,11 +4,11 @@ use Rattle.std.proofs.lemmas.Bool.{ne_eqb}
 use Rattle.rust_cursor.specs.Tokens.{Tokens}
 use Rattle.rust_cursor.specs.Words.{text, bumped, is_empty}
 use Rattle.rust_cursor.specs.Brackets.{behind_tree}
-use Rattle.rust_leaves.specs.Heads.{is_modifier, behind_modifier, behind_modifiers_from, is_behind_others, behind_others_from}
+use Rattle.rust_leaves.specs.Heads.{is_modifier, behind_modifier, behind_modifiers_from, is_segment, behind_segments_from, is_behind_others, behind_others_from}
 use Rattle.rust_leaves.specs.declared.statements.Scan.{Scan}
 use Rattle.rust_leaves.specs.declared.statements.Step.{Step}
 use Rattle.rust_leaves.specs.Statements.{statement_step, by_step, statement_from}
-use Rattle.rust_leaves.specs.Texts.{open_step, has_open_from, and_text, spaced_from, last_text_from}
+use Rattle.rust_leaves.specs.Texts.{last_text_from}
 
 -- ---- modifiers
 
@@ -21,6 +21,13 @@ modifiers_more bound at ts below e = let turn : bound - at ≡ suc (bound - (at 
 
 -- ---- what is no item
 
+pub segments_stop : (n : ℕ) (ts : Tokens) → is_segment ts ≡ false → behind_segments_from n ts ≡ ts
+segments_stop zero ts e = refl
+segments_stop (suc n) ts e = rw e refl
+
+pub segments_more : (bound at : ℕ) (ts : Tokens) → at < bound → is_segment ts ≡ true → behind_segments_from (bound - at) ts ≡ behind_segments_from (bound - (at + 1)) (bumped (bumped (bumped ts)))
+segments_more bound at ts below e = let turn : bound - at ≡ suc (bound - (at + 1)) = omega arith in rw (turn, e) refl
+
 pub others_stop : (n : ℕ) (ts : Tokens) → is_behind_others ts ≡ true → behind_others_from n ts ≡ ts
 others_stop zero ts e = refl
 others_stop (suc n) ts e = rw e refl
@@ -28,36 +35,7 @@ others_stop (suc n) ts e = rw e refl
 pub others_more : (bound at : ℕ) (ts : Tokens) → at < bound → is_behind_others ts ≡ false → behind_others_from (bound - at) ts ≡ behind_others_from (bound - (at + 1)) (behind_tree ts)
 others_more bound at ts below e = let turn : bound - at ≡ suc (bound - (at + 1)) = omega arith in rw (turn, e) refl
 
--- ---- what is open
-
-pub open_end : (n : ℕ) (ts : Tokens) → is_empty ts ≡ true → has_open_from n ts ≡ false
-open_end zero ts e = refl
-open_end (suc n) ts e = rw e refl
-
-pub open_here : (bound at : ℕ) (found : Bool) (ts mid : Tokens) → at < bound → is_empty ts ≡ false → open_step ts ≡ (found, mid) → found ≡ true → has_open_from (bound - at) ts ≡ true
-open_here bound at found ts mid below e told f =
-    let turn : bound - at ≡ suc (bound - (at + 1)) = omega arith in
-    let test : (open_step ts).0 ≡ true = ap (λ r. r.0) told ∙ f in
-    rw (turn, e, test) refl
-
-pub open_more : (bound at : ℕ) (found : Bool) (ts mid : Tokens) → at < bound → is_empty ts ≡ false → open_step ts ≡ (found, mid) → found ≡ false → has_open_from (bound - at) ts ≡ has_open_from (bound - (at + 1)) mid
-open_more bound at found ts mid below e told f =
-    let turn : bound - at ≡ suc (bound - (at + 1)) = omega arith in
-    let test : (open_step ts).0 ≡ false = ap (λ r. r.0) told ∙ f in
-    let rest : (open_step ts).1 ≡ mid = ap (λ r. r.1) told in
-    rw (turn, e, test, rest) refl
-
 -- ---- texts
-
-pub spaced_stop : (n end : ℕ) (done : List ℕ) (ts : Tokens) → (ts.past == end) ≡ true → spaced_from n end done ts ≡ (done, ts)
-spaced_stop zero end done ts e = refl
-spaced_stop (suc n) end done ts e = rw e refl
-
-pub spaced_more : (bound at end : ℕ) (done : List ℕ) (ts : Tokens) → at < bound → ts.past ≢ end → spaced_from (bound - at) end done ts ≡ spaced_from (bound - (at + 1)) end (and_text ts done) (bumped ts)
-spaced_more bound at end done ts below e =
-    let turn : bound - at ≡ suc (bound - (at + 1)) = omega arith in
-    let other : (ts.past == end) ≡ false = ne_eqb ts.past end e in
-    rw (turn, other) refl
 
 pub last_stop : (n end : ℕ) (last : List ℕ) (ts : Tokens) → (ts.past == end) ≡ true → last_text_from n end last ts ≡ last
 last_stop zero end last ts e = refl

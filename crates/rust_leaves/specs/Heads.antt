@@ -6,7 +6,7 @@ use Rattle.rust_lexer.specs.declared.kind.TokenKind.{TokenKind}
 use Rattle.rust_lexer.specs.declared.kind.TokenKind.TheVariants as kinds
 use Rattle.rust_cursor.specs.Tokens.{Tokens}
 use Rattle.rust_cursor.specs.Reader.{Reader}
-use Rattle.rust_cursor.specs.Words.{symbol, word, kind, is_at_identifier, is_at_doc, is_at_end, bumped}
+use Rattle.rust_cursor.specs.Words.{symbol, word, kind, is_at_identifier, is_at_doc, is_at_end, is_pair, bumped}
 use Rattle.rust_cursor.specs.Brackets.{behind_tree}
 use Rattle.rust_cursor.specs.Elements.{most}
 use Rattle.rust_leaves.specs.declared.head.Head.{Head}
@@ -17,14 +17,14 @@ use Rattle.rust_leaves.specs.declared.head.Head.TheVariants as heads
 -- what may stand behind each modifier: another modifier, or the word of an item
 unfoldable pub follows_const : List ℕ → Bool
 follows_const w =
-    list_any (bytes_eq w) (codes "fn" ∷ codes "unsafe" ∷ codes "extern" ∷ codes "async" ∷ codes "trait" ∷ codes "impl" ∷ codes "auto" ∷ [])
+    list_any (bytes_eq w) (codes "fn" ∷ codes "unsafe" ∷ codes "extern" ∷ codes "async" ∷ codes "trait" ∷ codes "impl" ∷ [])
 
 unfoldable pub follows_async : List ℕ → Bool
 follows_async w = list_any (bytes_eq w) (codes "fn" ∷ codes "unsafe" ∷ codes "extern" ∷ codes "gen" ∷ [])
 
 unfoldable pub follows_unsafe : List ℕ → Bool
 follows_unsafe w =
-    list_any (bytes_eq w) (codes "fn" ∷ codes "extern" ∷ codes "trait" ∷ codes "impl" ∷ codes "auto" ∷ codes "mod" ∷ codes "static" ∷ codes "type"
+    list_any (bytes_eq w) (codes "fn" ∷ codes "extern" ∷ codes "trait" ∷ codes "impl" ∷ codes "mod" ∷ codes "static" ∷ codes "type"
     ∷ codes "const" ∷ codes "async" ∷ codes "safe" ∷ [])
 
 unfoldable pub follows_safe : List ℕ → Bool
@@ -48,12 +48,16 @@ behind_abi ts = if is_literal_kind (kind ts) then bumped ts else ts
 abbrev pub word_behind_abi : Tokens → List ℕ
 word_behind_abi ts = word (behind_abi ts)
 
+-- elsewhere `auto` is a name
+abbrev pub is_auto_trait : Tokens → Bool
+is_auto_trait ts = bytes_eq (word ts) (codes "auto") && bytes_eq (word (bumped ts)) (codes "trait")
+
 -- a modifier comes next, where this stands behind it
 unfoldable pub is_modifier_before : List ℕ → Tokens → Bool
 is_modifier_before w behind =
-    if bytes_eq w (codes "const") then follows_const (word behind)
+    if bytes_eq w (codes "const") then follows_const (word behind) || is_auto_trait behind
     else (if bytes_eq w (codes "async") then follows_async (word behind)
-    else (if bytes_eq w (codes "unsafe") then follows_unsafe (word behind)
+    else (if bytes_eq w (codes "unsafe") then follows_unsafe (word behind) || is_auto_trait behind
     else (if bytes_eq w (codes "safe") then follows_safe (word behind)
     else (if bytes_eq w (codes "default") then follows_default (word behind)
     else (if bytes_eq w (codes "gen") then bytes_eq (word behind) (codes "fn")
@@ -129,14 +133,30 @@ is_first_word w =
     list_any (bytes_eq w) (codes "pub" ∷ codes "fn" ∷ codes "use" ∷ codes "mod" ∷ codes "struct" ∷ codes "enum" ∷ codes "trait" ∷ codes "impl"
     ∷ codes "type" ∷ codes "static" ∷ codes "const" ∷ codes "extern" ∷ codes "unsafe" ∷ codes "async" ∷ codes "macro" ∷ [])
 
-abbrev pub is_called_here : Tokens → Bool
-is_called_here ts = is_at_identifier ts && symbol (bumped ts) == 33
+-- `union` before a name
+abbrev pub is_union : Tokens → Bool
+is_union ts = bytes_eq (word ts) (codes "union") && is_at_identifier (bumped ts)
 
--- something may begin an item: an attribute, such a word, or a name with `!` behind it
+-- a name with `::` behind it
+abbrev pub is_segment : Tokens → Bool
+is_segment ts = is_at_identifier ts && is_pair 58 58 (bumped ts)
+
+abbrev pub behind_segments_from : ℕ → Tokens → Tokens
+behind_segments_from zero ts = ts
+behind_segments_from (suc n) ts = if is_segment ts then behind_segments_from n (bumped (bumped (bumped ts))) else ts
+
+-- from the last name of a path on
+unfoldable pub behind_segments : Tokens → Tokens
+behind_segments ts = behind_segments_from most ts
+
+abbrev pub is_called_here : Tokens → Bool
+is_called_here ts = is_at_identifier (behind_segments ts) && symbol (bumped (behind_segments ts)) == 33
+
+-- something may begin an item: an attribute, such a word, or a path with `!` behind it
 unfoldable pub may_begin : Tokens → Bool
 may_begin ts =
     if symbol ts == 35 || is_at_doc ts then true
-    else (if is_first_word (word ts) then true else is_called_here ts)
+    else (if is_first_word (word ts) || is_union ts then true else is_called_here ts)
 
 -- no more is passed over
 unfoldable pub is_behind_others : Tokens → Bool

@@ -19,7 +19,7 @@ use Rattle.rust_leaves.specs.declared.head.Head.{Head}
 use Rattle.rust_leaves.specs.declared.head.Head.TheVariants as head
 use Rattle.rust_leaves.specs.Fronts.{FrontRead}
 use Rattle.rust_leaves.specs.Texts.{bare, last_text}
-use Rattle.rust_leaves.specs.Leaves.{NameRead, RestRead, LeafRead, no_name, named, named_or, item_end, value_end, call_end, block_attributes, struct_fields, has_trait}
+use Rattle.rust_leaves.specs.Leaves.{NameRead, RestRead, LeafRead, no_name, named, named_or, item_end, macro_end, value_end, call_end, block_attributes, struct_fields, has_trait}
 
 -- the ids are given later
 abbrev pub node : List MetaView → List ℕ → NodeView
@@ -42,7 +42,7 @@ function start attrs visibility = do
   r ← item_end
   pure (plain_read fn_kind (attrs ++ inner) visibility n r)
 
--- Union, Enumeration, Trait, and macros 2.0: a name, and all that is left
+-- Union, Enumeration and Trait: a name, and all that is left
 abbrev pub block_item : PlainKind → List MetaView → Option Visibility → Reader LeafRead
 block_item k attrs visibility = do
   n ← named
@@ -58,8 +58,12 @@ enumeration = block_item enum_kind
 unfoldable pub trait_item : List MetaView → Option Visibility → Reader LeafRead
 trait_item = block_item trait_kind
 
+-- a macro 2.0
 unfoldable pub macro_def : List MetaView → Option Visibility → Reader LeafRead
-macro_def = block_item macro_def_kind
+macro_def attrs visibility = do
+  n ← named
+  r ← macro_end
+  pure (plain_read macro_def_kind attrs visibility n r)
 
 -- TypeAlias
 unfoldable pub type_alias : List MetaView → Option Visibility → Reader LeafRead

@@ -9,13 +9,13 @@ use Rattle.rust_cursor.specs.Tokens.{Tokens}
 use Rattle.rust_cursor.specs.Reader.{Reader, ◌>>=◌, pure, pass}
 use Rattle.rust_cursor.specs.Words.{symbol, word, text, at, eat, bumped, is_at_open}
 use Rattle.rust_cursor.specs.Elements.{elements, one}
-use Rattle.rust_cursor.specs.Extents.{item_rest, value_rest}
+use Rattle.rust_cursor.specs.Extents.{ExcerptRead, tree_body, item_rest, macro_rest, value_rest}
 use Rattle.rust_cursor.specs.Angles.{behind_angles, behind_field, to_block, is_trait_impl}
 use Rattle.rust_paths.specs.declared.names.TextRange.{TextRange}
 use Rattle.rust_paths.specs.Names.{Placed, placed_name, as_name}
 use Rattle.rust_paths.specs.Visibilities.{visibility}
 use Rattle.rust_metas.specs.Attributes.{outer_attributes, inner_attributes}
-use Rattle.rust_leaves.specs.Texts.{bare, ends_well, is_cut, spaced_tree}
+use Rattle.rust_leaves.specs.Texts.{bare}
 
 -- a name if one is written, the name that is hashed, and the name's place
 pub record NameRead : Type 0 where
@@ -61,23 +61,33 @@ named_or keyword ts =
 
 -- up to a semicolon or a block
 unfoldable pub item_end : Reader RestRead
-item_end ts = (record { body = (item_rest ts).0; is_ended = ends_well (item_rest ts).0 && not (is_cut ts (item_rest ts).1) }, (item_rest ts).1)
+item_end = do
+  read ← item_rest
+  pure (record { body = read.text; is_ended = read.is_ended })
+
+-- the same of a macro with parameters
+unfoldable pub macro_end : Reader RestRead
+macro_end = do
+  read ← macro_rest
+  pure (record { body = read.text; is_ended = read.is_ended })
 
 -- up to a semicolon
 unfoldable pub value_end : Reader RestRead
-value_end ts = (record { body = (value_rest ts).0; is_ended = ends_well (value_rest ts).0 && not (is_cut ts (value_rest ts).1) }, (value_rest ts).1)
+value_end = do
+  read ← value_rest
+  pure (record { body = read.text; is_ended = read.is_ended })
 
-abbrev pub semicolon_end : List ℕ → Reader RestRead
-semicolon_end body = do
+abbrev pub semicolon_end : ExcerptRead → Reader RestRead
+semicolon_end read = do
   semicolon ← eat 59
-  pure (record { body = body; is_ended = semicolon })
+  pure (record { body = read.text; is_ended = read.is_ended && semicolon })
 
 -- what a macro is given in its brackets; a semicolon ends those that are no braces
 unfoldable pub call_end : Reader RestRead
 call_end ts =
     if is_at_open ts
-    then (if symbol ts == 123 then (record { body = (spaced_tree ts).0; is_ended = not (is_cut ts (spaced_tree ts).1) }, (spaced_tree ts).1)
-    else semicolon_end (spaced_tree ts).0 (spaced_tree ts).1)
+    then (if symbol ts == 123 then (record { body = (tree_body ts).0.text; is_ended = (tree_body ts).0.is_ended }, (tree_body ts).1)
+    else semicolon_end (tree_body ts).0 (tree_body ts).1)
     else (record { body = []; is_ended = false }, ts)
 
 -- ---- parts

@@ -15,7 +15,7 @@ use Rattle.rust_cursor.specs.Reader.{Reader}
 use Rattle.rust_cursor.specs.Words.{symbol, word, kind, bumped, is_at_end, is_at_identifier}
 use Rattle.rust_cursor.specs.Brackets.{behind_tree}
 use Rattle.rust_cursor.specs.Elements.{most}
-use Rattle.rust_cursor.specs.Extents.{begins_item}
+use Rattle.rust_cursor.specs.Extents.{begins_item, tree_body}
 use Rattle.rust_paths.specs.Paths.{path}
 use Rattle.rust_leaves.specs.declared.head.Head.{Head}
 use Rattle.rust_leaves.specs.declared.head.Head.TheVariants as heads
@@ -24,7 +24,7 @@ use Rattle.rust_leaves.specs.declared.statements.Scan.TheVariants as scans
 use Rattle.rust_leaves.specs.declared.statements.Step.{Step}
 use Rattle.rust_leaves.specs.declared.statements.Step.TheVariants as steps
 use Rattle.rust_leaves.specs.Heads.{is_modifier, head_by}
-use Rattle.rust_leaves.specs.Texts.{bare, last_text, spaced_tree}
+use Rattle.rust_leaves.specs.Texts.{bare, last_text}
 use Rattle.rust_leaves.specs.Kinds.{node, is_called, some_read}
 
 -- ---- items
@@ -136,8 +136,8 @@ pub record CallRead : Type 0 where
 
 abbrev pub call_tree : List MetaView → Option PathNode → List ℕ → Reader CallRead
 call_tree attrs p name ts =
-    let c : CallView = record { node = node attrs (spaced_tree ts).0; path = p; expand_to = expand_to.Statements; ctxt = context.Root year.E2024 } in
-    (record { call = c; name = name; is_braced = symbol ts == 123 }, (spaced_tree ts).1)
+    let c : CallView = record { node = node attrs (tree_body ts).0.text; path = p; expand_to = expand_to.Statements; ctxt = context.Root year.E2024 } in
+    (record { call = c; name = name; is_braced = symbol ts == 123 }, (tree_body ts).1)
 
 -- MacroInvocation, up to its bracket, if one is written
 unfoldable pub statement_call : List MetaView → Reader (Option CallRead)

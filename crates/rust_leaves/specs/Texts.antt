@@ -1,9 +1,7 @@
--- Texts, and where what is read ends.
-use Rattle.std.specs.Prelude.{ℕ, zero, suc, ◌-◌, slice_get, Bool, true, false, ◌==◌, ◌&&◌, ◌||◌, if◌then◌else◌, Option, Some, None, List, [], ◌∷◌, ◌++◌, length}
+-- Texts.
+use Rattle.std.specs.Prelude.{ℕ, zero, suc, ◌==◌, if◌then◌else◌, Option, Some, None, List, []}
 use Rattle.rust_cursor.specs.Tokens.{Tokens}
-use Rattle.rust_cursor.specs.Reader.{Reader}
-use Rattle.rust_cursor.specs.Words.{text, is_empty, is_at_open, is_at_doc, bumped}
-use Rattle.rust_cursor.specs.Brackets.{closing, behind_tree}
+use Rattle.rust_cursor.specs.Words.{text, bumped}
 use Rattle.rust_cursor.specs.Elements.{most}
 use Rattle.rust_paths.specs.Names.{behind_hash}
 
@@ -16,51 +14,6 @@ or_all (Some word) text = word
 -- an identifier without `r#`
 unfoldable pub bare : List ℕ → List ℕ
 bare text = or_all (behind_hash text) text
-
--- ---- what is open
-
--- takes a token, or a whole bracket, and tells whether that is not closed
-abbrev pub open_step : Reader Bool
-open_step ts =
-    if is_at_open ts then (is_empty (closing 0 (bumped ts)), bumped (closing 0 (bumped ts))) else (false, bumped ts)
-
-abbrev pub has_open_from : ℕ → Tokens → Bool
-has_open_from zero ts = false
-has_open_from (suc n) ts = if is_empty ts then false else (if (open_step ts).0 then true else has_open_from n (open_step ts).1)
-
--- a bracket is not closed up to the end of the text
-unfoldable pub has_open : Tokens → Bool
-has_open ts = has_open_from most ts
-
--- what was read from here to there ends inside a bracket, with the text
-abbrev pub is_cut : Tokens → Tokens → Bool
-is_cut ts rest = is_empty rest && has_open ts
-
-abbrev pub is_end_byte : Option ℕ → Bool
-is_end_byte None = false
-is_end_byte (Some b) = b == 59 || b == 125
-
--- a text ends with a semicolon or a brace
-unfoldable pub ends_well : List ℕ → Bool
-ends_well text = is_end_byte (slice_get text (length text - 1))
-
--- ---- the tokens of a tree, with a blank between each two
-
--- with the text of the next token behind; documentation is left out
-unfoldable pub and_text : Tokens → List ℕ → List ℕ
-and_text ts done = if is_at_doc ts then done else (if length done == 0 then done ++ text ts else done ++ 32 ∷ text ts)
-
-abbrev pub spaced_from : ℕ → ℕ → List ℕ → Reader (List ℕ)
-spaced_from zero end done ts = (done, ts)
-spaced_from (suc n) end done ts = if ts.past == end then (done, ts) else spaced_from n end (and_text ts done) (bumped ts)
-
--- all tokens up to a place
-abbrev pub spaced_to : ℕ → Reader (List ℕ)
-spaced_to end ts = spaced_from most end [] ts
-
--- the next token, or what stands in brackets
-unfoldable pub spaced_tree : Reader (List ℕ)
-spaced_tree ts = spaced_to (behind_tree ts).past ts
 
 -- ---- the last of some tokens
 

@@ -34,7 +34,7 @@ fn follows_const(word: &str) -> bool
 {
     matches!(
         word,
-        "fn" | "unsafe" | "extern" | "async" | "trait" | "impl" | "auto"
+        "fn" | "unsafe" | "extern" | "async" | "trait" | "impl"
     )
 }
 
@@ -51,16 +51,7 @@ fn follows_unsafe(word: &str) -> bool
 {
     matches!(
         word,
-        "fn" | "extern"
-            | "trait"
-            | "impl"
-            | "auto"
-            | "mod"
-            | "static"
-            | "type"
-            | "const"
-            | "async"
-            | "safe"
+        "fn" | "extern" | "trait" | "impl" | "mod" | "static" | "type" | "const" | "async" | "safe"
     )
 }
 
@@ -112,14 +103,25 @@ fn extern_modifies(behind: &Cursor<'_>) -> bool
     follows_extern(ahead.word())
 }
 
+fn is_auto_trait(cursor: &Cursor<'_>) -> bool
+    ensures { result ≡ spec.is_auto_trait cursor.now }
+{
+    if cursor.word() != "auto" {
+        return false;
+    }
+    let mut behind = cursor.ahead();
+    behind.bump();
+    behind.word() == "trait"
+}
+
 #[tactic(auto, unfolding(crate::specs::Heads::is_modifier_before))]
 fn is_modifier_before(word: &str, behind: &Cursor<'_>) -> bool
     ensures { result ≡ spec.is_modifier_before word.now behind.now }
 {
     match word {
-        "const" => follows_const(behind.word()),
+        "const" => follows_const(behind.word()) || is_auto_trait(behind),
         "async" => follows_async(behind.word()),
-        "unsafe" => follows_unsafe(behind.word()),
+        "unsafe" => follows_unsafe(behind.word()) || is_auto_trait(behind),
         "safe" => follows_safe(behind.word()),
         "default" => follows_default(behind.word()),
         "gen" => behind.word() == "fn",
@@ -283,13 +285,52 @@ fn is_first_word(word: &str) -> bool
     )
 }
 
-fn is_called_here(cursor: &Cursor<'_>) -> bool
-    ensures { result ≡ spec.is_called_here cursor.now }
+fn is_union(cursor: &Cursor<'_>) -> bool
+    ensures { result ≡ spec.is_union cursor.now }
+{
+    if cursor.word() != "union" {
+        return false;
+    }
+    let mut behind = cursor.ahead();
+    behind.bump();
+    behind.is_at_identifier()
+}
+
+fn is_segment(cursor: &Cursor<'_>) -> bool
+    ensures { result ≡ spec.is_segment cursor.now }
 {
     if !cursor.is_at_identifier() {
         return false;
     }
     let mut behind = cursor.ahead();
+    behind.bump();
+    behind.is_pair(b':', b':')
+}
+
+/// Passes over names with `::` behind them.
+#[tactic(auto, unfolding(crate::specs::Heads::behind_segments), using(crate::proofs::Steps::segments_more, crate::proofs::Steps::segments_stop))]
+fn pass_segments(cursor: &mut Cursor<'_>)
+    ensures { cursor.new ≡ spec.behind_segments cursor.old }
+{
+    let most = Cursor::most_turns();
+    for _turn in 0..most {
+        if !is_segment(cursor) {
+            break;
+        }
+        cursor.bump();
+        cursor.bump();
+        cursor.bump();
+    }
+}
+
+fn is_called_here(cursor: &Cursor<'_>) -> bool
+    ensures { result ≡ spec.is_called_here cursor.now }
+{
+    let mut behind = cursor.ahead();
+    pass_segments(&mut behind);
+    if !behind.is_at_identifier() {
+        return false;
+    }
     behind.bump();
     behind.symbol() == b'!'
 }
@@ -301,7 +342,7 @@ fn may_begin(cursor: &Cursor<'_>) -> bool
     if cursor.symbol() == b'#' || cursor.is_at_doc() {
         return true;
     }
-    if is_first_word(cursor.word()) {
+    if is_first_word(cursor.word()) || is_union(cursor) {
         return true;
     }
     is_called_here(cursor)

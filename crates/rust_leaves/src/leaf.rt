@@ -9,7 +9,7 @@ ghost use Rattle.rust_leaves.specs.Views.{front_view, leaf_view};
 use crate::calls::{invocation, macro_definition};
 use crate::front::Front;
 use crate::head::Head;
-use crate::named::{item_end, item_name, value_end, with_inner};
+use crate::named::{item_end, item_name, macro_end, value_end, with_inner};
 use crate::structs::{has_trait, structure};
 use crate::uses::{crate_item, use_declaration};
 use hir_input::ast::{
@@ -164,7 +164,7 @@ fn macro_def<'t>(
     ensures { Gives leaf_view (spec.macro_def (map meta_view attrs.items) visibility cursor.old) result cursor.new }
 {
     let named = item_name(alloc, cursor)?;
-    let rest = item_end(alloc, cursor)?;
+    let rest = macro_end(alloc, cursor)?;
     let item = Item::MacroDef(MacroDef {
         hash: 0,
         number: 0,

@@ -8,7 +8,7 @@ ghost use Rattle.rust_cursor.specs.Reader.{Gives};
 ghost use Rattle.rust_leaves.specs.Leaves as spec;
 ghost use Rattle.rust_leaves.specs.Views.{name_view, rest_view};
 
-use crate::texts::{bare, ends_well, is_cut, spaced_tree};
+use crate::texts::bare;
 use hir_input::{Meta, Name};
 use rust_cursor::Cursor;
 use rust_metas::inner_attributes;
@@ -101,10 +101,23 @@ pub(crate) fn item_name_or<'t>(
 pub(crate) fn item_end(alloc: Global, cursor: &mut Cursor<'_>) -> Result<Rest, AllocError>
     ensures { Gives rest_view (spec.item_end cursor.old) result cursor.new }
 {
-    let from = cursor.ahead();
-    let body = cursor.item_rest(alloc)?;
-    let is_ended = ends_well(body.as_str()) && !is_cut(&from, cursor);
-    Ok(Rest { body, is_ended })
+    let rest = cursor.item_rest(alloc)?;
+    Ok(Rest {
+        body: rest.text,
+        is_ended: rest.is_ended,
+    })
+}
+
+/// The same of a macro with parameters.
+#[tactic(auto, unfolding(crate::specs::Leaves::macro_end))]
+pub(crate) fn macro_end(alloc: Global, cursor: &mut Cursor<'_>) -> Result<Rest, AllocError>
+    ensures { Gives rest_view (spec.macro_end cursor.old) result cursor.new }
+{
+    let rest = cursor.macro_rest(alloc)?;
+    Ok(Rest {
+        body: rest.text,
+        is_ended: rest.is_ended,
+    })
 }
 
 /// Takes what is left of an item that ends with a semicolon.
@@ -112,10 +125,11 @@ pub(crate) fn item_end(alloc: Global, cursor: &mut Cursor<'_>) -> Result<Rest, A
 pub(crate) fn value_end(alloc: Global, cursor: &mut Cursor<'_>) -> Result<Rest, AllocError>
     ensures { Gives rest_view (spec.value_end cursor.old) result cursor.new }
 {
-    let from = cursor.ahead();
-    let body = cursor.value_rest(alloc)?;
-    let is_ended = ends_well(body.as_str()) && !is_cut(&from, cursor);
-    Ok(Rest { body, is_ended })
+    let rest = cursor.value_rest(alloc)?;
+    Ok(Rest {
+        body: rest.text,
+        is_ended: rest.is_ended,
+    })
 }
 
 fn no_call(alloc: Global) -> Rest
@@ -135,14 +149,13 @@ pub(crate) fn call_end(alloc: Global, cursor: &mut Cursor<'_>) -> Result<Rest, A
     if !cursor.is_at_open() {
         return Ok(no_call(alloc));
     }
-    let from = cursor.ahead();
-    let body = spaced_tree(alloc, cursor)?;
-    if from.symbol() == b'{' {
-        let is_ended = !is_cut(&from, cursor);
-        return Ok(Rest { body, is_ended });
-    }
-    let is_ended = cursor.eat(b';');
-    Ok(Rest { body, is_ended })
+    let is_braced = cursor.symbol() == b'{';
+    let body = cursor.tree_body(alloc)?;
+    let semicolon = is_braced || cursor.eat(b';');
+    Ok(Rest {
+        body: body.text,
+        is_ended: body.is_ended && semicolon,
+    })
 }
 
 /// The inner attributes at the beginning of an item's block.

@@ -8,7 +8,7 @@ ghost use Rattle.rust_leaves.specs.Views.{call_read_view};
 
 use crate::calls::is_called;
 use crate::head::{Head, head_by, is_modifier};
-use crate::texts::{bare, last_text, spaced_tree};
+use crate::texts::{bare, last_text};
 use hir_input::ast::{MacroCall, PathNode};
 use hir_input::{EditionYear, ExpandTo, Meta, SyntaxContext};
 use rust_cursor::Cursor;
@@ -260,7 +260,7 @@ fn call_tree<'t>(
     ensures { Gives call_read_view (spec.call_tree (map meta_view attrs.items) path name.now cursor.old) result cursor.new }
 {
     let is_braced = cursor.symbol() == b'{';
-    let body = spaced_tree(alloc, cursor)?;
+    let body = cursor.tree_body(alloc)?;
     let node = MacroCall {
         hash: 0,
         number: 0,
@@ -268,7 +268,7 @@ fn call_tree<'t>(
         path,
         expand_to: ExpandTo::Statements,
         ctxt: SyntaxContext::Root(EditionYear::E2024),
-        body,
+        body: body.text,
     };
     Ok(Call {
         node,

@@ -9,12 +9,13 @@ use Rattle.rust_cursor.specs.Tokens.{Tokens}
 use Rattle.rust_cursor.specs.Reader.{Reader}
 use Rattle.rust_cursor.specs.Words.{symbol, word, kind, bumped, is_at_end, is_at_open}
 use Rattle.rust_cursor.specs.Elements.{one}
+use Rattle.rust_cursor.specs.Extents.{begins_item}
 use Rattle.rust_cursor.proofs.Leads.{LeadsTo, here, further, through, Forwards, when, bumped_leads, behind_closed_leads, behind_tree_leads, turns_leads, taken_leads_on}
 use Rattle.rust_paths.proofs.Leads.{name_leads, path_leads}
 use Rattle.rust_metas.specs.Literals.{is_literal_kind, is_truth, is_literal, is_ended, value, documentation}
 use Rattle.rust_metas.specs.Conditions.{comma_from, behind_comma, option_name, pair, named, if_named, ended, condition_with, conditions, condition}
 use Rattle.rust_metas.specs.Metas.{input, plain, is_call, unsafe_with, cfg_with, member, cfg_attr_with, meta_with, meta, doc}
-use Rattle.rust_metas.specs.Attributes.{is_doc, is_behind, bracketed, opened, attribute, attributes, outer_attributes, inner_attributes}
+use Rattle.rust_metas.specs.Attributes.{is_doc, is_behind, behind_bracket, bracketed, opened, one_attribute, behind_docs_from, behind_docs, behind_attribute, attribute, attributes, outer_attributes, inner_attributes}
 
 -- ---- literals
 
@@ -48,7 +49,7 @@ pair_leads key ts = when (is_literal_kind (kind (bumped ts))) (λ e. rw e (furth
 
 named_leads : (inside : Reader (Option (List CfgView))) → Forwards inside → (word : List ℕ) → Forwards (named inside word)
 named_leads inside i word ts =
-    when (is_at_open ts) (λ e. rw e (further (through (i _) (behind_closed_leads _))))
+    when (is_at_open ts) (λ e. rw e (further (through (i _) (behind_closed_leads _ _))))
     (λ e. rw e (when (symbol ts == 61) (λ f. rw f (pair_leads word ts)) (λ f. rw f here)))
 
 if_named_leads : (inside : Reader (Option (List CfgView))) → Forwards inside → (o : Option (List ℕ)) → Forwards (if_named inside o)
@@ -85,16 +86,16 @@ plain_leads anchor ts = through (path_leads ts) (input_leads anchor _ _)
 
 module _ (inner : Reader MetaView) (condition : Reader CfgView) (i : Forwards inner) (c : Forwards condition) where
   unsafe_leads : Forwards (unsafe_with inner)
-  unsafe_leads ts = further (further (through (i _) (behind_closed_leads _)))
+  unsafe_leads ts = further (further (through (i _) (behind_closed_leads _ _)))
 
   cfg_leads : Forwards (cfg_with condition)
-  cfg_leads ts = further (further (through (c _) (behind_closed_leads _)))
+  cfg_leads ts = further (further (through (c _) (behind_closed_leads _ _)))
 
   member_leads : Forwards (member inner)
   member_leads ts = through (i ts) (behind_comma_leads _)
 
   cfg_attr_leads : Forwards (cfg_attr_with inner condition)
-  cfg_attr_leads ts = further (further (through (c _) (through (turns_leads is_at_end (one (member inner)) member_leads _) (behind_closed_leads _))))
+  cfg_attr_leads ts = further (further (through (c _) (through (turns_leads is_at_end (one (member inner)) member_leads _) (behind_closed_leads _ _))))
 
   meta_with_leads : (anchor : ℕ) → Forwards (meta_with anchor inner condition)
   meta_with_leads anchor ts =
@@ -113,17 +114,33 @@ doc_leads : (anchor : ℕ) → Forwards (doc anchor)
 unfolding doc
 doc_leads anchor ts = documentation_leads anchor ts
 
+behind_bracket_leads : (ts : Tokens) → LeadsTo ts (behind_bracket ts)
+behind_bracket_leads ts = when (begins_item ts) (λ e. rw e here) (λ e. rw e (behind_closed_leads _ ts))
+
 bracketed_leads : (anchor : ℕ) → Forwards (bracketed anchor)
 unfolding bracketed
-bracketed_leads anchor ts = further (through (meta_leads anchor _ _) (behind_closed_leads _))
+bracketed_leads anchor ts = further (through (meta_leads anchor _ _) (behind_bracket_leads _))
 
 opened_leads : (style : DocStyle) (ts : Tokens) → LeadsTo ts (opened style ts)
 opened_leads Outer ts = bumped_leads ts
 opened_leads Inner ts = further (bumped_leads _)
 
+one_attribute_leads : (anchor : ℕ) (style : DocStyle) → Forwards (one_attribute anchor style)
+unfolding one_attribute
+one_attribute_leads anchor style ts = when (is_doc style ts) (λ e. rw e (doc_leads anchor ts)) (λ e. rw e (through (opened_leads style ts) (bracketed_leads anchor _)))
+
+docs_leads : (n : ℕ) (ts : Tokens) → LeadsTo ts (behind_docs_from n ts)
+docs_leads zero ts = here
+docs_leads (suc n) ts = when (is_doc Inner ts) (λ e. rw e (further (docs_leads n _))) (λ e. rw e here)
+
+behind_attribute_leads : (style : DocStyle) (ts : Tokens) → LeadsTo ts (behind_attribute style ts)
+unfolding behind_docs
+behind_attribute_leads Outer ts = docs_leads _ ts
+behind_attribute_leads Inner ts = here
+
 attribute_leads : (anchor : ℕ) (style : DocStyle) → Forwards (attribute anchor style)
 unfolding attribute
-attribute_leads anchor style ts = when (is_doc style ts) (λ e. rw e (doc_leads anchor ts)) (λ e. rw e (through (opened_leads style ts) (bracketed_leads anchor _)))
+attribute_leads anchor style ts = through (one_attribute_leads anchor style ts) (behind_attribute_leads style _)
 
 attributes_leads : (anchor : ℕ) (style : DocStyle) → Forwards (attributes anchor style)
 unfolding attributes

@@ -1,6 +1,7 @@
 pub mod Characters
 pub mod Commas
 pub mod Depths
+pub mod Docs
 pub mod Naming
 pub mod Strings
 pub mod Texts

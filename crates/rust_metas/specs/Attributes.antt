@@ -1,5 +1,5 @@
 -- Attributes. The spans of their literals count from the anchor, which is the first argument.
-use Rattle.std.specs.Prelude.{ℕ, Bool, true, false, not, ◌==◌, ◌&&◌, ◌||◌, if◌then◌else◌, Option, Some, List}
+use Rattle.std.specs.Prelude.{ℕ, zero, suc, Bool, true, false, not, ◌==◌, ◌&&◌, ◌||◌, if◌then◌else◌, Option, Some, List}
 use Rattle.hir_input.specs.Attr.{MetaView}
 use Rattle.rust_lexer.specs.declared.kind.DocStyle.{DocStyle}
 use Rattle.rust_lexer.specs.declared.kind.DocStyle.TheVariants.{Outer, Inner}
@@ -7,7 +7,8 @@ use Rattle.rust_cursor.specs.Tokens.{Tokens}
 use Rattle.rust_cursor.specs.Reader.{Reader, ◌>>=◌, pure, pass}
 use Rattle.rust_cursor.specs.Words.{symbol, kind, bump, bumped}
 use Rattle.rust_cursor.specs.Brackets.{behind_closed}
-use Rattle.rust_cursor.specs.Elements.{turns, one}
+use Rattle.rust_cursor.specs.Extents.{begins_item}
+use Rattle.rust_cursor.specs.Elements.{most, turns, one}
 use Rattle.rust_metas.specs.Literals.{style_by}
 use Rattle.rust_metas.specs.Metas.{meta, doc}
 
@@ -33,12 +34,16 @@ is_attribute Inner ts = symbol ts == 35 && (symbol (bumped ts) == 33 && symbol (
 unfoldable pub is_behind : DocStyle → Tokens → Bool
 is_behind style ts = not (is_doc style ts || is_attribute style ts)
 
+-- where a word comes next that can begin an item only, the bracket is not closed
+abbrev pub behind_bracket : Tokens → Tokens
+behind_bracket ts = if begins_item ts then ts else behind_closed 91 ts
+
 -- a meta in its bracket; what stands behind it there is passed over
 unfoldable pub bracketed : ℕ → Reader MetaView
 bracketed anchor = do
   _ ← bump
   m ← meta anchor deepest
-  _ ← pass behind_closed
+  _ ← pass behind_bracket
   pure m
 
 abbrev pub opened : DocStyle → Tokens → Tokens
@@ -46,8 +51,27 @@ opened Outer ts = bumped ts
 opened Inner ts = bumped (bumped ts)
 
 -- OuterAttribute or InnerAttribute
+unfoldable pub one_attribute : ℕ → DocStyle → Reader MetaView
+one_attribute anchor style ts = if is_doc style ts then doc anchor ts else bracketed anchor (opened style ts)
+
+abbrev pub behind_docs_from : ℕ → Tokens → Tokens
+behind_docs_from zero ts = ts
+behind_docs_from (suc n) ts = if is_doc Inner ts then behind_docs_from n (bumped ts) else ts
+
+-- behind inner documentation
+unfoldable pub behind_docs : Tokens → Tokens
+behind_docs ts = behind_docs_from most ts
+
+-- Inner documentation behind an outer attribute is passed over: what the attribute stands before comes behind it.
+abbrev pub behind_attribute : DocStyle → Tokens → Tokens
+behind_attribute Outer ts = behind_docs ts
+behind_attribute Inner ts = ts
+
 unfoldable pub attribute : ℕ → DocStyle → Reader MetaView
-attribute anchor style ts = if is_doc style ts then doc anchor ts else bracketed anchor (opened style ts)
+attribute anchor style = do
+  m ← one_attribute anchor style
+  _ ← pass (behind_attribute style)
+  pure m
 
 -- the attributes of this style that come next
 unfoldable pub attributes : ℕ → DocStyle → Reader (List MetaView)

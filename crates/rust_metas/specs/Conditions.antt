@@ -3,7 +3,7 @@ use Rattle.std.specs.Prelude.{ℕ, zero, suc, ◌==◌, if◌then◌else◌, Opt
 use Rattle.std.specs.Str.{bytes_eq}
 use Rattle.hir_input.specs.Cfg.{CfgView, invalid, atom, all_of, any_of, not_of, cfgs_from, flag, key_value}
 use Rattle.rust_cursor.specs.Tokens.{Tokens}
-use Rattle.rust_cursor.specs.Reader.{Reader, ◌>>=◌, pure, pass}
+use Rattle.rust_cursor.specs.Reader.{Reader, ◌>>=◌, pure, look, pass}
 use Rattle.rust_cursor.specs.Words.{symbol, word, kind, text, bump, bumped, is_at_end, is_at_open}
 use Rattle.rust_cursor.specs.Brackets.{behind_closed, behind_tree}
 use Rattle.rust_cursor.specs.Elements.{most, elements, one}
@@ -51,9 +51,10 @@ pair key ts =
 -- a word with conditions in a bracket
 abbrev pub group : Reader (Option (List CfgView)) → List ℕ → Reader CfgView
 group inside word = do
+  bracket ← look symbol
   _ ← bump
   conditions ← inside
-  _ ← pass behind_closed
+  _ ← pass (behind_closed bracket)
   pure (composed word conditions)
 
 abbrev pub named : Reader (Option (List CfgView)) → List ℕ → Reader CfgView

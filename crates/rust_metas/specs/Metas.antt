@@ -7,7 +7,7 @@ use Rattle.hir_input.specs.declared.mod_path.PathKind.TheVariants.{Plain}
 use Rattle.hir_input.specs.Attr.{MetaView, path_meta, key_value_meta, token_tree_meta, cfg_meta, cfg_attr_meta, unsafe_meta, metas_from}
 use Rattle.hir_input.specs.Cfg.{CfgView}
 use Rattle.rust_cursor.specs.Tokens.{Tokens}
-use Rattle.rust_cursor.specs.Reader.{Reader, ◌>>=◌, pure, pass}
+use Rattle.rust_cursor.specs.Reader.{Reader, ◌>>=◌, pure, look, pass}
 use Rattle.rust_cursor.specs.Words.{symbol, word, bump, bumped, is_at_open}
 use Rattle.rust_cursor.specs.Brackets.{behind_closed}
 use Rattle.rust_cursor.specs.Elements.{elements, one}
@@ -47,17 +47,19 @@ is_call w ts = bytes_eq (word ts) w && is_at_open (bumped ts)
 abbrev pub unsafe_with : Reader MetaView → Reader MetaView
 unsafe_with inner = do
   _ ← bump
+  bracket ← look symbol
   _ ← bump
   m ← inner
-  _ ← pass behind_closed
+  _ ← pass (behind_closed bracket)
   pure (unsafe_meta m)
 
 abbrev pub cfg_with : Reader CfgView → Reader MetaView
 cfg_with condition = do
   _ ← bump
+  bracket ← look symbol
   _ ← bump
   c ← condition
-  _ ← pass behind_closed
+  _ ← pass (behind_closed bracket)
   pure (cfg_meta c)
 
 -- a meta and the comma behind it
@@ -70,10 +72,11 @@ member inner = do
 abbrev pub cfg_attr_with : Reader MetaView → Reader CfgView → Reader MetaView
 cfg_attr_with inner condition = do
   _ ← bump
+  bracket ← look symbol
   _ ← bump
   c ← condition
   metas ← elements (one (member inner))
-  _ ← pass behind_closed
+  _ ← pass (behind_closed bracket)
   pure (cfg_attr_meta c (metas_from metas))
 
 -- Attr, by what reads the metas and the conditions inside

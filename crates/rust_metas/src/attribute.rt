@@ -70,17 +70,58 @@ fn is_behind(cursor: &Cursor<'_>, style: DocStyle) -> bool
     !(is_doc(cursor, style) || is_attribute(cursor, style))
 }
 
-/// A meta in its bracket. What stands behind it there is passed over.
+/// A meta in its bracket. What stands behind it there is passed over, but for a word that can begin an item only.
 #[tactic(auto, unfolding(crate::specs::Attributes::bracketed))]
 fn bracketed(alloc: Global, cursor: &mut Cursor<'_>, anchor: usize) -> Result<Meta, AllocError>
     ensures { Gives meta_view (spec.bracketed anchor cursor.old) result cursor.new }
 {
     cursor.bump();
     let meta = meta(alloc, cursor, anchor, 128)?;
-    cursor.pass_closed();
+    if !cursor.begins_item() {
+        cursor.pass_closed(b'[');
+    }
     Ok(meta)
 }
 
+#[tactic(auto, unfolding(crate::specs::Attributes::one_attribute))]
+fn one_attribute(
+    alloc: Global,
+    cursor: &mut Cursor<'_>,
+    anchor: usize,
+    style: DocStyle,
+) -> Result<Meta, AllocError>
+    ensures { Gives meta_view (spec.one_attribute anchor style cursor.old) result cursor.new }
+{
+    if is_doc(cursor, style) {
+        return doc(alloc, cursor, anchor);
+    }
+    pass_mark(cursor, style);
+    bracketed(alloc, cursor, anchor)
+}
+
+#[tactic(auto, unfolding(crate::specs::Attributes::behind_docs), using(crate::proofs::Docs::docs_more, crate::proofs::Docs::docs_stop))]
+fn pass_docs(cursor: &mut Cursor<'_>)
+    ensures { cursor.new ≡ spec.behind_docs cursor.old }
+{
+    let most = Cursor::most_turns();
+    for _turn in 0..most {
+        if !is_doc(cursor, DocStyle::Inner) {
+            break;
+        }
+        cursor.bump();
+    }
+}
+
+fn pass_behind(cursor: &mut Cursor<'_>, style: DocStyle)
+    ensures { cursor.new ≡ spec.behind_attribute style cursor.old }
+{
+    match style {
+        DocStyle::Outer => pass_docs(cursor),
+        DocStyle::Inner => {}
+    }
+}
+
+/// An attribute, and inner documentation behind an outer one, which documents nothing.
 #[tactic(auto, unfolding(crate::specs::Attributes::attribute))]
 fn attribute(
     alloc: Global,
@@ -90,11 +131,9 @@ fn attribute(
 ) -> Result<Meta, AllocError>
     ensures { Gives meta_view (spec.attribute anchor style cursor.old) result cursor.new }
 {
-    if is_doc(cursor, style) {
-        return doc(alloc, cursor, anchor);
-    }
-    pass_mark(cursor, style);
-    bracketed(alloc, cursor, anchor)
+    let meta = one_attribute(alloc, cursor, anchor, style)?;
+    pass_behind(cursor, style);
+    Ok(meta)
 }
 
 /// The attributes of a style that come next.

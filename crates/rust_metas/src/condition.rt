@@ -120,9 +120,10 @@ fn group(
 ) -> Result<CfgExpr, AllocError>
     ensures { Gives cfg_view (spec.group (spec.conditions depth) word cursor.old) result cursor.new }
 {
+    let bracket = cursor.symbol();
     cursor.bump();
     let inside = conditions(alloc, cursor, depth)?;
-    cursor.pass_closed();
+    cursor.pass_closed(bracket);
     composed(alloc, word, inside)
 }
 

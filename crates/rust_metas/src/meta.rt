@@ -98,9 +98,10 @@ fn cfg(alloc: Global, cursor: &mut Cursor<'_>, depth: usize) -> Result<Meta, All
     ensures { Gives meta_view (spec.cfg_with (conditions.condition depth) cursor.old) result cursor.new }
 {
     cursor.bump();
+    let bracket = cursor.symbol();
     cursor.bump();
     let condition = condition(alloc, cursor, depth)?;
-    cursor.pass_closed();
+    cursor.pass_closed(bracket);
     Ok(Meta::Cfg(condition))
 }
 
@@ -116,9 +117,10 @@ fn unsafe_meta(
     ensures { Gives meta_view (spec.unsafe_with (spec.meta anchor depth) cursor.old) result cursor.new }
 {
     cursor.bump();
+    let bracket = cursor.symbol();
     cursor.bump();
     let inner = meta(alloc, cursor, anchor, depth)?;
-    cursor.pass_closed();
+    cursor.pass_closed(bracket);
     Ok(Meta::Unsafe(Box::new(alloc, inner)?))
 }
 
@@ -134,10 +136,11 @@ fn cfg_attr(
     ensures { Gives meta_view (spec.cfg_attr_with (spec.meta anchor depth) (conditions.condition depth) cursor.old) result cursor.new }
 {
     cursor.bump();
+    let bracket = cursor.symbol();
     cursor.bump();
     let condition = condition(alloc, cursor, depth)?;
     let metas = metas(alloc, cursor, anchor, depth)?;
-    cursor.pass_closed();
+    cursor.pass_closed(bracket);
     Ok(Meta::CfgAttr { condition, metas })
 }
 

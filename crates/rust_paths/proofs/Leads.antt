@@ -111,7 +111,7 @@ use_path_leads ts = path_in_leads true ts
 -- ---- visibilities
 
 path_scope_leads : Forwards path_scope
-path_scope_leads ts = further (further (through (path_leads _) (behind_closed_leads _)))
+path_scope_leads ts = further (further (through (path_leads _) (behind_closed_leads _ _)))
 
 plain_scope_leads : (v : Option Visibility) → Forwards (plain_scope v)
 plain_scope_leads None ts = here
@@ -173,7 +173,7 @@ unfolding list
 list_leads zero ts = when (symbol ts == 123) (λ e. rw e (behind_tree_leads ts)) (λ e. rw e here)
 list_leads (suc depth) ts =
     when (symbol ts == 123)
-    (λ e. rw e (further (through (turns_leads is_at_end (one (element_with (list depth))) (element_leads (list depth) (list_leads depth)) _) (behind_closed_leads _))))
+    (λ e. rw e (further (through (turns_leads is_at_end (one (element_with (list depth))) (element_leads (list depth) (list_leads depth)) _) (behind_closed_leads _ _))))
     (λ e. rw e here)
 
 pub use_tree_leads : Forwards use_tree

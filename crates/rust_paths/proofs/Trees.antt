@@ -56,7 +56,7 @@ list_none (suc depth) ts e = let other : (symbol ts == 123) ≡ false = ne_eqb (
 
 -- a list
 pub list_some : (depth : ℕ) (ts : Tokens) → 0 < depth → (symbol ts == 123) ≡ true
-    → list depth ts ≡ (some_list (trees (element (depth - 1)) (bumped ts)).0, behind_closed (trees (element (depth - 1)) (bumped ts)).1)
+    → list depth ts ≡ (some_list (trees (element (depth - 1)) (bumped ts)).0, behind_closed 123 (trees (element (depth - 1)) (bumped ts)).1)
 unfolding list element
 list_some zero ts h e = absurd (omega arith)
 list_some (suc depth) ts h e = let less : suc depth - 1 ≡ depth = omega arith in rw (e, less) refl

@@ -109,7 +109,7 @@ some_list found = record { value = Some found.value; too_deep = found.too_deep }
 unfoldable pub list : ℕ → Reader (Found (Option (List UseTreeView)))
 list zero ts = if symbol ts == 123 then (record { value = None; too_deep = Some (at ts) }, behind_tree ts) else (whole None, ts)
 list (suc depth) ts =
-    if symbol ts == 123 then (let r = trees (element_with (list depth)) (bumped ts) in (some_list r.0, behind_closed r.1)) else (whole None, ts)
+    if symbol ts == 123 then (let r = trees (element_with (list depth)) (bumped ts) in (some_list r.0, behind_closed 123 r.1)) else (whole None, ts)
 
 unfoldable pub element : ℕ → Reader (Found (Option UseTreeView))
 element depth = element_with (list depth)

@@ -47,7 +47,7 @@ path_scope = do
   _ ← bump
   _ ← bump
   p ← paths.path
-  _ ← pass behind_closed
+  _ ← pass (behind_closed 40)
   pure (in_path p)
 
 abbrev pub plain_scope : Option Visibility → Reader Visibility

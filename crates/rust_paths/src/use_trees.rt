@@ -175,7 +175,7 @@ fn list(alloc: Global, cursor: &mut Cursor<'_>, depth: usize) -> Result<FoundLis
     }
     cursor.bump();
     let found = trees(alloc, cursor, depth - 1)?;
-    cursor.pass_closed();
+    cursor.pass_closed(b'{');
     Ok(FoundList {
         list: Some(found.trees),
         too_deep: found.too_deep,

@@ -79,7 +79,7 @@ fn path_scope(alloc: Global, cursor: &mut Cursor<'_>) -> Result<Visibility, Allo
     cursor.bump();
     cursor.bump();
     let path = path(alloc, cursor)?;
-    cursor.pass_closed();
+    cursor.pass_closed(b'(');
     Ok(in_path(path))
 }
 

@@ -94,6 +94,7 @@ abbrev pub message : ProblemKind → List ℕ
 message problem.NoItem = codes "expected an item"
 message problem.Unmatched = codes "this bracket closes nothing"
 message problem.Unfinished = codes "this item has no end"
+message problem.Nameless = codes "this item has no name"
 message problem.Unterminated = codes "this literal or comment has no end"
 message problem.TooDeep = codes "this stands in too many others to be read"
 

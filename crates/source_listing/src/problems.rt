@@ -16,6 +16,7 @@ fn message(kind: ProblemKind) -> &'static str
         ProblemKind::NoItem => "expected an item",
         ProblemKind::Unmatched => "this bracket closes nothing",
         ProblemKind::Unfinished => "this item has no end",
+        ProblemKind::Nameless => "this item has no name",
         ProblemKind::Unterminated => "this literal or comment has no end",
         ProblemKind::TooDeep => "this stands in too many others to be read",
     }

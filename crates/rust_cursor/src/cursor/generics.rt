@@ -1,14 +1,16 @@
 //! Passes over what stands in angle brackets.
 
-ghost use Rattle.std.specs.Prelude.{◌≡◌, ◌+◌, ◌<◌, ◌^◌};
+ghost use Rattle.std.specs.Prelude.{◌≡◌};
+ghost use Rattle.rust_cursor.specs.declared.cursor.generics.Reach.TheVariants as reaches;
 ghost use Rattle.rust_cursor.specs.Angles as spec;
 
 use crate::cursor::Cursor;
+use crate::cursor::nest::Nest;
 use rust_lexer::TokenKind;
 
 /// How far tokens are passed over.
 #[derive(Clone, Copy)]
-pub(crate) enum Reach {
+pub enum Reach {
     /// Up to the `>` that closes the first `<`, and it.
     Angles,
     /// Up to a comma, or a bracket that closes.
@@ -19,55 +21,7 @@ pub(crate) enum Reach {
     Block,
 }
 
-/// In how many brackets and angle brackets a token stands, and whether the one before it is `-` or `=`.
-#[derive(Clone, Copy)]
-pub(crate) struct Nest {
-    depth: usize,
-    angles: usize,
-    is_dash: bool,
-}
-
 impl<'t> Cursor<'t> {
-    fn angles_behind(&self, nest: Nest) -> usize
-        requires { nest.angles + 1 < 2 ^ 64 }
-        ensures { result ≡ spec.angles_behind nest self.now }
-    {
-        match self.symbol() {
-            b'<' => nest.angles + 1,
-            b'>' => {
-                if nest.is_dash && self.is_glued() {
-                    nest.angles
-                } else {
-                    nest.angles.saturating_sub(1)
-                }
-            }
-            _ => nest.angles,
-        }
-    }
-
-    #[tactic(auto, unfolding(crate::specs::Angles::nest_behind))]
-    fn nest_behind(&self, nest: Nest) -> Nest
-        requires depth { nest.depth + 1 < 2 ^ 64 }
-        requires angles { nest.angles + 1 < 2 ^ 64 }
-        ensures { result ≡ spec.nest_behind nest self.now }
-    {
-        let depth = self.depth_behind(nest.depth);
-        let symbol = self.symbol();
-        let is_dash = symbol == b'-' || symbol == b'=';
-        if nest.depth != 0 {
-            return Nest {
-                depth,
-                angles: nest.angles,
-                is_dash,
-            };
-        }
-        Nest {
-            depth,
-            angles: self.angles_behind(nest),
-            is_dash,
-        }
-    }
-
     fn is_lone_for(&self) -> bool
         ensures { result ≡ spec.is_lone_for self.now }
     {
@@ -84,33 +38,75 @@ impl<'t> Cursor<'t> {
         is_lifetime(inside.kind()) || inside.symbol() == b'>'
     }
 
-    fn is_barred(&self, reach: Reach, angles: usize) -> bool
-        ensures { result ≡ spec.is_barred reach angles self.now }
+    fn closes_around(&self, nest: Nest) -> bool
+        ensures { result ≡ spec.closes_around nest self.now }
     {
-        if self.is_at_end() {
+        if self.symbol() == b'}' {
             return true;
         }
+        nest.others == 0 && self.is_at_end()
+    }
+
+    fn is_barred(&self, reach: Reach, nest: Nest) -> bool
+        ensures { result ≡ spec.is_barred reach nest self.now }
+    {
         match reach {
-            Reach::Angles => self.symbol() == b';' || self.begins_item(),
-            Reach::Field => angles == 0 && self.symbol() == b',',
-            Reach::Header => self.is_barred_header(angles),
-            Reach::Block => self.is_barred_block(angles),
+            Reach::Angles => self.is_barred_angles(nest),
+            Reach::Field => self.is_barred_field(nest),
+            Reach::Header => self.is_barred_header(nest),
+            Reach::Block => self.is_barred_block(nest),
         }
     }
 
-    fn is_barred_block(&self, angles: usize) -> bool
-        ensures { result ≡ spec.is_barred_block angles self.now }
+    fn is_barred_angles(&self, nest: Nest) -> bool
+        ensures { result ≡ spec.is_barred reaches.Angles nest self.now }
     {
-        if self.symbol() == b';' || self.begins_item() {
+        if self.closes_around(nest) || self.begins(nest) {
+            return true;
+        }
+        nest.others == 0 && self.symbol() == b';'
+    }
+
+    fn is_barred_field(&self, nest: Nest) -> bool
+        ensures { result ≡ spec.is_barred reaches.Field nest self.now }
+    {
+        if self.closes_around(nest) {
+            return true;
+        }
+        nest.others == 0 && nest.angles == 0 && self.symbol() == b','
+    }
+
+    fn is_barred_block(&self, nest: Nest) -> bool
+        ensures { result ≡ spec.is_barred reaches.Block nest self.now }
+    {
+        if self.symbol() == b'}' || self.begins(nest) {
+            return true;
+        }
+        nest.others == 0 && self.is_block_end(nest.angles)
+    }
+
+    fn is_block_end(&self, angles: usize) -> bool
+        ensures { result ≡ spec.is_block_end angles self.now }
+    {
+        if self.symbol() == b';' {
             return true;
         }
         angles == 0 && self.symbol() == b'{'
     }
 
-    fn is_barred_header(&self, angles: usize) -> bool
-        ensures { result ≡ spec.is_barred_header angles self.now }
+    fn is_barred_header(&self, nest: Nest) -> bool
+        ensures { result ≡ spec.is_barred reaches.Header nest self.now }
     {
-        if self.symbol() == b';' || self.begins_item() {
+        if self.symbol() == b'}' || self.begins(nest) {
+            return true;
+        }
+        nest.others == 0 && self.is_header_end(nest.angles)
+    }
+
+    fn is_header_end(&self, angles: usize) -> bool
+        ensures { result ≡ spec.is_header_end angles self.now }
+    {
+        if self.symbol() == b';' {
             return true;
         }
         if angles != 0 {
@@ -126,10 +122,10 @@ impl<'t> Cursor<'t> {
         if self.is_empty() {
             return true;
         }
-        if nest.depth != 0 {
+        if nest.braces != 0 {
             return false;
         }
-        self.is_barred(reach, nest.angles)
+        self.is_barred(reach, nest)
     }
 
     #[tactic(auto, unfolding(crate::specs::Angles::reached), using(crate::proofs::Reaches::reaching_stop, crate::proofs::Reaches::reaching_end))]
@@ -138,11 +134,7 @@ impl<'t> Cursor<'t> {
     {
         // That brackets can be counted is known of a cursor that was looked into.
         let _ = &self.next;
-        let mut nest = Nest {
-            depth: 0,
-            angles: 0,
-            is_dash: false,
-        };
+        let mut nest = Nest::flat();
         'tokens: while !self.is_reached(reach, nest) {
             nest = self.nest_behind(nest);
             self.bump();
@@ -203,7 +195,7 @@ fn is_closed(reach: Reach, nest: Nest) -> bool
     ensures { result ≡ spec.is_closed reach nest }
 {
     match reach {
-        Reach::Angles => nest.depth == 0 && nest.angles == 0,
+        Reach::Angles => nest.is_flat() && nest.angles == 0,
         Reach::Field | Reach::Header | Reach::Block => false,
     }
 }

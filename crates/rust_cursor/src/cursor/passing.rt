@@ -5,36 +5,58 @@ ghost use Rattle.rust_cursor.specs.Brackets as spec;
 ghost use Rattle.rust_cursor.specs.Elements as elements;
 
 use crate::cursor::Cursor;
+use crate::cursor::nest::{Nest, closes_other};
 
 impl<'t> Cursor<'t> {
-    /// Passes over what stands before the bracket that closes one that is open.
-    #[tactic(auto, using(crate::proofs::Steps::closing_open, crate::proofs::Steps::closing_close, crate::proofs::Steps::closing_here, crate::proofs::Steps::closing_other, crate::proofs::Steps::closing_none, crate::proofs::Steps::shorter))]
-    pub fn pass_to_closing(&mut self)
-        ensures { self.new ≡ spec.closing 0 self.old }
+    fn shuts(&self, bracket: u8, nest: Nest) -> bool
+        ensures { result ≡ spec.shuts bracket nest self.now }
+    {
+        if self.symbol() == b'}' {
+            return true;
+        }
+        bracket != b'{' && nest.others == 0 && closes_other(self.symbol())
+    }
+
+    #[tactic(auto, unfolding(crate::specs::Brackets::is_closing))]
+    fn is_closing(&self, bracket: u8, nest: Nest) -> bool
+        ensures { result ≡ spec.is_closing bracket nest self.now }
+    {
+        if self.is_empty() {
+            return true;
+        }
+        nest.braces == 0 && self.shuts(bracket, nest)
+    }
+
+    /// Passes over what stands before the bracket that closes one that was opened by this symbol, or that closes the braces around
+    /// it.
+    #[tactic(auto, unfolding(crate::specs::Brackets::to_closing), using(crate::proofs::Steps::closing_stop))]
+    pub fn pass_to_closing(&mut self, bracket: u8)
+        ensures { self.new ≡ spec.to_closing bracket self.old }
     {
         // That the brackets can be counted is known of a cursor that was looked into.
         let _ = &self.next;
-        let mut depth = 0usize;
-        'tokens: while !self.is_empty() {
-            if self.is_at_open() {
-                depth += 1;
-            } else if self.is_at_end() {
-                if depth == 0 {
-                    return;
-                }
-                depth -= 1;
-            }
+        let mut nest = Nest::flat();
+        'tokens: while !self.is_closing(bracket, nest) {
+            nest = self.nest_behind(nest);
             self.bump();
         }
     }
 
-    /// Passes over what stands up to the bracket that closes one that is open, and it.
+    /// Passes over what stands up to the bracket that closes one that was opened by this symbol, and it.
+    ///
+    /// Where a brace that closes what is around comes first, it ends before that.
     #[tactic(auto, unfolding(crate::specs::Brackets::behind_closed))]
-    pub fn pass_closed(&mut self)
-        ensures { self.new ≡ spec.behind_closed self.old }
+    pub fn pass_closed(&mut self, bracket: u8)
+        ensures { self.new ≡ spec.behind_closed bracket self.old }
     {
-        self.pass_to_closing();
-        self.bump();
+        self.pass_to_closing(bracket);
+        if bracket == b'{' {
+            self.bump();
+            return;
+        }
+        if self.symbol() != b'}' {
+            self.bump();
+        }
     }
 
     /// Passes over a token, or what stands in brackets.
@@ -43,8 +65,9 @@ impl<'t> Cursor<'t> {
         ensures { self.new ≡ spec.behind_tree self.old }
     {
         if self.is_at_open() {
+            let bracket = self.symbol();
             self.bump();
-            self.pass_closed();
+            self.pass_closed(bracket);
         } else {
             self.bump();
         }

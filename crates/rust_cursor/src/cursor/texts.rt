@@ -1,18 +1,17 @@
 //! The texts of what is taken.
 
-ghost use Rattle.std.specs.Prelude.{◌≡◌, ◌+◌, ◌<◌, ◌^◌, OnOk, string_bytes};
+ghost use Rattle.std.specs.Prelude.{◌≡◌, OnOk, string_bytes};
 ghost use Rattle.rust_cursor.specs.Extents as spec;
 ghost use Rattle.rust_cursor.specs.Reader.{Gives};
 ghost use Rattle.rust_cursor.specs.Words.{bumped};
 
 use crate::cursor::Cursor;
+use crate::cursor::nest::{Before, Nest};
 use std::alloc::{AllocError, Global};
 
 /// How far tokens are taken, and what stands between their texts.
 #[derive(Clone, Copy)]
 pub(crate) enum Extent {
-    /// Up to the bracket that closes one that is open, as written.
-    Closed,
     /// A token, or what stands in brackets, as written.
     Tree,
     /// A token, or what stands in brackets, with a blank between each two.
@@ -21,23 +20,19 @@ pub(crate) enum Extent {
     Value,
     /// Up to a semicolon or a block, with a blank between each two.
     Item,
+    /// The same where any tokens may stand in the first bracket.
+    Macro,
+}
+
+/// A text that was taken.
+#[derive(Drop)]
+pub struct Excerpt {
+    pub text: String,
+    /// Whether it ends with its end and its brackets are closed.
+    pub is_ended: bool,
 }
 
 impl<'t> Cursor<'t> {
-    #[tactic(auto, unfolding(crate::specs::Extents::depth_behind))]
-    pub(crate) fn depth_behind(&self, depth: usize) -> usize
-        requires { depth + 1 < 2 ^ 64 }
-        ensures { result ≡ spec.depth_behind depth self.now }
-    {
-        if self.is_at_open() {
-            depth + 1
-        } else if self.is_at_end() {
-            depth.saturating_sub(1)
-        } else {
-            depth
-        }
-    }
-
     pub(crate) fn second(&self) -> Cursor<'t>
         ensures { result ≡ bumped self.now }
     {
@@ -61,40 +56,118 @@ impl<'t> Cursor<'t> {
         }
     }
 
+    fn follows_const(&self) -> bool
+        ensures { result ≡ spec.follows_const self.now }
+    {
+        let behind = self.second();
+        if self.word() == "fn" {
+            return behind.is_at_identifier();
+        }
+        if !self.is_at_identifier() {
+            return false;
+        }
+        behind.symbol() == b':' && !behind.is_pair(b':', b':')
+    }
+
+    #[tactic(auto, unfolding(crate::specs::Extents::begins_impl_or_const))]
+    fn begins_impl_or_const(&self) -> bool
+        ensures { result ≡ spec.begins_impl_or_const self.now }
+    {
+        match self.word() {
+            "impl" => true,
+            "unsafe" => self.second().word() == "impl",
+            "const" => self.second().follows_const(),
+            _ => false,
+        }
+    }
+
+    fn begins_behind(&self, before: Before) -> bool
+        ensures { result ≡ spec.begins_behind before self.now }
+    {
+        match before {
+            Before::End => {
+                if self.symbol() == b'#' {
+                    return self.second().symbol() == b'[';
+                }
+                self.begins_impl_or_const()
+            }
+            Before::Angle => self.begins_impl_or_const(),
+            Before::Dash | Before::Mark | Before::Other => false,
+        }
+    }
+
+    #[tactic(auto, unfolding(crate::specs::Extents::begins_within))]
+    fn begins_within(&self) -> bool
+        ensures { result ≡ spec.begins_within self.now }
+    {
+        match self.word() {
+            "pub" => false,
+            "use" => self.second().is_at_identifier(),
+            "static" => !matches!(self.second().word(), "move" | "async") && self.begins_item(),
+            _ => self.begins_item(),
+        }
+    }
+
+    /// Whether an item begins, in no brace.
+    pub(crate) fn begins(&self, nest: Nest) -> bool
+        ensures { result ≡ spec.begins nest self.now }
+    {
+        if nest.others == 0 {
+            return self.begins_item() || self.begins_behind(nest.before);
+        }
+        nest.free == 0 && self.begins_within()
+    }
+
+    fn stops_outside(&self, extent: Extent, nest: Nest) -> bool
+        ensures { result ≡ spec.stops_outside extent nest self.now }
+    {
+        match extent {
+            Extent::Tree | Extent::Group => nest.others != 0 && self.symbol() == b'}',
+            Extent::Value | Extent::Item | Extent::Macro => {
+                self.symbol() == b'}' || self.begins(nest)
+            }
+        }
+    }
+
     #[tactic(auto, unfolding(crate::specs::Extents::stops))]
-    fn stops(&self, extent: Extent, depth: usize) -> bool
-        ensures { result ≡ spec.stops extent depth self.now }
+    fn stops(&self, extent: Extent, nest: Nest) -> bool
+        ensures { result ≡ spec.stops extent nest self.now }
     {
         if self.is_empty() {
             return true;
         }
-        if depth != 0 {
+        if nest.braces != 0 {
             return false;
         }
-        match extent {
-            Extent::Closed => self.is_at_end(),
-            Extent::Tree | Extent::Group => false,
-            Extent::Value | Extent::Item => self.is_at_end() || self.begins_item(),
-        }
+        self.stops_outside(extent, nest)
     }
 
-    #[tactic(auto, unfolding(crate::specs::Extents::ends))]
-    fn ends(&self, extent: Extent, behind: usize) -> bool
-        ensures { result ≡ spec.ends extent behind self.now }
+    fn goes_on(&self) -> bool
+        ensures { result ≡ spec.goes_on self.now }
     {
-        if behind != 0 {
-            return false;
-        }
+        matches!(self.symbol(), b'>' | b',')
+    }
+
+    fn ends_flat(&self, extent: Extent, angles: usize) -> bool
+        ensures { result ≡ spec.ends_flat extent angles self.now }
+    {
         match extent {
-            Extent::Closed => false,
             Extent::Tree | Extent::Group => true,
             Extent::Value => self.symbol() == b';',
             Extent::Item => match self.symbol() {
                 b';' => true,
-                b'}' => !matches!(self.second().symbol(), b'>' | b','),
+                b'}' => angles == 0 || !self.second().goes_on(),
                 _ => false,
             },
+            Extent::Macro => matches!(self.symbol(), b';' | b'}'),
         }
+    }
+
+    #[tactic(auto, unfolding(crate::specs::Extents::ends))]
+    fn ends(&self, extent: Extent, behind: Nest) -> bool
+        ensures { result ≡ spec.ends extent behind self.now }
+    {
+        behind.is_flat() && self.ends_flat(extent, behind.angles)
     }
 
     #[tactic(auto, unfolding(crate::specs::Extents::has_blank))]
@@ -102,8 +175,8 @@ impl<'t> Cursor<'t> {
         ensures { result ≡ spec.has_blank extent last self.now }
     {
         match extent {
-            Extent::Closed | Extent::Tree => self.at() != last,
-            Extent::Group | Extent::Value | Extent::Item => true,
+            Extent::Tree => self.at() != last,
+            Extent::Group | Extent::Value | Extent::Item | Extent::Macro => true,
         }
     }
 
@@ -136,39 +209,39 @@ impl<'t> Cursor<'t> {
     }
 
     #[tactic(auto, unfolding(crate::specs::Extents::taken), using(crate::proofs::Scans::taking_stop, crate::proofs::Scans::taking_end, crate::proofs::Scans::taking_more))]
-    fn take_text(&mut self, alloc: Global, extent: Extent) -> Result<String, AllocError>
-        ensures { Gives string_bytes (spec.taken extent self.old) result self.new }
+    fn take_excerpt(&mut self, alloc: Global, extent: Extent) -> Result<Excerpt, AllocError>
+        ensures { Gives spec.excerpt_view (spec.taken extent self.old) result self.new }
     {
         // That brackets can be counted is known of a cursor that was looked into.
         let _ = &self.next;
         let mut text = String::new(alloc);
         let mut last = self.past();
-        let mut depth = 0usize;
-        'tokens: while !self.stops(extent, depth) {
-            depth = self.depth_behind(depth);
-            let is_last = self.ends(extent, depth);
+        let mut nest = Nest::flat_behind(first_before(extent));
+        'tokens: while !self.stops(extent, nest) {
+            nest = self.nest_behind(nest);
+            let is_last = self.ends(extent, nest);
             self.push_text(extent, last, &mut text)?;
             last = self.bump_behind(last);
             if is_last {
-                return Ok(text);
+                let is_ended = nest.is_whole();
+                return Ok(Excerpt { text, is_ended });
             }
         }
-        Ok(text)
+        Ok(Excerpt {
+            text,
+            is_ended: false,
+        })
     }
 
-    /// Takes what stands up to the bracket that closes one that is open, and that, and gives the text before it.
-    ///
-    /// As written, but for a blank in the place of white space and comments.
-    #[tactic(auto, unfolding(crate::specs::Extents::closed_text))]
-    pub fn closed_text(&mut self, alloc: Global) -> Result<String, AllocError>
-        ensures { Gives string_bytes (spec.closed_text self.old) result self.new }
+    fn take_text(&mut self, alloc: Global, extent: Extent) -> Result<String, AllocError>
+        ensures { Gives string_bytes (spec.text_taken extent self.old) result self.new }
     {
-        let text = self.take_text(alloc, Extent::Closed)?;
-        self.bump();
-        Ok(text)
+        let excerpt = self.take_excerpt(alloc, extent)?;
+        Ok(excerpt.text)
     }
 
-    /// Takes a token, or what stands in brackets, and gives the text, as written like that of [`Self::closed_text`].
+    /// Takes a token, or what stands in brackets, and gives the text: as written, but for a blank in the place of white space and
+    /// comments.
     pub fn tree_text(&mut self, alloc: Global) -> Result<String, AllocError>
         ensures { Gives string_bytes (spec.tree_text self.old) result self.new }
     {
@@ -176,25 +249,42 @@ impl<'t> Cursor<'t> {
     }
 
     /// Takes a token, or what stands in brackets, and gives the texts of its tokens with a blank between each two.
-    pub fn tree_body(&mut self, alloc: Global) -> Result<String, AllocError>
-        ensures { Gives string_bytes (spec.tree_body self.old) result self.new }
+    pub fn tree_body(&mut self, alloc: Global) -> Result<Excerpt, AllocError>
+        ensures { Gives spec.excerpt_view (spec.tree_body self.old) result self.new }
     {
-        self.take_text(alloc, Extent::Group)
+        self.take_excerpt(alloc, Extent::Group)
     }
 
     /// Takes what is left of an item that ends with a semicolon, and gives the texts of its tokens with a blank between each two.
     ///
-    /// It ends before a bracket that closes what is around, and before a word that can begin an item only.
-    pub fn value_rest(&mut self, alloc: Global) -> Result<String, AllocError>
-        ensures { Gives string_bytes (spec.value_rest self.old) result self.new }
+    /// Without one it ends before a `}` that closes what is around, and before what can only begin an item.
+    pub fn value_rest(&mut self, alloc: Global) -> Result<Excerpt, AllocError>
+        ensures { Gives spec.excerpt_view (spec.value_rest self.old) result self.new }
     {
-        self.take_text(alloc, Extent::Value)
+        self.take_excerpt(alloc, Extent::Value)
     }
 
-    /// The same of an item that ends with a semicolon, or with a block that neither `>` nor `,` follows.
-    pub fn item_rest(&mut self, alloc: Global) -> Result<String, AllocError>
-        ensures { Gives string_bytes (spec.item_rest self.old) result self.new }
+    /// The same of an item that ends with a semicolon, or with a block. In angle brackets a block that `>` or `,` follows is none of
+    /// the item's.
+    pub fn item_rest(&mut self, alloc: Global) -> Result<Excerpt, AllocError>
+        ensures { Gives spec.excerpt_view (spec.item_rest self.old) result self.new }
     {
-        self.take_text(alloc, Extent::Item)
+        self.take_excerpt(alloc, Extent::Item)
+    }
+
+    /// The same of a macro with parameters, in whose bracket any tokens may stand.
+    pub fn macro_rest(&mut self, alloc: Global) -> Result<Excerpt, AllocError>
+        ensures { Gives spec.excerpt_view (spec.macro_rest self.old) result self.new }
+    {
+        self.take_excerpt(alloc, Extent::Macro)
+    }
+}
+
+fn first_before(extent: Extent) -> Before
+    ensures { result ≡ spec.first_before extent }
+{
+    match extent {
+        Extent::Macro => Before::Mark,
+        Extent::Tree | Extent::Group | Extent::Value | Extent::Item => Before::End,
     }
 }

@@ -6,23 +6,15 @@ use std::alloc::{AllocError, Global};
 fn is_item(alloc: Global, item: &str, rest: &str, next: &str) -> Result<bool, AllocError> {
     let mut cursor = Cursor::new(item);
     cursor.bump();
-    let text = cursor.item_rest(alloc)?;
-    Ok(text.as_str() == rest && cursor.text() == next)
+    let excerpt = cursor.item_rest(alloc)?;
+    Ok(excerpt.text.as_str() == rest && cursor.text() == next)
 }
 
 fn is_value(alloc: Global, item: &str, rest: &str, next: &str) -> Result<bool, AllocError> {
     let mut cursor = Cursor::new(item);
     cursor.bump();
-    let text = cursor.value_rest(alloc)?;
-    Ok(text.as_str() == rest && cursor.text() == next)
-}
-
-// Whether a text behind its first token is this up to a bracket that closes.
-fn is_inside(alloc: Global, tokens: &str, inside: &str, next: &str) -> Result<bool, AllocError> {
-    let mut cursor = Cursor::new(tokens);
-    cursor.bump();
-    let text = cursor.closed_text(alloc)?;
-    Ok(text.as_str() == inside && cursor.text() == next)
+    let excerpt = cursor.value_rest(alloc)?;
+    Ok(excerpt.text.as_str() == rest && cursor.text() == next)
 }
 
 fn is_tree(alloc: Global, tokens: &str, tree: &str, next: &str) -> Result<bool, AllocError> {
@@ -104,14 +96,16 @@ fn a_value_ends_with_a_semicolon_alone(rt: HostRuntime) {
 #[test]
 fn brackets_are_written_as_they_stand(rt: HostRuntime) {
     let alloc = rt.alloc();
-    let read = is_inside(
+    let read = is_tree(
         alloc,
         "( a::b /* c */ =\n \"x y\",{ } ) z",
-        "a::b = \"x y\",{ }",
+        "( a::b = \"x y\",{ } )",
         "z",
     );
     assert!(rt; read.unwrap_or(false));
-    let read = is_inside(alloc, "(a/** d */b)", "a b", "");
+    let read = is_tree(alloc, "(a/** d */b)", "(a b)", "");
+    assert!(rt; read.unwrap_or(false));
+    let read = is_tree(alloc, "( a } b", "( a", "}");
     assert!(rt; read.unwrap_or(false));
     let read = is_tree(alloc, "{ a(b)} c", "{ a(b)}", "c");
     assert!(rt; read.unwrap_or(false));
@@ -124,6 +118,6 @@ fn a_body_has_a_blank_between_each_two(rt: HostRuntime) {
     let alloc = rt.alloc();
     let mut cursor = Cursor::new("{a(/* c */b);} d");
     let body = cursor.tree_body(alloc);
-    assert!(rt; body.is_ok_and(|body| body.as_str() == "{ a ( b ) ; }"));
+    assert!(rt; body.is_ok_and(|body| body.text.as_str() == "{ a ( b ) ; }" && body.is_ended));
     assert_eq!(rt; cursor.text(), "d");
 }

@@ -15,12 +15,12 @@ enum E1 { A, B(u8) }
 mod m1 {
     //! Inner.
     static mut S2: u8 = b'{';
-    pub mod m2 { trait T2 { fn f(); } }
+    pub mod m2 { trait Tee { fn f(); } }
     type A2 = [u8; 2];
 }
 const _: &str = \"}\";
 static S3: fn() -> u8 = g;
-impl<T> T2 for S1<'_> where for<'a> T: X {}
+impl<T> Tee for S1<'_> where for<'a> T: X {}
 extern \"C\" { fn f3(); type A3; }
 macro_rules! n1 { () => {} }
 n1! {}
@@ -59,7 +59,7 @@ fn with_byte(alloc: Global, text: &str, at: usize, byte: &str) -> Result<String,
 fn the_text_that_is_damaged_is_read_whole(rt: HostRuntime) -> Result<(), Fail> {
     assert_eq!(rt;
         shown(rt.alloc(), TEXT)?.as_str(),
-        "Use; ExternCrate e; Fn f1; Struct S1; Union U1; Enum E1; Module m1; Static S2; Module m2; Trait T2; TypeAlias A2; Const; Static S3; Impl; ExternBlock; Fn f3; TypeAlias A3; MacroRules n1; MacroCall; MacroDef n2; "
+        "Use; ExternCrate e; Fn f1; Struct S1; Union U1; Enum E1; Module m1; Static S2; Module m2; Trait Tee; TypeAlias A2; Const; Static S3; Impl; ExternBlock; Fn f3; TypeAlias A3; MacroRules n1; MacroCall; MacroDef n2; "
     );
     Ok(())
 }

@@ -107,6 +107,10 @@ fn each_modifier_stands_before_its_items(rt: HostRuntime) -> Result<(), Fail> {
 fn words_of_some_places_are_names_elsewhere(rt: HostRuntime) -> Result<(), Fail> {
     for (text, want) in [
         (
+            "const auto: u8 = 1; const unsafe auto trait A {} const auto trait B {}",
+            "Const auto; Trait A; Trait B; ",
+        ),
+        (
             "fn union() {} fn auto() {} fn default() {} fn safe() {} fn macro_rules() {} fn r#fn() {}",
             "Fn union; Fn auto; Fn default; Fn safe; Fn macro_rules; Fn r#fn; ",
         ),

@@ -48,7 +48,7 @@ fn documentation_is_an_attribute(rt: HostRuntime) -> Result<(), Fail> {
     let alloc = rt.alloc();
     let source = "/// a \"b\"\r\n/** c\\\n d */#[e]\n//! f";
     let wanted =
-        " :doc = 0-10 \" a \\\"b\\\"\" < a \"b\">; :doc = 11-23 \" c\\\\\\n d \" < c\\\n d >; :e; //! f";
+        " :doc = 0-10 \" a \\\"b\\\"\" < a \"b\">; :doc = 11-23 \" c\\\\\\n d \" < c\\\n d >; :e; ";
     assert_eq!(rt; outer(alloc, source)?.as_str(), wanted);
     Ok(())
 }

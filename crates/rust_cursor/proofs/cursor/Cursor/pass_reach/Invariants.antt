@@ -5,8 +5,10 @@ use Rattle.rust_cursor.proofs.cursor.Cursor.pass_reach.Given as goal
 abbrev pub invariant-tokens : goal.invariant-tokens
 invariant-tokens l = record {
   same : reaching l.reach l.nest l.self ≡ reached l.reach l.initial.self;
-  few : l.nest.depth + length l.self.left < 2 ^ 64;
-  narrow : l.nest.angles + length l.self.left < 2 ^ 64;
+  braces : l.nest.braces + length l.self.left < 2 ^ 64;
+  others : l.nest.others + length l.self.left < 2 ^ 64;
+  angles : l.nest.angles + length l.self.left < 2 ^ 64;
+  inner : l.nest.inner + length l.self.left < 2 ^ 64;
 }
 
 abbrev pub decreases-tokens : goal.decreases-tokens

@@ -1,8 +1,35 @@
 use Rattle.std.proofs.Common.{sym, ◌∙◌, arith}
-use Rattle.rust_cursor.proofs.Steps.{shorter}
+use Rattle.rust_cursor.specs.Brackets.{to_closing}
+use Rattle.rust_cursor.proofs.Nesting.{shorter, fewer}
+use Rattle.rust_cursor.proofs.Steps.{closing_some, closing_turn}
 use Rattle.rust_cursor.proofs.cursor.Cursor.pass_to_closing.Goals as goal
 
-pub overflow_add-depth : goal.overflow_add-depth
-overflow_add-depth c =
-    let less = shorter c.tokens.self (sym c.is_empty.ensures ∙ c.tokens-test.true) in
-    omega (arith, c.tokens.invariant.few)
+pub nest_behind-nest-requires : goal.nest_behind-nest-requires
+nest_behind-nest-requires c =
+    let some = closing_some c.args.bracket c.tokens.nest c.tokens.self (sym c.is_closing.ensures ∙ c.tokens-test.true) in
+    let less = shorter c.tokens.self some in
+    record {
+      braces = omega (arith, c.tokens.invariant.braces);
+      others = omega (arith, c.tokens.invariant.others);
+      angles = omega (arith, c.tokens.invariant.angles);
+      inner = omega (arith, c.tokens.invariant.inner);
+    }
+
+pub tokens-smaller : goal.tokens-smaller
+tokens-smaller c =
+    let some = closing_some c.args.bracket c.tokens.nest c.tokens.self (sym c.is_closing.ensures ∙ c.tokens-test.true) in
+    let less = fewer c.tokens.nest c.nest_behind-nest.result c.tokens.self c.bump.new.self some c.nest_behind-nest.ensures c.bump.ensures in
+    omega (arith, less.left)
+
+pub tokens-preserved : goal.tokens-preserved
+tokens-preserved c =
+    let some = closing_some c.args.bracket c.tokens.nest c.tokens.self (sym c.is_closing.ensures ∙ c.tokens-test.true) in
+    let less = fewer c.tokens.nest c.nest_behind-nest.result c.tokens.self c.bump.new.self some c.nest_behind-nest.ensures c.bump.ensures in
+    record {
+      same = closing_turn c.args.bracket c.tokens.nest c.nest_behind-nest.result c.tokens.self c.bump.new.self (to_closing c.args.bracket c.args.self.now)
+          (sym c.is_closing.ensures ∙ c.tokens-test.true) c.nest_behind-nest.ensures c.bump.ensures c.tokens.invariant.same;
+      braces = omega (arith, less.braces, c.tokens.invariant.braces);
+      others = omega (arith, less.others, c.tokens.invariant.others);
+      angles = omega (arith, less.angles, c.tokens.invariant.angles);
+      inner = omega (arith, less.inner, c.tokens.invariant.inner);
+    }

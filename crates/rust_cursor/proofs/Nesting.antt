@@ -1,0 +1,96 @@
+-- Steps of nests.
+use Rattle.std.proofs.Common.{◌≡◌, ◌≤◌, ◌+◌, ◌-◌, ◌==◌, ◌&&◌, ℕ, Bool, true, false, List, [], ◌∷◌, length, ⊎_elim, refl, ap, arith}
+use Rattle.std.specs.Prelude.{if◌then◌else◌}
+use Rattle.std.proofs.lemmas.Bool.{cases_Bool, eqb-true}
+use Rattle.rust_lexer.specs.Piece.{Piece}
+use Rattle.rust_cursor.specs.declared.cursor.nest.Nest.{Nest}
+use Rattle.rust_cursor.specs.Tokens.{Tokens}
+use Rattle.rust_cursor.specs.Words.{by_first, rest, symbol, is_empty, bumped}
+use Rattle.rust_cursor.specs.Nests.{opens_other, closes_other, is_arrow, nest_behind}
+
+shorter_from : (left : List Piece) → by_first true (λ _. false) left ≡ false → length (rest left) + 1 ≡ length left
+shorter_from [] e = absurd cc
+shorter_from (t ∷ ts) e = omega arith
+
+-- a token that is taken is one less
+pub shorter : (ts : Tokens) → is_empty ts ≡ false → length (bumped ts).left + 1 ≡ length ts.left
+unfolding is_empty bumped
+shorter ts e = shorter_from ts.left e
+
+-- ---- one token opens one bracket at most
+
+braces_step : (opens closes : Bool) (n : ℕ) → (if opens then n + 1 else (if closes then n - 1 else n)) ≤ n + 1
+braces_step true closes n = omega arith
+braces_step false true n = omega arith
+braces_step false false n = omega arith
+
+others_step : (opens closes ends : Bool) (n : ℕ) → (if opens then n + 1 else (if closes then n - 1 else (if ends then 0 else n))) ≤ n + 1
+others_step true closes ends n = omega arith
+others_step false true ends n = omega arith
+others_step false false true n = omega arith
+others_step false false false n = omega arith
+
+angles_step : (counts opens closes arrow : Bool) (n : ℕ) → (if counts then (if opens then n + 1 else (if closes then (if arrow then n else n - 1) else n)) else n) ≤ n + 1
+angles_step false opens closes arrow n = omega arith
+angles_step true true closes arrow n = omega arith
+angles_step true false false arrow n = omega arith
+angles_step true false true true n = omega arith
+angles_step true false true false n = omega arith
+
+braces_le : (nest : Nest) (ts : Tokens) → (nest_behind nest ts).braces ≤ nest.braces + 1
+unfolding nest_behind
+braces_le nest ts =
+    ⊎_elim
+    (λ e. let step = braces_step (symbol ts == 123) (symbol ts == 125) 0 in rw e (omega arith))
+    (λ e. rw e (braces_step (symbol ts == 123) (symbol ts == 125) nest.braces))
+    (cases_Bool (nest.braces == 0))
+
+others_le : (nest : Nest) (ts : Tokens) → (nest_behind nest ts).others ≤ nest.others + 1
+unfolding nest_behind
+others_le nest ts =
+    ⊎_elim
+    (λ e. rw e (others_step (opens_other (symbol ts)) (closes_other (symbol ts)) (symbol ts == 125) nest.others))
+    (λ e. rw e (omega arith))
+    (cases_Bool (nest.braces == 0))
+
+angles_le : (nest : Nest) (ts : Tokens) → (nest_behind nest ts).angles ≤ nest.angles + 1
+unfolding nest_behind
+angles_le nest ts =
+    ⊎_elim
+    (λ e. rw e (angles_step (nest.others == 0) (symbol ts == 60) (symbol ts == 62) (is_arrow nest.before ts) nest.angles))
+    (λ e. rw e (omega arith))
+    (cases_Bool (nest.braces == 0))
+
+inner_le : (nest : Nest) (ts : Tokens) → (nest_behind nest ts).inner ≤ nest.inner + 1
+unfolding nest_behind
+inner_le nest ts =
+    ⊎_elim
+    (λ e. rw e (omega arith))
+    (λ e. rw e (braces_step (opens_other (symbol ts)) (closes_other (symbol ts)) nest.inner))
+    (cases_Bool (nest.braces == 0))
+
+-- what is left is less, and with the brackets no more
+pub record IsFewer (nest behind : Nest) (ts after : Tokens) : Type 0 where
+  pub left : length after.left + 1 ≡ length ts.left
+  pub braces : behind.braces + length after.left ≤ nest.braces + length ts.left
+  pub others : behind.others + length after.left ≤ nest.others + length ts.left
+  pub angles : behind.angles + length after.left ≤ nest.angles + length ts.left
+  pub inner : behind.inner + length after.left ≤ nest.inner + length ts.left
+
+pub fewer : (nest behind : Nest) (ts after : Tokens) → is_empty ts ≡ false → behind ≡ nest_behind nest ts → after ≡ bumped ts → IsFewer nest behind ts after
+fewer nest behind ts after some b n =
+    let less = shorter ts some in
+    let same : length after.left ≡ length (bumped ts).left = ap (λ k. length k.left) n in
+    let braces : behind.braces ≡ (nest_behind nest ts).braces = ap (λ k. k.braces) b in
+    let others : behind.others ≡ (nest_behind nest ts).others = ap (λ k. k.others) b in
+    let angles : behind.angles ≡ (nest_behind nest ts).angles = ap (λ k. k.angles) b in
+    let inner : behind.inner ≡ (nest_behind nest ts).inner = ap (λ k. k.inner) b in
+    let most = inner_le nest ts in
+    let deep = braces_le nest ts in
+    let high = others_le nest ts in
+    let wide = angles_le nest ts in
+    record { left = omega arith; braces = omega arith; others = omega arith; angles = omega arith; inner = omega arith }
+
+pub not_first : (b rest : Bool) → (if b then true else rest) ≡ false → b ≡ false
+not_first true rest e = e
+not_first false rest e = refl

@@ -1,0 +1,36 @@
+use Rattle.std.proofs.Common.{sym, ◌∙◌, arith}
+use Rattle.std.specs.Prelude.{string_bytes}
+use Rattle.rust_cursor.specs.Extents.{taken}
+use Rattle.rust_cursor.proofs.Nesting.{shorter, fewer}
+use Rattle.rust_cursor.proofs.Scans.{taking_some, taking_turn}
+use Rattle.rust_cursor.proofs.cursor.Cursor.take_excerpt.Goals as goal
+
+pub nest_behind-nest-requires : goal.nest_behind-nest-requires
+nest_behind-nest-requires c =
+    let some = taking_some c.args.extent c.tokens.nest c.tokens.self (sym c.stops.ensures ∙ c.tokens-test.true) in
+    let less = shorter c.tokens.self some in
+    record {
+      braces = omega (arith, c.tokens.invariant.braces);
+      others = omega (arith, c.tokens.invariant.others);
+      angles = omega (arith, c.tokens.invariant.angles);
+      inner = omega (arith, c.tokens.invariant.inner);
+    }
+
+pub tokens-smaller : goal.tokens-smaller
+tokens-smaller c =
+    let some = taking_some c.args.extent c.tokens.nest c.tokens.self (sym c.stops.ensures ∙ c.tokens-test.true) in
+    let less = fewer c.tokens.nest c.nest_behind-nest.result c.tokens.self c.bump_behind-last.new.self some c.nest_behind-nest.ensures c.bump_behind-last.ensures.rest in
+    omega (arith, less.left)
+
+pub tokens-preserved : goal.tokens-preserved
+tokens-preserved c =
+    let some = taking_some c.args.extent c.tokens.nest c.tokens.self (sym c.stops.ensures ∙ c.tokens-test.true) in
+    let less = fewer c.tokens.nest c.nest_behind-nest.result c.tokens.self c.bump_behind-last.new.self some c.nest_behind-nest.ensures c.bump_behind-last.ensures.rest in
+    record {
+      same = taking_turn c.args.extent (string_bytes c.tokens.text) (string_bytes c.push_text.new.text) c.tokens.last c.bump_behind-last.result c.tokens.nest c.nest_behind-nest.result c.tokens.self c.bump_behind-last.new.self (taken c.args.extent c.args.self.now)
+          (sym c.stops.ensures ∙ c.tokens-test.true) c.nest_behind-nest.ensures (sym c.ends-is_last.ensures ∙ c.if-is_last.false) c.in_ok-push_text.ensures c.bump_behind-last.ensures.value c.bump_behind-last.ensures.rest c.tokens.invariant.same;
+      braces = omega (arith, less.braces, c.tokens.invariant.braces);
+      others = omega (arith, less.others, c.tokens.invariant.others);
+      angles = omega (arith, less.angles, c.tokens.invariant.angles);
+      inner = omega (arith, less.inner, c.tokens.invariant.inner);
+    }

@@ -1,0 +1,16 @@
+use Rattle.std.proofs.Common.{◌≡◌, ◌<◌, ◌+◌, ◌^◌, length}
+use Rattle.std.specs.Prelude.{string_bytes}
+use Rattle.rust_cursor.specs.Extents.{taking, taken}
+use Rattle.rust_cursor.proofs.cursor.Cursor.take_excerpt.Given as goal
+
+abbrev pub invariant-tokens : goal.invariant-tokens
+invariant-tokens l = record {
+  same : taking l.extent (string_bytes l.text) l.last l.nest l.self ≡ taken l.extent l.initial.self;
+  braces : l.nest.braces + length l.self.left < 2 ^ 64;
+  others : l.nest.others + length l.self.left < 2 ^ 64;
+  angles : l.nest.angles + length l.self.left < 2 ^ 64;
+  inner : l.nest.inner + length l.self.left < 2 ^ 64;
+}
+
+abbrev pub decreases-tokens : goal.decreases-tokens
+decreases-tokens l = length l.self.left

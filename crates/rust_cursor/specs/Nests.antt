@@ -1,0 +1,140 @@
+-- Where a token stands: in which brackets, and behind what.
+use Rattle.std.specs.Prelude.{ℕ, ◌+◌, ◌-◌, ◌==◌, Bool, true, false, not, ◌&&◌, ◌||◌, if◌then◌else◌, Option, Some, List, [], ◌∷◌, codes}
+use Rattle.std.specs.List.{list_any}
+use Rattle.std.specs.Str.{bytes_eq}
+use Rattle.rust_lexer.specs.declared.kind.TokenKind.{TokenKind}
+use Rattle.rust_lexer.specs.declared.kind.TokenKind.TheVariants as kinds
+use Rattle.rust_cursor.specs.declared.cursor.nest.Before.{Before}
+use Rattle.rust_cursor.specs.declared.cursor.nest.Before.TheVariants as befores
+use Rattle.rust_cursor.specs.declared.cursor.nest.Nest.{Nest}
+use Rattle.rust_cursor.specs.Tokens.{Tokens}
+use Rattle.rust_cursor.specs.Words.{symbol, word, kind, is_at_end, is_at_identifier, is_at_doc, is_glued}
+
+-- ---- brackets, by the symbol of the next token
+
+-- `(` and `[`, which are counted together
+abbrev pub opens_other : ℕ → Bool
+opens_other c = c == 40 || c == 91
+
+abbrev pub closes_other : ℕ → Bool
+closes_other c = c == 41 || c == 93
+
+-- in how many braces what stands behind it is
+abbrev pub braces_behind : ℕ → ℕ → ℕ
+braces_behind braces c = if c == 123 then braces + 1 else (if c == 125 then braces - 1 else braces)
+
+-- In how many of `(` and `[`.
+abbrev pub count_behind : ℕ → ℕ → ℕ
+count_behind count c = if opens_other c then count + 1 else (if closes_other c then count - 1 else count)
+
+-- one of them closes nothing
+abbrev pub closes_none : ℕ → ℕ → Bool
+closes_none count c = count == 0 && closes_other c
+
+-- The same where no brace is open: a `}` closes what is around, and all of them with it.
+abbrev pub others_behind : ℕ → ℕ → ℕ
+others_behind others c = if opens_other c then others + 1 else (if closes_other c then others - 1 else (if c == 125 then 0 else others))
+
+abbrev pub is_mark : Before → Bool
+is_mark befores.Mark = true
+is_mark _ = false
+
+abbrev pub free_open : Nest → ℕ
+free_open nest = if nest.free == 0 && is_mark nest.before then nest.others + 1 else nest.free
+
+abbrev pub free_closed : Nest → ℕ
+free_closed nest = if nest.others == nest.free then 0 else nest.free
+
+-- The place among these of the first behind `!` or `#`, or 0: any tokens may stand in the bracket of a macro call or an attribute.
+abbrev pub free_behind : Nest → ℕ → ℕ
+free_behind nest c = if opens_other c then free_open nest else (if closes_other c then free_closed nest else (if c == 125 then 0 else nest.free))
+
+-- ---- angle brackets
+
+abbrev pub is_dash : Before → Bool
+is_dash befores.Dash = true
+is_dash _ = false
+
+-- a `>` that comes next is that of `->` or `=>`
+abbrev pub is_arrow : Before → Tokens → Bool
+is_arrow before ts = is_dash before && is_glued ts
+
+-- in how many angle brackets what stands behind the next token is
+abbrev pub angles_behind : Nest → Tokens → ℕ
+angles_behind nest ts =
+    if symbol ts == 60 then nest.angles + 1
+    else (if symbol ts == 62 then (if is_arrow nest.before ts then nest.angles else nest.angles - 1) else nest.angles)
+
+-- ---- what a token is for the next
+
+-- a keyword with which neither a type nor a value ends
+unfoldable pub leads_on : List ℕ → Bool
+leads_on w =
+    list_any (bytes_eq w) (codes "as" ∷ codes "async" ∷ codes "break" ∷ codes "const" ∷ codes "continue" ∷ codes "dyn" ∷ codes "else" ∷ codes "enum"
+    ∷ codes "extern" ∷ codes "fn" ∷ codes "for" ∷ codes "if" ∷ codes "impl" ∷ codes "in" ∷ codes "let" ∷ codes "loop" ∷ codes "match" ∷ codes "mod"
+    ∷ codes "move" ∷ codes "mut" ∷ codes "pub" ∷ codes "ref" ∷ codes "return" ∷ codes "static" ∷ codes "struct" ∷ codes "trait" ∷ codes "type"
+    ∷ codes "unsafe" ∷ codes "use" ∷ codes "where" ∷ codes "while" ∷ codes "yield" ∷ [])
+
+abbrev pub is_literal_kind : Option TokenKind → Bool
+is_literal_kind (Some (kinds.Literal k)) = true
+is_literal_kind _ = false
+
+-- a type or a value can end with the next token: a name, a literal, or a bracket that closes
+abbrev pub can_end : Tokens → Bool
+can_end ts = if is_at_identifier ts then not (leads_on (word ts)) else is_literal_kind (kind ts) || is_at_end ts
+
+abbrev pub symbol_before : Before → Tokens → Before
+symbol_before before ts =
+    if symbol ts == 45 || symbol ts == 61 then befores.Dash
+    else (if symbol ts == 33 || symbol ts == 35 then befores.Mark
+    else (if symbol ts == 62 then (if is_arrow before ts then befores.Other else befores.Angle) else befores.Other))
+
+-- what the next token is for the one behind it; documentation is nothing
+abbrev pub before_behind : Before → Tokens → Before
+before_behind before ts = if is_at_doc ts then before else (if can_end ts then befores.End else symbol_before before ts)
+
+-- ---- nests
+
+-- in no bracket, behind this
+abbrev pub flat_behind : Before → Nest
+flat_behind before = record { braces = 0; others = 0; free = 0; angles = 0; inner = 0; is_torn = false; before = before }
+
+-- in no bracket, where a type or a value may have ended
+abbrev pub flat : Nest
+flat = flat_behind befores.End
+
+-- no bracket in braces was left open, and none closed nothing
+abbrev pub is_whole : Nest → Bool
+is_whole nest = nest.inner == 0 && not nest.is_torn
+
+-- in no bracket, but for angle brackets
+abbrev pub is_flat : Nest → Bool
+is_flat nest = nest.braces == 0 && nest.others == 0
+
+-- behind the next token, in no brace; in brackets of another kind, angle brackets are not counted
+abbrev pub nest_outside : Nest → Tokens → Nest
+nest_outside nest ts = record {
+  braces = braces_behind 0 (symbol ts);
+  others = others_behind nest.others (symbol ts);
+  free = free_behind nest (symbol ts);
+  angles = if nest.others == 0 then angles_behind nest ts else nest.angles;
+  inner = nest.inner;
+  is_torn = nest.is_torn || closes_none nest.others (symbol ts);
+  before = before_behind nest.before ts;
+}
+
+-- Behind the next token, in braces. Other brackets in them are counted by themselves, and a brace closes whatever their number is.
+abbrev pub nest_inside : Nest → Tokens → Nest
+nest_inside nest ts = record {
+  braces = braces_behind nest.braces (symbol ts);
+  others = nest.others;
+  free = nest.free;
+  angles = nest.angles;
+  inner = count_behind nest.inner (symbol ts);
+  is_torn = nest.is_torn || closes_none nest.inner (symbol ts);
+  before = if symbol ts == 125 then befores.End else befores.Other;
+}
+
+-- where what stands behind the next token is
+unfoldable pub nest_behind : Nest → Tokens → Nest
+nest_behind nest ts = if nest.braces == 0 then nest_outside nest ts else nest_inside nest ts

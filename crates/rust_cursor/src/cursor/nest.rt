@@ -1,0 +1,338 @@
+//! Where a token stands.
+
+ghost use Rattle.std.specs.Prelude.{◌≡◌, ◌+◌, ◌<◌, ◌^◌};
+ghost use Rattle.rust_cursor.specs.Nests as spec;
+
+use crate::cursor::Cursor;
+use rust_lexer::TokenKind;
+
+/// What the token before is for the next.
+#[derive(Clone, Copy)]
+pub enum Before {
+    /// A `-` or `=`: a `>` right behind it closes nothing.
+    Dash,
+    /// A `!` or `#`: a bracket behind it may hold any tokens.
+    Mark,
+    /// A `>` that is not that of `->` or `=>`.
+    Angle,
+    /// A type or a value can end with it.
+    End,
+    Other,
+}
+
+/// In which brackets a token stands, and behind what.
+#[derive(Clone, Copy)]
+pub struct Nest {
+    /// In how many braces.
+    pub braces: usize,
+    /// In how many of `(` and `[`.
+    pub others: usize,
+    /// The place among these of the first that may hold any tokens, or 0.
+    pub free: usize,
+    /// In how many angle brackets, where no other bracket is open.
+    pub angles: usize,
+    /// In how many of `(` and `[` that were opened in braces.
+    pub inner: usize,
+    /// Whether one of these closed nothing.
+    pub is_torn: bool,
+    pub before: Before,
+}
+
+impl Nest {
+    /// In no bracket, where a type or a value may have ended.
+    pub(crate) fn flat() -> Self
+        ensures { result ≡ spec.flat }
+    {
+        Nest::flat_behind(Before::End)
+    }
+
+    /// In no bracket.
+    pub(crate) fn flat_behind(before: Before) -> Self
+        ensures { result ≡ spec.flat_behind before }
+    {
+        Nest {
+            braces: 0,
+            others: 0,
+            free: 0,
+            angles: 0,
+            inner: 0,
+            is_torn: false,
+            before,
+        }
+    }
+
+    /// Whether no bracket in braces was left open, and none closed nothing.
+    pub(crate) fn is_whole(self) -> bool
+        ensures { result ≡ spec.is_whole self }
+    {
+        self.inner == 0 && !self.is_torn
+    }
+
+    /// In no bracket, but for angle brackets.
+    pub(crate) fn is_flat(self) -> bool
+        ensures { result ≡ spec.is_flat self }
+    {
+        self.braces == 0 && self.others == 0
+    }
+}
+
+impl<'t> Cursor<'t> {
+    fn is_arrow(&self, before: Before) -> bool
+        ensures { result ≡ spec.is_arrow before self.now }
+    {
+        is_dash(before) && self.is_glued()
+    }
+
+    fn angles_behind(&self, nest: Nest) -> usize
+        requires { nest.angles + 1 < 2 ^ 64 }
+        ensures { result ≡ spec.angles_behind nest self.now }
+    {
+        match self.symbol() {
+            b'<' => nest.angles + 1,
+            b'>' => {
+                if self.is_arrow(nest.before) {
+                    nest.angles
+                } else {
+                    nest.angles.saturating_sub(1)
+                }
+            }
+            _ => nest.angles,
+        }
+    }
+
+    fn can_end(&self) -> bool
+        ensures { result ≡ spec.can_end self.now }
+    {
+        if self.is_at_identifier() {
+            return !leads_on(self.word());
+        }
+        is_literal_kind(self.kind()) || self.is_at_end()
+    }
+
+    fn symbol_before(&self, before: Before) -> Before
+        ensures { result ≡ spec.symbol_before before self.now }
+    {
+        match self.symbol() {
+            b'-' | b'=' => Before::Dash,
+            b'!' | b'#' => Before::Mark,
+            b'>' => {
+                if self.is_arrow(before) {
+                    Before::Other
+                } else {
+                    Before::Angle
+                }
+            }
+            _ => Before::Other,
+        }
+    }
+
+    fn before_behind(&self, before: Before) -> Before
+        ensures { result ≡ spec.before_behind before self.now }
+    {
+        if self.is_at_doc() {
+            return before;
+        }
+        if self.can_end() {
+            return Before::End;
+        }
+        self.symbol_before(before)
+    }
+
+    fn nest_outside(&self, nest: Nest) -> Nest
+        requires others { nest.others + 1 < 2 ^ 64 }
+        requires angles { nest.angles + 1 < 2 ^ 64 }
+        ensures { result ≡ spec.nest_outside nest self.now }
+    {
+        let symbol = self.symbol();
+        let angles = if nest.others == 0 {
+            self.angles_behind(nest)
+        } else {
+            nest.angles
+        };
+        Nest {
+            braces: braces_behind(0, symbol),
+            others: others_behind(nest.others, symbol),
+            free: free_behind(nest, symbol),
+            angles,
+            inner: nest.inner,
+            is_torn: nest.is_torn || closes_none(nest.others, symbol),
+            before: self.before_behind(nest.before),
+        }
+    }
+
+    fn nest_inside(&self, nest: Nest) -> Nest
+        requires braces { nest.braces + 1 < 2 ^ 64 }
+        requires inner { nest.inner + 1 < 2 ^ 64 }
+        ensures { result ≡ spec.nest_inside nest self.now }
+    {
+        let symbol = self.symbol();
+        let before = if symbol == b'}' {
+            Before::End
+        } else {
+            Before::Other
+        };
+        Nest {
+            braces: braces_behind(nest.braces, symbol),
+            others: nest.others,
+            free: nest.free,
+            angles: nest.angles,
+            inner: count_behind(nest.inner, symbol),
+            is_torn: nest.is_torn || closes_none(nest.inner, symbol),
+            before,
+        }
+    }
+
+    /// Where what stands behind the next token is.
+    #[tactic(auto, unfolding(crate::specs::Nests::nest_behind))]
+    pub(crate) fn nest_behind(&self, nest: Nest) -> Nest
+        requires braces { nest.braces + 1 < 2 ^ 64 }
+        requires others { nest.others + 1 < 2 ^ 64 }
+        requires angles { nest.angles + 1 < 2 ^ 64 }
+        requires inner { nest.inner + 1 < 2 ^ 64 }
+        ensures { result ≡ spec.nest_behind nest self.now }
+    {
+        if nest.braces == 0 {
+            self.nest_outside(nest)
+        } else {
+            self.nest_inside(nest)
+        }
+    }
+}
+
+fn is_dash(before: Before) -> bool
+    ensures { result ≡ spec.is_dash before }
+{
+    matches!(before, Before::Dash)
+}
+
+fn is_mark(before: Before) -> bool
+    ensures { result ≡ spec.is_mark before }
+{
+    matches!(before, Before::Mark)
+}
+
+fn is_literal_kind(kind: Option<TokenKind>) -> bool
+    ensures { result ≡ spec.is_literal_kind kind }
+{
+    matches!(kind, Some(TokenKind::Literal(_)))
+}
+
+pub(crate) fn closes_other(symbol: u8) -> bool
+    ensures { result ≡ spec.closes_other symbol }
+{
+    matches!(symbol, b')' | b']')
+}
+
+fn braces_behind(braces: usize, symbol: u8) -> usize
+    requires { braces + 1 < 2 ^ 64 }
+    ensures { result ≡ spec.braces_behind braces symbol }
+{
+    match symbol {
+        b'{' => braces + 1,
+        b'}' => braces.saturating_sub(1),
+        _ => braces,
+    }
+}
+
+fn count_behind(count: usize, symbol: u8) -> usize
+    requires { count + 1 < 2 ^ 64 }
+    ensures { result ≡ spec.count_behind count symbol }
+{
+    match symbol {
+        b'(' | b'[' => count + 1,
+        b')' | b']' => count.saturating_sub(1),
+        _ => count,
+    }
+}
+
+fn closes_none(count: usize, symbol: u8) -> bool
+    ensures { result ≡ spec.closes_none count symbol }
+{
+    count == 0 && closes_other(symbol)
+}
+
+fn others_behind(others: usize, symbol: u8) -> usize
+    requires { others + 1 < 2 ^ 64 }
+    ensures { result ≡ spec.others_behind others symbol }
+{
+    match symbol {
+        b'(' | b'[' => others + 1,
+        b')' | b']' => others.saturating_sub(1),
+        b'}' => 0,
+        _ => others,
+    }
+}
+
+fn free_open(nest: Nest) -> usize
+    requires { nest.others + 1 < 2 ^ 64 }
+    ensures { result ≡ spec.free_open nest }
+{
+    if nest.free == 0 && is_mark(nest.before) {
+        nest.others + 1
+    } else {
+        nest.free
+    }
+}
+
+fn free_closed(nest: Nest) -> usize
+    ensures { result ≡ spec.free_closed nest }
+{
+    if nest.others == nest.free {
+        0
+    } else {
+        nest.free
+    }
+}
+
+fn free_behind(nest: Nest, symbol: u8) -> usize
+    requires { nest.others + 1 < 2 ^ 64 }
+    ensures { result ≡ spec.free_behind nest symbol }
+{
+    match symbol {
+        b'(' | b'[' => free_open(nest),
+        b')' | b']' => free_closed(nest),
+        b'}' => 0,
+        _ => nest.free,
+    }
+}
+
+/// Whether neither a type nor a value ends with the word.
+#[tactic(auto, unfolding(crate::specs::Nests::leads_on))]
+fn leads_on(word: &str) -> bool
+    ensures { result ≡ spec.leads_on word.now }
+{
+    matches!(
+        word,
+        "as" | "async"
+            | "break"
+            | "const"
+            | "continue"
+            | "dyn"
+            | "else"
+            | "enum"
+            | "extern"
+            | "fn"
+            | "for"
+            | "if"
+            | "impl"
+            | "in"
+            | "let"
+            | "loop"
+            | "match"
+            | "mod"
+            | "move"
+            | "mut"
+            | "pub"
+            | "ref"
+            | "return"
+            | "static"
+            | "struct"
+            | "trait"
+            | "type"
+            | "unsafe"
+            | "use"
+            | "where"
+            | "while"
+            | "yield"
+    )
+}

@@ -1,0 +1,6 @@
+use Rattle.std.proofs.Common.{◌≡◌, ◌-◌}
+use Rattle.rust_metas.specs.Attributes.{behind_docs_from, behind_docs}
+use Rattle.rust_metas.proofs.attribute.pass_docs.Given as goal
+
+abbrev pub invariant-loop-turn : goal.invariant-loop-turn
+invariant-loop-turn l = behind_docs_from (l.most - l._turn) l.cursor ≡ behind_docs l.fn.cursor
