@@ -1,5 +1,10 @@
 pub mod Again
 pub mod Begins
+pub mod Same
+pub mod Nested
+pub mod Stays
+pub mod Flat
 pub mod Passed
 pub mod Ends
 pub mod Reaching
+pub mod Impls

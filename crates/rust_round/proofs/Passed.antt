@@ -1,113 +1,23 @@
--- What passes over trees.
-use Rattle.std.proofs.Common.{◌≡◌, ℕ, zero, suc, ◌+◌, ◌==◌, Bool, true, false, List, [], ◌∷◌, ◌++◌, refl, ap, ◌∙◌, sym, subst, arith, append_assoc}
-use Rattle.std.proofs.lemmas.Bool.Decides.{nat_tests}
+-- What is left of an item is taken word by word.
+use Rattle.std.proofs.Common.{◌≡◌, ℕ, ◌+◌, ◌==◌, ◌||◌, ◌&&◌, Bool, true, false, List, [], ◌∷◌, ◌++◌, refl, ap, ◌∙◌, sym, subst, append_assoc}
+use Rattle.std.specs.Prelude.{if◌then◌else◌, not}
+use Rattle.rust_cursor.specs.declared.cursor.nest.Before.{Before}
+use Rattle.rust_cursor.specs.declared.cursor.nest.Before.TheVariants as befores
+use Rattle.rust_cursor.specs.declared.cursor.nest.Nest.{Nest}
 use Rattle.rust_cursor.specs.Tokens.{Tokens}
-use Rattle.rust_cursor.specs.Words.{opens, closes, symbol, is_empty, is_at_open, is_at_end, bumped}
-use Rattle.rust_cursor.specs.Brackets.{closing}
-use Rattle.rust_cursor.specs.Extents.{depth_behind, begins_item, last_behind}
-use Rattle.rust_cursor.proofs.Steps.{closing_open, closing_close, closing_here, closing_other}
+use Rattle.rust_cursor.specs.Words.{symbol, bumped}
+use Rattle.rust_cursor.specs.Nests.{is_mark, is_flat, nest_behind}
+use Rattle.rust_cursor.specs.Extents.{begins, begins_item, begins_behind, begins_within, last_behind}
 use Rattle.rust_cursor.proofs.Rests.{taking_rest, and_next, stops_here, ends_here, rest_more}
-use Rattle.rust_leaves.specs.Texts.{has_open_from}
 use Rattle.rust_round.specs.Words.{Word}
-use Rattle.rust_round.specs.Trees.{mark, Bracket, round, square, curly, open_of, close_of, Tree, single, group, Trees, no_trees, tree_and, tree_words, trees_words, IsTree, AreTrees, first_of, GoesOn, and_word, and_words}
+use Rattle.rust_round.specs.Trees.{Bracket, round, square, curly, open_of, close_of, Tree, single, group, Trees, no_trees, tree_and, tree_words, trees_words, IsTree, AreTrees, first_of, Holds, MayStand, GoesBehind, angles_behind, angles_behind_all, before_behind, and_word, and_words}
 use Rattle.rust_round.specs.Trees as trees
+use Rattle.rust_round.specs.Impls.{before_behind_all}
 use Rattle.rust_round.proofs.Begins.{Shows, Begins, behind, behind_append, begins_left, begins_right}
-
-not_zero : (d : ℕ) → (d + 1 == 0) ≡ false
-not_zero d = grind (arith, nat_tests)
-
-suc_not_zero : (d : ℕ) → (suc d == 0) ≡ false
-suc_not_zero d = grind (arith, nat_tests)
-
-pub goes_inside : (d : ℕ) (ts : Tokens) → stops_here (suc d) ts ≡ false
-goes_inside d ts = rw (suc_not_zero d) refl
-
-pub opens_open : (b : Bracket) → opens (open_of b).kind ≡ true
-opens_open round = refl
-opens_open square = refl
-opens_open curly = refl
-
-pub open_ends_not : (b : Bracket) → closes (open_of b).kind ≡ false
-open_ends_not round = refl
-open_ends_not square = refl
-open_ends_not curly = refl
-
-pub close_opens_not : (b : Bracket) → opens (close_of b).kind ≡ false
-close_opens_not round = refl
-close_opens_not square = refl
-close_opens_not curly = refl
-
-closes_close : (b : Bracket) → closes (close_of b).kind ≡ true
-closes_close round = refl
-closes_close square = refl
-closes_close curly = refl
-
--- ---- to the bracket that closes
-
-mutual
-  closing_tree : (t : Tree) (d : ℕ) (ts : Tokens) → IsTree t → Begins (tree_words t) ts → closing d ts ≡ closing d (behind (tree_words t) ts)
-  closing_tree (single w) d ts h b = closing_other d ts (b.0.open_is ∙ h.0) (b.0.end_is ∙ h.1)
-  closing_tree (group br is) d ts h b =
-      let ws = trees_words is in
-      let shut = begins_right ws (close_of br ∷ []) (bumped ts) b.1 in
-      let last = behind ws (bumped ts) in
-      closing_open d ts (b.0.open_is ∙ opens_open br)
-      ∙ closing_trees is (d + 1) (bumped ts) h (begins_left ws (close_of br ∷ []) (bumped ts) b.1)
-      ∙ closing_close (d + 1) last shut.0.some (shut.0.open_is ∙ close_opens_not br) (shut.0.end_is ∙ closes_close br) (not_zero d)
-      ∙ ap (λ n. closing n (bumped last)) (omega arith)
-      ∙ ap (closing d) (sym (behind_append ws (close_of br ∷ []) (bumped ts)))
-
-  pub closing_trees : (is : Trees) (d : ℕ) (ts : Tokens) → AreTrees is → Begins (trees_words is) ts → closing d ts ≡ closing d (behind (trees_words is) ts)
-  closing_trees no_trees d ts h b = refl
-  closing_trees (tree_and t is) d ts h b =
-      closing_tree t d ts h.0 (begins_left (tree_words t) (trees_words is) ts b)
-      ∙ closing_trees is d (behind (tree_words t) ts) h.1 (begins_right (tree_words t) (trees_words is) ts b)
-      ∙ ap (closing d) (sym (behind_append (tree_words t) (trees_words is) ts))
-
--- the bracket that closes what is open
-pub closed_here : (br : Bracket) (is : Trees) (ts : Tokens) → AreTrees is → Begins (trees_words is ++ close_of br ∷ []) ts → closing 0 ts ≡ behind (trees_words is) ts
-closed_here br is ts h b =
-    let shut = begins_right (trees_words is) (close_of br ∷ []) ts b in
-    closing_trees is 0 ts h (begins_left (trees_words is) (close_of br ∷ []) ts b)
-    ∙ closing_here (behind (trees_words is) ts) (shut.0.open_is ∙ close_opens_not br) (shut.0.end_is ∙ closes_close br)
-
--- ---- no bracket is left open
-
-open_single : (n : ℕ) (w : Word) (ts : Tokens) → IsTree (single w) → Begins (w ∷ []) ts → has_open_from (suc n) ts ≡ has_open_from n (bumped ts)
-open_single n w ts h b =
-    let opens_it : is_at_open ts ≡ false = b.0.open_is ∙ h.0 in
-    rw (b.0.some, opens_it) refl
-
-open_group : (n : ℕ) (br : Bracket) (is : Trees) (ts : Tokens) → AreTrees is → Begins (tree_words (group br is)) ts → has_open_from (suc n) ts ≡ has_open_from n (behind (tree_words (group br is)) ts)
-open_group n br is ts h b =
-    let ws = trees_words is in
-    let opens_it : is_at_open ts ≡ true = b.0.open_is ∙ opens_open br in
-    let here : closing 0 (bumped ts) ≡ behind ws (bumped ts) = closed_here br is (bumped ts) h b.1 in
-    let shut = begins_right ws (close_of br ∷ []) (bumped ts) b.1 in
-    let some : is_empty (behind ws (bumped ts)) ≡ false = shut.0.some in
-    rw (b.0.some, opens_it, here, some) (ap (has_open_from n) (sym (behind_append ws (close_of br ∷ []) (bumped ts))))
-
-open_tree : (n : ℕ) (t : Tree) (ts : Tokens) → IsTree t → Begins (tree_words t) ts → has_open_from (suc n) ts ≡ has_open_from n (behind (tree_words t) ts)
-open_tree n (single w) ts h b = open_single n w ts h b
-open_tree n (group br is) ts h b = open_group n br is ts h b
-
-abbrev pub NoneOpen : Tokens → Type 0
-NoneOpen ts = (n : ℕ) → has_open_from n ts ≡ false
-
-pub none_open_end : (ts : Tokens) → is_empty ts ≡ true → NoneOpen ts
-none_open_end ts e zero = refl
-none_open_end ts e (suc n) = rw e refl
-
-pub none_open_tree : (t : Tree) (ts : Tokens) → IsTree t → Begins (tree_words t) ts → NoneOpen (behind (tree_words t) ts) → NoneOpen ts
-none_open_tree t ts h b e zero = refl
-none_open_tree t ts h b e (suc n) = open_tree n t ts h b ∙ e n
-
-pub none_open : (is : Trees) (ts : Tokens) → AreTrees is → Begins (trees_words is) ts → NoneOpen (behind (trees_words is) ts) → NoneOpen ts
-none_open no_trees ts h b e = e
-none_open (tree_and t is) ts h b e =
-    none_open_tree t ts h.0 (begins_left (tree_words t) (trees_words is) ts b)
-    (none_open is (behind (tree_words t) ts) h.1 (begins_right (tree_words t) (trees_words is) ts b)
-    (subst NoneOpen (behind_append (tree_words t) (trees_words is) ts) e))
+use Rattle.rust_round.proofs.Same.{shows_first}
+use Rattle.rust_round.proofs.Nested.{nest, not_zero, and_false, plain_word, IsOther, free_in, out_open, out_close, out_enter, in_leave}
+use Rattle.rust_round.proofs.Stays.{stays, Stays, Within, within, open_no_end, close_no_end, close_no_item, trees_braces}
+use Rattle.rust_round.proofs.Flat.{flat_word, word_begins, open_begins}
 
 -- ---- texts
 
@@ -118,147 +28,147 @@ and_words-append (w ∷ ws) vs done = and_words-append ws vs (and_word done w)
 pub next_word : (w : Word) (done : List ℕ) (ts : Tokens) → Shows w ts → and_next done ts ≡ and_word done w
 next_word w done ts s = rw (s.doc_is, s.text_is) refl
 
--- these words are taken behind a text, from one depth to another
-abbrev pub Takes : Bool → List ℕ → ℕ → ℕ → ℕ → List Word → Tokens → Type 0
-Takes is_value done last d e ws ts = (last' : ℕ) × (taking_rest is_value done last d ts ≡ taking_rest is_value (and_words done ws) last' e (behind ws ts))
+-- ---- words
 
-pub takes_nothing : (is_value : Bool) (done : List ℕ) (last d : ℕ) (ts : Tokens) → Takes is_value done last d d [] ts
-takes_nothing is_value done last d ts = (last, refl)
+-- these words are taken behind a text, from one nest to another
+abbrev pub Takes : Bool → List ℕ → ℕ → Nest → Nest → List Word → Tokens → Type 0
+Takes is_value done last n m ws ts = (last' : ℕ) × (taking_rest is_value done last n ts ≡ taking_rest is_value (and_words done ws) last' m (behind ws ts))
 
-pub takes_append : (is_value : Bool) (done : List ℕ) (last d e f : ℕ) (ws vs : List Word) (ts : Tokens) → Takes is_value done last d e ws ts
-    → ((last' : ℕ) → Takes is_value (and_words done ws) last' e f vs (behind ws ts)) → Takes is_value done last d f (ws ++ vs) ts
-takes_append is_value done last d e f ws vs ts first more =
+pub takes_append : (is_value : Bool) (done : List ℕ) (last : ℕ) (n m l : Nest) (ws vs : List Word) (ts : Tokens) → Takes is_value done last n m ws ts
+    → ((last' : ℕ) → Takes is_value (and_words done ws) last' m l vs (behind ws ts)) → Takes is_value done last n l (ws ++ vs) ts
+takes_append is_value done last n m l ws vs ts first more =
     let next = more first.0 in (
       next.0,
       first.1 ∙ next.1
-          ∙ ap (λ l. taking_rest is_value l next.0 f (behind vs (behind ws ts))) (sym (and_words-append ws vs done))
-          ∙ ap (λ k. taking_rest is_value (and_words done (ws ++ vs)) next.0 f k) (sym (behind_append ws vs ts)),
+          ∙ ap (λ t. taking_rest is_value t next.0 l (behind vs (behind ws ts))) (sym (and_words-append ws vs done))
+          ∙ ap (λ k. taking_rest is_value (and_words done (ws ++ vs)) next.0 l k) (sym (behind_append ws vs ts)),
     )
 
-pub takes_word : (is_value : Bool) (done : List ℕ) (last d e : ℕ) (w : Word) (ts : Tokens) → Shows w ts → stops_here d ts ≡ false → depth_behind d ts ≡ e
-    → ends_here is_value e ts ≡ false → Takes is_value done last d e (w ∷ []) ts
-takes_word is_value done last d e w ts s stop depth end = (
+pub takes_word : (is_value : Bool) (done : List ℕ) (last : ℕ) (n m : Nest) (w : Word) (ts : Tokens) → Shows w ts → stops_here n ts ≡ false → nest_behind n ts ≡ m
+    → ends_here is_value m ts ≡ false → Takes is_value done last n m (w ∷ []) ts
+takes_word is_value done last n m w ts s stop step end = (
   last_behind last ts,
-  rest_more is_value done last d e ts s.some stop depth end
-      ∙ ap (λ l. taking_rest is_value l (last_behind last ts) e (bumped ts)) (next_word w done ts s),
+  rest_more is_value done last n m ts s.some stop step end
+      ∙ ap (λ t. taking_rest is_value t (last_behind last ts) m (bumped ts)) (next_word w done ts s),
 )
 
-pub depth_single : (w : Word) (d : ℕ) (ts : Tokens) → Shows w ts → IsTree (single w) → depth_behind d ts ≡ d
-unfolding depth_behind
-depth_single w d ts s h = let opens_it : is_at_open ts ≡ false = s.open_is ∙ h.0 in let end : is_at_end ts ≡ false = s.end_is ∙ h.1 in rw (opens_it, end) refl
+-- ---- in brackets
 
-pub depth_open : (b : Bracket) (d : ℕ) (ts : Tokens) → Shows (open_of b) ts → depth_behind d ts ≡ suc d
-unfolding depth_behind
-depth_open b d ts s = let opens_it : is_at_open ts ≡ true = s.open_is ∙ opens_open b in rw opens_it (omega arith)
+no_stop : (z deep brace free item x y : Bool) → (if z then not deep && (not brace && not (free && item)) else true) ≡ true → (if z then brace || (if deep then x || y else free && item) else false) ≡ false
+no_stop false deep brace free item x y e = refl
+no_stop true true brace free item x y e = absurd cc
+no_stop true false true free item x y e = absurd cc
+no_stop true false false true true x y e = absurd cc
+no_stop true false false true false x y e = refl
+no_stop true false false false item x y e = refl
 
-pub depth_close : (b : Bracket) (d : ℕ) (ts : Tokens) → Shows (close_of b) ts → depth_behind (suc d) ts ≡ d
-unfolding depth_behind
-depth_close b d ts s =
-    let opens_it : is_at_open ts ≡ false = s.open_is ∙ close_opens_not b in
-    let end : is_at_end ts ≡ true = s.end_is ∙ closes_close b in rw (opens_it, end) (omega arith)
+stops_not : (n : Nest) (ts : Tokens) → stays n ts ≡ true → stops_here n ts ≡ false
+stops_not n ts e = no_stop (n.braces == 0) (n.others == 0) (symbol ts == 125) (n.free == 0) (begins_within ts) (begins_item ts) (begins_behind n.before ts) e
 
-pub no_end_inside : (is_value : Bool) (d : ℕ) (ts : Tokens) → ends_here is_value (suc d) ts ≡ false
-no_end_inside true d ts = rw (suc_not_zero d) refl
-no_end_inside false d ts = rw (suc_not_zero d) refl
+pub ends_not : (is_value : Bool) (n : Nest) (ts : Tokens) → is_flat n ≡ false → ends_here is_value n ts ≡ false
+ends_not true n ts e = rw e refl
+ends_not false n ts e = rw e refl
 
-mutual
-  takes_tree_in : (t : Tree) (is_value : Bool) (done : List ℕ) (last d : ℕ) (ts : Tokens) → IsTree t → Begins (tree_words t) ts → Takes is_value done last (suc d) (suc d) (tree_words t) ts
-  takes_tree_in (single w) is_value done last d ts h b =
-      takes_word is_value done last (suc d) (suc d) w ts b.0 (goes_inside d ts) (depth_single w (suc d) ts b.0 h) (no_end_inside is_value d ts)
-  takes_tree_in (group br is) is_value done last d ts h b =
-      let ws = trees_words is in
-      let mid = bumped ts in
-      let shut = begins_right ws (close_of br ∷ []) mid b.1 in
-      let text = and_words done (open_of br ∷ []) in
-      takes_append is_value done last (suc d) (suc (suc d)) (suc d) (open_of br ∷ []) (ws ++ close_of br ∷ []) ts
-      (takes_word is_value done last (suc d) (suc (suc d)) (open_of br) ts b.0 (goes_inside d ts) (depth_open br (suc d) ts b.0) (no_end_inside is_value (suc d) ts))
-      (λ k. takes_append is_value text k (suc (suc d)) (suc (suc d)) (suc d) ws (close_of br ∷ []) mid
-      (takes_trees_in is is_value text k (suc d) mid h (begins_left ws (close_of br ∷ []) mid b.1))
-      (λ j. takes_word is_value (and_words text ws) j (suc (suc d)) (suc d) (close_of br) (behind ws mid) shut.0 (goes_inside (suc d) (behind ws mid)) (depth_close br (suc d) (behind ws mid) shut.0) (no_end_inside is_value d (behind ws mid))))
+pub takes_stays : (ws : List Word) (is_value : Bool) (done : List ℕ) (last : ℕ) (n m : Nest) (ts : Tokens) → Begins ws ts → Stays ws n m ts → Takes is_value done last n m ws ts
+takes_stays [] is_value done last n m ts b h = (last, ap (λ k. taking_rest is_value done last k ts) h)
+takes_stays (w ∷ ws) is_value done last n m ts b h =
+    let mid = nest_behind n ts in
+    takes_append is_value done last n mid m (w ∷ []) ws ts
+    (takes_word is_value done last n mid w ts b.0 (stops_not n ts h.0) refl (ends_not is_value mid ts h.1))
+    (λ k. takes_stays ws is_value (and_word done w) k mid m (bumped ts) b.1 h.2)
 
-  pub takes_trees_in : (is : Trees) (is_value : Bool) (done : List ℕ) (last d : ℕ) (ts : Tokens) → AreTrees is → Begins (trees_words is) ts → Takes is_value done last (suc d) (suc d) (trees_words is) ts
-  takes_trees_in no_trees is_value done last d ts h b = takes_nothing is_value done last (suc d) ts
-  takes_trees_in (tree_and t is) is_value done last d ts h b =
-      takes_append is_value done last (suc d) (suc d) (suc d) (tree_words t) (trees_words is) ts
-      (takes_tree_in t is_value done last d ts h.0 (begins_left (tree_words t) (trees_words is) ts b))
-      (λ k. takes_trees_in is is_value (and_words done (tree_words t)) k d (behind (tree_words t) ts) h.1 (begins_right (tree_words t) (trees_words is) ts b))
+-- ---- in none
 
--- ---- what begins no item and ends none
+-- these words are taken from no bracket on to no bracket
+abbrev pub TakesFlat : Bool → List ℕ → ℕ → ℕ → Before → ℕ → Before → List Word → Tokens → Type 0
+TakesFlat is_value done last a before b after ws ts = Takes is_value done last (nest 0 0 0 0 a before) (nest 0 0 0 0 b after) ws ts
 
-pub begins_same : (w next : Word) (ts : Tokens) → Shows w ts → Shows next (bumped ts) → begins_item ts ≡ trees.begins_item w next
-unfolding begins_item
-begins_same w next ts s n = rw (s.word_is, n.symbol_is, n.identifier_is, n.word_is) refl
+flat_stops : (a : ℕ) (before : Before) (ts : Tokens) → (symbol ts == 125) ≡ false → begins (nest 0 0 0 0 a before) ts ≡ false → stops_here (nest 0 0 0 0 a before) ts ≡ false
+flat_stops a before ts e f = rw (e, f) refl
 
-pub shows_first : (is : Trees) (last : Word) (more : List Word) (ts : Tokens) → Begins (trees_words is ++ last ∷ more) ts → Shows (first_of is last) ts
-shows_first no_trees last more ts b = b.0
-shows_first (tree_and (single w) is) last more ts b = b.0
-shows_first (tree_and (group br is') is) last more ts b = b.0
+flat_ends : (is_value : Bool) (a : ℕ) (before : Before) (ts : Tokens) → (symbol ts == 59) ≡ false → (symbol ts == 125) ≡ false → ends_here is_value (nest 0 0 0 0 a before) ts ≡ false
+flat_ends true a before ts e f = rw e refl
+flat_ends false a before ts e f = rw (e, f) refl
 
-pub bracket_begins : (k : Bracket) (ts : Tokens) → Shows (open_of k) ts → begins_item ts ≡ false
-unfolding begins_item
-bracket_begins round ts s = rw s.word_is refl
-bracket_begins square ts s = rw s.word_is refl
-bracket_begins curly ts s = rw s.word_is refl
+pub takes_flat_word : (is_value : Bool) (done : List ℕ) (last a : ℕ) (before : Before) (w next : Word) (ts : Tokens) → IsTree (single w) → Shows w ts → Shows next (bumped ts)
+    → trees.IsClear before w → (trees.symbol_of w == 59) ≡ false → trees.begins_item w next ≡ false → trees.may_begin_behind before w ≡ false
+    → TakesFlat is_value done last a before (angles_behind before a w) (before_behind before w) (w ∷ []) ts
+takes_flat_word is_value done last a before w next ts h s n clear semicolon item impl =
+    let p = plain_word w ts s h in
+    takes_word is_value done last (nest 0 0 0 0 a before) (nest 0 0 0 0 (angles_behind before a w) (before_behind before w)) w ts s
+    (flat_stops a before ts p.closes_curly (word_begins a before w next ts s n item impl)) (flat_word a before w ts h s clear)
+    (flat_ends is_value (angles_behind before a w) (before_behind before w) ts (ap (λ (c : ℕ). c == 59) s.symbol_is ∙ semicolon) p.closes_curly)
 
-pub stops_bracket : (k : Bracket) (ts : Tokens) → Shows (open_of k) ts → stops_here 0 ts ≡ false
-stops_bracket k ts s =
-    let end : is_at_end ts ≡ false = s.end_is ∙ open_ends_not k in
-    let item = bracket_begins k ts s in
-    rw (end, item) refl
+close_no_semicolon : (k : Bracket) (ts : Tokens) → Shows (close_of k) ts → (symbol ts == 59) ≡ false
+close_no_semicolon round ts s = rw s.symbol_is refl
+close_no_semicolon square ts s = rw s.symbol_is refl
+close_no_semicolon curly ts s = rw s.symbol_is refl
 
-no_end_flat : (is_value : Bool) (ts : Tokens) → (symbol ts == 59) ≡ false → (symbol ts == 125) ≡ false → ends_here is_value 0 ts ≡ false
-no_end_flat true ts e f = rw e refl
-no_end_flat false ts e f = rw (e, f) refl
+-- a bracket that is no brace closes the only one that is open
+last_stops : (k : Bracket) (f a : ℕ) (before : Before) (ts : Tokens) → IsOther k → Shows (close_of k) ts → stops_here (nest 0 0 (0 + 1) f a before) ts ≡ false
+last_stops k f a before ts h s = rw (close_no_end k ts h s, close_no_item k ts s, and_false (f == 0)) refl
 
--- a closed bracket ends a value not, and another item only where it is a brace
-abbrev MayStand : Bool → Bracket → Type 0
-MayStand is_value curly = is_value ≡ true
-MayStand is_value _ = Unit {0}
-
-no_end_bracket : (is_value : Bool) (k : Bracket) (ts : Tokens) → MayStand is_value k → Shows (close_of k) ts → ends_here is_value 0 ts ≡ false
-no_end_bracket is_value round ts h s = no_end_flat is_value ts (rw s.symbol_is refl) (rw s.symbol_is refl)
-no_end_bracket is_value square ts h s = no_end_flat is_value ts (rw s.symbol_is refl) (rw s.symbol_is refl)
-no_end_bracket true curly ts h s = rw s.symbol_is refl
-no_end_bracket false curly ts h s = cc
-
-takes_group : (is_value : Bool) (k : Bracket) (is : Trees) (done : List ℕ) (last : ℕ) (ts : Tokens) → AreTrees is → MayStand is_value k → Begins (tree_words (group k is)) ts
-    → Takes is_value done last 0 0 (tree_words (group k is)) ts
-takes_group is_value k is done last ts h may b =
-    let ws = trees_words is in
-    let mid = bumped ts in
-    let shut = begins_right ws (close_of k ∷ []) mid b.1 in
+takes_other : (is_value : Bool) (k : Bracket) (ws : List Word) (done : List ℕ) (last a : ℕ) (before : Before) (ts : Tokens) → IsOther k → Begins (open_of k ∷ (ws ++ close_of k ∷ [])) ts
+    → Within ws 0 a before (bumped ts) → TakesFlat is_value done last a before a befores.End (open_of k ∷ (ws ++ close_of k ∷ [])) ts
+takes_other is_value k ws done last a before ts h b mid =
+    let us = behind ws (bumped ts) in
+    let shut : Shows (close_of k) us = (begins_right ws (close_of k ∷ []) (bumped ts) b.1).0 in
+    let f = free_in before 0 in
+    let first = nest 0 0 (0 + 1) f a befores.Other in
+    let inner = nest 0 0 (0 + 1) f a mid.0 in
     let text = and_words done (open_of k ∷ []) in
-    takes_append is_value done last 0 1 0 (open_of k ∷ []) (ws ++ close_of k ∷ []) ts
-    (takes_word is_value done last 0 1 (open_of k) ts b.0 (stops_bracket k ts b.0) (depth_open k 0 ts b.0) (no_end_inside is_value 0 ts))
-    (λ n. takes_append is_value text n 1 1 0 ws (close_of k ∷ []) mid
-    (takes_trees_in is is_value text n 0 mid h (begins_left ws (close_of k ∷ []) mid b.1))
-    (λ j. takes_word is_value (and_words text ws) j 1 0 (close_of k) (behind ws mid) shut.0 (goes_inside 0 (behind ws mid)) (depth_close k 0 (behind ws mid) shut.0) (no_end_bracket is_value k (behind ws mid) may shut.0)))
+    takes_append is_value done last (nest 0 0 0 0 a before) first (nest 0 0 0 0 a befores.End) (open_of k ∷ []) (ws ++ close_of k ∷ []) ts
+    (takes_word is_value done last (nest 0 0 0 0 a before) first (open_of k) ts b.0 (flat_stops a before ts (open_no_end k ts b.0) (open_begins k a before ts b.0)) (out_open k 0 a before ts h b.0)
+    (ends_not is_value first ts refl))
+    (λ n. takes_append is_value text n first inner (nest 0 0 0 0 a befores.End) ws (close_of k ∷ []) (bumped ts)
+    (takes_stays ws is_value text n first inner (bumped ts) (begins_left ws (close_of k ∷ []) (bumped ts) b.1) mid.1)
+    (λ j. takes_word is_value (and_words text ws) j inner (nest 0 0 0 0 a befores.End) (close_of k) us shut (last_stops k f a mid.0 us h shut) (out_close k 0 a (is_mark before) mid.0 us h shut)
+    (flat_ends is_value a befores.End us (close_no_semicolon k us shut) (close_no_end k us h shut))))
 
-may_stand : (is_value : Bool) (k : Bracket) (is' is : Trees) (end : Word) → GoesOn is_value (tree_and (group k is') is) end → MayStand is_value k
-may_stand is_value round is' is end g = tt
-may_stand is_value square is' is end g = tt
-may_stand is_value curly is' is end g = g.0
+-- up to the brace that closes
+pub takes_braces : (is_value : Bool) (is : Trees) (done : List ℕ) (last a : ℕ) (before : Before) (ts : Tokens) → AreTrees is → Shows (open_of curly) ts → Begins (trees_words is) (bumped ts)
+    → (after : Before) × Takes is_value done last (nest 0 0 0 0 a before) (nest 1 0 0 0 a after) (open_of curly ∷ trees_words is) ts
+takes_braces is_value is done last a before ts h s b =
+    let mid = trees_braces is 0 0 0 0 a befores.Other (bumped ts) h b in
+    let first = nest 1 0 0 0 a befores.Other in (
+      mid.0,
+      takes_append is_value done last (nest 0 0 0 0 a before) first (nest 1 0 0 0 a mid.0) (open_of curly ∷ []) (trees_words is) ts
+          (takes_word is_value done last (nest 0 0 0 0 a before) first (open_of curly) ts s (flat_stops a before ts (open_no_end curly ts s) (open_begins curly a before ts s)) (out_enter 0 0 a before ts s)
+          (ends_not is_value first ts refl))
+          (λ n. takes_stays (trees_words is) is_value (and_words done (open_of curly ∷ [])) n first (nest 1 0 0 0 a mid.0) (bumped ts) b mid.1),
+    )
 
-pub goes_behind : (is_value : Bool) (k : Bracket) (is' is : Trees) (end : Word) → GoesOn is_value (tree_and (group k is') is) end → GoesOn is_value is end
-goes_behind is_value round is' is end g = g
-goes_behind is_value square is' is end g = g
-goes_behind is_value curly is' is end g = g.1
+takes_curly : (is : Trees) (done : List ℕ) (last a : ℕ) (before : Before) (ts : Tokens) → AreTrees is → Begins (tree_words (group curly is)) ts
+    → TakesFlat true done last a before a befores.End (tree_words (group curly is)) ts
+takes_curly is done last a before ts h b =
+    let ws = trees_words is in
+    let us = behind ws (bumped ts) in
+    let shut : Shows (close_of curly) us = (begins_right ws (close_of curly ∷ []) (bumped ts) b.1).0 in
+    let mid = takes_braces true is done last a before ts h b.0 (begins_left ws (close_of curly ∷ []) (bumped ts) b.1) in
+    takes_append true done last (nest 0 0 0 0 a before) (nest 1 0 0 0 a mid.0) (nest 0 0 0 0 a befores.End) (open_of curly ∷ ws) (close_of curly ∷ []) ts mid.1
+    (λ n. takes_word true (and_words done (open_of curly ∷ ws)) n (nest 1 0 0 0 a mid.0) (nest 0 0 0 0 a befores.End) (close_of curly) us shut refl (in_leave 0 0 0 0 a mid.0 us shut)
+    (rw shut.symbol_is refl))
+
+takes_group : (is_value : Bool) (k : Bracket) (is : Trees) (done : List ℕ) (last a : ℕ) (before : Before) (ts : Tokens) → AreTrees is → MayStand is_value k → Holds before k is
+    → Begins (tree_words (group k is)) ts → TakesFlat is_value done last a before a befores.End (tree_words (group k is)) ts
+takes_group is_value round is done last a before ts h may g b = takes_other is_value round (trees_words is) done last a before ts tt b (within round is 0 a before (bumped ts) tt h g b.1)
+takes_group is_value square is done last a before ts h may g b = takes_other is_value square (trees_words is) done last a before ts tt b (within square is 0 a before (bumped ts) tt h g b.1)
+takes_group true curly is done last a before ts h may g b = takes_curly is done last a before ts h b
+takes_group false curly is done last a before ts h may g b = absurd cc
 
 -- a header is taken whole
-pub takes_header : (is : Trees) (is_value : Bool) (end : Word) (more : List Word) (done : List ℕ) (last : ℕ) (ts : Tokens) → AreTrees is → GoesOn is_value is end → Begins (trees_words is ++ end ∷ more) ts
-    → Takes is_value done last 0 0 (trees_words is) ts
-takes_header no_trees is_value end more done last ts h g b = takes_nothing is_value done last 0 ts
-takes_header (tree_and (single w) is) is_value end more done last ts h g b =
-    let next = shows_first is end more (bumped ts) b.1 in
-    let shuts : is_at_end ts ≡ false = b.0.end_is ∙ h.0.1 in
-    let item : begins_item ts ≡ false = begins_same w (first_of is end) ts b.0 next ∙ g.2 in
-    takes_append is_value done last 0 0 0 (w ∷ []) (trees_words is) ts
-    (takes_word is_value done last 0 0 w ts b.0 (rw (shuts, item) refl) (depth_single w 0 ts b.0 h.0)
-    (no_end_flat is_value ts (ap (λ (c : ℕ). c == 59) b.0.symbol_is ∙ g.0) (ap (λ (c : ℕ). c == 125) b.0.symbol_is ∙ g.1)))
-    (λ k. takes_header is is_value end more (and_words done (w ∷ [])) k (bumped ts) h.1 g.3 b.1)
-takes_header (tree_and (group k is') is) is_value end more done last ts h g b =
+pub takes_header : (is : Trees) (is_value : Bool) (end : Word) (more : List Word) (done : List ℕ) (last a : ℕ) (before : Before) (ts : Tokens) → AreTrees is → GoesBehind is_value before is end
+    → Begins (trees_words is ++ end ∷ more) ts → TakesFlat is_value done last a before (angles_behind_all before a is) (before_behind_all before is) (trees_words is) ts
+takes_header no_trees is_value end more done last a before ts h g b = (last, refl)
+takes_header (tree_and (single w) is) is_value end more done last a before ts h g b =
+    let mid = before_behind before w in
+    let n = angles_behind before a w in
+    takes_append is_value done last (nest 0 0 0 0 a before) (nest 0 0 0 0 n mid) (nest 0 0 0 0 (angles_behind_all mid n is) (before_behind_all mid is)) (w ∷ []) (trees_words is) ts
+    (takes_flat_word is_value done last a before w (first_of is end) ts h.0 b.0 (shows_first is end more (bumped ts) b.1) g.0 g.1 g.2 g.3)
+    (λ j. takes_header is is_value end more (and_word done w) j n mid (bumped ts) h.1 g.4 b.1)
+takes_header (tree_and (group k is') is) is_value end more done last a before ts h g b =
     let ws = tree_words (group k is') in
     let split : Begins (ws ++ (trees_words is ++ end ∷ more)) ts = subst (λ l. Begins l ts) (append_assoc ws (trees_words is) (end ∷ more)) b in
-    takes_append is_value done last 0 0 0 ws (trees_words is) ts
-    (takes_group is_value k is' done last ts h.0 (may_stand is_value k is' is end g) (begins_left ws (trees_words is ++ end ∷ more) ts split))
-    (λ n. takes_header is is_value end more (and_words done ws) n (behind ws ts) h.1 (goes_behind is_value k is' is end g) (begins_right ws (trees_words is ++ end ∷ more) ts split))
+    takes_append is_value done last (nest 0 0 0 0 a before) (nest 0 0 0 0 a befores.End) (nest 0 0 0 0 (angles_behind_all befores.End a is) (before_behind_all befores.End is)) ws (trees_words is) ts
+    (takes_group is_value k is' done last a before ts h.0 g.0 g.1 (begins_left ws (trees_words is ++ end ∷ more) ts split))
+    (λ j. takes_header is is_value end more (and_words done ws) j a befores.End (behind ws ts) h.1 g.2 (begins_right ws (trees_words is ++ end ∷ more) ts split))

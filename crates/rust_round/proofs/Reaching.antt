@@ -1,144 +1,207 @@
--- What stands before a block is passed over.
-use Rattle.std.proofs.Common.{◌≡◌, ℕ, suc, ◌+◌, ◌-◌, ◌==◌, ◌||◌, ◌&&◌, Bool, true, false, List, [], ◌∷◌, ◌++◌, refl, ap, ◌∙◌, sym, subst, arith, append_assoc}
-use Rattle.std.specs.Prelude.{if◌then◌else◌}
-use Rattle.std.proofs.lemmas.Bool.Decides.{nat_tests}
+-- What is passed over up to what is looked for.
+use Rattle.std.proofs.Common.{◌≡◌, ℕ, ◌+◌, ◌==◌, ◌||◌, ◌&&◌, Bool, true, false, List, [], ◌∷◌, ◌++◌, codes, refl, ap, ◌∙◌, sym, subst, append_assoc}
+use Rattle.std.specs.Prelude.{if◌then◌else◌, not}
+use Rattle.std.specs.Str.{bytes_eq}
+use Rattle.rust_cursor.specs.declared.cursor.generics.Reach.{Reach}
+use Rattle.rust_cursor.specs.declared.cursor.generics.Reach.TheVariants as reaches
+use Rattle.rust_cursor.specs.declared.cursor.nest.Before.{Before}
+use Rattle.rust_cursor.specs.declared.cursor.nest.Before.TheVariants as befores
+use Rattle.rust_cursor.specs.declared.cursor.nest.Nest.{Nest}
 use Rattle.rust_cursor.specs.Tokens.{Tokens}
-use Rattle.rust_cursor.specs.Words.{symbol, at, is_glued, bumped}
-use Rattle.rust_cursor.specs.Extents.{depth_behind}
-use Rattle.rust_cursor.specs.Angles.{to_block}
-use Rattle.rust_cursor.proofs.Blocks.{reaching_block, to_block_reaching, is_dash_here, angles_here, block_inside, block_flat, block_here}
-use Rattle.rust_round.specs.Words.{Link, joined, apart, free, Word, IsAt}
-use Rattle.rust_round.specs.Trees.{Bracket, round, square, curly, open_of, close_of, Tree, single, group, Trees, no_trees, tree_and, tree_words, trees_words, IsTree, AreTrees, first_of, GoesOn, Angles, no_angles, is_dash, is_joined, is_free, open_behind, angles_behind, angles_behind_all, AreClear}
+use Rattle.rust_cursor.specs.Words.{symbol, word, is_empty, is_at_end, bumped}
+use Rattle.rust_cursor.specs.Nests.{is_mark, is_flat, nest_behind}
+use Rattle.rust_cursor.specs.Extents.{begins, begins_item, begins_behind, begins_within}
+use Rattle.rust_cursor.specs.Angles.{is_lone_for, is_header_end, is_block_end, is_barred, is_reached, is_closed, reaching, reached, to_block}
+use Rattle.rust_cursor.proofs.Reaches.{reaching_stop, reaching_end, reaching_more}
+use Rattle.rust_round.specs.Words.{Word}
+use Rattle.rust_round.specs.Trees.{Bracket, round, square, curly, open_of, close_of, Tree, single, group, Trees, no_trees, tree_and, tree_words, trees_words, IsTree, AreTrees, first_of, Holds, MayStand, GoesBehind, GoesOn, AreClosed, angles_behind, angles_behind_all, before_behind}
 use Rattle.rust_round.specs.Trees as trees
+use Rattle.rust_round.specs.Impls.{before_behind_all}
 use Rattle.rust_round.proofs.Begins.{Shows, Begins, behind, behind_append, begins_left, begins_right}
-use Rattle.rust_round.proofs.Passed.{depth_single, depth_open, depth_close, open_ends_not, bracket_begins, shows_first, begins_same, goes_behind}
+use Rattle.rust_round.proofs.Same.{shows_first}
+use Rattle.rust_round.proofs.Nested.{nest, and_false, plain_word, IsOther, free_in, out_open, out_close}
+use Rattle.rust_round.proofs.Stays.{stays, Stays, Within, within, open_no_end, close_no_end, close_no_item}
+use Rattle.rust_round.proofs.Flat.{flat_word, word_begins, open_begins}
 
--- ---- inside a bracket
+-- these words are passed over, from one nest to another
+abbrev pub Passes : Reach → Nest → Nest → List Word → Tokens → Type 0
+Passes r n m ws ts = reaching r n ts ≡ reaching r m (behind ws ts)
 
--- these words are passed over, from one depth to another
-abbrev Passes : ℕ → ℕ → ℕ → Bool → List Word → Tokens → Type 0
-Passes d e n dash ws ts = (dash' : Bool) × (reaching_block d n dash ts ≡ reaching_block e n dash' (behind ws ts))
+pub passes_append : (r : Reach) (n m l : Nest) (ws vs : List Word) (ts : Tokens) → Passes r n m ws ts → Passes r m l vs (behind ws ts) → Passes r n l (ws ++ vs) ts
+passes_append r n m l ws vs ts first more = first ∙ more ∙ ap (λ k. reaching r l k) (sym (behind_append ws vs ts))
 
-passes_word : (d e n : ℕ) (dash : Bool) (w : Word) (ts : Tokens) → Shows w ts → depth_behind (suc d) ts ≡ e → Passes (suc d) e n dash (w ∷ []) ts
-passes_word d e n dash w ts s h = (is_dash_here ts, block_inside d n e dash ts s.some h)
+pub passes_word : (r : Reach) (n m : Nest) (w : Word) (ts : Tokens) → is_reached r n ts ≡ false → nest_behind n ts ≡ m → is_closed r m ≡ false → Passes r n m (w ∷ []) ts
+passes_word r n m w ts e step none = reaching_more r n ts e (ap (λ k. is_closed r k) step ∙ none) ∙ ap (λ k. reaching r k (bumped ts)) step
 
-passes_append : (d e f n : ℕ) (dash : Bool) (ws vs : List Word) (ts : Tokens) → Passes d e n dash ws ts → ((dash' : Bool) → Passes e f n dash' vs (behind ws ts)) → Passes d f n dash (ws ++ vs) ts
-passes_append d e f n dash ws vs ts first more = let next = more first.0 in (next.0, first.1 ∙ next.1 ∙ ap (λ k. reaching_block f n next.0 k) (sym (behind_append ws vs ts)))
+-- ---- in brackets
 
-mutual
-  passes_tree : (t : Tree) (d n : ℕ) (dash : Bool) (ts : Tokens) → IsTree t → Begins (tree_words t) ts → Passes (suc d) (suc d) n dash (tree_words t) ts
-  passes_tree (single w) d n dash ts h b = passes_word d (suc d) n dash w ts b.0 (depth_single w (suc d) ts b.0 h)
-  passes_tree (group br is) d n dash ts h b =
-      let ws = trees_words is in
-      let mid = bumped ts in
-      let shut = begins_right ws (close_of br ∷ []) mid b.1 in
-      passes_append (suc d) (suc (suc d)) (suc d) n dash (open_of br ∷ []) (ws ++ close_of br ∷ []) ts
-      (passes_word d (suc (suc d)) n dash (open_of br) ts b.0 (depth_open br (suc d) ts b.0))
-      (λ k. passes_append (suc (suc d)) (suc (suc d)) (suc d) n k ws (close_of br ∷ []) mid
-      (passes_trees is (suc d) n k mid h (begins_left ws (close_of br ∷ []) mid b.1))
-      (λ j. passes_word (suc d) (suc d) n j (close_of br) (behind ws mid) shut.0 (depth_close br (suc d) (behind ws mid) shut.0)))
+-- what stays in a bracket that is no brace
+abbrev Remains : Bool → Bool → Bool → Bool → Type 0
+Remains deep brace free item = (not deep && (not brace && not (free && item))) ≡ true
 
-  passes_trees : (is : Trees) (d n : ℕ) (dash : Bool) (ts : Tokens) → AreTrees is → Begins (trees_words is) ts → Passes (suc d) (suc d) n dash (trees_words is) ts
-  passes_trees no_trees d n dash ts h b = (dash, refl)
-  passes_trees (tree_and t is) d n dash ts h b =
-      passes_append (suc d) (suc d) (suc d) n dash (tree_words t) (trees_words is) ts
-      (passes_tree t d n dash ts h.0 (begins_left (tree_words t) (trees_words is) ts b))
-      (λ k. passes_trees is d n k (behind (tree_words t) ts) h.1 (begins_right (tree_words t) (trees_words is) ts b))
+angles_remain : (deep brace free item end x semicolon : Bool) → Remains deep brace free item → ((brace || (deep && end)) || ((if deep then x else free && item) || (deep && semicolon))) ≡ false
+angles_remain true brace free item end x semicolon e = absurd cc
+angles_remain false true free item end x semicolon e = absurd cc
+angles_remain false false true true end x semicolon e = absurd cc
+angles_remain false false true false end x semicolon e = refl
+angles_remain false false false item end x semicolon e = refl
 
--- ---- in no bracket
+field_remains : (deep brace free item end comma : Bool) → Remains deep brace free item → ((brace || (deep && end)) || (deep && comma)) ≡ false
+field_remains true brace free item end comma e = absurd cc
+field_remains false true free item end comma e = absurd cc
+field_remains false false free item end comma e = refl
 
-glued : (l : Link) (past at : ℕ) → IsAt l past at → is_free l ≡ false → (at == past) ≡ is_joined l
-glued joined past at h e = grind (arith, nat_tests)
-glued apart past at h e = grind (arith, nat_tests)
-glued free past at h e = absurd cc
+block_remains : (deep brace free item x end : Bool) → Remains deep brace free item → (brace || ((if deep then x else free && item) || (deep && end))) ≡ false
+block_remains true brace free item x end e = absurd cc
+block_remains false true free item x end e = absurd cc
+block_remains false false true true x end e = absurd cc
+block_remains false false true false x end e = refl
+block_remains false false false item x end e = refl
 
-glued_same : (w : Word) (ts : Tokens) → Shows w ts → is_free w.link ≡ false → is_glued ts ≡ is_joined w.link
-unfolding is_glued
-glued_same w ts s e = glued w.link ts.past (at ts) s.at_is e
+-- in no brace, or in one
+by_braces : (z barred stay : Bool) → (if z then stay else true) ≡ true → (stay ≡ true → barred ≡ false) → (if z then barred else false) ≡ false
+by_braces true barred stay e f = f e
+by_braces false barred stay e f = refl
 
-angle_same : (less more dash loose touch join : Bool) (x y z u : ℕ) → (dash && more && loose) ≡ false → (loose ≡ false → touch ≡ join)
-    → (if less then u else (if more then (if dash && touch then x else y) else z)) ≡ (if less then u else (if more then (if dash && join then x else y) else z))
-angle_same true more dash loose touch join x y z u e f = refl
-angle_same false false dash loose touch join x y z u e f = refl
-angle_same false true false loose touch join x y z u e f = refl
-angle_same false true true loose touch join x y z u e f = rw (f e) refl
+stays_barred : (r : Reach) (n : Nest) (ts : Tokens) → Remains (n.others == 0) (symbol ts == 125) (n.free == 0) (begins_within ts) → is_barred r n ts ≡ false
+stays_barred reaches.Angles n ts e =
+    angles_remain (n.others == 0) (symbol ts == 125) (n.free == 0) (begins_within ts) (is_at_end ts) (begins_item ts || begins_behind n.before ts) (symbol ts == 59) e
+stays_barred reaches.Field n ts e = field_remains (n.others == 0) (symbol ts == 125) (n.free == 0) (begins_within ts) (is_at_end ts) (n.angles == 0 && symbol ts == 44) e
+stays_barred reaches.Header n ts e = block_remains (n.others == 0) (symbol ts == 125) (n.free == 0) (begins_within ts) (begins_item ts || begins_behind n.before ts) (is_header_end n.angles ts) e
+stays_barred reaches.Block n ts e = block_remains (n.others == 0) (symbol ts == 125) (n.free == 0) (begins_within ts) (begins_item ts || begins_behind n.before ts) (is_block_end n.angles ts) e
 
-angles_same : (a : Angles) (w : Word) (ts : Tokens) → Shows w ts → (a.dash && trees.symbol_of w == 62 && is_free w.link) ≡ false → angles_here a.count a.dash ts ≡ open_behind a w
-angles_same a w ts s e =
-    rw s.symbol_is
-    (angle_same (trees.symbol_of w == 60) (trees.symbol_of w == 62) a.dash (is_free w.link) (is_glued ts) (is_joined w.link) a.count (a.count - 1) a.count (a.count + 1) e (glued_same w ts s))
+reached_by : (r : Reach) (n : Nest) (ts : Tokens) → is_empty ts ≡ false → is_reached r n ts ≡ (if n.braces == 0 then is_barred r n ts else false)
+unfolding is_reached
+reached_by r n ts some = rw some refl
 
--- a word that stands in no bracket and is no end
-reaches_word : (a : Angles) (w next : Word) (ts : Tokens) → IsTree (single w) → Shows w ts → Shows next (bumped ts) → (trees.symbol_of w == 59) ≡ false → (trees.symbol_of w == 123) ≡ false
-    → trees.begins_item w next ≡ false → (a.dash && trees.symbol_of w == 62 && is_free w.link) ≡ false
-    → reaching_block 0 a.count a.dash ts ≡ reaching_block 0 (angles_behind a (single w)).count (angles_behind a (single w)).dash (bumped ts)
-reaches_word a w next ts h s n semicolon brace item clear =
-    block_flat a.count 0 a.dash ts s.some (s.end_is ∙ h.1) (ap (λ (c : ℕ). c == 59) s.symbol_is ∙ semicolon) (begins_same w next ts s n ∙ item) (ap (λ (c : ℕ). c == 123) s.symbol_is ∙ brace) (depth_single w 0 ts s h)
-    ∙ ap (λ n. reaching_block 0 n (is_dash_here ts) (bumped ts)) (angles_same a w ts s clear)
-    ∙ ap (λ (c : ℕ). reaching_block 0 (open_behind a w) (c == 45 || c == 61) (bumped ts)) s.symbol_is
+pub stays_reached : (r : Reach) (n : Nest) (ts : Tokens) → is_empty ts ≡ false → stays n ts ≡ true → is_reached r n ts ≡ false
+stays_reached r n ts some e = reached_by r n ts some ∙ by_braces (n.braces == 0) (is_barred r n ts) _ e (λ f. stays_barred r n ts f)
 
--- a bracket that is no block
-abbrev IsNoBlock : Bracket → Type 0
-IsNoBlock curly = ⊥
-IsNoBlock _ = Unit {0}
+pub open_stays : (r : Reach) (n : Nest) → is_flat n ≡ false → is_closed r n ≡ false
+unfolding is_closed
+open_stays reaches.Angles n e = rw e refl
+open_stays reaches.Field n e = refl
+open_stays reaches.Header n e = refl
+open_stays reaches.Block n e = refl
 
-no_block_open : (k : Bracket) (ts : Tokens) → IsNoBlock k → Shows (open_of k) ts → ((symbol ts == 59) ≡ false) × ((symbol ts == 123) ≡ false)
-no_block_open round ts h s = rw s.symbol_is (refl, refl)
-no_block_open square ts h s = rw s.symbol_is (refl, refl)
-no_block_open curly ts h s = absurd h
+pub passes_stays : (ws : List Word) (r : Reach) (n m : Nest) (ts : Tokens) → Begins ws ts → Stays ws n m ts → Passes r n m ws ts
+passes_stays [] r n m ts b h = ap (λ k. reaching r k ts) h
+passes_stays (w ∷ ws) r n m ts b h =
+    let mid = nest_behind n ts in
+    passes_append r n mid m (w ∷ []) ws ts (passes_word r n mid w ts (stays_reached r n ts b.0.some h.0) refl (open_stays r mid h.1)) (passes_stays ws r mid m (bumped ts) b.1 h.2)
 
-no_angle_open : (k : Bracket) (n : ℕ) (dash : Bool) (ts : Tokens) → Shows (open_of k) ts → angles_here n dash ts ≡ n
-no_angle_open round n dash ts s = rw s.symbol_is refl
-no_angle_open square n dash ts s = rw s.symbol_is refl
-no_angle_open curly n dash ts s = rw s.symbol_is refl
+-- ---- in none
 
-no_dash_close : (k : Bracket) (ts : Tokens) → Shows (close_of k) ts → is_dash_here ts ≡ false
-no_dash_close round ts s = rw s.symbol_is refl
-no_dash_close square ts s = rw s.symbol_is refl
-no_dash_close curly ts s = rw s.symbol_is refl
+-- nothing is looked for here, in so many angle brackets, and none of these is the last
+pub record IsBefore (r : Reach) (a b : ℕ) (ts : Tokens) : Type 0 where
+  pub barred : (before : Before) → (symbol ts == 125) ≡ false → begins (nest 0 0 0 0 a before) ts ≡ false → is_barred r (nest 0 0 0 0 a before) ts ≡ false
+  pub unclosed : (before : Before) → is_closed r (nest 0 0 0 0 b before) ≡ false
 
-reaches_group : (a : Angles) (k : Bracket) (is : Trees) (ts : Tokens) → IsNoBlock k → AreTrees is → Begins (tree_words (group k is)) ts
-    → reaching_block 0 a.count a.dash ts ≡ reaching_block 0 a.count false (behind (tree_words (group k is)) ts)
-reaches_group a k is ts free_of h b =
+pub flat_reached : (r : Reach) (a : ℕ) (before : Before) (ts : Tokens) → is_empty ts ≡ false → is_barred r (nest 0 0 0 0 a before) ts ≡ false → is_reached r (nest 0 0 0 0 a before) ts ≡ false
+flat_reached r a before ts some e = reached_by r (nest 0 0 0 0 a before) ts some ∙ e
+
+pub passes_flat_word : (r : Reach) (a : ℕ) (before : Before) (w next : Word) (ts : Tokens) → IsTree (single w) → Shows w ts → Shows next (bumped ts)
+    → trees.IsClear before w → trees.begins_item w next ≡ false → trees.may_begin_behind before w ≡ false → IsBefore r a (angles_behind before a w) ts
+    → Passes r (nest 0 0 0 0 a before) (nest 0 0 0 0 (angles_behind before a w) (before_behind before w)) (w ∷ []) ts
+passes_flat_word r a before w next ts h s n clear item impl is =
+    let p = plain_word w ts s h in
+    passes_word r (nest 0 0 0 0 a before) (nest 0 0 0 0 (angles_behind before a w) (before_behind before w)) w ts
+    (flat_reached r a before ts s.some (is.barred before p.closes_curly (word_begins a before w next ts s n item impl)))
+    (flat_word a before w ts h s clear) (is.unclosed (before_behind before w))
+
+-- a bracket that is no brace closes the only one that is open
+last_barred : (r : Reach) (k : Bracket) (f a : ℕ) (before : Before) (ts : Tokens) → IsOther k → Shows (close_of k) ts → is_reached r (nest 0 0 (0 + 1) f a before) ts ≡ false
+last_barred r k f a before ts h s = stays_reached r (nest 0 0 (0 + 1) f a before) ts s.some (rw (close_no_end k ts h s, close_no_item k ts s, and_false (f == 0)) refl)
+
+pub passes_other : (r : Reach) (k : Bracket) (is : Trees) (a : ℕ) (before : Before) (ts : Tokens) → IsOther k → AreTrees is → Holds before k is → Begins (tree_words (group k is)) ts → IsBefore r a a ts
+    → Passes r (nest 0 0 0 0 a before) (nest 0 0 0 0 a befores.End) (tree_words (group k is)) ts
+passes_other r k is a before ts n h g b before_is =
     let ws = trees_words is in
-    let mid = bumped ts in
-    let us = behind ws mid in
-    let shut : Shows (close_of k) us = (begins_right ws (close_of k ∷ []) mid b.1).0 in
-    let other = no_block_open k ts free_of b.0 in
-    let through = passes_trees is 0 a.count (is_dash_here ts) mid h (begins_left ws (close_of k ∷ []) mid b.1) in
-    block_flat a.count 1 a.dash ts b.0.some (b.0.end_is ∙ open_ends_not k) other.0 (bracket_begins k ts b.0) other.1 (depth_open k 0 ts b.0)
-    ∙ ap (λ n. reaching_block 1 n (is_dash_here ts) mid) (no_angle_open k a.count a.dash ts b.0)
-    ∙ through.1
-    ∙ block_inside 0 a.count 0 through.0 us shut.some (depth_close k 0 us shut)
-    ∙ ap (λ dash. reaching_block 0 a.count dash (bumped us)) (no_dash_close k us shut)
-    ∙ ap (λ r. reaching_block 0 a.count false r) (sym (behind_append ws (close_of k ∷ []) mid))
+    let us = behind ws (bumped ts) in
+    let shut : Shows (close_of k) us = (begins_right ws (close_of k ∷ []) (bumped ts) b.1).0 in
+    let mid = within k is 0 a before (bumped ts) n h g b.1 in
+    let f = free_in before 0 in
+    let first = nest 0 0 (0 + 1) f a befores.Other in
+    let inner = nest 0 0 (0 + 1) f a mid.0 in
+    passes_append r (nest 0 0 0 0 a before) first (nest 0 0 0 0 a befores.End) (open_of k ∷ []) (ws ++ close_of k ∷ []) ts
+    (passes_word r (nest 0 0 0 0 a before) first (open_of k) ts (flat_reached r a before ts b.0.some (before_is.barred before (open_no_end k ts b.0) (open_begins k a before ts b.0))) (out_open k 0 a before ts n b.0)
+    (open_stays r first refl))
+    (passes_append r first inner (nest 0 0 0 0 a befores.End) ws (close_of k ∷ []) (bumped ts)
+    (passes_stays ws r first inner (bumped ts) (begins_left ws (close_of k ∷ []) (bumped ts) b.1) mid.1)
+    (passes_word r inner (nest 0 0 0 0 a befores.End) (close_of k) us (last_barred r k f a mid.0 us n shut) (out_close k 0 a (is_mark before) mid.0 us n shut) (before_is.unclosed befores.End)))
 
-no_block : (k : Bracket) (is' is : Trees) (end : Word) → GoesOn false (tree_and (group k is') is) end → IsNoBlock k
-no_block round is' is end g = tt
-no_block square is' is end g = tt
-no_block curly is' is end g = absurd (let e = g.0 in cc)
+pub may_be_other : (k : Bracket) → MayStand false k → IsOther k
+may_be_other round h = tt
+may_be_other square h = tt
+may_be_other curly h = absurd cc
 
--- a header is passed over
-reaches_header : (is : Trees) (a : Angles) (end : Word) (more : List Word) (ts : Tokens) → AreTrees is → GoesOn false is end → AreClear a is → Begins (trees_words is ++ end ∷ more) ts
-    → reaching_block 0 a.count a.dash ts ≡ reaching_block 0 (angles_behind_all a is).count (angles_behind_all a is).dash (behind (trees_words is) ts)
-reaches_header no_trees a end more ts h g c b = refl
-reaches_header (tree_and (single w) is) a end more ts h g c b =
-    reaches_word a w (first_of is end) ts h.0 b.0 (shows_first is end more (bumped ts) b.1) g.0 c.1 g.2 c.0
-    ∙ reaches_header is (angles_behind a (single w)) end more (bumped ts) h.1 g.3 c.2 b.1
-reaches_header (tree_and (group k is') is) a end more ts h g c b =
+-- nothing is looked for at these words
+abbrev pub AreBefore : Reach → Before → ℕ → Trees → Tokens → Type 0
+AreBefore r before a no_trees ts = Unit {0}
+AreBefore r before a (tree_and (single w) is) ts = IsBefore r a (angles_behind before a w) ts × AreBefore r (before_behind before w) (angles_behind before a w) is (bumped ts)
+AreBefore r before a (tree_and (group k is') is) ts = IsBefore r a a ts × AreBefore r befores.End a is (behind (tree_words (group k is')) ts)
+
+-- trees are passed over
+pub passes_trees : (is : Trees) (r : Reach) (a : ℕ) (before : Before) (end : Word) (more : List Word) (ts : Tokens) → AreTrees is → GoesBehind false before is end → Begins (trees_words is ++ end ∷ more) ts → AreBefore r before a is ts
+    → Passes r (nest 0 0 0 0 a before) (nest 0 0 0 0 (angles_behind_all before a is) (before_behind_all before is)) (trees_words is) ts
+passes_trees no_trees r a before end more ts h g b are = refl
+passes_trees (tree_and (single w) is) r a before end more ts h g b are =
+    let mid = before_behind before w in
+    let n = angles_behind before a w in
+    passes_append r (nest 0 0 0 0 a before) (nest 0 0 0 0 n mid) (nest 0 0 0 0 (angles_behind_all mid n is) (before_behind_all mid is)) (w ∷ []) (trees_words is) ts
+    (passes_flat_word r a before w (first_of is end) ts h.0 b.0 (shows_first is end more (bumped ts) b.1) g.0 g.2 g.3 are.0)
+    (passes_trees is r n mid end more (bumped ts) h.1 g.4 b.1 are.1)
+passes_trees (tree_and (group k is') is) r a before end more ts h g b are =
     let ws = tree_words (group k is') in
     let split : Begins (ws ++ (trees_words is ++ end ∷ more)) ts = subst (λ l. Begins l ts) (append_assoc ws (trees_words is) (end ∷ more)) b in
-    reaches_group a k is' ts (no_block k is' is end g) h.0 (begins_left ws (trees_words is ++ end ∷ more) ts split)
-    ∙ reaches_header is (angles_behind a (group k is')) end more (behind ws ts) h.1 (goes_behind false k is' is end g) c (begins_right ws (trees_words is ++ end ∷ more) ts split)
-    ∙ ap (λ r. reaching_block 0 (angles_behind_all a (tree_and (group k is') is)).count (angles_behind_all a (tree_and (group k is') is)).dash r) (sym (behind_append ws (trees_words is) ts))
+    passes_append r (nest 0 0 0 0 a before) (nest 0 0 0 0 a befores.End) (nest 0 0 0 0 (angles_behind_all befores.End a is) (before_behind_all befores.End is)) ws (trees_words is) ts
+    (passes_other r k is' a before ts (may_be_other k g.0) h.0 g.1 (begins_left ws (trees_words is ++ end ∷ more) ts split) are.0)
+    (passes_trees is r a befores.End end more (behind ws ts) h.1 g.2 (begins_right ws (trees_words is ++ end ∷ more) ts split) are.1)
+
+-- ---- to a block
+
+block_bar : (brace begins semicolon flat block : Bool) → brace ≡ false → begins ≡ false → semicolon ≡ false → block ≡ false → (brace || (begins || (semicolon || (flat && block)))) ≡ false
+block_bar brace begins semicolon true block e f g h = rw (e, f, g, h) refl
+block_bar brace begins semicolon false block e f g h = rw (e, f, g) refl
+
+before_block : (a b : ℕ) (ts : Tokens) → (symbol ts == 59) ≡ false → (symbol ts == 123) ≡ false → IsBefore reaches.Block a b ts
+unfolding is_closed
+before_block a b ts semicolon block = record {
+  barred = λ before e f. block_bar (symbol ts == 125) (begins (nest 0 0 0 0 a before) ts) (symbol ts == 59) (a == 0) (symbol ts == 123) e f semicolon block;
+  unclosed = λ before. refl;
+}
+
+pub open_no_block : (k : Bracket) (ts : Tokens) → IsOther k → Shows (open_of k) ts → ((symbol ts == 59) ≡ false) × ((symbol ts == 123) ≡ false)
+open_no_block round ts h s = rw s.symbol_is (refl, refl)
+open_no_block square ts h s = rw s.symbol_is (refl, refl)
+open_no_block curly ts h s = absurd h
+
+all_before_block : (is : Trees) (before : Before) (a : ℕ) (end : Word) (more : List Word) (ts : Tokens) → AreTrees is → GoesBehind false before is end → Begins (trees_words is ++ end ∷ more) ts
+    → AreBefore reaches.Block before a is ts
+all_before_block no_trees before a end more ts h g b = tt
+all_before_block (tree_and (single w) is) before a end more ts h g b =
+    let p = plain_word w ts b.0 h.0 in (
+      before_block a (angles_behind before a w) ts (ap (λ (c : ℕ). c == 59) b.0.symbol_is ∙ g.1) p.opens_curly,
+      all_before_block is (before_behind before w) (angles_behind before a w) end more (bumped ts) h.1 g.4 b.1,
+    )
+all_before_block (tree_and (group k is') is) before a end more ts h g b =
+    let ws = tree_words (group k is') in
+    let split : Begins (ws ++ (trees_words is ++ end ∷ more)) ts = subst (λ l. Begins l ts) (append_assoc ws (trees_words is) (end ∷ more)) b in
+    let other = open_no_block k ts (may_be_other k g.0) b.0 in
+    (before_block a a ts other.0 other.1, all_before_block is befores.End a end more (behind ws ts) h.1 g.2 (begins_right ws (trees_words is ++ end ∷ more) ts split))
+
+block_here : (before : Before) (ts : Tokens) → Shows (open_of curly) ts → is_reached reaches.Block (nest 0 0 0 0 0 before) ts ≡ true
+unfolding is_reached
+block_here before ts s = rw (s.some, s.symbol_is, open_begins curly 0 before ts s) refl
 
 -- to the block of an item
-pub to_block_header : (is : Trees) (more : List Word) (ts : Tokens) → AreTrees is → GoesOn false is (open_of curly) → AreClear no_angles is → (angles_behind_all no_angles is).count ≡ 0
-    → Begins (trees_words is ++ open_of curly ∷ more) ts → to_block ts ≡ behind (trees_words is) ts
-to_block_header is more ts h g c e b =
+pub to_block_header : (is : Trees) (more : List Word) (ts : Tokens) → AreTrees is → GoesOn false is (open_of curly) → AreClosed is → Begins (trees_words is ++ open_of curly ∷ more) ts
+    → to_block ts ≡ behind (trees_words is) ts
+unfolding to_block reached
+to_block_header is more ts h g e b =
     let us = behind (trees_words is) ts in
     let last : Shows (open_of curly) us = (begins_right (trees_words is) (open_of curly ∷ more) ts b).0 in
-    let a = angles_behind_all no_angles is in
-    to_block_reaching ts ∙ reaches_header is no_angles (open_of curly) more ts h g c b
-    ∙ ap (λ n. reaching_block 0 n a.dash us) e
-    ∙ block_here a.dash us last.some last.end_is (ap (λ (c : ℕ). c == 123) last.symbol_is) (bracket_begins curly us last)
+    let after = before_behind_all befores.End is in
+    passes_trees is reaches.Block 0 befores.End (open_of curly) more ts h g b (all_before_block is befores.End 0 (open_of curly) more ts h g b)
+    ∙ ap (λ n. reaching reaches.Block (nest 0 0 0 0 n after) us) e
+    ∙ reaching_stop reaches.Block (nest 0 0 0 0 0 after) us (block_here after us last)

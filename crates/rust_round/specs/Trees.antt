@@ -1,9 +1,12 @@
 -- Token trees: words that stand in no bracket, and brackets with trees in them.
-use Rattle.std.specs.Prelude.{◌≡◌, ℕ, ◌+◌, ◌-◌, ◌==◌, ◌&&◌, ◌||◌, not, Bool, true, false, if◌then◌else◌, List, [], ◌∷◌, ◌++◌, codes, length, slice_index}
+use Rattle.std.specs.Prelude.{◌≡◌, ℕ, ◌+◌, ◌-◌, ◌==◌, ◌&&◌, ◌||◌, not, Bool, true, false, if◌then◌else◌, Some, List, [], ◌∷◌, ◌++◌, codes, length, slice_index}
 use Rattle.std.specs.Str.{bytes_eq}
 use Rattle.rust_lexer.specs.declared.kind.TokenKind.TheVariants as kind
 use Rattle.rust_lexer.specs.Symbol.{symbol_from}
-use Rattle.rust_cursor.specs.Words.{opens, closes, documents, identifies, word_by}
+use Rattle.rust_cursor.specs.declared.cursor.nest.Before.{Before}
+use Rattle.rust_cursor.specs.declared.cursor.nest.Before.TheVariants as befores
+use Rattle.rust_cursor.specs.Words.{closes, documents, identifies, word_by}
+use Rattle.rust_cursor.specs.Nests.{leads_on, is_literal_kind, is_dash, is_mark}
 use Rattle.rust_cursor.specs.Extents.{is_item_word}
 use Rattle.rust_round.specs.Words.{Link, joined, free, Word}
 
@@ -70,10 +73,14 @@ abbrev mutual
   trees_words no_trees = []
   trees_words (tree_and t ts) = tree_words t ++ trees_words ts
 
+-- a bracket, by its symbol
+abbrev pub is_bracket : ℕ → Bool
+is_bracket c = c == 40 || (c == 41 || (c == 91 || (c == 93 || (c == 123 || c == 125))))
+
 -- no bracket stands alone
 abbrev mutual
   pub IsTree : Tree → Type 0
-  IsTree (single w) = (opens w.kind ≡ false) × (closes w.kind ≡ false)
+  IsTree (single w) = (is_bracket (symbol_of w) ≡ false) × (closes w.kind ≡ false)
   IsTree (group b ts) = AreTrees ts
 
   pub AreTrees : Trees → Type 0
@@ -89,7 +96,38 @@ abbrev pub first_of : Trees → Word → Word
 first_of no_trees behind = behind
 first_of (tree_and t ts) behind = first_of_tree t
 
--- ---- headers
+-- ---- what a word is for the one behind it
+
+abbrev pub is_joined : Link → Bool
+is_joined joined = true
+is_joined _ = false
+
+abbrev pub is_free : Link → Bool
+is_free free = true
+is_free _ = false
+
+-- the `>` of `->` or `=>`
+abbrev pub is_arrow : Before → Word → Bool
+is_arrow before w = is_dash before && is_joined w.link
+
+-- a type or a value can end with it
+abbrev pub can_end : Word → Bool
+can_end w = if identifies w.kind then not (leads_on (text_of w)) else is_literal_kind (Some w.kind) || closes w.kind
+
+abbrev pub symbol_before : Before → Word → Before
+symbol_before before w =
+    if symbol_of w == 45 || symbol_of w == 61 then befores.Dash
+    else (if symbol_of w == 33 || symbol_of w == 35 then befores.Mark
+    else (if symbol_of w == 62 then (if is_arrow before w then befores.Other else befores.Angle) else befores.Other))
+
+abbrev pub before_behind : Before → Word → Before
+before_behind before w = if documents w.kind then before else (if can_end w then befores.End else symbol_before before w)
+
+-- a `>` behind a `-` or a `=` is written right behind it, or apart from it
+abbrev pub IsClear : Before → Word → Type 0
+IsClear before w = (symbol_of w == 62 && (is_dash before && is_free w.link)) ≡ false
+
+-- ---- what begins an item
 
 -- a word that begins an item, by the word behind it
 abbrev pub begins_item : Word → Word → Bool
@@ -100,53 +138,70 @@ begins_item w next =
     else (if bytes_eq (text_of w) (codes "macro_rules") then symbol_of next == 33
     else (if bytes_eq (text_of w) (codes "extern") then bytes_eq (text_of next) (codes "crate") else false))))
 
--- nothing that stands in no bracket ends an item or begins one; braces may stand there or not
-abbrev pub GoesOn : Bool → Trees → Word → Type 0
-GoesOn braces no_trees behind = Unit {0}
-GoesOn braces (tree_and (single w) ts) behind = ((symbol_of w == 59) ≡ false) × ((symbol_of w == 125) ≡ false) × (begins_item w (first_of ts behind) ≡ false) × GoesOn braces ts behind
-GoesOn braces (tree_and (group curly is) ts) behind = (braces ≡ true) × GoesOn braces ts behind
-GoesOn braces (tree_and (group b is) ts) behind = GoesOn braces ts behind
+-- the same in `(` or `[`
+abbrev pub begins_within : Word → Word → Bool
+begins_within w next =
+    if bytes_eq (text_of w) (codes "pub") then false
+    else (if bytes_eq (text_of w) (codes "use") then identifies next.kind
+    else (if bytes_eq (text_of w) (codes "static") then not (bytes_eq (text_of next) (codes "move") || bytes_eq (text_of next) (codes "async")) && begins_item w next
+    else begins_item w next))
+
+abbrev pub is_impl_word : List ℕ → Bool
+is_impl_word w = bytes_eq w (codes "impl") || (bytes_eq w (codes "unsafe") || bytes_eq w (codes "const"))
+
+-- behind what can end a type or a value, a word that may begin an item
+abbrev pub may_begin_behind : Before → Word → Bool
+may_begin_behind befores.End w = symbol_of w == 35 || is_impl_word (text_of w)
+may_begin_behind befores.Angle w = is_impl_word (text_of w)
+may_begin_behind _ w = false
+
+-- ---- headers
+
+abbrev pub Unless : Bool → Type 0 → Type 0
+Unless true A = Unit {0}
+Unless false A = A
+
+-- In `(` and `[` nothing begins an item; anything may stand in those behind `!` or `#`, and in braces.
+abbrev pub StaysIn : Before → Trees → Word → Type 0
+StaysIn before no_trees behind = Unit {0}
+StaysIn before (tree_and (single w) ts) behind = IsClear before w × (begins_within w (first_of ts behind) ≡ false) × StaysIn (before_behind before w) ts behind
+StaysIn before (tree_and (group curly is) ts) behind = StaysIn befores.End ts behind
+StaysIn before (tree_and (group b is) ts) behind = Unless (is_mark before) (StaysIn befores.Other is (close_of b)) × StaysIn befores.End ts behind
+
+-- the same of what stands in one of them
+abbrev pub Holds : Before → Bracket → Trees → Type 0
+Holds before curly is = Unit {0}
+Holds before b is = Unless (is_mark before) (StaysIn befores.Other is (close_of b))
+
+abbrev pub MayStand : (braces : Bool) → Bracket → Type 0
+MayStand braces curly = braces ≡ true
+MayStand braces _ = Unit {0}
+
+abbrev pub GoesBehind : (braces : Bool) → Before → Trees → Word → Type 0
+GoesBehind braces before no_trees behind = Unit {0}
+GoesBehind braces before (tree_and (single w) ts) behind =
+    IsClear before w × ((symbol_of w == 59) ≡ false) × (begins_item w (first_of ts behind) ≡ false) × (may_begin_behind before w ≡ false) × GoesBehind braces (before_behind before w) ts behind
+GoesBehind braces before (tree_and (group b is) ts) behind = MayStand braces b × Holds before b is × GoesBehind braces befores.End ts behind
+
+-- behind a name, nothing ends an item or begins one; braces may stand there or not
+abbrev pub GoesOn : (braces : Bool) → Trees → Word → Type 0
+GoesOn braces ts behind = GoesBehind braces befores.End ts behind
 
 -- ---- angle brackets
 
--- how many are open, and whether a `-` or a `=` was last
-pub record Angles : Type 0 where
-  pub count : ℕ
-  pub dash : Bool
+-- how many are open behind a word; the `>` of `->` and `=>` closes none
+abbrev pub angles_behind : Before → ℕ → Word → ℕ
+angles_behind before n w = if symbol_of w == 60 then n + 1 else (if symbol_of w == 62 then (if is_arrow before w then n else n - 1) else n)
 
-abbrev pub no_angles : Angles
-no_angles = record { count = 0; dash = false }
+-- how many are open behind trees
+abbrev pub angles_behind_all : Before → ℕ → Trees → ℕ
+angles_behind_all before n no_trees = n
+angles_behind_all before n (tree_and (single w) ts) = angles_behind_all (before_behind before w) (angles_behind before n w) ts
+angles_behind_all before n (tree_and (group b is) ts) = angles_behind_all befores.End n ts
 
-abbrev pub is_dash : Word → Bool
-is_dash w = symbol_of w == 45 || symbol_of w == 61
-
-abbrev pub is_joined : Link → Bool
-is_joined joined = true
-is_joined _ = false
-
--- behind a word; the `>` of `->` and `=>` closes none
-abbrev pub open_behind : Angles → Word → ℕ
-open_behind a w =
-    if symbol_of w == 60 then a.count + 1
-    else (if symbol_of w == 62 then (if a.dash && is_joined w.link then a.count else a.count - 1) else a.count)
-
-abbrev pub angles_behind : Angles → Tree → Angles
-angles_behind a (single w) = record { count = open_behind a w; dash = is_dash w }
-angles_behind a (group b ts) = record { count = a.count; dash = false }
-
-abbrev pub angles_behind_all : Angles → Trees → Angles
-angles_behind_all a no_trees = a
-angles_behind_all a (tree_and t ts) = angles_behind_all (angles_behind a t) ts
-
--- A `>` behind a `-` or a `=` is written right behind it, or apart from it; no brace stands alone.
-abbrev pub is_free : Link → Bool
-is_free free = true
-is_free _ = false
-
-abbrev pub AreClear : Angles → Trees → Type 0
-AreClear a no_trees = Unit {0}
-AreClear a (tree_and (single w) ts) = ((a.dash && symbol_of w == 62 && is_free w.link) ≡ false) × ((symbol_of w == 123) ≡ false) × AreClear (angles_behind a (single w)) ts
-AreClear a (tree_and (group b is) ts) = AreClear (angles_behind a (group b is)) ts
+-- each is closed that is opened behind a name
+abbrev pub AreClosed : Trees → Type 0
+AreClosed ts = angles_behind_all befores.End 0 ts ≡ 0
 
 -- ---- texts
 

@@ -6,19 +6,21 @@ use Rattle.hir_input.specs.declared.ids.AstIdKind.TheVariants as kind
 use Rattle.hir_input.specs.Syntax.{NamedView, fn_kind, enum_kind, no_fields, no_items, item_and, plain_item, const_item, struct_item, bare_module, listed_module, items_from}
 use Rattle.rust_cursor.specs.Elements.{most}
 use Rattle.rust_round.specs.Trees.{word, mark, joined_mark, Tree, single, group, Trees, no_trees, tree_and, round, curly, close_of, first_of, AreTrees, GoesOn}
-use Rattle.rust_written.specs.Written.{unwritten, everywhere, in_crate, functions, enums, constants, Items, blocked, valued, unit_struct, file_module, module_of, used, no_more, also, views, row, rows, IsNamed, begins_plain, AreItems}
+use Rattle.rust_round.specs.Impls.{ImplHeader}
+use Rattle.rust_written.specs.Written.{Scope, Front, unwritten, everywhere, in_crate, functions, enums, constants, Items, blocked, valued, unit_struct, implemented, file_module, module_of, used, no_more, also, views, row, rows, IsNamed, IsPlainBlock, AreItems}
 use Rattle.hir_input.specs.declared.ast.PathNode.{PathNode}
 use Rattle.hir_input.specs.declared.ast.PathNode.TheVariants.{Readable}
 use Rattle.hir_input.specs.declared.ast.Rename.{Rename}
 use Rattle.hir_input.specs.declared.mod_path.PathKind.{PathKind}
 use Rattle.hir_input.specs.declared.mod_path.PathKind.TheVariants as path
-use Rattle.hir_input.specs.Syntax.{use_item}
+use Rattle.hir_input.specs.Syntax.{use_item, impl_item}
 use Rattle.hir_input.specs.UseTreeView.{UseTreeView, bare_tree, listed_tree, trees_from}
 use Rattle.rust_written.specs.UseTrees.{named, self_segment, crate_segment, as_name, as_nothing, UseTrees, path_tree, star_tree, list_tree, no_uses, use_and, IsPlainName}
 use Rattle.rust_written.specs.Spelled.{text_of}
+use Rattle.rust_cursor.specs.Nests.{leads_on}
+use Rattle.rust_leaves.specs.Heads.{follows_unsafe}
 use Rattle.rust_paths.specs.Names.{plain_name, is_strict_keyword, is_reserved_keyword}
 use Rattle.rust_leaves.specs.Texts.{bare}
-use Rattle.rust_leaves.specs.Heads.{follows_const}
 use Rattle.hir_input.specs.Bodies.{without_bodies}
 use Rattle.hir_input.specs.Syntax.{syntax_view}
 use Rattle.rust_items.specs.declared.source_file.SourceFile.{SourceFile}
@@ -44,11 +46,20 @@ seen name visibility body = record { node = record { hash = 0; number = 0; attrs
 
 -- ---- a function
 
+abbrev plain_front : Scope → Front
+plain_front v = record { scope = v; modifiers = [] }
+
+abbrev everyone : Front
+everyone = plain_front everywhere
+
+abbrev private : Front
+private = plain_front unwritten
+
 abbrev function : Trees → Items
 function body =
     let params = group round (trees (name (codes "x") ∷ sign 58 ∷ name (codes "u8") ∷ [])) in
     let answer = sign 45 ∷ single (joined_mark 62) ∷ name (codes "Vec") ∷ sign 60 ∷ name (codes "u8") ∷ sign 62 ∷ [] in
-    also (blocked functions everywhere (codes "f") (trees (params ∷ answer)) body) no_more
+    also (blocked functions everyone (codes "f") (trees (params ∷ answer)) body) no_more
 
 abbrev short_body : Trees
 short_body = trees (name (codes "x") ∷ [])
@@ -67,14 +78,16 @@ function_named : IsNamed (codes "f")
 unfolding plain_name is_strict_keyword is_reserved_keyword bare
 function_named = record { plain = refl; name = refl; bare = refl }
 
-function_well : (body : Trees) → AreTrees body → begins_plain (first_of body (close_of curly)) ≡ false → AreItems 128 (function body)
+function_well : (body : Trees) → AreTrees body → IsPlainBlock body → AreItems 128 (function body)
+unfolding leads_on
 function_well body b first = (
   (
     function_named,
     ((plain, (plain, (plain, tt))), (plain, (plain, (plain, (plain, (plain, (plain, tt))))))),
     b,
-    (refl, refl, refl, (refl, refl, refl, (refl, refl, refl, (refl, refl, refl, (refl, refl, refl, (refl, refl, refl, tt)))))),
-    record { clear = (refl, refl, (refl, refl, (refl, refl, (refl, refl, (refl, refl, (refl, refl, tt)))))); closed = refl; body = first },
+    (tt, (refl, refl, (refl, refl, (refl, refl, tt))), (refl, refl, refl, refl, (refl, refl, refl, refl, (refl, refl, refl, refl, (refl, refl, refl, refl, (refl, refl, refl, refl, (refl, refl, refl, refl, tt))))))),
+    (refl, first),
+    tt,
   ),
   tt,
 )
@@ -102,10 +115,10 @@ body_typed read again s t = typing_inside (function short_body) (function long_b
 
 abbrev outer : Items
 outer =
-    let inner : Items = also (unit_struct in_crate (codes "Unit"))
-    (also (blocked enums unwritten (codes "Kind") no_trees (trees (name (codes "A") ∷ sign 44 ∷ name (codes "B") ∷ [])))
-    (also (valued constants unwritten (codes "SIZE") (trees (sign 58 ∷ name (codes "u8") ∷ sign 61 ∷ name (codes "A") ∷ []))) no_more)) in
-    also (module_of unwritten (codes "outer") inner) (also (file_module everywhere (codes "file")) no_more)
+    let inner : Items = also (unit_struct (plain_front in_crate) (codes "Unit"))
+    (also (blocked enums private (codes "Kind") no_trees (trees (name (codes "A") ∷ sign 44 ∷ name (codes "B") ∷ [])))
+    (also (valued constants private (codes "SIZE") (trees (sign 58 ∷ name (codes "u8") ∷ sign 61 ∷ name (codes "A") ∷ []))) no_more)) in
+    also (module_of private (codes "outer") inner) (also (file_module everyone (codes "file")) no_more)
 
 outer_text : text_of outer ≡ codes " mod outer { pub ( crate ) struct Unit ; enum Kind { A , B } const SIZE : u8 = A ; } pub mod file ;"
 outer_text = refl
@@ -121,7 +134,7 @@ outer_rows : rows 0 outer
 outer_rows = refl
 
 outer_well : AreItems 128 outer
-unfolding plain_name is_strict_keyword is_reserved_keyword bare follows_const
+unfolding plain_name is_strict_keyword is_reserved_keyword bare leads_on
 outer_well =
     let unit : IsNamed (codes "Unit") = record { plain = refl; name = refl; bare = refl } in
     let choice : IsNamed (codes "Kind") = record { plain = refl; name = refl; bare = refl } in
@@ -129,12 +142,56 @@ outer_well =
     let file : IsNamed (codes "file") = record { plain = refl; name = refl; bare = refl } in
     let holds : IsNamed (codes "outer") = record { plain = refl; name = refl; bare = refl } in
     let numbers : GoesOn true (trees (sign 58 ∷ name (codes "u8") ∷ sign 61 ∷ name (codes "A") ∷ [])) (mark 59) =
-    (refl, refl, refl, (refl, refl, refl, (refl, refl, refl, (refl, refl, refl, tt)))) in
-    ((holds, (unit, ((choice, tt, (plain, (plain, (plain, tt))), tt, tt), ((size, (plain, (plain, (plain, (plain, tt)))), numbers, (refl, refl)), tt)))), (file, tt))
+    (refl, refl, refl, refl, (refl, refl, refl, refl, (refl, refl, refl, refl, (refl, refl, refl, refl, tt)))) in
+    ((holds, ((unit, tt), ((choice, tt, (plain, (plain, (plain, tt))), tt, tt, tt), ((size, (plain, (plain, (plain, (plain, tt)))), numbers, refl, tt), tt))), tt), ((file, tt), tt))
 
 pub outer_writes : Writes outer (text_of outer)
 unfolding most
 outer_writes = writable outer outer_well refl (omega arith)
+
+-- ---- an impl
+
+abbrev impl_header : ImplHeader
+impl_header = record {
+  generics = Some (trees (name (codes "T") ∷ []));
+  of_trait = Some (trees (name (codes "From") ∷ sign 60 ∷ name (codes "T") ∷ sign 62 ∷ []));
+  self_type = trees (name (codes "List") ∷ []);
+  where_clause = Some (trees (name (codes "T") ∷ sign 58 ∷ name (codes "Copy") ∷ []));
+}
+
+abbrev implements : Items
+implements =
+    let method = trees (name (codes "fn") ∷ name (codes "f") ∷ group round no_trees ∷ group curly no_trees ∷ []) in
+    also (implemented (codes "unsafe" ∷ []) impl_header method) no_more
+
+implements_text : text_of implements ≡ codes " unsafe impl < T > From < T > for List where T : Copy { fn f ( ) { } }"
+implements_text = refl
+
+implements_read : items_from (views implements)
+    ≡ item_and (impl_item (record { hash = 0; number = 0; attrs = []; body = codes "< T > From < T > for List where T : Copy { fn f ( ) { } }" }) true) no_items
+implements_read = refl
+
+implements_well : AreItems 128 implements
+unfolding leads_on follows_unsafe
+implements_well = (
+  (
+    (plain, (plain, (plain, (plain, (plain, (plain, (plain, (plain, (plain, (plain, (plain, (plain, (plain, tt))))))))))))),
+    (plain, (plain, (tt, (tt, tt)))),
+    record {
+      goes = (refl, refl, refl, refl, (refl, refl, refl, refl, (refl, refl, refl, refl, (refl, refl, refl, refl, (refl, refl, refl, refl, (refl, refl, refl, refl, (refl, refl, refl, refl, (refl, refl, refl, refl, (refl, refl, refl, refl, (refl, refl, refl, refl, (refl, refl, refl, refl, (refl, refl, refl, refl, (refl, refl, refl, refl, tt)))))))))))));
+      closed = refl;
+      has_generics = record { goes = (refl, refl, refl, refl, tt); unclosed = (refl, tt); closed = refl; undashed = refl };
+      has_trait = (record { goes = (refl, refl, refl, refl, (refl, refl, refl, refl, (refl, refl, refl, refl, (refl, refl, refl, refl, tt)))); one = (refl, (refl, (refl, (refl, tt)))); closed = refl }, refl);
+    },
+    refl,
+    (refl, tt),
+  ),
+  tt,
+)
+
+pub implements_writes : Writes implements (text_of implements)
+unfolding most
+implements_writes = writable implements implements_well refl (omega arith)
 
 -- ---- a use
 
@@ -143,7 +200,7 @@ uses =
     let inner : UseTrees = use_and (path_tree (record { absolute = false; first = self_segment; more = [] }) (as_name (codes "me")))
     (use_and (star_tree (Some (record { absolute = false; first = named (codes "b"); more = [] })))
     (use_and (list_tree None (use_and (path_tree (record { absolute = true; first = named (codes "c"); more = named (codes "D") ∷ [] }) as_nothing) no_uses)) no_uses)) in
-    also (used everywhere (list_tree (Some (record { absolute = false; first = crate_segment; more = named (codes "a") ∷ [] })) inner)) no_more
+    also (used everyone (list_tree (Some (record { absolute = false; first = crate_segment; more = named (codes "a") ∷ [] })) inner)) no_more
 
 uses_text : text_of uses ≡ codes " pub use crate :: a :: { self as me , b :: * , { :: c :: D as _ } } ;"
 uses_text = refl
@@ -178,7 +235,7 @@ uses_well =
     let c : IsPlainName (codes "c") = record { plain = refl; name = refl } in
     let d : IsPlainName (codes "D") = record { plain = refl; name = refl } in
     let me : IsPlainName (codes "me") = record { plain = refl; name = refl } in
-    (((tt, (a, tt)), (((tt, tt), me), ((b, tt), ((tt, (((c, (d, tt)), tt), tt)), tt)))), tt)
+    ((((tt, (a, tt)), (((tt, tt), me), ((b, tt), ((tt, (((c, (d, tt)), tt), tt)), tt)))), tt), tt)
 
 pub uses_writes : Writes uses (text_of uses)
 unfolding most

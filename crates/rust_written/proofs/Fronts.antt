@@ -1,28 +1,34 @@
 -- What stands in front of an item, and its name.
-use Rattle.std.proofs.Common.{◌≡◌, ℕ, ◌==◌, true, false, Some, None, List, [], ◌∷◌, ◌++◌, codes, refl, ap, ◌∙◌}
+use Rattle.std.proofs.Common.{◌≡◌, ◌≤◌, ℕ, zero, suc, ◌+◌, length, ◌==◌, ◌||◌, ◌&&◌, Bool, true, false, Some, None, List, [], ◌∷◌, ◌++◌, codes, refl, ap, ◌∙◌, sym, subst, arith, append_assoc}
+use Rattle.std.specs.Prelude.{if◌then◌else◌, map}
+use Rattle.std.proofs.lemmas.Slice.Eq.{bytes_eq-Decides}
+use Rattle.rust_lexer.proofs.Counted.{when}
 use Rattle.std.specs.Str.{bytes_eq}
 use Rattle.rust_lexer.specs.declared.kind.DocStyle.{DocStyle}
 use Rattle.rust_lexer.specs.declared.kind.TokenKind.{TokenKind}
 use Rattle.rust_lexer.specs.declared.kind.TokenKind.TheVariants as kinds
 use Rattle.rust_lexer.specs.declared.kind.DocStyle.TheVariants.{Outer, Inner}
 use Rattle.rust_cursor.specs.Tokens.{Tokens}
-use Rattle.rust_cursor.specs.Words.{at, bumped, documents}
+use Rattle.rust_cursor.specs.Words.{at, word, bumped, documents}
 use Rattle.rust_cursor.specs.Elements.{turns, one, most}
 use Rattle.rust_cursor.proofs.Turns.{turns_stop}
-use Rattle.rust_paths.specs.Names.{placed_name, name, next_name}
+use Rattle.rust_cursor.specs.Extents.{is_item_word}
+use Rattle.rust_paths.specs.Names.{plain_name, is_strict_keyword, placed_name, name, next_name}
 use Rattle.rust_paths.specs.Visibilities.{visibility, scoped, is_in, scope, scope_of}
 use Rattle.rust_metas.specs.Literals.{style_by}
 use Rattle.rust_metas.specs.Attributes.{is_style, is_doc, is_attribute, is_behind, attribute, attributes, outer_attributes, inner_attributes}
 use Rattle.rust_leaves.specs.declared.head.Head.{Head}
 use Rattle.rust_leaves.specs.declared.head.Head.TheVariants as heads
-use Rattle.rust_leaves.specs.Heads.{is_modifier, is_modifier_before, behind_modifiers, head, head_by, union_head}
+use Rattle.rust_leaves.specs.Heads.{follows_const, follows_async, follows_unsafe, follows_safe, follows_default, follows_extern, behind_abi, behind_modifier, behind_modifiers_from, is_modifier, is_modifier_before, behind_modifiers, head, head_by, union_head}
 use Rattle.rust_leaves.specs.Fronts.{FrontRead, front, front_behind}
 use Rattle.rust_leaves.specs.Leaves.{NameRead, named}
 use Rattle.rust_leaves.proofs.Steps.{modifiers_stop}
 use Rattle.rust_round.specs.Words.{Word}
 use Rattle.rust_round.specs.Trees as trees
-use Rattle.rust_round.proofs.Begins.{Shows, Begins, behind}
-use Rattle.rust_written.specs.Written.{Scope, unwritten, everywhere, in_crate, in_super, in_self, scope_words, scope_view, BlockKind, functions, unions, enums, traits, block_word, ValueKind, statics, aliases, constants, value_word, IsNamed, IsValue}
+use Rattle.rust_round.proofs.Begins.{Shows, Begins, behind, behind_append, begins_left, begins_right}
+use Rattle.rust_cursor.proofs.Nesting.{shorter}
+use Rattle.rust_written.proofs.Uses.{fewer_left}
+use Rattle.rust_written.specs.Written.{Front, front_words, front_view, modifies, first_modifier, AreModifiers, Scope, unwritten, everywhere, in_crate, in_super, in_self, scope_words, scope_view, BlockKind, functions, unions, enums, traits, block_word, ValueKind, statics, aliases, constants, value_word, IsNamed}
 
 -- ---- no attributes
 
@@ -71,13 +77,82 @@ scope_reads in_crate w more ts e b = rw (b.0.word_is, b.1.0.symbol_is, b.1.1.0.w
 scope_reads in_super w more ts e b = rw (b.0.word_is, b.1.0.symbol_is, b.1.1.0.word_is, b.1.1.1.0.symbol_is) refl
 scope_reads in_self w more ts e b = rw (b.0.word_is, b.1.0.symbol_is, b.1.1.0.word_is, b.1.1.1.0.symbol_is) refl
 
--- the first word
-pub first_shows : (v : Scope) (w : List ℕ) (more : List Word) (ts : Tokens) → Begins (scope_words v ++ trees.word w ∷ more) ts → (x : List ℕ) × Shows (trees.word x) ts
-first_shows unwritten w more ts b = (w, b.0)
-first_shows everywhere w more ts b = (codes "pub", b.0)
-first_shows in_crate w more ts b = (codes "pub", b.0)
-first_shows in_super w more ts b = (codes "pub", b.0)
-first_shows in_self w more ts b = (codes "pub", b.0)
+-- ---- modifiers
+
+-- the words behind a visibility
+abbrev modified : List (List ℕ) → List ℕ → List Word → List Word
+modified ms w more = map trees.word ms ++ trees.word w ∷ more
+
+first_modified : (ms : List (List ℕ)) (w : List ℕ) (more : List Word) (ts : Tokens) → Begins (modified ms w more) ts → Shows (trees.word (first_modifier ms w)) ts
+first_modified [] w more ts b = b.0
+first_modified (m ∷ ms) w more ts b = b.0
+
+-- behind `const` and `unsafe` also `auto trait` may stand, which is left out here
+by_word : (c a u s d g o e v1 v2 v3 v4 v5 v6 v7 v8 x : Bool)
+    → (if c then v1 else (if a then v2 else (if u then v3 else (if s then v4 else (if d then v5 else (if g then v6 else (if o then v7 else (if e then v8 else false)))))))) ≡ true
+    → (if c then v1 || x else (if a then v2 else (if u then v3 || x else (if s then v4 else (if d then v5 else (if g then v6 else (if o then v7 else (if e then v8 else false)))))))) ≡ true
+by_word true a u s d g o e v1 v2 v3 v4 v5 v6 v7 v8 x h = rw h refl
+by_word false true u s d g o e v1 v2 v3 v4 v5 v6 v7 v8 x h = h
+by_word false false true s d g o e v1 v2 v3 v4 v5 v6 v7 v8 x h = rw h refl
+by_word false false false s d g o e v1 v2 v3 v4 v5 v6 v7 v8 x h = h
+
+no_abi : (x : List ℕ) (ts : Tokens) → Shows (trees.word x) ts → behind_abi ts ≡ ts
+unfolding behind_abi
+no_abi x ts s = rw s.kind_is refl
+
+modifier_shown : (m x : List ℕ) (ts : Tokens) → Shows (trees.word m) ts → Shows (trees.word x) (bumped ts) → modifies m x ≡ true → is_modifier ts ≡ true
+unfolding is_modifier is_modifier_before
+modifier_shown m x ts s n e =
+    rw (s.word_is, no_abi x (bumped ts) n, n.word_is)
+    (by_word (bytes_eq m (codes "const")) (bytes_eq m (codes "async")) (bytes_eq m (codes "unsafe")) (bytes_eq m (codes "safe")) (bytes_eq m (codes "default")) (bytes_eq m (codes "gen")) (bytes_eq m (codes "auto"))
+    (bytes_eq m (codes "extern")) (follows_const x) (follows_async x) (follows_unsafe x) (follows_safe x) (follows_default x) (bytes_eq x (codes "fn")) (bytes_eq x (codes "trait")) (follows_extern x)
+    (bytes_eq x (codes "auto") && bytes_eq (word (bumped (bumped ts))) (codes "trait")) e)
+
+one_modifier : (x : List ℕ) (ts : Tokens) → Shows (trees.word x) (bumped ts) → behind_modifier ts ≡ bumped ts
+unfolding behind_modifier
+one_modifier x ts n = when (bytes_eq (word ts) (codes "extern")) (λ e. rw e (no_abi x (bumped ts) n)) (λ e. rw e refl)
+
+modifiers_read : (ms : List (List ℕ)) (w : List ℕ) (more : List Word) (n : ℕ) (ts : Tokens) → length ts.left ≤ n → AreModifiers ms w → Begins (modified ms w more) ts
+    → is_modifier (behind (map trees.word ms) ts) ≡ false → behind_modifiers_from n ts ≡ behind (map trees.word ms) ts
+modifiers_read [] w more n ts l a b e = modifiers_stop n ts e
+modifiers_read (m ∷ ms) w more zero ts l a b e = absurd (let one : length (bumped ts).left + 1 ≡ length ts.left = shorter ts b.0.some in omega (arith, one, l))
+modifiers_read (m ∷ ms) w more (suc n) ts l a b e =
+    let next = first_modified ms w more (bumped ts) b.1 in
+    let here = modifier_shown m (first_modifier ms w) ts b.0 next a.0 in
+    let one : length (bumped ts).left + 1 ≡ length ts.left = shorter ts b.0.some in
+    rw (here, one_modifier (first_modifier ms w) ts next) (modifiers_read ms w more n (bumped ts) (omega (arith, one, l)) a.1 b.1 e)
+
+-- no modifier is `pub`
+no_pub : (ms : List (List ℕ)) (w : List ℕ) → bytes_eq w (codes "pub") ≡ false → AreModifiers ms w → bytes_eq (first_modifier ms w) (codes "pub") ≡ false
+no_pub [] w e a = e
+no_pub (m ∷ ms) w e a =
+    when (bytes_eq m (codes "pub"))
+    (λ is. let same : m ≡ codes "pub" = (bytes_eq-Decides m (codes "pub")).0 is in absurd (let none : modifies (codes "pub") (first_modifier ms w) ≡ true = ap (λ k. modifies k (first_modifier ms w)) (sym same) ∙ a.0 in cc))
+    (λ is. is)
+
+-- ---- the first word
+
+split_front : (v : Front) (w : List ℕ) (more : List Word) (ts : Tokens) → Begins (front_words v ++ trees.word w ∷ more) ts → Begins (scope_words v.scope ++ modified v.modifiers w more) ts
+split_front v w more ts b = subst (λ l. Begins l ts) (append_assoc (scope_words v.scope) (map trees.word v.modifiers) (trees.word w ∷ more)) b
+
+modified_from : (ms : List (List ℕ)) (w : List ℕ) (more : List Word) → (rest : List Word) × (modified ms w more ≡ trees.word (first_modifier ms w) ∷ rest)
+modified_from [] w more = (more, refl)
+modified_from (m ∷ ms) w more = (modified ms w more, refl)
+
+scope_first : (v : Scope) (w : List ℕ) (more : List Word) (ts : Tokens) → Begins (scope_words v ++ trees.word w ∷ more) ts → (x : List ℕ) × Shows (trees.word x) ts
+scope_first unwritten w more ts b = (w, b.0)
+scope_first everywhere w more ts b = (codes "pub", b.0)
+scope_first in_crate w more ts b = (codes "pub", b.0)
+scope_first in_super w more ts b = (codes "pub", b.0)
+scope_first in_self w more ts b = (codes "pub", b.0)
+
+-- behind a visibility stands the first modifier, or the item's word
+scope_begins : (v : Front) (w : List ℕ) (more : List Word) (ts : Tokens) → Begins (front_words v ++ trees.word w ∷ more) ts
+    → Begins (scope_words v.scope ++ trees.word (first_modifier v.modifiers w) ∷ (modified_from v.modifiers w more).0) ts
+scope_begins v w more ts b = subst (λ l. Begins (scope_words v.scope ++ l) ts) (modified_from v.modifiers w more).1 (split_front v w more ts b)
+
+pub first_shows : (v : Front) (w : List ℕ) (more : List Word) (ts : Tokens) → Begins (front_words v ++ trees.word w ∷ more) ts → (x : List ℕ) × Shows (trees.word x) ts
+first_shows v w more ts b = scope_first v.scope (first_modifier v.modifiers w) (modified_from v.modifiers w more).0 ts (scope_begins v w more ts b)
 
 -- ---- the words of kinds
 
@@ -104,11 +179,52 @@ value_head statics = heads.Static
 value_head aliases = heads.TypeAlias
 value_head constants = heads.Const
 
-pub value_heads : (k : ValueKind) (n : List ℕ) (t : trees.Trees) (ts : Tokens) → IsValue k n t → Shows (trees.word (value_word k)) ts → Shows (trees.word n) (bumped ts) → Heads (value_head k) ts
+pub no_keyword : (w n : List ℕ) → IsNamed n → plain_name w ≡ None → bytes_eq n w ≡ false
+no_keyword w n m k =
+    when (bytes_eq n w) (λ e. let same : n ≡ w = (bytes_eq-Decides n w).0 e in absurd (let none : None ≡ Some n = sym k ∙ ap plain_name (sym same) ∙ m.plain in cc)) (λ e. e)
+
+no_modifier : (n : List ℕ) → IsNamed n → follows_const n ≡ false
+unfolding follows_const plain_name is_strict_keyword
+no_modifier n m =
+    rw (
+      no_keyword (codes "fn") n m refl,
+      no_keyword (codes "unsafe") n m refl,
+      no_keyword (codes "extern") n m refl,
+      no_keyword (codes "async") n m refl,
+      no_keyword (codes "trait") n m refl,
+      no_keyword (codes "impl") n m refl,
+    )
+    refl
+
+no_item_word : (w : List ℕ) (rest : Bool) → (if is_item_word w then true else rest) ≡ false → bytes_eq w (codes "trait") ≡ false
+no_item_word w rest e = last (bytes_eq w (codes "pub")) (bytes_eq w (codes "mod")) (bytes_eq w (codes "struct")) (bytes_eq w (codes "enum")) (bytes_eq w (codes "trait")) rest e
+  where
+    last : (a b c d f rest : Bool) → (if a || (b || (c || (d || f))) then true else rest) ≡ false → f ≡ false
+    last true b c d f rest e = absurd cc
+    last false true c d f rest e = absurd cc
+    last false false true d f rest e = absurd cc
+    last false false false true f rest e = absurd cc
+    last false false false false true rest e = absurd cc
+    last false false false false false rest e = refl
+
+-- what a value begins with is no item
+no_trait : (t : trees.Trees) → trees.GoesOn true t (trees.mark 59) → bytes_eq (trees.text_of (trees.first_of t (trees.mark 59))) (codes "trait") ≡ false
+no_trait trees.no_trees g = refl
+no_trait (trees.tree_and (trees.single w) t) g = no_item_word (trees.text_of w) _ g.2
+no_trait (trees.tree_and (trees.group trees.round is) t) g = refl
+no_trait (trees.tree_and (trees.group trees.square is) t) g = refl
+no_trait (trees.tree_and (trees.group trees.curly is) t) g = refl
+
+and_false : (b : Bool) → (b && false) ≡ false
+and_false true = refl
+and_false false = refl
+
+pub value_heads : (k : ValueKind) (n : List ℕ) (t : trees.Trees) (ts : Tokens) → IsNamed n → trees.GoesOn true t (trees.mark 59) → Shows (trees.word (value_word k)) ts → Shows (trees.word n) (bumped ts)
+    → Shows (trees.first_of t (trees.mark 59)) (bumped (bumped ts)) → Heads (value_head k) ts
 unfolding is_modifier is_modifier_before head head_by
-value_heads statics n t ts h s m = record { modifier = rw s.word_is refl; head = rw s.word_is refl }
-value_heads aliases n t ts h s m = record { modifier = rw s.word_is refl; head = rw s.word_is refl }
-value_heads constants n t ts h s m = record { modifier = rw (s.word_is, m.word_is, h.0) refl; head = rw s.word_is refl }
+value_heads statics n t ts h g s m f = record { modifier = rw s.word_is refl; head = rw s.word_is refl }
+value_heads aliases n t ts h g s m f = record { modifier = rw s.word_is refl; head = rw s.word_is refl }
+value_heads constants n t ts h g s m f = record { modifier = rw (s.word_is, m.word_is, no_modifier n h, f.word_is, no_trait t g) (and_false (bytes_eq n (codes "auto"))); head = rw s.word_is refl }
 
 pub struct_heads : (ts : Tokens) → Shows (trees.word (codes "struct")) ts → Heads heads.Struct ts
 unfolding is_modifier is_modifier_before head head_by
@@ -118,34 +234,49 @@ pub use_heads : (ts : Tokens) → Shows (trees.word (codes "use")) ts → Heads 
 unfolding is_modifier is_modifier_before head head_by
 use_heads ts s = record { modifier = rw s.word_is refl; head = rw s.word_is refl }
 
+pub impl_heads : (ts : Tokens) → Shows (trees.word (codes "impl")) ts → Heads heads.Impl ts
+unfolding is_modifier is_modifier_before head head_by
+impl_heads ts s = record { modifier = rw s.word_is refl; head = rw s.word_is refl }
+
 pub module_heads : (ts : Tokens) → Shows (trees.word (codes "mod")) ts → Heads heads.Module ts
 unfolding is_modifier is_modifier_before head head_by
 module_heads ts s = record { modifier = rw s.word_is refl; head = rw s.word_is refl }
 
 -- ---- all that stands in front
 
-no_modifiers : (ts : Tokens) → is_modifier ts ≡ false → behind_modifiers ts ≡ ts
-unfolding behind_modifiers
-no_modifiers ts e = modifiers_stop most ts e
-
 -- what is read in front of an item without attributes
-abbrev pub front_at : ℕ → Scope → Head → FrontRead
-front_at start v h = record { start = start; attrs = []; visibility = scope_view v; head = h }
+abbrev pub front_at : ℕ → Front → Head → FrontRead
+front_at start v h = record { start = start; attrs = []; visibility = front_view v; head = h }
 
-front_steps : (start : ℕ) (v : Scope) (h : Head) (ts us : Tokens) → visibility ts ≡ (scope_view v, us) → Heads h us → front_behind start [] ts ≡ (front_at start v h, bumped us)
+front_steps : (start : ℕ) (v : Front) (h : Head) (ts us vs : Tokens) → visibility ts ≡ (front_view v, us) → behind_modifiers us ≡ vs → Heads h vs → front_behind start [] ts ≡ (front_at start v h, bumped vs)
 unfolding front_behind
-front_steps start v h ts us s is = rw (s, no_modifiers us is.modifier, is.head) refl
+front_steps start v h ts us vs s m is = rw (s, m, is.head) refl
 
 front_found : (ts : Tokens) → outer_attributes (at ts) ts ≡ ([], ts) → front ts ≡ front_behind (at ts) [] ts
 unfolding front
 front_found ts e = rw e refl
 
-pub front_reads : (v : Scope) (w : List ℕ) (h : Head) (more : List Word) (ts : Tokens) → bytes_eq w (codes "pub") ≡ false → Begins (scope_words v ++ trees.word w ∷ more) ts → Heads h (behind (scope_words v) ts)
-    → front ts ≡ (front_at (at ts) v h, bumped (behind (scope_words v) ts))
-front_reads v w h more ts e b is =
+all_modifiers : (ms : List (List ℕ)) (w : List ℕ) (more : List Word) (ts : Tokens) → length ts.left ≤ most → AreModifiers ms w → Begins (modified ms w more) ts → is_modifier (behind (map trees.word ms) ts) ≡ false
+    → behind_modifiers ts ≡ behind (map trees.word ms) ts
+unfolding behind_modifiers
+all_modifiers ms w more ts l a b e = modifiers_read ms w more most ts l a b e
+
+pub front_reads : (v : Front) (w : List ℕ) (h : Head) (more : List Word) (ts : Tokens) → length ts.left ≤ most → bytes_eq w (codes "pub") ≡ false → AreModifiers v.modifiers w → Begins (front_words v ++ trees.word w ∷ more) ts
+    → Heads h (behind (front_words v) ts) → front ts ≡ (front_at (at ts) v h, bumped (behind (front_words v) ts))
+front_reads v w h more ts few e a b is =
     let first = first_shows v w more ts b in
+    let ms = map trees.word v.modifiers in
+    let split = split_front v w more ts b in
+    let us = behind (scope_words v.scope) ts in
+    let same = behind_append (scope_words v.scope) ms ts in
+    let fewer = fewer_left (scope_words v.scope) ts (begins_left (scope_words v.scope) (modified v.modifiers w more) ts split) in
+    let heads_there : Heads h (behind ms us) = subst (Heads h) same is in
     front_found ts (outer_none (at ts) (trees.word first.0) ts first.1 refl refl)
-    ∙ front_steps (at ts) v h ts (behind (scope_words v) ts) (scope_reads v w more ts e b) is
+    ∙ front_steps (at ts) v h ts us (behind ms us)
+    (scope_reads v.scope (first_modifier v.modifiers w) (modified_from v.modifiers w more).0 ts (no_pub v.modifiers w e a) (scope_begins v w more ts b))
+    (all_modifiers v.modifiers w more us (omega (arith, few, fewer)) a (begins_right (scope_words v.scope) (modified v.modifiers w more) ts split) heads_there.modifier)
+    heads_there
+    ∙ ap (λ k. (front_at (at ts) v h, bumped k)) (sym same)
 
 -- ---- names
 

@@ -1,4 +1,5 @@
 -- Lists of items, and modules.
+use Rattle.std.specs.Prelude.{◌&&◌, is_none}
 use Rattle.std.proofs.Common.{◌≡◌, ◌<◌, ◌≤◌, ℕ, zero, suc, ◌+◌, ◌==◌, ◌||◌, Bool, true, false, Option, Some, None, List, [], ◌∷◌, ◌++◌, codes, length, refl, ap, ◌∙◌, sym, arith, append_assoc, append-nil}
 use Rattle.std.specs.Str.{bytes_eq}
 use Rattle.std.proofs.lemmas.Bool.{ne_eqb}
@@ -10,7 +11,7 @@ use Rattle.rust_cursor.specs.Tokens.{Tokens}
 use Rattle.rust_cursor.specs.Words.{symbol, at, bumped, is_at_end, eat}
 use Rattle.rust_cursor.specs.Extents.{goes_on}
 use Rattle.rust_cursor.specs.Elements.{most, beyond}
-use Rattle.rust_cursor.proofs.Steps.{shorter}
+use Rattle.rust_cursor.proofs.Nesting.{shorter}
 use Rattle.rust_metas.specs.Attributes.{inner_attributes}
 use Rattle.rust_ids.specs.Row.{Row}
 use Rattle.rust_leaves.specs.declared.head.Head.{Head}
@@ -18,18 +19,20 @@ use Rattle.rust_leaves.specs.declared.head.Head.TheVariants as heads
 use Rattle.rust_leaves.specs.Fronts.{FrontRead, front}
 use Rattle.rust_leaves.specs.Leaves.{NameRead, LeafRead, named}
 use Rattle.rust_leaves.specs.Kinds.{named_node, leaf}
-use Rattle.rust_items.specs.Found.{Found, Finder, nothing_found}
-use Rattle.rust_items.specs.Items.{and_leaf, and_item, leaf_turn, finding_from, finding, is_list_end, BlockRead, no_block, and_parent, block_of, depth_of, inside_unless, by_head, inside, turn}
+use Rattle.rust_items.specs.Found.{Found, Finder, nothing_found, and_row}
+use Rattle.rust_items.specs.Items.{span_of, needs_name, and_flaw, and_leaf, and_item, leaf_turn, finding_from, finding, is_list_end, BlockRead, no_block, and_parent, block_of, depth_of, inside_unless, by_head, inside, turn}
 use Rattle.rust_items.proofs.Steps.{finding_stop}
 use Rattle.rust_round.specs.Words.{Word}
 use Rattle.rust_round.specs.Trees.{Trees, no_trees, mark, open_mark, close_mark, curly, trees_words}
 use Rattle.rust_round.specs.Trees as trees
+use Rattle.rust_round.specs.Impls.{ImplHeader, header_trees}
 use Rattle.rust_round.proofs.Begins.{Shows, Begins, behind, behind_append, begins_left, begins_right, past_behind}
-use Rattle.rust_written.specs.Written.{Scope, unwritten, everywhere, in_crate, in_super, in_self, scope_words, scope_view, BlockKind, functions, unions, enums, traits, block_word, block_kind, ValueKind, statics, aliases, constants, value_word, value_id, Item, Items, blocked, valued, unit_struct, record_struct, file_module, module_of, used, no_more, also, braced, ended, item_words, words, item_view, views, row, item_rows, rows, IsNamed, IsItem, AreItems}
+use Rattle.rust_round.proofs.Same.{shows_first}
+use Rattle.rust_written.specs.Written.{Front, front_words, front_view, impl_front, AreModifiers, BlockKind, functions, unions, enums, traits, block_word, block_kind, ValueKind, statics, aliases, constants, value_word, value_id, Item, Items, blocked, valued, unit_struct, record_struct, implemented, file_module, module_of, used, no_more, also, braced, ended, item_words, words, item_view, views, row, item_rows, rows, IsNamed, IsItem, AreItems}
 use Rattle.rust_written.specs.UseTrees.{UseTree, use_words, IsUse}
 use Rattle.rust_written.proofs.Uses.{fewer_left}
-use Rattle.rust_written.proofs.Fronts.{inner_none, first_shows, block_head, block_heads, value_head, value_heads, struct_heads, use_heads, module_heads, Heads, front_at, front_reads, named_at, named_reads}
-use Rattle.rust_written.proofs.Leaves.{Reads, blocked_reads, value_reads, unit_reads, record_reads, used_reads}
+use Rattle.rust_written.proofs.Fronts.{inner_none, first_shows, block_head, block_heads, value_head, value_heads, struct_heads, impl_heads, use_heads, module_heads, Heads, front_at, front_reads, named_at, named_reads}
+use Rattle.rust_written.proofs.Leaves.{Reads, blocked_reads, value_reads, unit_reads, record_reads, impl_reads, used_reads}
 
 -- ---- what is read in a turn
 
@@ -37,9 +40,13 @@ use Rattle.rust_written.proofs.Leaves.{Reads, blocked_reads, value_reads, unit_r
 abbrev pub Turns : ℕ → ItemView → List Row → List Word → Found → Tokens → Type 0
 Turns left item rs ws f ts = (f' : Found) × (turn left f ts ≡ (Some item, (f', behind ws ts))) × (f'.rows ≡ f.rows ++ rs)
 
+flaw_rows : (is_ended is_nameless : Bool) (start : ℕ) (f : Found) → (and_flaw is_ended is_nameless start f).rows ≡ f.rows
+flaw_rows true true start f = refl
+flaw_rows true false start f = refl
+flaw_rows false is_nameless start f = refl
+
 rows_if : (e : Bool) (depth start end : ℕ) (k : AstIdKind) (n : List ℕ) (range : Option TextRange) (f : Found) → (and_item depth start end k n range e f).rows ≡ f.rows ++ row depth k n ∷ []
-rows_if true depth start end k n range f = refl
-rows_if false depth start end k n range f = refl
+rows_if e depth start end k n range f = flaw_rows e (is_none range && needs_name k) start (and_row (row depth k n) (span_of start end range) f)
 
 -- the front of an item of a kind that holds no items
 abbrev IsLeafHead : Head → Type 0
@@ -61,19 +68,19 @@ unfolding leaf_turn
 leaf_found_is depth r l f ts us e = rw e refl
 
 -- an item without items
-leaf_turns : (left : ℕ) (v : Scope) (h : Head) (w n : List ℕ) (item : ItemView) (k : AstIdKind) (ws : List Word) (f : Found) (ts : Tokens) → IsLeafHead h → is_at_end ts ≡ false
-    → front ts ≡ (front_at (at ts) v h, bumped (behind (scope_words v) ts)) → Reads h v (at ts) item k n ws (bumped (behind (scope_words v) ts))
-    → Turns left item (row (depth_of left) k n ∷ []) (scope_words v ++ trees.word w ∷ ws) f ts
+leaf_turns : (left : ℕ) (v : Front) (h : Head) (w n : List ℕ) (item : ItemView) (k : AstIdKind) (ws : List Word) (f : Found) (ts : Tokens) → IsLeafHead h → is_at_end ts ≡ false
+    → front ts ≡ (front_at (at ts) v h, bumped (behind (front_words v) ts)) → Reads h v (at ts) item k n ws (bumped (behind (front_words v) ts))
+    → Turns left item (row (depth_of left) k n ∷ []) (front_words v ++ trees.word w ∷ ws) f ts
 leaf_turns left v h w n item k ws f ts i e fronts reads =
-    let us = bumped (behind (scope_words v) ts) in
-    let l : LeafRead = record { item = item; kind = k; name = n; named = reads.0; is_ended = reads.1; too_deep = None } in
+    let us = bumped (behind (front_words v) ts) in
+    let l : LeafRead = record { item = item; kind = k; name = n; named = reads.0; is_ended = true; too_deep = None } in
     let rest = behind ws us in (
       and_leaf (depth_of left) (at ts) rest.past l f,
       turn_behind left (front_at (at ts) v h) f ts us e fronts
           ∙ leaf_by_head left h (front_at (at ts) v h) f us i
-          ∙ leaf_found_is (depth_of left) (front_at (at ts) v h) l f us rest reads.2
-          ∙ ap (λ r. (Some item, (and_leaf (depth_of left) (at ts) rest.past l f, r))) (sym (behind_append (scope_words v) (trees.word w ∷ ws) ts)),
-      rows_if reads.1 (depth_of left) (at ts) rest.past k n reads.0 f,
+          ∙ leaf_found_is (depth_of left) (front_at (at ts) v h) l f us rest reads.1
+          ∙ ap (λ r. (Some item, (and_leaf (depth_of left) (at ts) rest.past l f, r))) (sym (behind_append (front_words v) (trees.word w ∷ ws) ts)),
+      rows_if true (depth_of left) (at ts) rest.past k n reads.0 f,
     )
 
 -- ---- the first word of an item
@@ -83,6 +90,7 @@ item_first (blocked k v n h b) more ts s = first_shows v (block_word k) (trees.w
 item_first (valued k v n t) more ts s = first_shows v (value_word k) (trees.word n ∷ ended t) ts (begins_left (item_words (valued k v n t)) more ts s)
 item_first (unit_struct v n) more ts s = first_shows v (codes "struct") (trees.word n ∷ ended no_trees) ts (begins_left (item_words (unit_struct v n)) more ts s)
 item_first (record_struct v n b) more ts s = first_shows v (codes "struct") (trees.word n ∷ braced b) ts (begins_left (item_words (record_struct v n b)) more ts s)
+item_first (implemented ms h b) more ts s = first_shows (impl_front ms) (codes "impl") (trees_words (header_trees h) ++ braced b) ts (begins_left (item_words (implemented ms h b)) more ts s)
 item_first (file_module v n) more ts s = first_shows v (codes "mod") (trees.word n ∷ mark 59 ∷ []) ts (begins_left (item_words (file_module v n)) more ts s)
 item_first (used v t) more ts s = first_shows v (codes "use") (use_words t ++ mark 59 ∷ []) ts (begins_left (item_words (used v t)) more ts s)
 item_first (module_of v n is) more ts s = first_shows v (codes "mod") (trees.word n ∷ open_mark 123 ∷ (words is ++ close_mark 125 ∷ [])) ts (begins_left (item_words (module_of v n is)) more ts s)
@@ -95,9 +103,9 @@ next_stops (also i is) ts b e = let first = item_first i (words is) ts b in rw f
 -- ---- items without items
 
 -- what stands behind the front of an item without attributes
-front_of : (v : Scope) (h : Head) (w : List ℕ) (more : List Word) (ts : Tokens) → bytes_eq w (codes "pub") ≡ false → Begins (scope_words v ++ trees.word w ∷ more) ts → Heads h (behind (scope_words v) ts)
-    → (is_at_end ts ≡ false) × (front ts ≡ (front_at (at ts) v h, bumped (behind (scope_words v) ts)))
-front_of v h w more ts e b is = ((first_shows v w more ts b).1.end_is, front_reads v w h more ts e b is)
+front_of : (v : Front) (h : Head) (w : List ℕ) (more : List Word) (ts : Tokens) → length ts.left ≤ most → bytes_eq w (codes "pub") ≡ false → AreModifiers v.modifiers w → Begins (front_words v ++ trees.word w ∷ more) ts → Heads h (behind (front_words v) ts)
+    → (is_at_end ts ≡ false) × (front ts ≡ (front_at (at ts) v h, bumped (behind (front_words v) ts)))
+front_of v h w more ts few e a b is = ((first_shows v w more ts b).1.end_is, front_reads v w h more ts few e a b is)
 
 no_pub_block : (k : BlockKind) → bytes_eq (block_word k) (codes "pub") ≡ false
 no_pub_block functions = refl
@@ -122,66 +130,79 @@ leaf_value aliases = tt
 leaf_value constants = tt
 
 -- behind a visibility, a word and a name
-behind_name : (v : Scope) (w n : List ℕ) (ws : List Word) (ts : Tokens) → behind (scope_words v ++ trees.word w ∷ trees.word n ∷ ws) ts ≡ behind ws (bumped (bumped (behind (scope_words v) ts)))
-behind_name v w n ws ts = behind_append (scope_words v) (trees.word w ∷ trees.word n ∷ ws) ts
+behind_name : (v : Front) (w n : List ℕ) (ws : List Word) (ts : Tokens) → behind (front_words v ++ trees.word w ∷ trees.word n ∷ ws) ts ≡ behind ws (bumped (bumped (behind (front_words v) ts)))
+behind_name v w n ws ts = behind_append (front_words v) (trees.word w ∷ trees.word n ∷ ws) ts
 
-blocked_turns : (left : ℕ) (k : BlockKind) (v : Scope) (n : List ℕ) (h b : Trees) (f : Found) (ts : Tokens) → IsItem left (blocked k v n h b) → Begins (item_words (blocked k v n h b)) ts
+blocked_turns : (left : ℕ) (k : BlockKind) (v : Front) (n : List ℕ) (h b : Trees) (f : Found) (ts : Tokens) → length ts.left ≤ most → IsItem left (blocked k v n h b) → Begins (item_words (blocked k v n h b)) ts
     → goes_on (behind (item_words (blocked k v n h b)) ts) ≡ false → Turns left (item_view (blocked k v n h b)) (item_rows (depth_of left) (blocked k v n h b)) (item_words (blocked k v n h b)) f ts
-blocked_turns left k v n h b f ts is begun e =
+blocked_turns left k v n h b f ts few is begun e =
     let ws = trees_words h ++ braced b in
-    let us = behind (scope_words v) ts in
-    let inner = begins_right (scope_words v) (trees.word (block_word k) ∷ trees.word n ∷ ws) ts begun in
-    let fronts = front_of v (block_head k) (block_word k) (trees.word n ∷ ws) ts (no_pub_block k) begun (block_heads k n us inner.0 inner.1.0) in
+    let us = behind (front_words v) ts in
+    let inner = begins_right (front_words v) (trees.word (block_word k) ∷ trees.word n ∷ ws) ts begun in
+    let fronts = front_of v (block_head k) (block_word k) (trees.word n ∷ ws) ts few (no_pub_block k) is.5 begun (block_heads k n us inner.0 inner.1.0) in
     let next : goes_on (behind ws (bumped (bumped us))) ≡ false = ap goes_on (sym (behind_name v (block_word k) n ws ts)) ∙ e in
     leaf_turns left v (block_head k) (block_word k) n (item_view (blocked k v n h b)) (ast_kind (block_kind k)) (trees.word n ∷ ws) f ts (leaf_block k) fronts.0 fronts.1
     (blocked_reads k v n h b (at ts) (bumped us) is.0 is.1 is.2 is.3 is.4 inner.1.0 inner.1.1 next)
 
-valued_turns : (left : ℕ) (k : ValueKind) (v : Scope) (n : List ℕ) (t : Trees) (f : Found) (ts : Tokens) → IsItem left (valued k v n t) → Begins (item_words (valued k v n t)) ts
+valued_turns : (left : ℕ) (k : ValueKind) (v : Front) (n : List ℕ) (t : Trees) (f : Found) (ts : Tokens) → length ts.left ≤ most → IsItem left (valued k v n t) → Begins (item_words (valued k v n t)) ts
     → Turns left (item_view (valued k v n t)) (item_rows (depth_of left) (valued k v n t)) (item_words (valued k v n t)) f ts
-valued_turns left k v n t f ts is begun =
-    let us = behind (scope_words v) ts in
-    let inner = begins_right (scope_words v) (trees.word (value_word k) ∷ trees.word n ∷ ended t) ts begun in
-    let fronts = front_of v (value_head k) (value_word k) (trees.word n ∷ ended t) ts (no_pub_value k) begun (value_heads k n t us is.3 inner.0 inner.1.0) in
+valued_turns left k v n t f ts few is begun =
+    let us = behind (front_words v) ts in
+    let inner = begins_right (front_words v) (trees.word (value_word k) ∷ trees.word n ∷ ended t) ts begun in
+    let fronts = front_of v (value_head k) (value_word k) (trees.word n ∷ ended t) ts few (no_pub_value k) is.4 begun (value_heads k n t us is.0 is.2 inner.0 inner.1.0 (shows_first t (mark 59) [] (bumped (bumped us)) inner.1.1)) in
     leaf_turns left v (value_head k) (value_word k) n (item_view (valued k v n t)) (value_id k) (trees.word n ∷ ended t) f ts (leaf_value k) fronts.0 fronts.1
     (value_reads k v n t (at ts) (bumped us) is.0 is.1 is.2 is.3 inner.1.0 inner.1.1)
 
-unit_turns : (left : ℕ) (v : Scope) (n : List ℕ) (f : Found) (ts : Tokens) → IsNamed n → Begins (item_words (unit_struct v n)) ts
+unit_turns : (left : ℕ) (v : Front) (n : List ℕ) (f : Found) (ts : Tokens) → length ts.left ≤ most → IsItem left (unit_struct v n) → Begins (item_words (unit_struct v n)) ts
     → Turns left (item_view (unit_struct v n)) (item_rows (depth_of left) (unit_struct v n)) (item_words (unit_struct v n)) f ts
-unit_turns left v n f ts is begun =
-    let us = behind (scope_words v) ts in
-    let inner = begins_right (scope_words v) (trees.word (codes "struct") ∷ trees.word n ∷ ended no_trees) ts begun in
-    let fronts = front_of v heads.Struct (codes "struct") (trees.word n ∷ ended no_trees) ts refl begun (struct_heads us inner.0) in
+unit_turns left v n f ts few is begun =
+    let us = behind (front_words v) ts in
+    let inner = begins_right (front_words v) (trees.word (codes "struct") ∷ trees.word n ∷ ended no_trees) ts begun in
+    let fronts = front_of v heads.Struct (codes "struct") (trees.word n ∷ ended no_trees) ts few refl is.1 begun (struct_heads us inner.0) in
     leaf_turns left v heads.Struct (codes "struct") n (item_view (unit_struct v n)) kind.Struct (trees.word n ∷ ended no_trees) f ts tt fronts.0 fronts.1
-    (unit_reads v n (at ts) (bumped us) is inner.1.0 inner.1.1)
+    (unit_reads v n (at ts) (bumped us) is.0 inner.1.0 inner.1.1)
 
-record_turns : (left : ℕ) (v : Scope) (n : List ℕ) (b : Trees) (f : Found) (ts : Tokens) → IsItem left (record_struct v n b) → Begins (item_words (record_struct v n b)) ts
+record_turns : (left : ℕ) (v : Front) (n : List ℕ) (b : Trees) (f : Found) (ts : Tokens) → length ts.left ≤ most → IsItem left (record_struct v n b) → Begins (item_words (record_struct v n b)) ts
     → goes_on (behind (item_words (record_struct v n b)) ts) ≡ false → Turns left (item_view (record_struct v n b)) (item_rows (depth_of left) (record_struct v n b)) (item_words (record_struct v n b)) f ts
-record_turns left v n b f ts is begun e =
-    let us = behind (scope_words v) ts in
-    let inner = begins_right (scope_words v) (trees.word (codes "struct") ∷ trees.word n ∷ braced b) ts begun in
-    let fronts = front_of v heads.Struct (codes "struct") (trees.word n ∷ braced b) ts refl begun (struct_heads us inner.0) in
+record_turns left v n b f ts few is begun e =
+    let us = behind (front_words v) ts in
+    let inner = begins_right (front_words v) (trees.word (codes "struct") ∷ trees.word n ∷ braced b) ts begun in
+    let fronts = front_of v heads.Struct (codes "struct") (trees.word n ∷ braced b) ts few refl is.2 begun (struct_heads us inner.0) in
     let next : goes_on (behind (braced b) (bumped (bumped us))) ≡ false = ap goes_on (sym (behind_name v (codes "struct") n (braced b) ts)) ∙ e in
     leaf_turns left v heads.Struct (codes "struct") n (item_view (record_struct v n b)) kind.Struct (trees.word n ∷ braced b) f ts tt fronts.0 fronts.1
     (record_reads v n b (at ts) (bumped us) is.0 is.1 inner.1.0 inner.1.1 next)
 
-used_turns : (left : ℕ) (v : Scope) (t : UseTree) (f : Found) (ts : Tokens) → length ts.left ≤ most → IsUse 128 t → Begins (item_words (used v t)) ts
+impl_turns : (left : ℕ) (ms : List (List ℕ)) (h : ImplHeader) (b : Trees) (f : Found) (ts : Tokens) → length ts.left ≤ most → IsItem left (implemented ms h b) → Begins (item_words (implemented ms h b)) ts
+    → goes_on (behind (item_words (implemented ms h b)) ts) ≡ false
+    → Turns left (item_view (implemented ms h b)) (item_rows (depth_of left) (implemented ms h b)) (item_words (implemented ms h b)) f ts
+impl_turns left ms h b f ts few is begun e =
+    let v = impl_front ms in
+    let us = behind (front_words v) ts in
+    let ws = trees_words (header_trees h) ++ braced b in
+    let inner = begins_right (front_words v) (trees.word (codes "impl") ∷ ws) ts begun in
+    let fronts = front_of v heads.Impl (codes "impl") ws ts few refl is.4 begun (impl_heads us inner.0) in
+    let next : goes_on (behind ws (bumped us)) ≡ false = ap goes_on (sym (behind_append (front_words v) (trees.word (codes "impl") ∷ ws) ts)) ∙ e in
+    leaf_turns left v heads.Impl (codes "impl") [] (item_view (implemented ms h b)) kind.Impl ws f ts tt fronts.0 fronts.1
+    (impl_reads ms h b (at ts) (bumped us) is.0 is.1 is.2 is.3 inner.1 next)
+
+used_turns : (left : ℕ) (v : Front) (t : UseTree) (f : Found) (ts : Tokens) → length ts.left ≤ most → IsItem left (used v t) → Begins (item_words (used v t)) ts
     → Turns left (item_view (used v t)) (item_rows (depth_of left) (used v t)) (item_words (used v t)) f ts
 used_turns left v t f ts few is begun =
-    let us = behind (scope_words v) ts in
+    let us = behind (front_words v) ts in
     let ws = use_words t ++ mark 59 ∷ [] in
-    let inner = begins_right (scope_words v) (trees.word (codes "use") ∷ ws) ts begun in
-    let front : length (scope_words v) + length us.left ≡ length ts.left = fewer_left (scope_words v) ts (begins_left (scope_words v) (trees.word (codes "use") ∷ ws) ts begun) in
+    let inner = begins_right (front_words v) (trees.word (codes "use") ∷ ws) ts begun in
+    let front : length (front_words v) + length us.left ≡ length ts.left = fewer_left (front_words v) ts (begins_left (front_words v) (trees.word (codes "use") ∷ ws) ts begun) in
     let one : length (bumped us).left + 1 ≡ length us.left = shorter us inner.0.some in
-    let fronts = front_of v heads.Use (codes "use") ws ts refl begun (use_heads us inner.0) in
+    let fronts = front_of v heads.Use (codes "use") ws ts few refl is.1 begun (use_heads us inner.0) in
     leaf_turns left v heads.Use (codes "use") [] (item_view (used v t)) kind.Use ws f ts tt fronts.0 fronts.1
-    (used_reads v t (at ts) (bumped us) is (omega (arith, front, one, few)) inner.1)
+    (used_reads v t (at ts) (bumped us) is.0 (omega (arith, front, one, few)) inner.1)
 
 -- ---- modules
 
-module_parts : (left start : ℕ) (v : Scope) (m : NameRead) (semicolon : Bool) (b : BlockRead) (inner f : Found) (ts us vs rest : Tokens) → named ts ≡ (m, us) → eat 59 us ≡ (semicolon, vs)
+module_parts : (left start : ℕ) (v : Front) (m : NameRead) (semicolon : Bool) (b : BlockRead) (inner f : Found) (ts us vs rest : Tokens) → named ts ≡ (m, us) → eat 59 us ≡ (semicolon, vs)
     → inside_unless semicolon (inside left start) nothing_found vs ≡ (b, (inner, rest))
     → by_head (inside left) (depth_of left) heads.Module (front_at start v heads.Module) f ts
-    ≡ (Some (module_from (named_node b.attrs m.name (scope_view v) []) semicolon b.items), (and_parent (depth_of left) start rest.past kind.Module m (semicolon || b.is_ended) inner f, rest))
+    ≡ (Some (module_from (named_node b.attrs m.name (front_view v) []) semicolon b.items), (and_parent (depth_of left) start rest.past kind.Module m (semicolon || b.is_ended) inner f, rest))
 module_parts left start v m semicolon b inner f ts us vs rest e g h = rw (e, g, h) refl
 
 eaten : (c : ℕ) (ts : Tokens) → (symbol ts == c) ≡ true → eat c ts ≡ (true, bumped ts)
@@ -201,17 +222,17 @@ block_parts : (start : ℕ) (turn : Finder (Option ItemView)) (list : List ItemV
 block_parts start turn list f f' ts us e g h = rw (e, g, h) refl
 
 -- the front of a module, and its name
-module_turn : (left : ℕ) (v : Scope) (n : List ℕ) (more : List Word) (semicolon : Bool) (b : BlockRead) (inner f : Found) (ts vs rest : Tokens) → IsNamed n
-    → Begins (scope_words v ++ trees.word (codes "mod") ∷ trees.word n ∷ more) ts → eat 59 (bumped (bumped (behind (scope_words v) ts))) ≡ (semicolon, vs)
+module_turn : (left : ℕ) (v : Front) (n : List ℕ) (more : List Word) (semicolon : Bool) (b : BlockRead) (inner f : Found) (ts vs rest : Tokens) → length ts.left ≤ most → IsNamed n → AreModifiers v.modifiers (codes "mod")
+    → Begins (front_words v ++ trees.word (codes "mod") ∷ trees.word n ∷ more) ts → eat 59 (bumped (bumped (behind (front_words v) ts))) ≡ (semicolon, vs)
     → inside_unless semicolon (inside left (at ts)) nothing_found vs ≡ (b, (inner, rest))
     → turn left f ts ≡ (
-      Some (module_from (named_node b.attrs (Some n) (scope_view v) []) semicolon b.items),
-      (and_parent (depth_of left) (at ts) rest.past kind.Module (named_at n (bumped (behind (scope_words v) ts))) (semicolon || b.is_ended) inner f, rest),
+      Some (module_from (named_node b.attrs (Some n) (front_view v) []) semicolon b.items),
+      (and_parent (depth_of left) (at ts) rest.past kind.Module (named_at n (bumped (behind (front_words v) ts))) (semicolon || b.is_ended) inner f, rest),
     )
-module_turn left v n more semicolon b inner f ts vs rest m begun g h =
-    let us = behind (scope_words v) ts in
-    let shown = begins_right (scope_words v) (trees.word (codes "mod") ∷ trees.word n ∷ more) ts begun in
-    let fronts = front_of v heads.Module (codes "mod") (trees.word n ∷ more) ts refl begun (module_heads us shown.0) in
+module_turn left v n more semicolon b inner f ts vs rest few m a begun g h =
+    let us = behind (front_words v) ts in
+    let shown = begins_right (front_words v) (trees.word (codes "mod") ∷ trees.word n ∷ more) ts begun in
+    let fronts = front_of v heads.Module (codes "mod") (trees.word n ∷ more) ts few refl a begun (module_heads us shown.0) in
     turn_behind left (front_at (at ts) v heads.Module) f ts (bumped us) fronts.0 fronts.1
     ∙ module_parts left (at ts) v (named_at n (bumped us)) semicolon b inner f (bumped us) (bumped (bumped us)) vs rest (named_reads n (bumped us) m shown.1.0) g h
 
@@ -220,16 +241,16 @@ parent_rows e depth start end m inner f =
     ap (λ l. l ++ inner.rows) (rows_if e depth start end kind.Module m.hashed m.range f)
     ∙ append_assoc f.rows (row depth kind.Module m.hashed ∷ []) inner.rows
 
-file_turns : (left : ℕ) (v : Scope) (n : List ℕ) (f : Found) (ts : Tokens) → IsNamed n → Begins (item_words (file_module v n)) ts
+file_turns : (left : ℕ) (v : Front) (n : List ℕ) (f : Found) (ts : Tokens) → length ts.left ≤ most → IsItem left (file_module v n) → Begins (item_words (file_module v n)) ts
     → Turns left (item_view (file_module v n)) (item_rows (depth_of left) (file_module v n)) (item_words (file_module v n)) f ts
-file_turns left v n f ts m begun =
-    let us = behind (scope_words v) ts in
+file_turns left v n f ts few is begun =
+    let us = behind (front_words v) ts in
     let name = named_at n (bumped us) in
     let vs = bumped (bumped us) in
-    let shown = begins_right (scope_words v) (trees.word (codes "mod") ∷ trees.word n ∷ mark 59 ∷ []) ts begun in
+    let shown = begins_right (front_words v) (trees.word (codes "mod") ∷ trees.word n ∷ mark 59 ∷ []) ts begun in
     let found = and_parent (depth_of left) (at ts) (bumped vs).past kind.Module name true nothing_found f in (
       found,
-      module_turn left v n (mark 59 ∷ []) true no_block nothing_found f ts (bumped vs) (bumped vs) m begun (eaten 59 vs (ap (λ (c : ℕ). c == 59) shown.1.1.0.symbol_is)) refl
+      module_turn left v n (mark 59 ∷ []) true no_block nothing_found f ts (bumped vs) (bumped vs) few is.0 is.1 begun (eaten 59 vs (ap (λ (c : ℕ). c == 59) shown.1.1.0.symbol_is)) refl
           ∙ ap (λ r. (Some (item_view (file_module v n)), (found, r))) (sym (behind_name v (codes "mod") n (mark 59 ∷ []) ts)),
       parent_rows true (depth_of left) (at ts) (bumped vs).past name nothing_found f,
     )
@@ -286,21 +307,19 @@ one_item is_top left i is rs qs x ws vs f ts b s some t more (suc n) done l =
       rest.2 ∙ ap (λ l. l ++ qs) t.2 ∙ append_assoc f.rows rs qs,
     )
 
-scope_some : (v : Scope) (w : Word) (ws : List Word) → 0 < length (scope_words v ++ w ∷ ws)
-scope_some unwritten w ws = omega arith
-scope_some everywhere w ws = omega arith
-scope_some in_crate w ws = omega arith
-scope_some in_super w ws = omega arith
-scope_some in_self w ws = omega arith
+some_behind : (vs : List Word) (w : Word) (ws : List Word) → 0 < length (vs ++ w ∷ ws)
+some_behind [] w ws = omega arith
+some_behind (v ∷ vs) w ws = omega arith
 
 item_some : (i : Item) → 0 < length (item_words i)
-item_some (blocked k v n h b) = scope_some v (trees.word (block_word k)) (trees.word n ∷ (trees_words h ++ braced b))
-item_some (valued k v n t) = scope_some v (trees.word (value_word k)) (trees.word n ∷ ended t)
-item_some (unit_struct v n) = scope_some v (trees.word (codes "struct")) (trees.word n ∷ ended no_trees)
-item_some (record_struct v n b) = scope_some v (trees.word (codes "struct")) (trees.word n ∷ braced b)
-item_some (file_module v n) = scope_some v (trees.word (codes "mod")) (trees.word n ∷ mark 59 ∷ [])
-item_some (used v t) = scope_some v (trees.word (codes "use")) (use_words t ++ mark 59 ∷ [])
-item_some (module_of v n is) = scope_some v (trees.word (codes "mod")) (trees.word n ∷ open_mark 123 ∷ (words is ++ close_mark 125 ∷ []))
+item_some (blocked k v n h b) = some_behind (front_words v) (trees.word (block_word k)) (trees.word n ∷ (trees_words h ++ braced b))
+item_some (valued k v n t) = some_behind (front_words v) (trees.word (value_word k)) (trees.word n ∷ ended t)
+item_some (unit_struct v n) = some_behind (front_words v) (trees.word (codes "struct")) (trees.word n ∷ ended no_trees)
+item_some (record_struct v n b) = some_behind (front_words v) (trees.word (codes "struct")) (trees.word n ∷ braced b)
+item_some (implemented ms h b) = some_behind (front_words (impl_front ms)) (trees.word (codes "impl")) (trees_words (header_trees h) ++ braced b)
+item_some (file_module v n) = some_behind (front_words v) (trees.word (codes "mod")) (trees.word n ∷ mark 59 ∷ [])
+item_some (used v t) = some_behind (front_words v) (trees.word (codes "use")) (use_words t ++ mark 59 ∷ [])
+item_some (module_of v n is) = some_behind (front_words v) (trees.word (codes "mod")) (trees.word n ∷ open_mark 123 ∷ (words is ++ close_mark 125 ∷ []))
 
 -- before a module's items, and behind them
 inner_of : (is : Items) (anchor : ℕ) (ts : Tokens) → Begins (words is ++ close_mark 125 ∷ []) ts → inner_attributes anchor ts ≡ ([], ts)
@@ -320,29 +339,29 @@ finding_all : (left : ℕ) (f : Found) (ts : Tokens) → finding (is_list_end fa
 unfolding finding
 finding_all left f ts = refl
 
-behind_few : (v : Scope) (n : List ℕ) (more : List Word) (ts : Tokens) → length ts.left ≤ most → Begins (scope_words v ++ trees.word (codes "mod") ∷ trees.word n ∷ open_mark 123 ∷ more) ts
-    → length (bumped (bumped (bumped (behind (scope_words v) ts)))).left ≤ most
+behind_few : (v : Front) (n : List ℕ) (more : List Word) (ts : Tokens) → length ts.left ≤ most → Begins (front_words v ++ trees.word (codes "mod") ∷ trees.word n ∷ open_mark 123 ∷ more) ts
+    → length (bumped (bumped (bumped (behind (front_words v) ts)))).left ≤ most
 behind_few v n more ts few b =
-    let us = behind (scope_words v) ts in
+    let us = behind (front_words v) ts in
     let tail = trees.word (codes "mod") ∷ trees.word n ∷ open_mark 123 ∷ more in
-    let shown = begins_right (scope_words v) tail ts b in
-    let front : length (scope_words v) + length us.left ≡ length ts.left = fewer_left (scope_words v) ts (begins_left (scope_words v) tail ts b) in
+    let shown = begins_right (front_words v) tail ts b in
+    let front : length (front_words v) + length us.left ≡ length ts.left = fewer_left (front_words v) ts (begins_left (front_words v) tail ts b) in
     let one : length (bumped us).left + 1 ≡ length us.left = shorter us shown.0.some in
     let two : length (bumped (bumped us)).left + 1 ≡ length (bumped us).left = shorter (bumped us) shown.1.0.some in
     let three : length (bumped (bumped (bumped us))).left + 1 ≡ length (bumped (bumped us)).left = shorter (bumped (bumped us)) shown.1.1.0.some in
     omega (arith, few, front, one, two, three)
 
 -- a module of items that are found
-listed_turns : (left : ℕ) (v : Scope) (n : List ℕ) (is : Items) (f : Found) (ts : Tokens) → suc left ≤ 128 → length ts.left ≤ most → IsNamed n → Begins (item_words (module_of v n is)) ts
+listed_turns : (left : ℕ) (v : Front) (n : List ℕ) (is : Items) (f : Found) (ts : Tokens) → suc left ≤ 128 → length ts.left ≤ most → IsNamed n → AreModifiers v.modifiers (codes "mod") → Begins (item_words (module_of v n is)) ts
     → ((us : Tokens) → length us.left ≤ most → Begins (words is ++ close_mark 125 ∷ []) us → Finds false left (views is) (rows (depth_of left) is) (words is) nothing_found us)
     → Turns (suc left) (item_view (module_of v n is)) (item_rows (depth_of (suc left)) (module_of v n is)) (item_words (module_of v n is)) f ts
-listed_turns left v n is f ts deep few m begun found =
+listed_turns left v n is f ts deep few m a begun found =
     let tail = words is ++ close_mark 125 ∷ [] in
-    let us = behind (scope_words v) ts in
+    let us = behind (front_words v) ts in
     let name = named_at n (bumped us) in
     let vs = bumped (bumped us) in
     let mid = bumped vs in
-    let shown = begins_right (scope_words v) (trees.word (codes "mod") ∷ trees.word n ∷ open_mark 123 ∷ tail) ts begun in
+    let shown = begins_right (front_words v) (trees.word (codes "mod") ∷ trees.word n ∷ open_mark 123 ∷ tail) ts begun in
     let brace : Shows (open_mark 123) vs = shown.1.1.0 in
     let within : Begins tail mid = shown.1.1.1 in
     let end = behind (words is) mid in
@@ -357,7 +376,7 @@ listed_turns left v n is f ts deep few m begun found =
     let rest : bumped end ≡ behind (item_words (module_of v n is)) ts =
     sym (behind_name v (codes "mod") n (open_mark 123 ∷ tail) ts ∙ behind_append (words is) (close_mark 125 ∷ []) mid) in (
       all,
-      module_turn (suc left) v n (open_mark 123 ∷ tail) false block list.0 f ts vs (bumped end) m begun (uneaten 59 vs (ap (λ (c : ℕ). c == 59) brace.symbol_is)) held
+      module_turn (suc left) v n (open_mark 123 ∷ tail) false block list.0 f ts vs (bumped end) few m a begun (uneaten 59 vs (ap (λ (c : ℕ). c == 59) brace.symbol_is)) held
           ∙ ap (λ r. (Some (item_view (module_of v n is)), (all, r))) rest,
       parent_rows true (depth_of (suc left)) (at ts) (bumped end).past name list.0 f
           ∙ ap (λ l. f.rows ++ row (depth_of (suc left)) kind.Module n ∷ l) (list.2 ∙ ap (λ d. rows d is) (deeper left deep)),
@@ -366,15 +385,16 @@ listed_turns left v n is f ts deep few m begun found =
 mutual
   turn_reads : (i : Item) (left : ℕ) (f : Found) (ts : Tokens) → left ≤ 128 → length ts.left ≤ most → IsItem left i → Begins (item_words i) ts → goes_on (behind (item_words i) ts) ≡ false
       → Turns left (item_view i) (item_rows (depth_of left) i) (item_words i) f ts
-  turn_reads (blocked k v n h b) left f ts deep few is begun e = blocked_turns left k v n h b f ts is begun e
-  turn_reads (valued k v n t) left f ts deep few is begun e = valued_turns left k v n t f ts is begun
-  turn_reads (unit_struct v n) left f ts deep few is begun e = unit_turns left v n f ts is begun
-  turn_reads (record_struct v n b) left f ts deep few is begun e = record_turns left v n b f ts is begun e
-  turn_reads (file_module v n) left f ts deep few is begun e = file_turns left v n f ts is begun
+  turn_reads (blocked k v n h b) left f ts deep few is begun e = blocked_turns left k v n h b f ts few is begun e
+  turn_reads (valued k v n t) left f ts deep few is begun e = valued_turns left k v n t f ts few is begun
+  turn_reads (unit_struct v n) left f ts deep few is begun e = unit_turns left v n f ts few is begun
+  turn_reads (record_struct v n b) left f ts deep few is begun e = record_turns left v n b f ts few is begun e
+  turn_reads (implemented ms h b) left f ts deep few is begun e = impl_turns left ms h b f ts few is begun e
+  turn_reads (file_module v n) left f ts deep few is begun e = file_turns left v n f ts few is begun
   turn_reads (used v t) left f ts deep few is begun e = used_turns left v t f ts few is begun
   turn_reads (module_of v n is) zero f ts deep few i begun e = absurd i
   turn_reads (module_of v n is) (suc left) f ts deep few i begun e =
-      listed_turns left v n is f ts deep few i.0 begun (λ us l b. let shut = (begins_right (words is) (close_mark 125 ∷ []) us b).0 in
+      listed_turns left v n is f ts deep few i.0 i.2 begun (λ us l b. let shut = (begins_right (words is) (close_mark 125 ∷ []) us b).0 in
       finds_reads is false left nothing_found us (omega arith) l i.1 (begins_left (words is) (close_mark 125 ∷ []) us b) (closes_list (behind (words is) us) shut) (closes_item (behind (words is) us) shut))
 
   pub finds_reads : (is : Items) (is_top : Bool) (left : ℕ) (f : Found) (ts : Tokens) → left ≤ 128 → length ts.left ≤ most → AreItems left is → Begins (words is) ts

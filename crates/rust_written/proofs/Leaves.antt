@@ -1,24 +1,25 @@
 -- Items that hold no items.
 use Rattle.std.proofs.Common.{◌≤◌, length, ◌≡◌, ℕ, ◌==◌, ◌||◌, Bool, true, false, Option, Some, None, List, [], ◌∷◌, ◌++◌, codes, refl, ap, ◌∙◌, sym}
+use Rattle.std.specs.Prelude.{is_some}
 use Rattle.std.specs.Str.{bytes_eq}
 use Rattle.rust_lexer.proofs.Counted.{when}
 use Rattle.hir_input.specs.declared.ids.AstIdKind.{AstIdKind}
 use Rattle.hir_input.specs.declared.ids.AstIdKind.TheVariants as kind
 use Rattle.hir_input.specs.declared.ast.Visibility.{Visibility}
-use Rattle.hir_input.specs.Syntax.{ItemView, PlainKind, fn_kind, union_kind, enum_kind, static_kind, trait_kind, type_alias_kind, ast_kind, plain_item, const_item, struct_item, FieldsView, no_fields, record_fields}
+use Rattle.hir_input.specs.Syntax.{ItemView, PlainKind, fn_kind, union_kind, enum_kind, static_kind, trait_kind, type_alias_kind, ast_kind, plain_item, const_item, struct_item, impl_item, FieldsView, no_fields, record_fields}
 use Rattle.std.proofs.lemmas.Slice.Eq.{bytes_eq-Decides}
 use Rattle.rust_paths.specs.Names.{plain_name, is_strict_keyword}
 use Rattle.rust_paths.specs.declared.names.TextRange.{TextRange}
 use Rattle.rust_cursor.specs.Tokens.{Tokens}
 use Rattle.rust_cursor.specs.Reader.{Reader}
 use Rattle.rust_cursor.specs.Words.{symbol, word, bumped, documents, eat_word}
-use Rattle.rust_cursor.specs.Extents.{goes_on, item_rest, value_rest}
+use Rattle.rust_cursor.specs.Extents.{ExcerptRead, goes_on, item_rest, value_rest}
 use Rattle.rust_cursor.specs.Angles.{behind_angles, to_block}
 use Rattle.rust_metas.specs.Attributes.{inner_attributes}
 use Rattle.rust_leaves.specs.declared.head.Head.{Head}
 use Rattle.rust_leaves.specs.declared.head.Head.TheVariants as heads
-use Rattle.rust_leaves.specs.Leaves.{NameRead, RestRead, named, item_end, value_end, block_attributes, fields_at, struct_fields}
-use Rattle.rust_leaves.specs.Kinds.{named_node, plain_read, leaf_read, function, block_item, union_item, enumeration, trait_item, type_alias, static_value, constant, structure, leaf}
+use Rattle.rust_leaves.specs.Leaves.{NameRead, RestRead, no_name, named, has_trait, item_end, value_end, block_attributes, fields_at, struct_fields}
+use Rattle.rust_leaves.specs.Kinds.{named_node, plain_read, leaf_read, function, block_item, union_item, enumeration, trait_item, type_alias, static_value, constant, structure, implementation, leaf}
 use Rattle.hir_input.specs.UseTreeView.{UseTreeView}
 use Rattle.hir_input.specs.Syntax.{use_item}
 use Rattle.rust_cursor.specs.Words.{eat}
@@ -29,28 +30,33 @@ use Rattle.rust_leaves.specs.Kinds.{node, use_read, use_declaration}
 use Rattle.rust_written.specs.UseTrees.{UseTree, use_words, use_view, IsUse}
 use Rattle.rust_written.proofs.Uses.{IsUseEnd, use_reads}
 use Rattle.rust_round.specs.Words.{Word}
-use Rattle.rust_round.specs.Trees.{Trees, no_trees, mark, curly, open_of, close_of, first_of, trees_words, AreTrees, GoesOn, spaced}
+use Rattle.rust_round.specs.Trees.{Trees, no_trees, mark, curly, open_of, close_of, first_of, trees_words, AreTrees, GoesOn, AreClosed, spaced}
+use Rattle.rust_round.specs.Impls.{ImplHeader, header_trees, IsImplHeader}
 use Rattle.rust_round.specs.Trees as trees
 use Rattle.rust_round.proofs.Begins.{Shows, Begins, behind, behind_append, begins_left, begins_right}
-use Rattle.rust_round.proofs.Passed.{shows_first}
-use Rattle.rust_round.proofs.Ends.{item_semicolon, value_semicolon, item_block}
+use Rattle.rust_round.proofs.Same.{shows_first}
+use Rattle.rust_round.proofs.Ends.{whole, item_semicolon, value_semicolon, item_block}
 use Rattle.rust_round.proofs.Reaching.{to_block_header}
-use Rattle.rust_written.specs.Written.{Scope, scope_view, BlockKind, functions, unions, enums, traits, block_kind, ValueKind, statics, aliases, constants, value_item, value_id, braced, ended, named_by, IsNamed, IsFunction, IsOfKind, IsValue}
-use Rattle.rust_written.proofs.Fronts.{inner_none, named_at, named_reads, front_at, block_head, value_head}
+use Rattle.rust_round.proofs.Impls.{impl_header_read}
+use Rattle.rust_written.specs.Written.{Front, impl_front, front_view, BlockKind, functions, unions, enums, traits, block_kind, ValueKind, statics, aliases, constants, value_item, value_id, braced, ended, named_by, IsNamed, IsPlainBlock, IsOfKind, IsValue}
+use Rattle.rust_written.proofs.Fronts.{inner_none, no_keyword, named_at, named_reads, front_at, block_head, value_head}
 
 -- ---- ends
 
 -- how an item's rest is read
 abbrev pub Ends : Reader RestRead → List Word → Tokens → Type 0
-Ends reader ws ts = (e : Bool) × (reader ts ≡ (record { body = spaced ws; is_ended = e }, behind ws ts))
+Ends reader ws ts = reader ts ≡ (record { body = spaced ws; is_ended = true }, behind ws ts)
 
-item_ends : (ws : List Word) (ts : Tokens) → item_rest ts ≡ (spaced ws, behind ws ts) → Ends item_end ws ts
-unfolding item_end
-item_ends ws ts e = ((item_end ts).0.is_ended, ap (λ r. (record { body = r.0; is_ended = (item_end ts).0.is_ended }, r.1)) e)
+rest_of : ExcerptRead → RestRead
+rest_of r = record { body = r.text; is_ended = r.is_ended }
 
-value_ends : (ws : List Word) (ts : Tokens) → value_rest ts ≡ (spaced ws, behind ws ts) → Ends value_end ws ts
-unfolding value_end
-value_ends ws ts e = ((value_end ts).0.is_ended, ap (λ r. (record { body = r.0; is_ended = (value_end ts).0.is_ended }, r.1)) e)
+item_ends : (ws : List Word) (ts : Tokens) → item_rest ts ≡ (whole (spaced ws), behind ws ts) → Ends item_end ws ts
+unfolding item_end rest_of
+item_ends ws ts e = ap (λ r. (rest_of r.0, r.1)) e
+
+value_ends : (ws : List Word) (ts : Tokens) → value_rest ts ≡ (whole (spaced ws), behind ws ts) → Ends value_end ws ts
+unfolding value_end rest_of
+value_ends ws ts e = ap (λ r. (rest_of r.0, r.1)) e
 
 pub block_ends : (h b : Trees) (ts : Tokens) → AreTrees h → AreTrees b → GoesOn false h (open_of curly) → Begins (trees_words h ++ braced b) ts → goes_on (behind (trees_words h ++ braced b) ts) ≡ false
     → Ends item_end (trees_words h ++ braced b) ts
@@ -65,9 +71,9 @@ values_end t ts h g b = value_ends (ended t) ts (value_semicolon t ts h g b)
 -- ---- a leaf
 
 -- behind its front, an item without items is read as this, and these words are taken
-abbrev pub Reads : Head → Scope → ℕ → ItemView → AstIdKind → List ℕ → List Word → Tokens → Type 0
+abbrev pub Reads : Head → Front → ℕ → ItemView → AstIdKind → List ℕ → List Word → Tokens → Type 0
 Reads h v start item kind n ws ts =
-    (range : Option TextRange) × (e : Bool) × (leaf (front_at start v h) ts ≡ (Some (record { item = item; kind = kind; name = n; named = range; is_ended = e; too_deep = None }), behind ws ts))
+    (range : Option TextRange) × (leaf (front_at start v h) ts ≡ (Some (record { item = item; kind = kind; name = n; named = range; is_ended = true; too_deep = None }), behind ws ts))
 
 -- ---- functions, unions, enums and traits
 
@@ -79,40 +85,62 @@ plain_parts : (a b : Bool) → (a || b) ≡ false → (a ≡ false) × (b ≡ fa
 plain_parts true b e = absurd cc
 plain_parts false b e = (refl, e)
 
-no_inner : (start : ℕ) (h b : Trees) (ts : Tokens) → AreTrees h → GoesOn false h (open_of curly) → IsFunction h b → Begins (trees_words h ++ braced b) ts → block_attributes start ts ≡ []
-no_inner start h b ts i g f begun =
+no_inner : (start : ℕ) (h b : Trees) (ts : Tokens) → AreTrees h → GoesOn false h (open_of curly) → AreClosed h → IsPlainBlock b → Begins (trees_words h ++ braced b) ts → block_attributes start ts ≡ []
+no_inner start h b ts i g c p begun =
     let us = behind (trees_words h) ts in
     let inside : Begins (trees_words b ++ close_of curly ∷ []) (bumped us) = (begins_right (trees_words h) (braced b) ts begun).1 in
     let first : Shows (first_of b (close_of curly)) (bumped us) = shows_first b (close_of curly) [] (bumped us) inside in
-    let plain = plain_parts (trees.symbol_of (first_of b (close_of curly)) == 35) (documents (first_of b (close_of curly)).kind) f.body in
-    inner_at start ts us (to_block_header h (trees_words b ++ close_of curly ∷ []) ts i g f.clear f.closed begun)
+    let plain = plain_parts (trees.symbol_of (first_of b (close_of curly)) == 35) (documents (first_of b (close_of curly)).kind) p in
+    inner_at start ts us (to_block_header h (trees_words b ++ close_of curly ∷ []) ts i g c begun)
     (inner_none start (first_of b (close_of curly)) (bumped us) first plain.1 plain.0)
 
 function_reads : (start : ℕ) (v : Option Visibility) (n : NameRead) (ws : List Word) (ts us : Tokens) → named ts ≡ (n, us) → block_attributes start us ≡ [] → (e : Ends item_end ws us)
-    → function start [] v ts ≡ (plain_read fn_kind [] v n (record { body = spaced ws; is_ended = e.0 }), behind ws us)
+    → function start [] v ts ≡ (plain_read fn_kind [] v n (record { body = spaced ws; is_ended = true }), behind ws us)
 unfolding function
-function_reads start v n ws ts us m i e = rw (m, i, e.1) refl
+function_reads start v n ws ts us m i e = rw (m, i, e) refl
 
 block_reads : (k : PlainKind) (v : Option Visibility) (n : NameRead) (ws : List Word) (ts us : Tokens) → named ts ≡ (n, us) → (e : Ends item_end ws us)
-    → block_item k [] v ts ≡ (plain_read k [] v n (record { body = spaced ws; is_ended = e.0 }), behind ws us)
-block_reads k v n ws ts us m e = rw (m, e.1) refl
+    → block_item k [] v ts ≡ (plain_read k [] v n (record { body = spaced ws; is_ended = true }), behind ws us)
+block_reads k v n ws ts us m e = rw (m, e) refl
 
-pub blocked_reads : (k : BlockKind) (v : Scope) (n : List ℕ) (h b : Trees) (start : ℕ) (ts : Tokens) → IsNamed n → AreTrees h → AreTrees b → GoesOn false h (open_of curly) → IsOfKind k h b
+pub blocked_reads : (k : BlockKind) (v : Front) (n : List ℕ) (h b : Trees) (start : ℕ) (ts : Tokens) → IsNamed n → AreTrees h → AreTrees b → GoesOn false h (open_of curly) → IsOfKind k h b
     → Shows (trees.word n) ts → Begins (trees_words h ++ braced b) (bumped ts) → goes_on (behind (trees_words h ++ braced b) (bumped ts)) ≡ false
     → Reads (block_head k) v start (plain_item (block_kind k) (named_by v n (trees_words h ++ braced b))) (ast_kind (block_kind k)) n (trees.word n ∷ (trees_words h ++ braced b)) ts
 unfolding leaf union_item enumeration trait_item
 blocked_reads functions v n h b start ts m i j g f s begun e =
     let ends = block_ends h b (bumped ts) i j g begun e in
-    ((named_at n ts).range, ends.0, ap (λ r. (Some r.0, r.1)) (function_reads start (scope_view v) (named_at n ts) (trees_words h ++ braced b) ts (bumped ts) (named_reads n ts m s) (no_inner start h b (bumped ts) i g f begun) ends))
+    ((named_at n ts).range, ap (λ r. (Some r.0, r.1)) (function_reads start (front_view v) (named_at n ts) (trees_words h ++ braced b) ts (bumped ts) (named_reads n ts m s) (no_inner start h b (bumped ts) i g f.0 f.1 begun) ends))
 blocked_reads unions v n h b start ts m i j g f s begun e =
     let ends = block_ends h b (bumped ts) i j g begun e in
-    ((named_at n ts).range, ends.0, ap (λ r. (Some r.0, r.1)) (block_reads union_kind (scope_view v) (named_at n ts) (trees_words h ++ braced b) ts (bumped ts) (named_reads n ts m s) ends))
+    ((named_at n ts).range, ap (λ r. (Some r.0, r.1)) (block_reads union_kind (front_view v) (named_at n ts) (trees_words h ++ braced b) ts (bumped ts) (named_reads n ts m s) ends))
 blocked_reads enums v n h b start ts m i j g f s begun e =
     let ends = block_ends h b (bumped ts) i j g begun e in
-    ((named_at n ts).range, ends.0, ap (λ r. (Some r.0, r.1)) (block_reads enum_kind (scope_view v) (named_at n ts) (trees_words h ++ braced b) ts (bumped ts) (named_reads n ts m s) ends))
+    ((named_at n ts).range, ap (λ r. (Some r.0, r.1)) (block_reads enum_kind (front_view v) (named_at n ts) (trees_words h ++ braced b) ts (bumped ts) (named_reads n ts m s) ends))
 blocked_reads traits v n h b start ts m i j g f s begun e =
     let ends = block_ends h b (bumped ts) i j g begun e in
-    ((named_at n ts).range, ends.0, ap (λ r. (Some r.0, r.1)) (block_reads trait_kind (scope_view v) (named_at n ts) (trees_words h ++ braced b) ts (bumped ts) (named_reads n ts m s) ends))
+    ((named_at n ts).range, ap (λ r. (Some r.0, r.1)) (block_reads trait_kind (front_view v) (named_at n ts) (trees_words h ++ braced b) ts (bumped ts) (named_reads n ts m s) ends))
+
+-- ---- impls
+
+impl_steps : (start : ℕ) (is_trait : Bool) (ws : List Word) (ts : Tokens) → has_trait ts ≡ is_trait → block_attributes start ts ≡ [] → Ends item_end ws ts
+    → implementation start [] ts ≡ (leaf_read (impl_item (node [] (spaced ws)) is_trait) kind.Impl no_name true, behind ws ts)
+unfolding implementation
+impl_steps start is_trait ws ts t i e = rw (t, i, e) refl
+
+trait_is : (h : ImplHeader) (more : List Word) (ts : Tokens) → AreTrees (header_trees h) → IsImplHeader h → Begins (trees_words (header_trees h) ++ open_of curly ∷ more) ts → has_trait ts ≡ is_some h.of_trait
+unfolding has_trait
+trait_is h more ts a is b = impl_header_read h more ts a is b
+
+pub impl_reads : (ms : List (List ℕ)) (h : ImplHeader) (b : Trees) (start : ℕ) (ts : Tokens) → AreTrees (header_trees h) → AreTrees b → IsImplHeader h → IsPlainBlock b → Begins (trees_words (header_trees h) ++ braced b) ts
+    → goes_on (behind (trees_words (header_trees h) ++ braced b) ts) ≡ false
+    → Reads heads.Impl (impl_front ms) start (impl_item (node [] (spaced (trees_words (header_trees h) ++ braced b))) (is_some h.of_trait)) kind.Impl [] (trees_words (header_trees h) ++ braced b) ts
+unfolding leaf
+impl_reads ms h b start ts i j is p begun e =
+    let t = header_trees h in (
+      None,
+      ap (λ r. (Some r.0, r.1)) (impl_steps start (is_some h.of_trait) (trees_words t ++ braced b) ts (trait_is h (trees_words b ++ close_of curly ∷ []) ts i is begun)
+          (no_inner start t b ts i is.goes is.closed p begun) (block_ends t b ts i j is.goes begun e)),
+    )
 
 -- ---- statics, type aliases and constants
 
@@ -122,41 +150,38 @@ no_eat w v ts e f = rw (e, f) refl
 
 not_mut : (n : List ℕ) → IsNamed n → bytes_eq n (codes "mut") ≡ false
 unfolding plain_name is_strict_keyword
-not_mut n m =
-    when (bytes_eq n (codes "mut"))
-    (λ e. let same : n ≡ codes "mut" = (bytes_eq-Decides n (codes "mut")).0 e in absurd (let none : plain_name (codes "mut") ≡ Some n = ap plain_name (sym same) ∙ m.plain in cc))
-    (λ e. e)
+not_mut n m = no_keyword (codes "mut") n m refl
 
 static_steps : (v : Option Visibility) (n : NameRead) (ws : List Word) (ts us : Tokens) → eat_word (codes "mut") ts ≡ (false, ts) → named ts ≡ (n, us) → (e : Ends value_end ws us)
-    → static_value [] v ts ≡ (plain_read static_kind [] v n (record { body = spaced ws; is_ended = e.0 }), behind ws us)
+    → static_value [] v ts ≡ (plain_read static_kind [] v n (record { body = spaced ws; is_ended = true }), behind ws us)
 unfolding static_value
-static_steps v n ws ts us w m e = rw (w, m, e.1) refl
+static_steps v n ws ts us w m e = rw (w, m, e) refl
 
 alias_steps : (v : Option Visibility) (n : NameRead) (ws : List Word) (ts us : Tokens) → named ts ≡ (n, us) → (e : Ends value_end ws us)
-    → type_alias [] v ts ≡ (plain_read type_alias_kind [] v n (record { body = spaced ws; is_ended = e.0 }), behind ws us)
+    → type_alias [] v ts ≡ (plain_read type_alias_kind [] v n (record { body = spaced ws; is_ended = true }), behind ws us)
 unfolding type_alias
-alias_steps v n ws ts us m e = rw (m, e.1) refl
+alias_steps v n ws ts us m e = rw (m, e) refl
 
 const_steps : (v : Option Visibility) (n : NameRead) (ws : List Word) (ts us : Tokens) → named ts ≡ (n, us) → eat_word (codes "_") us ≡ (false, us) → (e : Ends value_end ws us)
-    → constant [] v ts ≡ (leaf_read (const_item (named_node [] n.name v (spaced ws))) kind.Const n e.0, behind ws us)
+    → constant [] v ts ≡ (leaf_read (const_item (named_node [] n.name v (spaced ws))) kind.Const n true, behind ws us)
 unfolding constant
-const_steps v n ws ts us m w e = rw (m, w, e.1) refl
+const_steps v n ws ts us m w e = rw (m, w, e) refl
 
-pub value_reads : (k : ValueKind) (v : Scope) (n : List ℕ) (t : Trees) (start : ℕ) (ts : Tokens) → IsNamed n → AreTrees t → GoesOn true t (mark 59) → IsValue k n t → Shows (trees.word n) ts
+pub value_reads : (k : ValueKind) (v : Front) (n : List ℕ) (t : Trees) (start : ℕ) (ts : Tokens) → IsNamed n → AreTrees t → GoesOn true t (mark 59) → IsValue k t → Shows (trees.word n) ts
     → Begins (ended t) (bumped ts) → Reads (value_head k) v start (value_item k (named_by v n (ended t))) (value_id k) n (trees.word n ∷ ended t) ts
 unfolding leaf
 value_reads aliases v n t start ts m i g u s b =
     let ends = values_end t (bumped ts) i g b in
-    ((named_at n ts).range, ends.0, ap (λ r. (Some r.0, r.1)) (alias_steps (scope_view v) (named_at n ts) (ended t) ts (bumped ts) (named_reads n ts m s) ends))
+    ((named_at n ts).range, ap (λ r. (Some r.0, r.1)) (alias_steps (front_view v) (named_at n ts) (ended t) ts (bumped ts) (named_reads n ts m s) ends))
 value_reads statics v n t start ts m i g u s b =
     let ends = values_end t (bumped ts) i g b in
     let no_word = no_eat (codes "mut") n ts s.word_is (not_mut n m) in
-    ((named_at n ts).range, ends.0, ap (λ r. (Some r.0, r.1)) (static_steps (scope_view v) (named_at n ts) (ended t) ts (bumped ts) no_word (named_reads n ts m s) ends))
+    ((named_at n ts).range, ap (λ r. (Some r.0, r.1)) (static_steps (front_view v) (named_at n ts) (ended t) ts (bumped ts) no_word (named_reads n ts m s) ends))
 value_reads constants v n t start ts m i g u s b =
     let ends = values_end t (bumped ts) i g b in
     let first : Shows (first_of t (mark 59)) (bumped ts) = shows_first t (mark 59) [] (bumped ts) b in
-    let no_word = no_eat (codes "_") (trees.text_of (first_of t (mark 59))) (bumped ts) first.word_is u.1 in
-    ((named_at n ts).range, ends.0, ap (λ r. (Some r.0, r.1)) (const_steps (scope_view v) (named_at n ts) (ended t) ts (bumped ts) (named_reads n ts m s) no_word ends))
+    let no_word = no_eat (codes "_") (trees.text_of (first_of t (mark 59))) (bumped ts) first.word_is u in
+    ((named_at n ts).range, ap (λ r. (Some r.0, r.1)) (const_steps (front_view v) (named_at n ts) (ended t) ts (bumped ts) (named_reads n ts m s) no_word ends))
 
 -- ---- structs
 
@@ -175,21 +200,21 @@ block_fields : (ts : Tokens) → Shows (open_of curly) ts → struct_fields ts �
 block_fields ts s = fields_behind (open_of curly) ts s refl ∙ rw s.symbol_is refl
 
 struct_steps : (v : Option Visibility) (n : NameRead) (shape : FieldsView) (ws : List Word) (ts us : Tokens) → named ts ≡ (n, us) → struct_fields us ≡ shape → (e : Ends item_end ws us)
-    → structure [] v ts ≡ (leaf_read (struct_item (named_node [] n.name v (spaced ws)) shape) kind.Struct n e.0, behind ws us)
+    → structure [] v ts ≡ (leaf_read (struct_item (named_node [] n.name v (spaced ws)) shape) kind.Struct n true, behind ws us)
 unfolding structure
-struct_steps v n shape ws ts us m f e = rw (m, f, e.1) refl
+struct_steps v n shape ws ts us m f e = rw (m, f, e) refl
 
-pub struct_reads : (v : Scope) (n : List ℕ) (shape : FieldsView) (ws : List Word) (start : ℕ) (ts : Tokens) → IsNamed n → Shows (trees.word n) ts → struct_fields (bumped ts) ≡ shape → Ends item_end ws (bumped ts)
+pub struct_reads : (v : Front) (n : List ℕ) (shape : FieldsView) (ws : List Word) (start : ℕ) (ts : Tokens) → IsNamed n → Shows (trees.word n) ts → struct_fields (bumped ts) ≡ shape → Ends item_end ws (bumped ts)
     → Reads heads.Struct v start (struct_item (named_by v n ws) shape) kind.Struct n (trees.word n ∷ ws) ts
 unfolding leaf
 struct_reads v n shape ws start ts m s f ends =
-    ((named_at n ts).range, ends.0, ap (λ r. (Some r.0, r.1)) (struct_steps (scope_view v) (named_at n ts) shape ws ts (bumped ts) (named_reads n ts m s) f ends))
+    ((named_at n ts).range, ap (λ r. (Some r.0, r.1)) (struct_steps (front_view v) (named_at n ts) shape ws ts (bumped ts) (named_reads n ts m s) f ends))
 
-pub unit_reads : (v : Scope) (n : List ℕ) (start : ℕ) (ts : Tokens) → IsNamed n → Shows (trees.word n) ts → Begins (ended no_trees) (bumped ts)
+pub unit_reads : (v : Front) (n : List ℕ) (start : ℕ) (ts : Tokens) → IsNamed n → Shows (trees.word n) ts → Begins (ended no_trees) (bumped ts)
     → Reads heads.Struct v start (struct_item (named_by v n (ended no_trees)) no_fields) kind.Struct n (trees.word n ∷ ended no_trees) ts
 unit_reads v n start ts m s b = struct_reads v n no_fields (ended no_trees) start ts m s (unit_fields (bumped ts) b.0) (semicolon_ends (bumped ts) b)
 
-pub record_reads : (v : Scope) (n : List ℕ) (b : Trees) (start : ℕ) (ts : Tokens) → IsNamed n → AreTrees b → Shows (trees.word n) ts → Begins (braced b) (bumped ts) → goes_on (behind (braced b) (bumped ts)) ≡ false
+pub record_reads : (v : Front) (n : List ℕ) (b : Trees) (start : ℕ) (ts : Tokens) → IsNamed n → AreTrees b → Shows (trees.word n) ts → Begins (braced b) (bumped ts) → goes_on (behind (braced b) (bumped ts)) ≡ false
     → Reads heads.Struct v start (struct_item (named_by v n (braced b)) record_fields) kind.Struct n (trees.word n ∷ braced b) ts
 record_reads v n b start ts m i s begun e =
     struct_reads v n record_fields (braced b) start ts m s (block_fields (bumped ts) begun.0) (block_ends no_trees b (bumped ts) tt i tt begun e)
@@ -204,15 +229,14 @@ eaten : (ts : Tokens) → Shows (mark 59) ts → eat 59 ts ≡ (true, bumped ts)
 unfolding eat
 eaten ts s = rw s.symbol_is refl
 
-pub used_reads : (v : Scope) (t : UseTree) (start : ℕ) (ts : Tokens) → IsUse 128 t → length ts.left ≤ most → Begins (use_words t ++ mark 59 ∷ []) ts
-    → Reads heads.Use v start (use_item (record { node = node [] []; visibility = scope_view v; use_tree = Some (use_view t) })) kind.Use [] (use_words t ++ mark 59 ∷ []) ts
+pub used_reads : (v : Front) (t : UseTree) (start : ℕ) (ts : Tokens) → IsUse 128 t → length ts.left ≤ most → Begins (use_words t ++ mark 59 ∷ []) ts
+    → Reads heads.Use v start (use_item (record { node = node [] []; visibility = front_view v; use_tree = Some (use_view t) })) kind.Use [] (use_words t ++ mark 59 ∷ []) ts
 unfolding leaf
 used_reads v t start ts h l b =
     let us = behind (use_words t) ts in
     let last : Shows (mark 59) us = (begins_right (use_words t) (mark 59 ∷ []) ts b).0 in
     let end : IsUseEnd us = record { colon = rw last.symbol_is refl; word = last.word_is } in (
       None,
-      true,
-      ap (λ r. (Some r.0, r.1)) (use_steps (scope_view v) (use_spec.whole (Some (use_view t))) true ts us (bumped us) (use_reads t ts h l (begins_left (use_words t) (mark 59 ∷ []) ts b) end) (eaten us last))
-          ∙ ap (λ k. (Some (use_read [] (scope_view v) (use_spec.whole (Some (use_view t))) true), k)) (sym (behind_append (use_words t) (mark 59 ∷ []) ts)),
+      ap (λ r. (Some r.0, r.1)) (use_steps (front_view v) (use_spec.whole (Some (use_view t))) true ts us (bumped us) (use_reads t ts h l (begins_left (use_words t) (mark 59 ∷ []) ts b) end) (eaten us last))
+          ∙ ap (λ k. (Some (use_read [] (front_view v) (use_spec.whole (Some (use_view t))) true), k)) (sym (behind_append (use_words t) (mark 59 ∷ []) ts)),
     )

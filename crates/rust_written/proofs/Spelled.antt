@@ -1,6 +1,6 @@
 -- Words are spelled by a text.
 use Rattle.std.proofs.Common.{◌≡◌, ℕ, ◌&&◌, Bool, true, false, List, [], ◌∷◌, ◌++◌, codes, refl, subst}
-use Rattle.std.specs.Prelude.{not, slice_index}
+use Rattle.std.specs.Prelude.{not, slice_index, map}
 use Rattle.std.specs.List.{list_all}
 use Rattle.std.proofs.lemmas.Bool.{and_parts}
 use Rattle.rust_lexer.specs.declared.kind.TokenKind.{TokenKind}
@@ -12,9 +12,10 @@ use Rattle.rust_round.specs.Laws.{IsPlain}
 use Rattle.rust_round.specs.Standing.{is_letter, is_word_byte, ends_word, is_mark, IsAsciiWord}
 use Rattle.rust_round.specs.Words.{Link, joined, apart, free, Word, Stands, Spells}
 use Rattle.rust_round.specs.Trees as trees
+use Rattle.rust_round.specs.Impls.{header_trees}
 use Rattle.rust_round.proofs.Again.{words_stand, marks_stand}
 use Rattle.rust_written.specs.UseTrees.{use_words}
-use Rattle.rust_written.specs.Written.{Scope, unwritten, everywhere, in_crate, in_super, in_self, scope_words, Item, Items, blocked, valued, unit_struct, record_struct, file_module, module_of, used, no_more, also, words, item_words, block_word, value_word, braced, ended}
+use Rattle.rust_written.specs.Written.{Scope, unwritten, everywhere, in_crate, in_super, in_self, scope_words, Item, Items, blocked, valued, unit_struct, record_struct, implemented, file_module, module_of, used, no_more, also, words, item_words, block_word, value_word, braced, ended}
 use Rattle.rust_written.specs.Spelled.{lead, spell, text_of, is_ascii_word, is_opening, is_closing, is_mark_before, stands_by, are_standing}
 use Rattle.rust_written.specs.Laws.{Writable}
 
@@ -91,21 +92,23 @@ plain_blank : (z : List ℕ) → IsPlain (32 ∷ z)
 unfolding first_cut
 plain_blank z = (refl, refl)
 
-plain_scope : (v : Scope) (w : List ℕ) (ws more : List Word) → IsPlain (spell ((scope_words v ++ trees.word w ∷ ws) ++ more))
-plain_scope unwritten w ws more = plain_blank _
-plain_scope everywhere w ws more = plain_blank _
-plain_scope in_crate w ws more = plain_blank _
-plain_scope in_super w ws more = plain_blank _
-plain_scope in_self w ws more = plain_blank _
+plain_front : (v : Scope) (ms : List (List ℕ)) (w : List ℕ) (ws more : List Word) → IsPlain (spell (((scope_words v ++ map trees.word ms) ++ trees.word w ∷ ws) ++ more))
+plain_front unwritten [] w ws more = plain_blank _
+plain_front unwritten (m ∷ ms) w ws more = plain_blank _
+plain_front everywhere ms w ws more = plain_blank _
+plain_front in_crate ms w ws more = plain_blank _
+plain_front in_super ms w ws more = plain_blank _
+plain_front in_self ms w ws more = plain_blank _
 
 plain_item : (i : Item) (more : List Word) → IsPlain (spell (item_words i ++ more))
-plain_item (blocked k v n h b) more = plain_scope v (block_word k) (trees.word n ∷ (trees.trees_words h ++ braced b)) more
-plain_item (valued k v n t) more = plain_scope v (value_word k) (trees.word n ∷ ended t) more
-plain_item (unit_struct v n) more = plain_scope v (codes "struct") (trees.word n ∷ ended trees.no_trees) more
-plain_item (record_struct v n b) more = plain_scope v (codes "struct") (trees.word n ∷ braced b) more
-plain_item (file_module v n) more = plain_scope v (codes "mod") (trees.word n ∷ trees.mark 59 ∷ []) more
-plain_item (used v t) more = plain_scope v (codes "use") (use_words t ++ trees.mark 59 ∷ []) more
-plain_item (module_of v n is) more = plain_scope v (codes "mod") (trees.word n ∷ trees.open_mark 123 ∷ (words is ++ trees.close_mark 125 ∷ [])) more
+plain_item (blocked k v n h b) more = plain_front v.scope v.modifiers (block_word k) (trees.word n ∷ (trees.trees_words h ++ braced b)) more
+plain_item (valued k v n t) more = plain_front v.scope v.modifiers (value_word k) (trees.word n ∷ ended t) more
+plain_item (unit_struct v n) more = plain_front v.scope v.modifiers (codes "struct") (trees.word n ∷ ended trees.no_trees) more
+plain_item (record_struct v n b) more = plain_front v.scope v.modifiers (codes "struct") (trees.word n ∷ braced b) more
+plain_item (implemented ms h b) more = plain_front unwritten ms (codes "impl") (trees.trees_words (header_trees h) ++ braced b) more
+plain_item (file_module v n) more = plain_front v.scope v.modifiers (codes "mod") (trees.word n ∷ trees.mark 59 ∷ []) more
+plain_item (used v t) more = plain_front v.scope v.modifiers (codes "use") (use_words t ++ trees.mark 59 ∷ []) more
+plain_item (module_of v n is) more = plain_front v.scope v.modifiers (codes "mod") (trees.word n ∷ trees.open_mark 123 ∷ (words is ++ trees.close_mark 125 ∷ [])) more
 
 plain_items : (is : Items) → IsPlain (text_of is)
 plain_items no_more = (refl, refl)

@@ -11,9 +11,11 @@ use Rattle.rust_lexer.proofs.Counted.{when}
 use Rattle.rust_cursor.specs.Tokens.{Tokens}
 use Rattle.rust_cursor.specs.Reader.{Reader}
 use Rattle.rust_cursor.specs.Words.{symbol, word, kind, at, is_at_end, bumped, closes, eat_word, is_pair, is_glued, eat_pair}
-use Rattle.rust_cursor.specs.Brackets.{behind_closed}
+use Rattle.rust_cursor.specs.Nests.{flat}
+use Rattle.rust_cursor.specs.Brackets.{is_closing, to_closing, behind_closed}
 use Rattle.rust_cursor.specs.Elements.{most, turns, turns_from, one, beyond}
-use Rattle.rust_cursor.proofs.Steps.{shorter}
+use Rattle.rust_cursor.proofs.Nesting.{shorter}
+use Rattle.rust_cursor.proofs.Steps.{closing_stop}
 use Rattle.rust_cursor.proofs.Turns.{turns_stop}
 use Rattle.rust_paths.specs.Meaning.{path_node}
 use Rattle.rust_paths.specs.Names.{plain_name, is_strict_keyword, is_reserved_keyword, is_path_keyword, has_name, name, next_name}
@@ -24,7 +26,6 @@ use Rattle.rust_paths.proofs.Trees.{comma_end}
 use Rattle.rust_round.specs.Words.{Word}
 use Rattle.rust_round.specs.Trees as trees
 use Rattle.rust_round.proofs.Begins.{Shows, Begins, behind, behind_append, begins_left, begins_right, past_behind}
-use Rattle.rust_round.proofs.Passed.{closed_here}
 use Rattle.rust_written.specs.UseTrees.{Segment, named, self_segment, super_segment, crate_segment, Path, segment_word, segment_meaning, colons, more_words, front_words, path_words, path_view, Alias, no_alias, as_name, as_nothing, alias_words, alias_view, UseTree, UseTrees, path_tree, star_tree, list_tree, no_uses, use_and, prefix_words, use_words, list_words, comma_words, use_view, use_views, IsPlainName, IsSegment, AreSegments, IsPath, IsPrefix, IsAlias, IsUse, AreUses}
 
 -- ---- how many tokens are left
@@ -406,12 +407,16 @@ none_deep : (vs : List UseTreeView) → first_too_deep (map (λ v. whole (Some v
 none_deep [] = refl
 none_deep (v ∷ vs) = none_deep vs
 
-closed_behind : (ts : Tokens) → Shows (trees.close_mark 125) ts → behind_closed ts ≡ bumped ts
-unfolding behind_closed
-closed_behind ts s = ap bumped (closed_here trees.curly trees.no_trees ts tt (s, tt))
+closes_here : (ts : Tokens) → Shows (trees.close_mark 125) ts → is_closing 123 flat ts ≡ true
+unfolding is_closing
+closes_here ts s = rw (s.some, s.symbol_is) refl
+
+closed_behind : (ts : Tokens) → Shows (trees.close_mark 125) ts → behind_closed 123 ts ≡ bumped ts
+unfolding behind_closed to_closing
+closed_behind ts s = ap bumped (closing_stop 123 flat ts (closes_here ts s))
 
 list_steps : (depth : ℕ) (fs : List (Found (Option UseTreeView))) (ts us : Tokens) → (symbol ts == 123) ≡ true → turns_from is_at_end (one (element_with (list depth))) most [] (bumped ts) ≡ (fs, us)
-    → list (suc depth) ts ≡ (some_list (all_found fs), behind_closed us)
+    → list (suc depth) ts ≡ (some_list (all_found fs), behind_closed 123 us)
 unfolding list turns
 list_steps depth fs ts us e f = rw (e, f) refl
 

@@ -1,20 +1,21 @@
 -- Items, the words that write them, and what they are read as.
-use Rattle.std.specs.Prelude.{◌≡◌, ℕ, zero, suc, ◌==◌, ◌||◌, Bool, true, false, Option, Some, None, List, [], ◌∷◌, ◌++◌, codes}
+use Rattle.std.specs.Prelude.{◌≡◌, ℕ, zero, suc, ◌==◌, ◌||◌, Bool, true, false, Option, Some, None, is_some, option_map, List, [], ◌∷◌, ◌++◌, map, codes, if◌then◌else◌}
 use Rattle.std.specs.Str.{bytes_eq}
 use Rattle.hir_input.specs.declared.ids.AstIdKind.{AstIdKind}
 use Rattle.hir_input.specs.declared.ids.AstIdKind.TheVariants as kind
 use Rattle.hir_input.specs.declared.ast.Visibility.{Visibility}
 use Rattle.hir_input.specs.declared.ast.Visibility.TheVariants.{Pub, PubCrate, PubSuper, PubSelf}
-use Rattle.hir_input.specs.Syntax.{NamedView, record_fields, no_fields, PlainKind, fn_kind, union_kind, enum_kind, static_kind, trait_kind, type_alias_kind, ast_kind, ItemView, plain_item, const_item, struct_item, use_item, module_from}
+use Rattle.hir_input.specs.Syntax.{NamedView, record_fields, no_fields, PlainKind, fn_kind, union_kind, enum_kind, static_kind, trait_kind, type_alias_kind, ast_kind, ItemView, plain_item, const_item, struct_item, use_item, impl_item, module_from}
 use Rattle.rust_cursor.specs.Words.{documents}
 use Rattle.rust_paths.specs.Names.{plain_name, is_name}
 use Rattle.rust_ids.specs.Row.{Row}
-use Rattle.rust_leaves.specs.Heads.{follows_const}
+use Rattle.rust_leaves.specs.Heads.{follows_const, follows_async, follows_unsafe, follows_safe, follows_default, follows_extern}
 use Rattle.rust_leaves.specs.Kinds.{node, named_node}
 use Rattle.rust_leaves.specs.Texts.{bare}
 use Rattle.rust_round.specs.Words.{Word}
+use Rattle.rust_round.specs.Impls.{ImplHeader, header_trees, IsImplHeader}
 use Rattle.rust_written.specs.UseTrees.{UseTree, use_words, use_view, IsUse}
-use Rattle.rust_round.specs.Trees.{word, mark, open_mark, close_mark, symbol_of, text_of, curly, open_of, close_of, Trees, no_trees, group, tree_words, trees_words, AreTrees, first_of, GoesOn, no_angles, angles_behind_all, AreClear, spaced}
+use Rattle.rust_round.specs.Trees.{word, mark, open_mark, close_mark, symbol_of, text_of, curly, open_of, close_of, Trees, no_trees, group, tree_words, trees_words, AreTrees, first_of, GoesOn, AreClosed, spaced}
 
 -- ---- visibilities
 
@@ -42,6 +43,45 @@ scope_view everywhere = Some Pub
 scope_view in_crate = Some PubCrate
 scope_view in_super = Some PubSuper
 scope_view in_self = Some PubSelf
+
+-- ---- modifiers
+
+-- a modifier stands before this word
+abbrev pub modifies : List ℕ → List ℕ → Bool
+modifies m next =
+    if bytes_eq m (codes "const") then follows_const next
+    else (if bytes_eq m (codes "async") then follows_async next
+    else (if bytes_eq m (codes "unsafe") then follows_unsafe next
+    else (if bytes_eq m (codes "safe") then follows_safe next
+    else (if bytes_eq m (codes "default") then follows_default next
+    else (if bytes_eq m (codes "gen") then bytes_eq next (codes "fn")
+    else (if bytes_eq m (codes "auto") then bytes_eq next (codes "trait")
+    else (if bytes_eq m (codes "extern") then follows_extern next else false)))))))
+
+-- the first of modifiers, or the word behind them
+abbrev pub first_modifier : List (List ℕ) → List ℕ → List ℕ
+first_modifier [] w = w
+first_modifier (m ∷ ms) w = m
+
+-- each stands before the next, and the last before this word
+abbrev pub AreModifiers : List (List ℕ) → List ℕ → Type 0
+AreModifiers [] w = Unit {0}
+AreModifiers (m ∷ ms) w = (modifies m (first_modifier ms w) ≡ true) × AreModifiers ms w
+
+-- a visibility, and modifiers behind it
+pub record Front : Type 0 where
+  pub scope : Scope
+  pub modifiers : List (List ℕ)
+
+abbrev pub front_words : Front → List Word
+front_words v = scope_words v.scope ++ map word v.modifiers
+
+abbrev pub front_view : Front → Option Visibility
+front_view v = scope_view v.scope
+
+-- an impl has no visibility
+abbrev pub impl_front : List (List ℕ) → Front
+impl_front ms = record { scope = unwritten; modifiers = ms }
 
 -- ---- kinds
 
@@ -89,15 +129,16 @@ value_id constants = kind.Const
 
 mutual
   -- what stands between the name and the block, and in the block; or between the name and the semicolon; a struct without
-  -- fields, or with a block of them; a module with a semicolon, or with items; a use tree
+  -- fields, or with a block of them; what stands behind `impl` and in the block; a module with a semicolon, or with items; a use tree
   pub data Item : Type 0 where
-    blocked : BlockKind → Scope → List ℕ → Trees → Trees → Item
-    valued : ValueKind → Scope → List ℕ → Trees → Item
-    unit_struct : Scope → List ℕ → Item
-    record_struct : Scope → List ℕ → Trees → Item
-    file_module : Scope → List ℕ → Item
-    module_of : Scope → List ℕ → Items → Item
-    used : Scope → UseTree → Item
+    blocked : BlockKind → Front → List ℕ → Trees → Trees → Item
+    valued : ValueKind → Front → List ℕ → Trees → Item
+    unit_struct : Front → List ℕ → Item
+    record_struct : Front → List ℕ → Trees → Item
+    implemented : List (List ℕ) → ImplHeader → Trees → Item
+    file_module : Front → List ℕ → Item
+    module_of : Front → List ℕ → Items → Item
+    used : Front → UseTree → Item
 
   pub data Items : Type 0 where
     no_more : Items
@@ -114,13 +155,14 @@ ended t = trees_words t ++ mark 59 ∷ []
 
 abbrev mutual
   pub item_words : Item → List Word
-  item_words (blocked k v n h b) = scope_words v ++ word (block_word k) ∷ word n ∷ (trees_words h ++ braced b)
-  item_words (valued k v n t) = scope_words v ++ word (value_word k) ∷ word n ∷ ended t
-  item_words (unit_struct v n) = scope_words v ++ word (codes "struct") ∷ word n ∷ ended no_trees
-  item_words (record_struct v n b) = scope_words v ++ word (codes "struct") ∷ word n ∷ braced b
-  item_words (file_module v n) = scope_words v ++ word (codes "mod") ∷ word n ∷ mark 59 ∷ []
-  item_words (used v t) = scope_words v ++ word (codes "use") ∷ (use_words t ++ mark 59 ∷ [])
-  item_words (module_of v n is) = scope_words v ++ word (codes "mod") ∷ word n ∷ open_mark 123 ∷ (words is ++ close_mark 125 ∷ [])
+  item_words (blocked k v n h b) = front_words v ++ word (block_word k) ∷ word n ∷ (trees_words h ++ braced b)
+  item_words (valued k v n t) = front_words v ++ word (value_word k) ∷ word n ∷ ended t
+  item_words (unit_struct v n) = front_words v ++ word (codes "struct") ∷ word n ∷ ended no_trees
+  item_words (record_struct v n b) = front_words v ++ word (codes "struct") ∷ word n ∷ braced b
+  item_words (implemented ms h b) = front_words (impl_front ms) ++ word (codes "impl") ∷ (trees_words (header_trees h) ++ braced b)
+  item_words (file_module v n) = front_words v ++ word (codes "mod") ∷ word n ∷ mark 59 ∷ []
+  item_words (used v t) = front_words v ++ word (codes "use") ∷ (use_words t ++ mark 59 ∷ [])
+  item_words (module_of v n is) = front_words v ++ word (codes "mod") ∷ word n ∷ open_mark 123 ∷ (words is ++ close_mark 125 ∷ [])
 
   pub words : Items → List Word
   words no_more = []
@@ -129,8 +171,8 @@ abbrev mutual
 -- ---- what they are read as
 
 -- without attributes, and without an id as yet
-abbrev pub named_by : Scope → List ℕ → List Word → NamedView
-named_by v n body = named_node [] (Some n) (scope_view v) (spaced body)
+abbrev pub named_by : Front → List ℕ → List Word → NamedView
+named_by v n body = named_node [] (Some n) (front_view v) (spaced body)
 
 abbrev mutual
   pub item_view : Item → ItemView
@@ -138,8 +180,9 @@ abbrev mutual
   item_view (valued k v n t) = value_item k (named_by v n (ended t))
   item_view (unit_struct v n) = struct_item (named_by v n (ended no_trees)) no_fields
   item_view (record_struct v n b) = struct_item (named_by v n (braced b)) record_fields
+  item_view (implemented ms h b) = impl_item (node [] (spaced (trees_words (header_trees h) ++ braced b))) (is_some h.of_trait)
   item_view (file_module v n) = module_from (named_by v n []) true None
-  item_view (used v t) = use_item (record { node = node [] []; visibility = scope_view v; use_tree = Some (use_view t) })
+  item_view (used v t) = use_item (record { node = node [] []; visibility = front_view v; use_tree = Some (use_view t) })
   item_view (module_of v n is) = module_from (named_by v n []) false (Some (views is))
 
   pub views : Items → List ItemView
@@ -157,6 +200,7 @@ abbrev mutual
   item_rows depth (valued k v n t) = row depth (value_id k) n ∷ []
   item_rows depth (unit_struct v n) = row depth kind.Struct n ∷ []
   item_rows depth (record_struct v n b) = row depth kind.Struct n ∷ []
+  item_rows depth (implemented ms h b) = row depth kind.Impl [] ∷ []
   item_rows depth (file_module v n) = row depth kind.Module n ∷ []
   item_rows depth (used v t) = row depth kind.Use [] ∷ []
   item_rows depth (module_of v n is) = row depth kind.Module n ∷ rows (suc depth) is
@@ -173,41 +217,42 @@ pub record IsNamed (n : List ℕ) : Type 0 where
   pub name : is_name n ≡ true
   pub bare : bare n ≡ n
 
--- in a function's header each angle bracket is closed, and its body begins with no `#` and no documentation
-abbrev pub begins_plain : Word → Bool
-begins_plain w = symbol_of w == 35 || documents w.kind
+-- a block begins with no attribute and no documentation
+abbrev pub IsPlainBlock : Trees → Type 0
+IsPlainBlock b = (symbol_of (first_of b (close_of curly)) == 35 || documents (first_of b (close_of curly)).kind) ≡ false
 
-pub record IsFunction (h b : Trees) : Type 0 where
-  pub clear : AreClear no_angles h
-  pub closed : (angles_behind_all no_angles h).count ≡ 0
-  pub body : begins_plain (first_of b (close_of curly)) ≡ false
-
+-- in a function's header each angle bracket is closed
 abbrev pub IsOfKind : BlockKind → Trees → Trees → Type 0
-IsOfKind functions h b = IsFunction h b
+IsOfKind functions h b = AreClosed h × IsPlainBlock b
 IsOfKind _ h b = Unit {0}
 
--- behind `const` a word as `auto` would be read as that of an item, and a `_` behind the name with it
-abbrev pub IsValue : ValueKind → List ℕ → Trees → Type 0
-IsValue constants n t = (follows_const n ≡ false) × (bytes_eq (text_of (first_of t (mark 59))) (codes "_") ≡ false)
-IsValue _ n t = Unit {0}
+-- a `_` behind a constant's name would be read with it
+abbrev pub IsValue : ValueKind → Trees → Type 0
+IsValue constants t = bytes_eq (text_of (first_of t (mark 59))) (codes "_") ≡ false
+IsValue _ t = Unit {0}
 
 -- Names are names, brackets stand in pairs, and no part of an item ends it or begins another; modules stand in one another at most so deep.
 abbrev mutual
   pub IsItem : ℕ → Item → Type 0
-  IsItem left (blocked k v n h b) = IsNamed n × AreTrees h × AreTrees b × GoesOn false h (open_of curly) × IsOfKind k h b
-  IsItem left (valued k v n t) = IsNamed n × AreTrees t × GoesOn true t (mark 59) × IsValue k n t
-  IsItem left (unit_struct v n) = IsNamed n
-  IsItem left (record_struct v n b) = IsNamed n × AreTrees b
-  IsItem left (file_module v n) = IsNamed n
-  IsItem left (used v t) = IsUse 128 t
+  IsItem left (blocked k v n h b) = IsNamed n × AreTrees h × AreTrees b × GoesOn false h (open_of curly) × IsOfKind k h b × AreModifiers v.modifiers (block_word k)
+  IsItem left (valued k v n t) = IsNamed n × AreTrees t × GoesOn true t (mark 59) × IsValue k t × AreModifiers v.modifiers (value_word k)
+  IsItem left (unit_struct v n) = IsNamed n × AreModifiers v.modifiers (codes "struct")
+  IsItem left (record_struct v n b) = IsNamed n × AreTrees b × AreModifiers v.modifiers (codes "struct")
+  IsItem left (implemented ms h b) = AreTrees (header_trees h) × AreTrees b × IsImplHeader h × IsPlainBlock b × AreModifiers ms (codes "impl")
+  IsItem left (file_module v n) = IsNamed n × AreModifiers v.modifiers (codes "mod")
+  IsItem left (used v t) = IsUse 128 t × AreModifiers v.modifiers (codes "use")
   IsItem zero (module_of v n is) = ⊥
-  IsItem (suc left) (module_of v n is) = IsNamed n × AreItems left is
+  IsItem (suc left) (module_of v n is) = IsNamed n × AreItems left is × AreModifiers v.modifiers (codes "mod")
 
   pub AreItems : ℕ → Items → Type 0
   AreItems left no_more = Unit {0}
   AreItems left (also i is) = IsItem left i × AreItems left is
 
 -- ---- what is not typed inside
+
+-- what is left of an impl's header is whether there is a trait
+abbrev pub outline_header : ImplHeader → ImplHeader
+outline_header h = record { generics = None; of_trait = option_map (λ _. no_trees) h.of_trait; self_type = no_trees; where_clause = None }
 
 -- the same without what stands between names and ends
 abbrev mutual
@@ -216,6 +261,7 @@ abbrev mutual
   item_outline (valued k v n t) = valued k v n no_trees
   item_outline (unit_struct v n) = unit_struct v n
   item_outline (record_struct v n b) = record_struct v n no_trees
+  item_outline (implemented ms h b) = implemented ms (outline_header h) no_trees
   item_outline (file_module v n) = file_module v n
   item_outline (used v t) = used v t
   item_outline (module_of v n is) = module_of v n (outline is)
