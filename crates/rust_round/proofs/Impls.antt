@@ -1,4 +1,4 @@
--- Generics and the headers of impls are passed over.
+-- Generics, the types of fields and the headers of impls are passed over.
 use Rattle.std.proofs.Common.{◌≡◌, ℕ, ◌+◌, ◌-◌, ◌==◌, ◌||◌, ◌&&◌, Bool, true, false, Option, Some, None, List, [], ◌∷◌, ◌++◌, codes, refl, ap, ◌∙◌, sym, subst, append_assoc}
 use Rattle.std.specs.Prelude.{if◌then◌else◌, not, is_some}
 use Rattle.std.specs.Str.{bytes_eq}
@@ -10,15 +10,15 @@ use Rattle.rust_cursor.specs.Tokens.{Tokens}
 use Rattle.rust_cursor.specs.Words.{symbol, word, is_at_end, bumped}
 use Rattle.rust_cursor.specs.Extents.{begins}
 use Rattle.rust_cursor.specs.Nests.{is_dash, nest_behind}
-use Rattle.rust_cursor.specs.Angles.{begins_binder, is_lone_for, is_header_end, is_barred, is_reached, is_closed, reaching, reached, behind_angles, is_trait_impl}
+use Rattle.rust_cursor.specs.Angles.{begins_binder, is_lone_for, is_header_end, is_barred, is_reached, is_closed, reaching, reached, behind_angles, behind_field, is_trait_impl}
 use Rattle.rust_cursor.proofs.Reaches.{reaching_stop, reaching_end}
 use Rattle.rust_round.specs.Words.{Word}
 use Rattle.rust_round.specs.Trees.{mark, Bracket, round, square, curly, open_of, close_of, Tree, single, group, Trees, no_trees, tree_and, tree_words, trees_words, IsTree, AreTrees, first_of, GoesBehind, GoesOn, AreClosed, angles_behind, angles_behind_all, before_behind}
 use Rattle.rust_round.specs.Trees as trees
-use Rattle.rust_round.specs.Impls.{before_behind_all, trees_append, StaysOpen, AreGenerics, generics, is_header_word, IsOnePart, IsPart, ImplHeader, trait_part, where_part, type_part, behind_generics, header_trees, HasGenerics, HasTrait, IsImplHeader}
+use Rattle.rust_round.specs.Impls.{before_behind_all, trees_append, StaysOpen, AreGenerics, generics, is_header_word, HasNoComma, IsFieldType, IsOnePart, IsPart, ImplHeader, trait_part, where_part, type_part, behind_generics, header_trees, HasGenerics, HasTrait, IsImplHeader}
 use Rattle.rust_round.proofs.Begins.{Shows, Begins, behind, behind_append, begins_left, begins_right}
 use Rattle.rust_round.proofs.Same.{shows_first}
-use Rattle.rust_round.proofs.Nested.{nest, no_first, plain_word, IsOther}
+use Rattle.rust_round.proofs.Nested.{nest, and_false, no_first, plain_word, IsOther}
 use Rattle.rust_round.proofs.Flat.{flat_word, mark_begins, open_begins}
 use Rattle.rust_round.proofs.Reaching.{Passes, passes_append, passes_word, passes_trees, IsBefore, AreBefore, may_be_other, open_no_block, flat_reached}
 
@@ -81,10 +81,6 @@ close_behind before ts s e =
     let last : nest_behind (nest 0 0 0 0 1 before) ts ≡ nest 0 0 0 0 0 (before_behind before (mark 62)) = step ∙ ap (λ n. nest 0 0 0 0 n (before_behind before (mark 62))) (none before) in
     reaching_end reaches.Angles (nest 0 0 0 0 1 before) ts (close_reached before ts s) (ap (λ k. is_closed reaches.Angles k) last ∙ flat_closed (before_behind before (mark 62)))
   where
-    and_false : (b : Bool) → (b && false) ≡ false
-    and_false true = refl
-    and_false false = refl
-
     none : (before : Before) → angles_behind before 1 (mark 62) ≡ 0
     none before = rw (and_false (is_dash before)) refl
 
@@ -115,6 +111,51 @@ generics_passed g ts h is b =
     let all : reaching reaches.Angles (nest 0 0 0 0 0 befores.End) ts ≡ bumped vs =
     first ∙ mid ∙ ap (λ n. reaching reaches.Angles (nest 0 0 0 0 n before) vs) is.closed ∙ close_behind before vs shut is.undashed in
     rw b.0.symbol_is (all ∙ sym (behind_append (trees_words g) (mark 62 ∷ []) us))
+
+-- ---- the types of fields
+
+field_bar : (brace ends comma : Bool) → brace ≡ false → ends ≡ false → comma ≡ false → ((brace || ends) || comma) ≡ false
+field_bar brace ends comma e f g = rw (e, f, g) refl
+
+before_field : (a b : ℕ) (ts : Tokens) → is_at_end ts ≡ false → (a == 0 && symbol ts == 44) ≡ false → IsBefore reaches.Field a b ts
+unfolding is_closed
+before_field a b ts end comma = record {
+  barred = λ before e f. field_bar (symbol ts == 125) (is_at_end ts) (a == 0 && symbol ts == 44) e end comma;
+  unclosed = λ before. refl;
+}
+
+open_no_comma : (k : Bracket) (a : Bool) (ts : Tokens) → Shows (open_of k) ts → (a && symbol ts == 44) ≡ false
+open_no_comma round a ts s = rw s.symbol_is (and_false a)
+open_no_comma square a ts s = rw s.symbol_is (and_false a)
+open_no_comma curly a ts s = rw s.symbol_is (and_false a)
+
+all_before_comma : (is : Trees) (before : Before) (a : ℕ) (end : Word) (more : List Word) (ts : Tokens) → AreTrees is → GoesBehind false before is end → HasNoComma before a is → Begins (trees_words is ++ end ∷ more) ts
+    → AreBefore reaches.Field before a is ts
+all_before_comma no_trees before a end more ts h g o b = tt
+all_before_comma (tree_and (single w) is) before a end more ts h g o b = (
+  before_field a (angles_behind before a w) ts (b.0.end_is ∙ h.0.1) (ap (λ (c : ℕ). a == 0 && c == 44) b.0.symbol_is ∙ o.0),
+  all_before_comma is (before_behind before w) (angles_behind before a w) end more (bumped ts) h.1 g.4 o.1 b.1,
+)
+all_before_comma (tree_and (group k is') is) before a end more ts h g o b =
+    let ws = tree_words (group k is') in
+    let split : Begins (ws ++ (trees_words is ++ end ∷ more)) ts = subst (λ l. Begins l ts) (append_assoc ws (trees_words is) (end ∷ more)) b in (
+      before_field a a ts (open_no_close k ts b.0) (open_no_comma k (a == 0) ts b.0),
+      all_before_comma is befores.End a end more (behind ws ts) h.1 g.2 o (begins_right ws (trees_words is ++ end ∷ more) ts split),
+    )
+
+comma_reached : (before : Before) (ts : Tokens) → Shows (mark 44) ts → is_reached reaches.Field (nest 0 0 0 0 0 before) ts ≡ true
+unfolding is_reached
+comma_reached before ts s = rw (s.some, s.symbol_is, s.end_is) refl
+
+-- up to the comma behind it
+pub field_type_passed : (t : Trees) (more : List Word) (ts : Tokens) → AreTrees t → IsFieldType t → Begins (trees_words t ++ mark 44 ∷ more) ts → behind_field ts ≡ behind (trees_words t) ts
+unfolding reached
+field_type_passed t more ts h is b =
+    let us = behind (trees_words t) ts in
+    let after = before_behind_all befores.End t in
+    passes_trees t reaches.Field 0 befores.End (mark 44) more ts h is.goes b (all_before_comma t befores.End 0 (mark 44) more ts h is.goes is.one b)
+    ∙ ap (λ n. reaching reaches.Field (nest 0 0 0 0 n after) us) is.closed
+    ∙ reaching_stop reaches.Field (nest 0 0 0 0 0 after) us (comma_reached after us (begins_right (trees_words t) (mark 44 ∷ more) ts b).0)
 
 -- ---- headers
 
@@ -158,10 +199,6 @@ all_before_header (tree_and (group k is') is) before a end more ts h g o b =
       all_before_header is befores.End a end more (behind ws ts) h.1 g.2 o (begins_right ws (trees_words is ++ end ∷ more) ts split),
     )
   where
-    and_false : (b : Bool) → (b && false) ≡ false
-    and_false true = refl
-    and_false false = refl
-
     no_word : (flat : Bool) (k : Bracket) (ts : Tokens) → Shows (open_of k) ts → (flat && is_header_word (word ts)) ≡ false
     no_word flat round ts s = rw s.word_is (and_false flat)
     no_word flat square ts s = rw s.word_is (and_false flat)
@@ -248,7 +285,7 @@ trait_read h (Some t) more ts p a b =
     let behind_for = (begins_right (trees_words t) (trees.word (codes "for") ∷ tail) ts split).1 in
     trait_found t (first_of (type_part h) (open_of curly)) tail ts parts.0 p.0 p.1 split (shows_first (type_part h) (open_of curly) more (bumped (behind (trees_words t) ts)) behind_for)
 
-no_generics : (w : Word) (ts : Tokens) → Shows w ts → (trees.symbol_of w == 60) ≡ false → behind_angles ts ≡ ts
+pub no_generics : (w : Word) (ts : Tokens) → Shows w ts → (trees.symbol_of w == 60) ≡ false → behind_angles ts ≡ ts
 unfolding behind_angles
 no_generics w ts s e = rw (s.symbol_is, e) refl
 

@@ -176,7 +176,7 @@ open_no_block round ts h s = rw s.symbol_is (refl, refl)
 open_no_block square ts h s = rw s.symbol_is (refl, refl)
 open_no_block curly ts h s = absurd h
 
-all_before_block : (is : Trees) (before : Before) (a : ℕ) (end : Word) (more : List Word) (ts : Tokens) → AreTrees is → GoesBehind false before is end → Begins (trees_words is ++ end ∷ more) ts
+pub all_before_block : (is : Trees) (before : Before) (a : ℕ) (end : Word) (more : List Word) (ts : Tokens) → AreTrees is → GoesBehind false before is end → Begins (trees_words is ++ end ∷ more) ts
     → AreBefore reaches.Block before a is ts
 all_before_block no_trees before a end more ts h g b = tt
 all_before_block (tree_and (single w) is) before a end more ts h g b =

@@ -1,4 +1,4 @@
--- Generics, and what stands between `impl` and its block.
+-- Generics, the types of fields, and what stands between `impl` and its block.
 use Rattle.std.specs.Prelude.{◌≡◌, ℕ, ◌==◌, ◌&&◌, ◌||◌, Bool, true, false, Option, Some, None, List, codes}
 use Rattle.std.specs.Str.{bytes_eq}
 use Rattle.rust_cursor.specs.declared.cursor.nest.Before.{Before}
@@ -35,6 +35,20 @@ pub record AreGenerics (g : Trees) : Type 0 where
 abbrev pub generics : Option Trees → Trees
 generics None = no_trees
 generics (Some g) = tree_and (single (mark 60)) (trees_append g (tree_and (single (mark 62)) no_trees))
+
+-- ---- fields
+
+-- no comma stands in no bracket
+abbrev pub HasNoComma : Before → ℕ → Trees → Type 0
+HasNoComma before a no_trees = Unit {0}
+HasNoComma before a (tree_and (single w) ts) = ((a == 0 && symbol_of w == 44) ≡ false) × HasNoComma (before_behind before w) (angles_behind before a w) ts
+HasNoComma before a (tree_and (group b is) ts) = HasNoComma befores.End a ts
+
+-- the type of a field, up to its comma
+pub record IsFieldType (ts : Trees) : Type 0 where
+  pub goes : GoesOn false ts (mark 44)
+  pub one : HasNoComma befores.End 0 ts
+  pub closed : AreClosed ts
 
 -- ---- headers
 

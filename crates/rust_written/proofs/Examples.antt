@@ -7,13 +7,13 @@ use Rattle.hir_input.specs.Syntax.{NamedView, fn_kind, enum_kind, no_fields, no_
 use Rattle.rust_cursor.specs.Elements.{most}
 use Rattle.rust_round.specs.Trees.{word, mark, joined_mark, Tree, single, group, Trees, no_trees, tree_and, round, curly, close_of, first_of, AreTrees, GoesOn}
 use Rattle.rust_round.specs.Impls.{ImplHeader}
-use Rattle.rust_written.specs.Written.{Scope, Front, unwritten, everywhere, in_crate, functions, enums, constants, Items, blocked, valued, unit_struct, implemented, file_module, module_of, used, no_more, also, views, row, rows, IsNamed, IsPlainBlock, AreItems}
+use Rattle.rust_written.specs.Written.{Scope, Front, unwritten, everywhere, in_crate, functions, enums, constants, Items, blocked, valued, structure, unit_shape, tuple_shape, implemented, file_module, module_of, used, no_more, also, views, row, rows, IsNamed, IsPlainBlock, AreItems}
 use Rattle.hir_input.specs.declared.ast.PathNode.{PathNode}
 use Rattle.hir_input.specs.declared.ast.PathNode.TheVariants.{Readable}
 use Rattle.hir_input.specs.declared.ast.Rename.{Rename}
 use Rattle.hir_input.specs.declared.mod_path.PathKind.{PathKind}
 use Rattle.hir_input.specs.declared.mod_path.PathKind.TheVariants as path
-use Rattle.hir_input.specs.Syntax.{use_item, impl_item}
+use Rattle.hir_input.specs.Syntax.{use_item, impl_item, tuple_fields}
 use Rattle.hir_input.specs.UseTreeView.{UseTreeView, bare_tree, listed_tree, trees_from}
 use Rattle.rust_written.specs.UseTrees.{named, self_segment, crate_segment, as_name, as_nothing, UseTrees, path_tree, star_tree, list_tree, no_uses, use_and, IsPlainName}
 use Rattle.rust_written.specs.Spelled.{text_of}
@@ -115,7 +115,7 @@ body_typed read again s t = typing_inside (function short_body) (function long_b
 
 abbrev outer : Items
 outer =
-    let inner : Items = also (unit_struct (plain_front in_crate) (codes "Unit"))
+    let inner : Items = also (structure (plain_front in_crate) (codes "Unit") None (unit_shape None))
     (also (blocked enums private (codes "Kind") no_trees (trees (name (codes "A") ∷ sign 44 ∷ name (codes "B") ∷ [])))
     (also (valued constants private (codes "SIZE") (trees (sign 58 ∷ name (codes "u8") ∷ sign 61 ∷ name (codes "A") ∷ []))) no_more)) in
     also (module_of private (codes "outer") inner) (also (file_module everyone (codes "file")) no_more)
@@ -143,11 +143,50 @@ outer_well =
     let holds : IsNamed (codes "outer") = record { plain = refl; name = refl; bare = refl } in
     let numbers : GoesOn true (trees (sign 58 ∷ name (codes "u8") ∷ sign 61 ∷ name (codes "A") ∷ [])) (mark 59) =
     (refl, refl, refl, refl, (refl, refl, refl, refl, (refl, refl, refl, refl, (refl, refl, refl, refl, tt)))) in
-    ((holds, ((unit, tt), ((choice, tt, (plain, (plain, (plain, tt))), tt, tt, tt), ((size, (plain, (plain, (plain, (plain, tt)))), numbers, refl, tt), tt))), tt), ((file, tt), tt))
+    ((holds, ((unit, record { trees = tt; goes = tt; has_generics = refl; shape = tt }, tt), ((choice, tt, (plain, (plain, (plain, tt))), tt, tt, tt), ((size, (plain, (plain, (plain, (plain, tt)))), numbers, refl, tt), tt))), tt), ((file, tt), tt))
 
 pub outer_writes : Writes outer (text_of outer)
 unfolding most
 outer_writes = writable outer outer_well refl (omega arith)
+
+-- ---- a struct
+
+abbrev pair : Items
+pair =
+    let fields = record { scope = everywhere; of_type = trees (name (codes "T") ∷ []) } ∷ record { scope = unwritten; of_type = trees (name (codes "u8") ∷ []) } ∷ [] in
+    also (structure everyone (codes "Pair") (Some (trees (name (codes "T") ∷ []))) (tuple_shape fields (Some (trees (name (codes "T") ∷ sign 58 ∷ name (codes "Copy") ∷ []))))) no_more
+
+pair_text : text_of pair ≡ codes " pub struct Pair < T > ( pub T , u8 , ) where T : Copy ;"
+pair_text = refl
+
+pair_read : items_from (views pair) ≡ item_and (struct_item (seen (codes "Pair") (Some Pub) (codes "< T > ( pub T , u8 , ) where T : Copy ;")) (tuple_fields (Some Pub ∷ None ∷ []))) no_items
+pair_read = refl
+
+pair_well : AreItems 128 pair
+unfolding plain_name is_strict_keyword is_reserved_keyword bare leads_on
+pair_well =
+    let named : IsNamed (codes "Pair") = record { plain = refl; name = refl; bare = refl } in
+    let one : GoesOn false (trees (name (codes "T") ∷ [])) (mark 44) = (refl, refl, refl, refl, tt) in
+    let number : GoesOn false (trees (name (codes "u8") ∷ [])) (mark 44) = (refl, refl, refl, refl, tt) in (
+      (
+        named,
+        record {
+          trees = (plain, (plain, (plain, ((plain, (plain, (plain, (plain, (plain, tt))))), (plain, (plain, (plain, (plain, tt))))))));
+          goes = (refl, refl, refl, refl, (refl, refl, refl, refl, (refl, refl, refl, refl, (tt, (refl, refl, (refl, refl, (refl, refl, (refl, refl, (refl, refl, tt))))), (refl, refl, refl, refl, (refl, refl, refl, refl, (refl, refl, refl, refl, (refl, refl, refl, refl, tt))))))));
+          has_generics = record { goes = (refl, refl, refl, refl, tt); unclosed = (refl, tt); closed = refl; undashed = refl };
+          shape = (
+            record { passed = record { goes = one; one = (refl, tt); closed = refl }; begins = refl; plain = refl },
+            (record { passed = record { goes = number; one = (refl, tt); closed = refl }; begins = refl; plain = refl }, tt),
+          );
+        },
+        tt,
+      ),
+      tt,
+    )
+
+pub pair_writes : Writes pair (text_of pair)
+unfolding most
+pair_writes = writable pair pair_well refl (omega arith)
 
 -- ---- an impl
 

@@ -28,11 +28,11 @@ use Rattle.rust_round.specs.Trees as trees
 use Rattle.rust_round.specs.Impls.{ImplHeader, header_trees}
 use Rattle.rust_round.proofs.Begins.{Shows, Begins, behind, behind_append, begins_left, begins_right, past_behind}
 use Rattle.rust_round.proofs.Same.{shows_first}
-use Rattle.rust_written.specs.Written.{Front, front_words, front_view, impl_front, AreModifiers, BlockKind, functions, unions, enums, traits, block_word, block_kind, ValueKind, statics, aliases, constants, value_word, value_id, Item, Items, blocked, valued, unit_struct, record_struct, implemented, file_module, module_of, used, no_more, also, braced, ended, item_words, words, item_view, views, row, item_rows, rows, IsNamed, IsItem, AreItems}
+use Rattle.rust_written.specs.Written.{Front, front_words, front_view, impl_front, AreModifiers, BlockKind, functions, unions, enums, traits, block_word, block_kind, ValueKind, statics, aliases, constants, value_word, value_id, Item, Items, blocked, valued, structure, Shape, struct_words, implemented, file_module, module_of, used, no_more, also, braced, ended, item_words, words, item_view, views, row, item_rows, rows, IsNamed, IsItem, AreItems}
 use Rattle.rust_written.specs.UseTrees.{UseTree, use_words, IsUse}
 use Rattle.rust_written.proofs.Uses.{fewer_left}
 use Rattle.rust_written.proofs.Fronts.{inner_none, first_shows, block_head, block_heads, value_head, value_heads, struct_heads, impl_heads, use_heads, module_heads, Heads, front_at, front_reads, named_at, named_reads}
-use Rattle.rust_written.proofs.Leaves.{Reads, blocked_reads, value_reads, unit_reads, record_reads, impl_reads, used_reads}
+use Rattle.rust_written.proofs.Leaves.{Reads, blocked_reads, value_reads, structure_reads, impl_reads, used_reads}
 
 -- ---- what is read in a turn
 
@@ -88,8 +88,7 @@ leaf_turns left v h w n item k ws f ts i e fronts reads =
 pub item_first : (i : Item) (more : List Word) (ts : Tokens) → Begins (item_words i ++ more) ts → (x : List ℕ) × Shows (trees.word x) ts
 item_first (blocked k v n h b) more ts s = first_shows v (block_word k) (trees.word n ∷ (trees_words h ++ braced b)) ts (begins_left (item_words (blocked k v n h b)) more ts s)
 item_first (valued k v n t) more ts s = first_shows v (value_word k) (trees.word n ∷ ended t) ts (begins_left (item_words (valued k v n t)) more ts s)
-item_first (unit_struct v n) more ts s = first_shows v (codes "struct") (trees.word n ∷ ended no_trees) ts (begins_left (item_words (unit_struct v n)) more ts s)
-item_first (record_struct v n b) more ts s = first_shows v (codes "struct") (trees.word n ∷ braced b) ts (begins_left (item_words (record_struct v n b)) more ts s)
+item_first (structure v n g z) more ts s = first_shows v (codes "struct") (trees.word n ∷ struct_words g z) ts (begins_left (item_words (structure v n g z)) more ts s)
 item_first (implemented ms h b) more ts s = first_shows (impl_front ms) (codes "impl") (trees_words (header_trees h) ++ braced b) ts (begins_left (item_words (implemented ms h b)) more ts s)
 item_first (file_module v n) more ts s = first_shows v (codes "mod") (trees.word n ∷ mark 59 ∷ []) ts (begins_left (item_words (file_module v n)) more ts s)
 item_first (used v t) more ts s = first_shows v (codes "use") (use_words t ++ mark 59 ∷ []) ts (begins_left (item_words (used v t)) more ts s)
@@ -153,24 +152,20 @@ valued_turns left k v n t f ts few is begun =
     leaf_turns left v (value_head k) (value_word k) n (item_view (valued k v n t)) (value_id k) (trees.word n ∷ ended t) f ts (leaf_value k) fronts.0 fronts.1
     (value_reads k v n t (at ts) (bumped us) is.0 is.1 is.2 is.3 inner.1.0 inner.1.1)
 
-unit_turns : (left : ℕ) (v : Front) (n : List ℕ) (f : Found) (ts : Tokens) → length ts.left ≤ most → IsItem left (unit_struct v n) → Begins (item_words (unit_struct v n)) ts
-    → Turns left (item_view (unit_struct v n)) (item_rows (depth_of left) (unit_struct v n)) (item_words (unit_struct v n)) f ts
-unit_turns left v n f ts few is begun =
+structure_turns : (left : ℕ) (v : Front) (n : List ℕ) (g : Option Trees) (z : Shape) (f : Found) (ts : Tokens) → length ts.left ≤ most → IsItem left (structure v n g z) → Begins (item_words (structure v n g z)) ts
+    → goes_on (behind (item_words (structure v n g z)) ts) ≡ false
+    → Turns left (item_view (structure v n g z)) (item_rows (depth_of left) (structure v n g z)) (item_words (structure v n g z)) f ts
+structure_turns left v n g z f ts few is begun e =
     let us = behind (front_words v) ts in
-    let inner = begins_right (front_words v) (trees.word (codes "struct") ∷ trees.word n ∷ ended no_trees) ts begun in
-    let fronts = front_of v heads.Struct (codes "struct") (trees.word n ∷ ended no_trees) ts few refl is.1 begun (struct_heads us inner.0) in
-    leaf_turns left v heads.Struct (codes "struct") n (item_view (unit_struct v n)) kind.Struct (trees.word n ∷ ended no_trees) f ts tt fronts.0 fronts.1
-    (unit_reads v n (at ts) (bumped us) is.0 inner.1.0 inner.1.1)
-
-record_turns : (left : ℕ) (v : Front) (n : List ℕ) (b : Trees) (f : Found) (ts : Tokens) → length ts.left ≤ most → IsItem left (record_struct v n b) → Begins (item_words (record_struct v n b)) ts
-    → goes_on (behind (item_words (record_struct v n b)) ts) ≡ false → Turns left (item_view (record_struct v n b)) (item_rows (depth_of left) (record_struct v n b)) (item_words (record_struct v n b)) f ts
-record_turns left v n b f ts few is begun e =
-    let us = behind (front_words v) ts in
-    let inner = begins_right (front_words v) (trees.word (codes "struct") ∷ trees.word n ∷ braced b) ts begun in
-    let fronts = front_of v heads.Struct (codes "struct") (trees.word n ∷ braced b) ts few refl is.2 begun (struct_heads us inner.0) in
-    let next : goes_on (behind (braced b) (bumped (bumped us))) ≡ false = ap goes_on (sym (behind_name v (codes "struct") n (braced b) ts)) ∙ e in
-    leaf_turns left v heads.Struct (codes "struct") n (item_view (record_struct v n b)) kind.Struct (trees.word n ∷ braced b) f ts tt fronts.0 fronts.1
-    (record_reads v n b (at ts) (bumped us) is.0 is.1 inner.1.0 inner.1.1 next)
+    let ws = struct_words g z in
+    let inner = begins_right (front_words v) (trees.word (codes "struct") ∷ trees.word n ∷ ws) ts begun in
+    let front : length (front_words v) + length us.left ≡ length ts.left = fewer_left (front_words v) ts (begins_left (front_words v) (trees.word (codes "struct") ∷ trees.word n ∷ ws) ts begun) in
+    let one : length (bumped us).left + 1 ≡ length us.left = shorter us inner.0.some in
+    let two : length (bumped (bumped us)).left + 1 ≡ length (bumped us).left = shorter (bumped us) inner.1.0.some in
+    let fronts = front_of v heads.Struct (codes "struct") (trees.word n ∷ ws) ts few refl is.2 begun (struct_heads us inner.0) in
+    let next : goes_on (behind ws (bumped (bumped us))) ≡ false = ap goes_on (sym (behind_name v (codes "struct") n ws ts)) ∙ e in
+    leaf_turns left v heads.Struct (codes "struct") n (item_view (structure v n g z)) kind.Struct (trees.word n ∷ ws) f ts tt fronts.0 fronts.1
+    (structure_reads v n g z (at ts) (bumped us) (omega (arith, few, front, one, two)) is.0 is.1 inner.1.0 inner.1.1 next)
 
 impl_turns : (left : ℕ) (ms : List (List ℕ)) (h : ImplHeader) (b : Trees) (f : Found) (ts : Tokens) → length ts.left ≤ most → IsItem left (implemented ms h b) → Begins (item_words (implemented ms h b)) ts
     → goes_on (behind (item_words (implemented ms h b)) ts) ≡ false
@@ -314,8 +309,7 @@ some_behind (v ∷ vs) w ws = omega arith
 item_some : (i : Item) → 0 < length (item_words i)
 item_some (blocked k v n h b) = some_behind (front_words v) (trees.word (block_word k)) (trees.word n ∷ (trees_words h ++ braced b))
 item_some (valued k v n t) = some_behind (front_words v) (trees.word (value_word k)) (trees.word n ∷ ended t)
-item_some (unit_struct v n) = some_behind (front_words v) (trees.word (codes "struct")) (trees.word n ∷ ended no_trees)
-item_some (record_struct v n b) = some_behind (front_words v) (trees.word (codes "struct")) (trees.word n ∷ braced b)
+item_some (structure v n g z) = some_behind (front_words v) (trees.word (codes "struct")) (trees.word n ∷ struct_words g z)
 item_some (implemented ms h b) = some_behind (front_words (impl_front ms)) (trees.word (codes "impl")) (trees_words (header_trees h) ++ braced b)
 item_some (file_module v n) = some_behind (front_words v) (trees.word (codes "mod")) (trees.word n ∷ mark 59 ∷ [])
 item_some (used v t) = some_behind (front_words v) (trees.word (codes "use")) (use_words t ++ mark 59 ∷ [])
@@ -387,8 +381,7 @@ mutual
       → Turns left (item_view i) (item_rows (depth_of left) i) (item_words i) f ts
   turn_reads (blocked k v n h b) left f ts deep few is begun e = blocked_turns left k v n h b f ts few is begun e
   turn_reads (valued k v n t) left f ts deep few is begun e = valued_turns left k v n t f ts few is begun
-  turn_reads (unit_struct v n) left f ts deep few is begun e = unit_turns left v n f ts few is begun
-  turn_reads (record_struct v n b) left f ts deep few is begun e = record_turns left v n b f ts few is begun e
+  turn_reads (structure v n g z) left f ts deep few is begun e = structure_turns left v n g z f ts few is begun e
   turn_reads (implemented ms h b) left f ts deep few is begun e = impl_turns left ms h b f ts few is begun e
   turn_reads (file_module v n) left f ts deep few is begun e = file_turns left v n f ts few is begun
   turn_reads (used v t) left f ts deep few is begun e = used_turns left v t f ts few is begun

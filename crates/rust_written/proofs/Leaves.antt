@@ -38,7 +38,8 @@ use Rattle.rust_round.proofs.Same.{shows_first}
 use Rattle.rust_round.proofs.Ends.{whole, item_semicolon, value_semicolon, item_block}
 use Rattle.rust_round.proofs.Reaching.{to_block_header}
 use Rattle.rust_round.proofs.Impls.{impl_header_read}
-use Rattle.rust_written.specs.Written.{Front, impl_front, front_view, BlockKind, functions, unions, enums, traits, block_kind, ValueKind, statics, aliases, constants, value_item, value_id, braced, ended, named_by, IsNamed, IsPlainBlock, IsOfKind, IsValue}
+use Rattle.rust_written.specs.Written.{Front, impl_front, front_view, BlockKind, functions, unions, enums, traits, block_kind, ValueKind, statics, aliases, constants, value_item, value_id, braced, ended, Shape, unit_shape, tuple_shape, record_shape, struct_trees, struct_words, shape_view, IsStruct, named_by, IsNamed, IsPlainBlock, IsOfKind, IsValue}
+use Rattle.rust_written.proofs.Structs.{struct_read}
 use Rattle.rust_written.proofs.Fronts.{inner_none, no_keyword, named_at, named_reads, front_at, block_head, value_head}
 
 -- ---- ends
@@ -61,9 +62,6 @@ value_ends ws ts e = ap (λ r. (rest_of r.0, r.1)) e
 pub block_ends : (h b : Trees) (ts : Tokens) → AreTrees h → AreTrees b → GoesOn false h (open_of curly) → Begins (trees_words h ++ braced b) ts → goes_on (behind (trees_words h ++ braced b) ts) ≡ false
     → Ends item_end (trees_words h ++ braced b) ts
 block_ends h b ts i j g begun e = item_ends (trees_words h ++ braced b) ts (item_block h b ts i j g begun e)
-
-pub semicolon_ends : (ts : Tokens) → Begins (ended no_trees) ts → Ends item_end (ended no_trees) ts
-semicolon_ends ts b = item_ends (ended no_trees) ts (item_semicolon no_trees ts tt tt b)
 
 pub values_end : (t : Trees) (ts : Tokens) → AreTrees t → GoesOn true t (mark 59) → Begins (ended t) ts → Ends value_end (ended t) ts
 values_end t ts h g b = value_ends (ended t) ts (value_semicolon t ts h g b)
@@ -185,39 +183,32 @@ value_reads constants v n t start ts m i g u s b =
 
 -- ---- structs
 
-no_generics : (w : Word) (ts : Tokens) → Shows w ts → (trees.symbol_of w == 60) ≡ false → behind_angles ts ≡ ts
-unfolding behind_angles
-no_generics w ts s e = rw (s.symbol_is, e) refl
-
-fields_behind : (w : Word) (ts : Tokens) → Shows w ts → (trees.symbol_of w == 60) ≡ false → struct_fields ts ≡ fields_at ts
-unfolding struct_fields
-fields_behind w ts s e = ap fields_at (no_generics w ts s e)
-
-unit_fields : (ts : Tokens) → Shows (mark 59) ts → struct_fields ts ≡ no_fields
-unit_fields ts s = fields_behind (mark 59) ts s refl ∙ rw (s.symbol_is, s.word_is) refl
-
-block_fields : (ts : Tokens) → Shows (open_of curly) ts → struct_fields ts ≡ record_fields
-block_fields ts s = fields_behind (open_of curly) ts s refl ∙ rw s.symbol_is refl
-
 struct_steps : (v : Option Visibility) (n : NameRead) (shape : FieldsView) (ws : List Word) (ts us : Tokens) → named ts ≡ (n, us) → struct_fields us ≡ shape → (e : Ends item_end ws us)
     → structure [] v ts ≡ (leaf_read (struct_item (named_node [] n.name v (spaced ws)) shape) kind.Struct n true, behind ws us)
 unfolding structure
 struct_steps v n shape ws ts us m f e = rw (m, f, e) refl
 
-pub struct_reads : (v : Front) (n : List ℕ) (shape : FieldsView) (ws : List Word) (start : ℕ) (ts : Tokens) → IsNamed n → Shows (trees.word n) ts → struct_fields (bumped ts) ≡ shape → Ends item_end ws (bumped ts)
+struct_reads : (v : Front) (n : List ℕ) (shape : FieldsView) (ws : List Word) (start : ℕ) (ts : Tokens) → IsNamed n → Shows (trees.word n) ts → struct_fields (bumped ts) ≡ shape → Ends item_end ws (bumped ts)
     → Reads heads.Struct v start (struct_item (named_by v n ws) shape) kind.Struct n (trees.word n ∷ ws) ts
 unfolding leaf
 struct_reads v n shape ws start ts m s f ends =
     ((named_at n ts).range, ap (λ r. (Some r.0, r.1)) (struct_steps (front_view v) (named_at n ts) shape ws ts (bumped ts) (named_reads n ts m s) f ends))
 
-pub unit_reads : (v : Front) (n : List ℕ) (start : ℕ) (ts : Tokens) → IsNamed n → Shows (trees.word n) ts → Begins (ended no_trees) (bumped ts)
-    → Reads heads.Struct v start (struct_item (named_by v n (ended no_trees)) no_fields) kind.Struct n (trees.word n ∷ ended no_trees) ts
-unit_reads v n start ts m s b = struct_reads v n no_fields (ended no_trees) start ts m s (unit_fields (bumped ts) b.0) (semicolon_ends (bumped ts) b)
+struct_ends : (g : Option Trees) (s : Shape) (ts : Tokens) → IsStruct g s → Begins (struct_words g s) ts → goes_on (behind (struct_words g s) ts) ≡ false → Ends item_end (struct_words g s) ts
+struct_ends g (unit_shape w) ts is b e = item_ends (struct_words g (unit_shape w)) ts (item_semicolon (struct_trees g (unit_shape w)) ts is.trees is.goes b)
+struct_ends g (tuple_shape fs w) ts is b e = item_ends (struct_words g (tuple_shape fs w)) ts (item_semicolon (struct_trees g (tuple_shape fs w)) ts is.trees is.goes b)
+struct_ends g (record_shape w b) ts is begun e = block_ends (struct_trees g (record_shape w b)) b ts is.trees is.shape.0 is.goes begun e
 
-pub record_reads : (v : Front) (n : List ℕ) (b : Trees) (start : ℕ) (ts : Tokens) → IsNamed n → AreTrees b → Shows (trees.word n) ts → Begins (braced b) (bumped ts) → goes_on (behind (braced b) (bumped ts)) ≡ false
-    → Reads heads.Struct v start (struct_item (named_by v n (braced b)) record_fields) kind.Struct n (trees.word n ∷ braced b) ts
-record_reads v n b start ts m i s begun e =
-    struct_reads v n record_fields (braced b) start ts m s (block_fields (bumped ts) begun.0) (block_ends no_trees b (bumped ts) tt i tt begun e)
+struct_fields_are : (g : Option Trees) (s : Shape) (ts : Tokens) → length ts.left ≤ most → IsStruct g s → Begins (struct_words g s) ts → struct_fields ts ≡ shape_view s
+struct_fields_are g (unit_shape w) ts l is b = struct_read g (unit_shape w) [] ts l is b
+struct_fields_are g (tuple_shape fs w) ts l is b = struct_read g (tuple_shape fs w) [] ts l is b
+struct_fields_are g (record_shape w b) ts l is begun = struct_read g (record_shape w b) (trees_words b ++ close_of curly ∷ []) ts l is begun
+
+pub structure_reads : (v : Front) (n : List ℕ) (g : Option Trees) (s : Shape) (start : ℕ) (ts : Tokens) → length (bumped ts).left ≤ most → IsNamed n → IsStruct g s → Shows (trees.word n) ts → Begins (struct_words g s) (bumped ts)
+    → goes_on (behind (struct_words g s) (bumped ts)) ≡ false
+    → Reads heads.Struct v start (struct_item (named_by v n (struct_words g s)) (shape_view s)) kind.Struct n (trees.word n ∷ struct_words g s) ts
+structure_reads v n g s start ts l m is shown b e =
+    struct_reads v n (shape_view s) (struct_words g s) start ts m shown (struct_fields_are g s (bumped ts) l is b) (struct_ends g s (bumped ts) is b e)
 
 -- ---- uses
 

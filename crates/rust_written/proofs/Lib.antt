@@ -1,5 +1,6 @@
 pub mod Uses
 pub mod Fronts
+pub mod Structs
 pub mod Leaves
 pub mod Items
 pub mod Texts

@@ -15,7 +15,7 @@ use Rattle.rust_round.specs.Trees as trees
 use Rattle.rust_round.specs.Impls.{header_trees}
 use Rattle.rust_round.proofs.Again.{words_stand, marks_stand}
 use Rattle.rust_written.specs.UseTrees.{use_words}
-use Rattle.rust_written.specs.Written.{Scope, unwritten, everywhere, in_crate, in_super, in_self, scope_words, Item, Items, blocked, valued, unit_struct, record_struct, implemented, file_module, module_of, used, no_more, also, words, item_words, block_word, value_word, braced, ended}
+use Rattle.rust_written.specs.Written.{Scope, unwritten, everywhere, in_crate, in_super, in_self, scope_words, Item, Items, blocked, valued, structure, struct_words, implemented, file_module, module_of, used, no_more, also, words, item_words, block_word, value_word, braced, ended}
 use Rattle.rust_written.specs.Spelled.{lead, spell, text_of, is_ascii_word, is_opening, is_closing, is_mark_before, stands_by, are_standing}
 use Rattle.rust_written.specs.Laws.{Writable}
 
@@ -103,8 +103,7 @@ plain_front in_self ms w ws more = plain_blank _
 plain_item : (i : Item) (more : List Word) → IsPlain (spell (item_words i ++ more))
 plain_item (blocked k v n h b) more = plain_front v.scope v.modifiers (block_word k) (trees.word n ∷ (trees.trees_words h ++ braced b)) more
 plain_item (valued k v n t) more = plain_front v.scope v.modifiers (value_word k) (trees.word n ∷ ended t) more
-plain_item (unit_struct v n) more = plain_front v.scope v.modifiers (codes "struct") (trees.word n ∷ ended trees.no_trees) more
-plain_item (record_struct v n b) more = plain_front v.scope v.modifiers (codes "struct") (trees.word n ∷ braced b) more
+plain_item (structure v n g z) more = plain_front v.scope v.modifiers (codes "struct") (trees.word n ∷ struct_words g z) more
 plain_item (implemented ms h b) more = plain_front unwritten ms (codes "impl") (trees.trees_words (header_trees h) ++ braced b) more
 plain_item (file_module v n) more = plain_front v.scope v.modifiers (codes "mod") (trees.word n ∷ trees.mark 59 ∷ []) more
 plain_item (used v t) more = plain_front v.scope v.modifiers (codes "use") (use_words t ++ trees.mark 59 ∷ []) more

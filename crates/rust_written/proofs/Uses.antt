@@ -358,7 +358,7 @@ use_some (star_tree p) = let sum = length-append (prefix_words p) (trees.mark 42
 use_some (list_tree p us) =
     let sum = length-append (prefix_words p) (trees.open_mark 123 ∷ (list_words us ++ trees.close_mark 125 ∷ [])) in omega (arith, sum)
 
-past_more : (ws : List Word) (ts : Tokens) → Begins ws ts → 0 < length ws → ts.past < (behind ws ts).past
+pub past_more : (ws : List Word) (ts : Tokens) → Begins ws ts → 0 < length ws → ts.past < (behind ws ts).past
 past_more [] ts b l = absurd (omega arith)
 past_more (w ∷ ws) ts b l =
     let one : ts.past < (bumped ts).past = b.0.past in
@@ -385,11 +385,11 @@ use_goes (path_tree p a) ts b = path_goes p.absolute p.first (more_words p.more)
 use_goes (star_tree p) ts b = prefix_goes p (trees.mark 42) [] ts refl b
 use_goes (list_tree p us) ts b = prefix_goes p (trees.open_mark 123) (list_words us ++ trees.close_mark 125 ∷ []) ts refl b
 
-beyond_none : (past : ℕ) (ts : Tokens) → past < ts.past → beyond past ts ≡ ts
+pub beyond_none : (past : ℕ) (ts : Tokens) → past < ts.past → beyond past ts ≡ ts
 unfolding beyond
 beyond_none past ts e = let other : (ts.past == past) ≡ false = grind (arith, nat_tests, e) in rw other refl
 
-one_element : {A : Type 0} (reader : Reader A) (n : ℕ) (done : List A) (a : A) (ts us : Tokens) → is_at_end ts ≡ false → reader ts ≡ (a, us) → beyond ts.past us ≡ us
+pub one_element : {A : Type 0} (reader : Reader A) (n : ℕ) (done : List A) (a : A) (ts us : Tokens) → is_at_end ts ≡ false → reader ts ≡ (a, us) → beyond ts.past us ≡ us
     → turns_from is_at_end (one reader) (suc n) done ts ≡ turns_from is_at_end (one reader) n (done ++ a ∷ []) us
 one_element reader n done a ts us e r b = rw (e, r, b) refl
 

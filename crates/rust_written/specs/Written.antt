@@ -5,7 +5,7 @@ use Rattle.hir_input.specs.declared.ids.AstIdKind.{AstIdKind}
 use Rattle.hir_input.specs.declared.ids.AstIdKind.TheVariants as kind
 use Rattle.hir_input.specs.declared.ast.Visibility.{Visibility}
 use Rattle.hir_input.specs.declared.ast.Visibility.TheVariants.{Pub, PubCrate, PubSuper, PubSelf}
-use Rattle.hir_input.specs.Syntax.{NamedView, record_fields, no_fields, PlainKind, fn_kind, union_kind, enum_kind, static_kind, trait_kind, type_alias_kind, ast_kind, ItemView, plain_item, const_item, struct_item, use_item, impl_item, module_from}
+use Rattle.hir_input.specs.Syntax.{NamedView, FieldsView, record_fields, tuple_fields, no_fields, PlainKind, fn_kind, union_kind, enum_kind, static_kind, trait_kind, type_alias_kind, ast_kind, ItemView, plain_item, const_item, struct_item, use_item, impl_item, module_from}
 use Rattle.rust_cursor.specs.Words.{documents}
 use Rattle.rust_paths.specs.Names.{plain_name, is_name}
 use Rattle.rust_ids.specs.Row.{Row}
@@ -13,9 +13,9 @@ use Rattle.rust_leaves.specs.Heads.{follows_const, follows_async, follows_unsafe
 use Rattle.rust_leaves.specs.Kinds.{node, named_node}
 use Rattle.rust_leaves.specs.Texts.{bare}
 use Rattle.rust_round.specs.Words.{Word}
-use Rattle.rust_round.specs.Impls.{ImplHeader, header_trees, IsImplHeader}
+use Rattle.rust_round.specs.Impls.{trees_append, where_part, generics, HasGenerics, IsFieldType, ImplHeader, header_trees, IsImplHeader}
 use Rattle.rust_written.specs.UseTrees.{UseTree, use_words, use_view, IsUse}
-use Rattle.rust_round.specs.Trees.{word, mark, open_mark, close_mark, symbol_of, text_of, curly, open_of, close_of, Trees, no_trees, group, tree_words, trees_words, AreTrees, first_of, GoesOn, AreClosed, spaced}
+use Rattle.rust_round.specs.Trees.{word, mark, open_mark, close_mark, symbol_of, text_of, round, curly, open_of, close_of, Tree, single, group, Trees, no_trees, tree_and, tree_words, trees_words, AreTrees, first_of, GoesOn, AreClosed, spaced}
 
 -- ---- visibilities
 
@@ -125,16 +125,68 @@ value_id statics = kind.Static
 value_id aliases = kind.TypeAlias
 value_id constants = kind.Const
 
+-- ---- structs
+
+pub record Field : Type 0 where
+  pub scope : Scope
+  pub of_type : Trees
+
+-- a struct without fields; with those of a tuple; with a block of them; and what stands behind its `where`
+pub data Shape : Type 0 where
+  unit_shape : Option Trees → Shape
+  tuple_shape : List Field → Option Trees → Shape
+  record_shape : Option Trees → Trees → Shape
+
+abbrev pub scope_in : List ℕ → Trees
+scope_in w = tree_and (single (word (codes "pub"))) (tree_and (group round (tree_and (single (word w)) no_trees)) no_trees)
+
+-- a visibility as trees
+abbrev pub scope_trees : Scope → Trees
+scope_trees unwritten = no_trees
+scope_trees everywhere = tree_and (single (word (codes "pub"))) no_trees
+scope_trees in_crate = scope_in (codes "crate")
+scope_trees in_super = scope_in (codes "super")
+scope_trees in_self = scope_in (codes "self")
+
+-- fields, each with a comma behind it
+abbrev pub fields_trees : List Field → Trees
+fields_trees [] = no_trees
+fields_trees (f ∷ fs) = trees_append (scope_trees f.scope) (trees_append f.of_type (tree_and (single (mark 44)) (fields_trees fs)))
+
+-- what stands behind a struct's generics, up to its end
+abbrev pub shape_trees : Shape → Trees
+shape_trees (unit_shape w) = where_part w
+shape_trees (tuple_shape fs w) = tree_and (group round (fields_trees fs)) (where_part w)
+shape_trees (record_shape w b) = where_part w
+
+abbrev pub struct_trees : Option Trees → Shape → Trees
+struct_trees g s = trees_append (generics g) (shape_trees s)
+
+abbrev pub shape_end : Shape → Word
+shape_end (record_shape w b) = open_of curly
+shape_end _ = mark 59
+
+abbrev pub struct_words : Option Trees → Shape → List Word
+struct_words g (record_shape w b) = trees_words (struct_trees g (record_shape w b)) ++ tree_words (group curly b)
+struct_words g s = trees_words (struct_trees g s) ++ mark 59 ∷ []
+
+abbrev pub field_view : Field → Option Visibility
+field_view f = scope_view f.scope
+
+abbrev pub shape_view : Shape → FieldsView
+shape_view (unit_shape w) = no_fields
+shape_view (tuple_shape fs w) = tuple_fields (map field_view fs)
+shape_view (record_shape w b) = record_fields
+
 -- ---- items
 
 mutual
-  -- what stands between the name and the block, and in the block; or between the name and the semicolon; a struct without
-  -- fields, or with a block of them; what stands behind `impl` and in the block; a module with a semicolon, or with items; a use tree
+  -- what stands between the name and the block, and in the block; or between the name and the semicolon; a struct's generics and
+  -- its fields; what stands behind `impl` and in the block; a module with a semicolon, or with items; a use tree
   pub data Item : Type 0 where
     blocked : BlockKind → Front → List ℕ → Trees → Trees → Item
     valued : ValueKind → Front → List ℕ → Trees → Item
-    unit_struct : Front → List ℕ → Item
-    record_struct : Front → List ℕ → Trees → Item
+    structure : Front → List ℕ → Option Trees → Shape → Item
     implemented : List (List ℕ) → ImplHeader → Trees → Item
     file_module : Front → List ℕ → Item
     module_of : Front → List ℕ → Items → Item
@@ -157,8 +209,7 @@ abbrev mutual
   pub item_words : Item → List Word
   item_words (blocked k v n h b) = front_words v ++ word (block_word k) ∷ word n ∷ (trees_words h ++ braced b)
   item_words (valued k v n t) = front_words v ++ word (value_word k) ∷ word n ∷ ended t
-  item_words (unit_struct v n) = front_words v ++ word (codes "struct") ∷ word n ∷ ended no_trees
-  item_words (record_struct v n b) = front_words v ++ word (codes "struct") ∷ word n ∷ braced b
+  item_words (structure v n g s) = front_words v ++ word (codes "struct") ∷ word n ∷ struct_words g s
   item_words (implemented ms h b) = front_words (impl_front ms) ++ word (codes "impl") ∷ (trees_words (header_trees h) ++ braced b)
   item_words (file_module v n) = front_words v ++ word (codes "mod") ∷ word n ∷ mark 59 ∷ []
   item_words (used v t) = front_words v ++ word (codes "use") ∷ (use_words t ++ mark 59 ∷ [])
@@ -178,8 +229,7 @@ abbrev mutual
   pub item_view : Item → ItemView
   item_view (blocked k v n h b) = plain_item (block_kind k) (named_by v n (trees_words h ++ braced b))
   item_view (valued k v n t) = value_item k (named_by v n (ended t))
-  item_view (unit_struct v n) = struct_item (named_by v n (ended no_trees)) no_fields
-  item_view (record_struct v n b) = struct_item (named_by v n (braced b)) record_fields
+  item_view (structure v n g s) = struct_item (named_by v n (struct_words g s)) (shape_view s)
   item_view (implemented ms h b) = impl_item (node [] (spaced (trees_words (header_trees h) ++ braced b))) (is_some h.of_trait)
   item_view (file_module v n) = module_from (named_by v n []) true None
   item_view (used v t) = use_item (record { node = node [] []; visibility = front_view v; use_tree = Some (use_view t) })
@@ -198,8 +248,7 @@ abbrev mutual
   pub item_rows : ℕ → Item → List Row
   item_rows depth (blocked k v n h b) = row depth (ast_kind (block_kind k)) n ∷ []
   item_rows depth (valued k v n t) = row depth (value_id k) n ∷ []
-  item_rows depth (unit_struct v n) = row depth kind.Struct n ∷ []
-  item_rows depth (record_struct v n b) = row depth kind.Struct n ∷ []
+  item_rows depth (structure v n g s) = row depth kind.Struct n ∷ []
   item_rows depth (implemented ms h b) = row depth kind.Impl [] ∷ []
   item_rows depth (file_module v n) = row depth kind.Module n ∷ []
   item_rows depth (used v t) = row depth kind.Use [] ∷ []
@@ -231,13 +280,39 @@ abbrev pub IsValue : ValueKind → Trees → Type 0
 IsValue constants t = bytes_eq (text_of (first_of t (mark 59))) (codes "_") ≡ false
 IsValue _ t = Unit {0}
 
+-- a field's type begins neither as an attribute, nor as what would go on with its visibility
+abbrev pub BeginsType : Scope → Word → Type 0
+BeginsType unwritten w = bytes_eq (text_of w) (codes "pub") ≡ false
+BeginsType everywhere w = (symbol_of w == 40) ≡ false
+BeginsType _ w = Unit {0}
+
+pub record IsField (f : Field) : Type 0 where
+  pub passed : IsFieldType f.of_type
+  pub begins : BeginsType f.scope (first_of f.of_type (mark 44))
+  pub plain : (symbol_of (first_of f.of_type (mark 44)) == 35 || documents (first_of f.of_type (mark 44)).kind) ≡ false
+
+abbrev pub AreFields : List Field → Type 0
+AreFields [] = Unit {0}
+AreFields (f ∷ fs) = IsField f × AreFields fs
+
+-- `where` and what is behind it goes on to the struct's end; before a block its angle brackets are closed
+abbrev pub IsShape : Shape → Type 0
+IsShape (unit_shape w) = GoesOn false (where_part w) (mark 59)
+IsShape (tuple_shape fs w) = AreFields fs
+IsShape (record_shape w b) = AreTrees b × GoesOn false (where_part w) (open_of curly) × AreClosed (where_part w)
+
+pub record IsStruct (g : Option Trees) (s : Shape) : Type 0 where
+  pub trees : AreTrees (struct_trees g s)
+  pub goes : GoesOn false (struct_trees g s) (shape_end s)
+  pub has_generics : HasGenerics g (first_of (shape_trees s) (shape_end s))
+  pub shape : IsShape s
+
 -- Names are names, brackets stand in pairs, and no part of an item ends it or begins another; modules stand in one another at most so deep.
 abbrev mutual
   pub IsItem : ℕ → Item → Type 0
   IsItem left (blocked k v n h b) = IsNamed n × AreTrees h × AreTrees b × GoesOn false h (open_of curly) × IsOfKind k h b × AreModifiers v.modifiers (block_word k)
   IsItem left (valued k v n t) = IsNamed n × AreTrees t × GoesOn true t (mark 59) × IsValue k t × AreModifiers v.modifiers (value_word k)
-  IsItem left (unit_struct v n) = IsNamed n × AreModifiers v.modifiers (codes "struct")
-  IsItem left (record_struct v n b) = IsNamed n × AreTrees b × AreModifiers v.modifiers (codes "struct")
+  IsItem left (structure v n g s) = IsNamed n × IsStruct g s × AreModifiers v.modifiers (codes "struct")
   IsItem left (implemented ms h b) = AreTrees (header_trees h) × AreTrees b × IsImplHeader h × IsPlainBlock b × AreModifiers ms (codes "impl")
   IsItem left (file_module v n) = IsNamed n × AreModifiers v.modifiers (codes "mod")
   IsItem left (used v t) = IsUse 128 t × AreModifiers v.modifiers (codes "use")
@@ -254,13 +329,21 @@ abbrev mutual
 abbrev pub outline_header : ImplHeader → ImplHeader
 outline_header h = record { generics = None; of_trait = option_map (λ _. no_trees) h.of_trait; self_type = no_trees; where_clause = None }
 
+-- what is left of a struct's shape are the visibilities of a tuple's fields
+abbrev pub outline_field : Field → Field
+outline_field f = record { scope = f.scope; of_type = no_trees }
+
+abbrev pub outline_shape : Shape → Shape
+outline_shape (unit_shape w) = unit_shape None
+outline_shape (tuple_shape fs w) = tuple_shape (map outline_field fs) None
+outline_shape (record_shape w b) = record_shape None no_trees
+
 -- the same without what stands between names and ends
 abbrev mutual
   pub item_outline : Item → Item
   item_outline (blocked k v n h b) = blocked k v n no_trees no_trees
   item_outline (valued k v n t) = valued k v n no_trees
-  item_outline (unit_struct v n) = unit_struct v n
-  item_outline (record_struct v n b) = record_struct v n no_trees
+  item_outline (structure v n g s) = structure v n None (outline_shape s)
   item_outline (implemented ms h b) = implemented ms (outline_header h) no_trees
   item_outline (file_module v n) = file_module v n
   item_outline (used v t) = used v t

@@ -1,0 +1,234 @@
+-- Structs: their generics, and their fields.
+use Rattle.std.proofs.Common.{◌≡◌, ◌≤◌, ◌<◌, ℕ, zero, suc, ◌+◌, ◌==◌, ◌||◌, ◌&&◌, Bool, true, false, Option, Some, None, List, [], ◌∷◌, ◌++◌, codes, length, refl, ap, ◌∙◌, sym, subst, arith, append_assoc, append-nil}
+use Rattle.std.specs.Prelude.{map}
+use Rattle.std.specs.Str.{bytes_eq}
+use Rattle.hir_input.specs.declared.ast.Visibility.{Visibility}
+use Rattle.hir_input.specs.Syntax.{FieldsView, no_fields, record_fields, tuple_fields}
+use Rattle.rust_cursor.specs.declared.cursor.generics.Reach.TheVariants as reaches
+use Rattle.rust_cursor.specs.declared.cursor.nest.Before.{Before}
+use Rattle.rust_cursor.specs.declared.cursor.nest.Before.TheVariants as befores
+use Rattle.rust_cursor.specs.Tokens.{Tokens}
+use Rattle.rust_cursor.specs.Words.{symbol, word, at, is_at_end, bumped, documents, eat}
+use Rattle.rust_cursor.specs.Elements.{most, turns, turns_from, one, beyond}
+use Rattle.rust_cursor.specs.Angles.{is_reached, reached, reaching, behind_angles, behind_field, to_block}
+use Rattle.rust_cursor.proofs.Nesting.{shorter}
+use Rattle.rust_cursor.proofs.Reaches.{reaching_stop}
+use Rattle.rust_cursor.proofs.Turns.{turns_stop}
+use Rattle.rust_paths.specs.Visibilities.{visibility, scoped, is_in, scope, scope_of}
+use Rattle.rust_metas.specs.Attributes.{outer_attributes}
+use Rattle.rust_leaves.specs.Leaves.{field, fields, fields_at, struct_fields}
+use Rattle.rust_round.specs.Words.{Word}
+use Rattle.rust_round.specs.Trees.{mark, Bracket, round, curly, open_of, close_of, close_mark, Tree, single, group, Trees, no_trees, tree_and, tree_words, trees_words, AreTrees, first_of, GoesOn, AreClosed}
+use Rattle.rust_round.specs.Trees as trees
+use Rattle.rust_round.specs.Impls.{before_behind_all, trees_append, where_part, generics, HasGenerics, IsFieldType}
+use Rattle.rust_round.proofs.Begins.{Shows, Begins, behind, behind_append, begins_left, begins_right}
+use Rattle.rust_round.proofs.Same.{shows_first}
+use Rattle.rust_round.proofs.Nested.{nest}
+use Rattle.rust_round.proofs.Flat.{semicolon_begins}
+use Rattle.rust_round.proofs.Reaching.{passes_trees, all_before_block, to_block_header}
+use Rattle.rust_round.proofs.Impls.{append_words, append_trees, generics_words, enclosed, generics_passed, no_generics, field_type_passed}
+use Rattle.rust_written.specs.Written.{Scope, unwritten, everywhere, in_crate, in_super, in_self, scope_words, scope_view, Field, Shape, unit_shape, tuple_shape, record_shape, scope_trees, fields_trees, shape_trees, struct_trees, shape_end, field_view, shape_view, BeginsType, IsField, AreFields, IsShape, IsStruct}
+use Rattle.rust_written.proofs.Uses.{fewer_left, beyond_none, one_element, past_more}
+use Rattle.rust_written.proofs.Fronts.{outer_none}
+
+-- ---- visibilities
+
+scope_words_are : (v : Scope) → trees_words (scope_trees v) ≡ scope_words v
+scope_words_are unwritten = refl
+scope_words_are everywhere = refl
+scope_words_are in_crate = refl
+scope_words_are in_super = refl
+scope_words_are in_self = refl
+
+-- before what does not go on with it
+field_scope : (v : Scope) (w : Word) (ts : Tokens) → BeginsType v w → Begins (scope_words v) ts → Shows w (behind (scope_words v) ts) → visibility ts ≡ (scope_view v, behind (scope_words v) ts)
+unfolding visibility scoped is_in scope scope_of
+field_scope unwritten w ts e b s = rw (s.word_is, e) refl
+field_scope everywhere w ts e b s = rw (b.0.word_is, s.symbol_is, e) refl
+field_scope in_crate w ts e b s = rw (b.0.word_is, b.1.0.symbol_is, b.1.1.0.word_is, b.1.1.1.0.symbol_is) refl
+field_scope in_super w ts e b s = rw (b.0.word_is, b.1.0.symbol_is, b.1.1.0.word_is, b.1.1.1.0.symbol_is) refl
+field_scope in_self w ts e b s = rw (b.0.word_is, b.1.0.symbol_is, b.1.1.0.word_is, b.1.1.1.0.symbol_is) refl
+
+-- the first word of a field is no attribute and no end
+pub record IsFirst (w : Word) : Type 0 where
+  pub plain : documents w.kind ≡ false
+  pub hash : (trees.symbol_of w == 35) ≡ false
+
+first_word : (v : Scope) (w : Word) (ts : Tokens) → IsFirst w → Begins (scope_words v) ts → Shows w (behind (scope_words v) ts) → (x : Word) × IsFirst x × Shows x ts
+first_word unwritten w ts f b s = (w, f, s)
+first_word everywhere w ts f b s = (trees.word (codes "pub"), record { plain = refl; hash = refl }, b.0)
+first_word in_crate w ts f b s = (trees.word (codes "pub"), record { plain = refl; hash = refl }, b.0)
+first_word in_super w ts f b s = (trees.word (codes "pub"), record { plain = refl; hash = refl }, b.0)
+first_word in_self w ts f b s = (trees.word (codes "pub"), record { plain = refl; hash = refl }, b.0)
+
+-- ---- a field
+
+comma_eaten : (ts : Tokens) → Shows (mark 44) ts → eat 44 ts ≡ (true, bumped ts)
+unfolding eat
+comma_eaten ts s = rw s.symbol_is refl
+
+field_steps : (v : Option Visibility) (ts us vs : Tokens) → outer_attributes 0 ts ≡ ([], ts) → visibility ts ≡ (v, us) → behind_field us ≡ vs → eat 44 vs ≡ (true, bumped vs) → field ts ≡ (v, bumped vs)
+unfolding field
+field_steps v ts us vs o s f e = rw (o, s, f, e) refl
+
+abbrev field_words : Field → List Word
+field_words f = scope_words f.scope ++ (trees_words f.of_type ++ mark 44 ∷ [])
+
+parts_of : (a b : Bool) → (a || b) ≡ false → (a ≡ false) × (b ≡ false)
+parts_of true b e = absurd cc
+parts_of false b e = (refl, e)
+
+field_read : (f : Field) (ts : Tokens) → AreTrees f.of_type → IsField f → Begins (field_words f) ts → field ts ≡ (field_view f, behind (field_words f) ts)
+field_read f ts h is b =
+    let tail = trees_words f.of_type ++ mark 44 ∷ [] in
+    let us = behind (scope_words f.scope) ts in
+    let vs = behind (trees_words f.of_type) us in
+    let front = begins_left (scope_words f.scope) tail ts b in
+    let rest = begins_right (scope_words f.scope) tail ts b in
+    let begin = first_of f.of_type (mark 44) in
+    let shown = shows_first f.of_type (mark 44) [] us rest in
+    let plain = parts_of (trees.symbol_of begin == 35) (documents begin.kind) is.plain in
+    let first = first_word f.scope begin ts (record { plain = plain.1; hash = plain.0 }) front shown in
+    let comma : Shows (mark 44) vs = (begins_right (trees_words f.of_type) (mark 44 ∷ []) us rest).0 in
+    field_steps (field_view f) ts us vs (outer_none 0 first.0 ts first.2 first.1.plain first.1.hash) (field_scope f.scope begin ts is.begins front shown) (field_type_passed f.of_type [] us h is.passed rest) (comma_eaten vs comma)
+    ∙ ap (λ k. (field_view f, k)) (sym (behind_append (scope_words f.scope) tail ts ∙ behind_append (trees_words f.of_type) (mark 44 ∷ []) us))
+
+-- ---- the fields of a tuple
+
+cons_words : (f : Field) (fs : List Field) → trees_words (fields_trees (f ∷ fs)) ≡ field_words f ++ trees_words (fields_trees fs)
+cons_words f fs =
+    let rest = tree_and (single (mark 44)) (fields_trees fs) in
+    append_words (scope_trees f.scope) (trees_append f.of_type rest)
+    ∙ ap (λ l. l ++ trees_words (trees_append f.of_type rest)) (scope_words_are f.scope)
+    ∙ ap (λ l. scope_words f.scope ++ l) (append_words f.of_type rest ∙ sym (append_assoc (trees_words f.of_type) (mark 44 ∷ []) (trees_words (fields_trees fs))))
+    ∙ sym (append_assoc (scope_words f.scope) (trees_words f.of_type ++ mark 44 ∷ []) (trees_words (fields_trees fs)))
+
+field_trees_are : (f : Field) (fs : List Field) → AreTrees (fields_trees (f ∷ fs)) → AreTrees f.of_type × AreTrees (fields_trees fs)
+field_trees_are f fs h =
+    let rest = tree_and (single (mark 44)) (fields_trees fs) in
+    let more = append_trees f.of_type rest (append_trees (scope_trees f.scope) (trees_append f.of_type rest) h).1 in
+    (more.0, more.1.1)
+
+some_field : (f : Field) → 0 < length (field_words f)
+some_field f = last (scope_words f.scope) (trees_words f.of_type)
+  where
+    behind_some : (ws : List Word) → 0 < length (ws ++ mark 44 ∷ [])
+    behind_some [] = omega arith
+    behind_some (w ∷ ws) = omega arith
+
+    last : (vs ws : List Word) → 0 < length (vs ++ (ws ++ mark 44 ∷ []))
+    last [] ws = behind_some ws
+    last (v ∷ vs) ws = omega arith
+
+-- a field begins with no bracket that closes
+field_goes : (f : Field) (ts : Tokens) → AreTrees f.of_type → Begins (field_words f) ts → is_at_end ts ≡ false
+field_goes f ts h b =
+    let tail = trees_words f.of_type ++ mark 44 ∷ [] in
+    let us = behind (scope_words f.scope) ts in
+    let rest = begins_right (scope_words f.scope) tail ts b in
+    goes f.scope ts (begins_left (scope_words f.scope) tail ts b) (type_goes f.of_type us h rest)
+  where
+    type_goes : (t : Trees) (us : Tokens) → AreTrees t → Begins (trees_words t ++ mark 44 ∷ []) us → is_at_end us ≡ false
+    type_goes no_trees us h b = b.0.end_is
+    type_goes (tree_and (single w) t) us h b = b.0.end_is ∙ h.0.1
+    type_goes (tree_and (group round is) t) us h b = b.0.end_is
+    type_goes (tree_and (group trees.square is) t) us h b = b.0.end_is
+    type_goes (tree_and (group curly is) t) us h b = b.0.end_is
+
+    goes : (v : Scope) (ts : Tokens) → Begins (scope_words v) ts → is_at_end (behind (scope_words v) ts) ≡ false → is_at_end ts ≡ false
+    goes unwritten ts b e = e
+    goes everywhere ts b e = b.0.end_is
+    goes in_crate ts b e = b.0.end_is
+    goes in_super ts b e = b.0.end_is
+    goes in_self ts b e = b.0.end_is
+
+fields_read : (fs : List Field) (n : ℕ) (done : List (Option Visibility)) (ts : Tokens) → length ts.left ≤ n → AreTrees (fields_trees fs) → AreFields fs → Begins (trees_words (fields_trees fs) ++ close_of round ∷ []) ts
+    → turns_from is_at_end (one field) n done ts ≡ (done ++ map field_view fs, behind (trees_words (fields_trees fs)) ts)
+fields_read [] n done ts l h is b = turns_stop is_at_end (one field) n done ts b.0.end_is ∙ ap (λ d. (d, ts)) (sym (append-nil done))
+fields_read (f ∷ fs) n done ts l h is b =
+    let ws = field_words f in
+    let more = trees_words (fields_trees fs) ++ close_of round ∷ [] in
+    let split : Begins (ws ++ more) ts = subst (λ k. Begins k ts) (ap (λ k. k ++ close_of round ∷ []) (cons_words f fs) ∙ append_assoc ws (trees_words (fields_trees fs)) (close_of round ∷ [])) b in
+    let first : Begins ws ts = begins_left ws more ts split in
+    let us = behind ws ts in
+    let parts = field_trees_are f fs h in
+    let few : length ws + length us.left ≡ length ts.left = fewer_left ws ts first in
+    let some = some_field f in
+    step n f fs done ts us l few some (field_goes f ts parts.0 first) (field_read f ts parts.0 is.0 first) (beyond_none ts.past us (past_more ws ts first some))
+    (λ m d k. fields_read fs m d us k parts.1 is.1 (begins_right ws more ts split))
+    ∙ ap (λ k. (done ++ map field_view (f ∷ fs), k)) (sym (ap (λ k. behind k ts) (cons_words f fs) ∙ behind_append ws (trees_words (fields_trees fs)) ts))
+  where
+    step : (n : ℕ) (f : Field) (fs : List Field) (done : List (Option Visibility)) (ts us : Tokens) → length ts.left ≤ n → length (field_words f) + length us.left ≡ length ts.left → 0 < length (field_words f) → is_at_end ts ≡ false
+        → field ts ≡ (field_view f, us) → beyond ts.past us ≡ us
+        → ((m : ℕ) (d : List (Option Visibility)) → length us.left ≤ m → turns_from is_at_end (one field) m d us ≡ (d ++ map field_view fs, behind (trees_words (fields_trees fs)) us))
+        → turns_from is_at_end (one field) n done ts ≡ (done ++ map field_view (f ∷ fs), behind (trees_words (fields_trees fs)) us)
+    step zero f fs done ts us l few some goes read stays more = absurd (omega (arith, few, some, l))
+    step (suc n) f fs done ts us l few some goes read stays more =
+        one_element field n done (field_view f) ts us goes read stays
+        ∙ more n (done ++ field_view f ∷ []) (omega (arith, few, some, l))
+        ∙ ap (λ d. (d, behind (trees_words (fields_trees fs)) us)) (append_assoc done (field_view f ∷ []) (map field_view fs))
+
+all_fields : (fs : List Field) (ts : Tokens) → length ts.left ≤ most → AreTrees (fields_trees fs) → AreFields fs → Begins (trees_words (fields_trees fs) ++ close_of round ∷ []) ts → (fields ts).0 ≡ map field_view fs
+unfolding fields turns
+all_fields fs ts l h is b = ap (λ r. r.0) (fields_read fs most [] ts l h is b)
+
+-- ---- shapes
+
+-- the semicolon of a struct, behind its `where`
+semicolon_reached : (a : ℕ) (before : Before) (ts : Tokens) → Shows (mark 59) ts → is_reached reaches.Block (nest 0 0 0 0 a before) ts ≡ true
+unfolding is_reached
+semicolon_reached a before ts s = rw (s.some, s.symbol_is, semicolon_begins a before ts s) refl
+
+to_semicolon : (t : Trees) (ts : Tokens) → AreTrees t → GoesOn false t (mark 59) → Begins (trees_words t ++ mark 59 ∷ []) ts → to_block ts ≡ behind (trees_words t) ts
+unfolding to_block reached
+to_semicolon t ts h g b =
+    let us = behind (trees_words t) ts in
+    passes_trees t reaches.Block 0 befores.End (mark 59) [] ts h g b (all_before_block t befores.End 0 (mark 59) [] ts h g b)
+    ∙ reaching_stop reaches.Block (nest 0 0 0 0 (trees.angles_behind_all befores.End 0 t) (before_behind_all befores.End t)) us
+    (semicolon_reached (trees.angles_behind_all befores.End 0 t) (before_behind_all befores.End t) us (begins_right (trees_words t) (mark 59 ∷ []) ts b).0)
+
+unit_at : (w : Option Trees) (ts : Tokens) → AreTrees (where_part w) → GoesOn false (where_part w) (mark 59) → Begins (trees_words (where_part w) ++ mark 59 ∷ []) ts → fields_at ts ≡ no_fields
+unit_at None ts h g b = rw (b.0.symbol_is, b.0.word_is) refl
+unit_at (Some w) ts h g b =
+    let t = where_part (Some w) in
+    let last : Shows (mark 59) (behind (trees_words t) ts) = (begins_right (trees_words t) (mark 59 ∷ []) ts b).0 in
+    rw (b.0.symbol_is, b.0.word_is, to_semicolon t ts h g b, last.symbol_is) refl
+
+record_at : (w : Option Trees) (more : List Word) (ts : Tokens) → AreTrees (where_part w) → GoesOn false (where_part w) (open_of curly) → AreClosed (where_part w) → Begins (trees_words (where_part w) ++ open_of curly ∷ more) ts
+    → fields_at ts ≡ record_fields
+record_at None more ts h g c b = rw b.0.symbol_is refl
+record_at (Some w) more ts h g c b =
+    let t = where_part (Some w) in
+    let last : Shows (open_of curly) (behind (trees_words t) ts) = (begins_right (trees_words t) (open_of curly ∷ more) ts b).0 in
+    rw (b.0.symbol_is, b.0.word_is, to_block_header t more ts h g c b, last.symbol_is) refl
+
+tuple_at : (fs : List Field) (rest : List Word) (ts : Tokens) → length ts.left ≤ most → AreTrees (fields_trees fs) → AreFields fs → Begins (tree_words (group round (fields_trees fs)) ++ rest) ts
+    → fields_at ts ≡ tuple_fields (map field_view fs)
+tuple_at fs rest ts l h is b =
+    let here = begins_left (tree_words (group round (fields_trees fs))) rest ts b in
+    let one : length (bumped ts).left + 1 ≡ length ts.left = shorter ts here.0.some in
+    rw here.0.symbol_is (ap tuple_fields (all_fields fs (bumped ts) (omega (arith, one, l)) h is here.1))
+
+shape_read : (s : Shape) (more : List Word) (ts : Tokens) → length ts.left ≤ most → AreTrees (shape_trees s) → IsShape s → Begins (trees_words (shape_trees s) ++ shape_end s ∷ more) ts → fields_at ts ≡ shape_view s
+shape_read (unit_shape w) more ts l h is b = unit_at w ts h is (begins_left (trees_words (where_part w) ++ mark 59 ∷ []) more ts (subst (λ k. Begins k ts) (sym (append_assoc (trees_words (where_part w)) (mark 59 ∷ []) more)) b))
+shape_read (tuple_shape fs w) more ts l h is b =
+    tuple_at fs (trees_words (where_part w) ++ mark 59 ∷ more) ts l h.0 is (subst (λ k. Begins k ts) (append_assoc (tree_words (group round (fields_trees fs))) (trees_words (where_part w)) (mark 59 ∷ more)) b)
+shape_read (record_shape w b) more ts l h is begun = record_at w more ts h is.1 is.2 begun
+
+-- what a struct's fields are read as, behind its name
+pub struct_read : (g : Option Trees) (s : Shape) (more : List Word) (ts : Tokens) → length ts.left ≤ most → IsStruct g s → Begins (trees_words (struct_trees g s) ++ shape_end s ∷ more) ts → struct_fields ts ≡ shape_view s
+unfolding struct_fields
+struct_read None s more ts l is b =
+    ap fields_at (no_generics (first_of (shape_trees s) (shape_end s)) ts (shows_first (shape_trees s) (shape_end s) more ts b) is.has_generics) ∙ shape_read s more ts l is.trees is.shape b
+struct_read (Some g) s more ts l is b =
+    let front = generics (Some g) in
+    let tail = trees_words (shape_trees s) ++ shape_end s ∷ more in
+    let parts = append_trees front (shape_trees s) is.trees in
+    let split : Begins (enclosed g ++ tail) ts =
+    subst (λ k. Begins k ts)
+    (ap (λ k. k ++ shape_end s ∷ more) (append_words front (shape_trees s) ∙ ap (λ k. k ++ trees_words (shape_trees s)) (generics_words g)) ∙ append_assoc (enclosed g) (trees_words (shape_trees s)) (shape_end s ∷ more))
+    b in
+    let first = begins_left (enclosed g) tail ts split in
+    let few : length (enclosed g) + length (behind (enclosed g) ts).left ≡ length ts.left = fewer_left (enclosed g) ts first in
+    ap fields_at (generics_passed g ts (append_trees g (tree_and (single (mark 62)) no_trees) parts.0.1).0 is.has_generics first)
+    ∙ shape_read s more (behind (enclosed g) ts) (omega (arith, few, l)) parts.1 is.shape (begins_right (enclosed g) tail ts split)
