@@ -3,7 +3,9 @@ use crate::files::{files_of_folder, is_a_folder, read};
 use crate::options::read_options;
 use crate::tags::write_tags;
 use clap::ArgMatches;
-use itemtree_commands::{Options, check, find, imports, is_same_tree, outline, page, push_tags};
+use itemtree_commands::{
+    Options, check, duplicates, find, imports, is_same_tree, outline, outline_json, page, push_tags,
+};
 use source_listing::{Query, Source};
 use source_tree::SourceError;
 use std::alloc::{AllocError, Global};
@@ -40,9 +42,10 @@ impl From<AllocError> for Failure {
 /// What is done with each file.
 #[derive(Drop)]
 enum Action {
-    Outline { depth: Option<usize> },
-    Page,
+    Outline { depth: Option<usize>, is_json: bool },
+    Page { has_ids: bool },
     Imports,
+    Duplicates,
     Find { path: String, is_anywhere: bool },
     Tags { lines: Vec<String> },
     Check,
@@ -57,9 +60,17 @@ impl Action {
         source: Source<'_>,
     ) -> Result<(String, bool), SourceError> {
         match self {
-            Action::Outline { depth } => Ok((outline(alloc, source, options, *depth)?, true)),
-            Action::Page => Ok((page(alloc, source.text, options)?, true)),
+            Action::Outline { depth, is_json } => {
+                let text = if *is_json {
+                    outline_json(alloc, source, options, *depth)?
+                } else {
+                    outline(alloc, source, options, *depth)?
+                };
+                Ok((text, true))
+            }
+            Action::Page { has_ids } => Ok((page(alloc, source.text, options, *has_ids)?, true)),
             Action::Imports => Ok((imports(alloc, source, options)?, true)),
+            Action::Duplicates => Ok((duplicates(alloc, source, options)?, true)),
             Action::Find { path, is_anywhere } => {
                 let query = Query {
                     path: path.as_str(),
@@ -174,9 +185,14 @@ fn action_of(alloc: Global, name: &str, matches: &ArgMatches<'_>) -> Result<Acti
     match name {
         "outline" => {
             let depth = matches.get_one::<usize>("depth");
-            Ok(Action::Outline { depth })
+            let is_json = matches.get_flag("json");
+            Ok(Action::Outline { depth, is_json })
         }
-        "page" => Ok(Action::Page),
+        "page" => {
+            let has_ids = matches.get_str("ids") != Some("off");
+            Ok(Action::Page { has_ids })
+        }
+        "imports" if matches.get_flag("duplicates") => Ok(Action::Duplicates),
         "imports" => Ok(Action::Imports),
         "find" => path_of_names(alloc, matches.get_str("name").unwrap_or("")),
         "tags" => {
@@ -202,7 +218,11 @@ fn finish(run: Run<'_>, matches: &ArgMatches<'_>) -> Result<u8, Failure> {
             Ok(status)
         }
         Action::Find { .. } => Ok(if has_written { status } else { 1 }),
-        Action::Outline { .. } | Action::Page | Action::Imports | Action::Check => Ok(status),
+        Action::Outline { .. }
+        | Action::Page { .. }
+        | Action::Imports
+        | Action::Duplicates
+        | Action::Check => Ok(status),
     }
 }
 
