@@ -11,7 +11,13 @@ use source_tree::SourceError;
 use std::alloc::{AllocError, Global};
 use std::fmt::Display;
 use std::io;
-use std::io::Write;
+use std::io::{IsTerminal, Write};
+
+/// How many files are done between two tellings.
+const FILES_A_TIME: usize = 64;
+
+/// Back to the begin of the line on a terminal, and nothing on it.
+const CLEARED: &str = "\r\x1b[K";
 
 /// Why a run ends early.
 #[derive(Debug, Drop)]
@@ -104,13 +110,25 @@ struct Run<'a> {
     status: u8,
     /// Whether anything was written.
     has_written: bool,
+    /// Whether somebody sees how many files are done.
+    is_watched: bool,
 }
 
 impl Run<'_> {
     /// Tells on standard error that a file is not done.
     fn complain(&mut self, path: &str, error: impl Display + Drop) {
         self.status = 1;
-        let _ = eprintln!(self.rt; "itemtree: {path}: {error}");
+        let front = if self.is_watched { CLEARED } else { "" };
+        let _ = eprintln!(self.rt; "{front}itemtree: {path}: {error}");
+    }
+
+    /// Tells on the terminal how many files of a folder are done: after the last, and now and then before.
+    fn tell_progress(&self, done: usize, count: usize) {
+        let is_last = done == count;
+        if self.is_watched && (is_last || done % FILES_A_TIME == 0) {
+            let end = if is_last { "\n" } else { "" };
+            let _ = eprint!(self.rt; "{CLEARED}{done} of {count} files{end}");
+        }
     }
 
     fn write(&mut self, text: &str, is_good: bool) -> io::Result<()> {
@@ -145,8 +163,9 @@ impl Run<'_> {
     fn do_folder(&mut self, path: &str) -> Result<(), Failure> {
         match files_of_folder(self.rt, path) {
             Ok(files) => {
-                for file in &files {
+                for (before, file) in files.iter().enumerate() {
                     self.do_file(file)?;
+                    self.tell_progress(before + 1, files.len());
                 }
                 Ok(())
             }
@@ -275,8 +294,10 @@ pub(crate) fn run_command(rt: &HostRuntime, matches: &ArgMatches<'_>) -> Result<
         return compare(rt, &options, old, new);
     }
     let action = action_of(rt.alloc(), name, inner)?;
+    let is_watched = name == "tags" && rt.stderr().is_terminal();
     let mut run = Run {
         rt,
+        is_watched,
         action,
         options: &options,
         status: 0,
