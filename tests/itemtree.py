@@ -1,6 +1,7 @@
 #!/usr/bin/env python3
 """Runs the examples of docs/ITEMTREE.md and those of tests/itemtree/cases.md, and what cannot be written as an example."""
 import os
+import pty
 import re
 import shutil
 import subprocess
@@ -68,6 +69,30 @@ def check_vim(folder):
     tell(got.split() == ['5'], 'vim -t Circle', got, '5\n')
 
 
+def check_progress(folder):
+    """On a terminal `tags` tells on standard error how many files of a folder are done; a complaint has a line of its own."""
+    many = os.path.join(folder, 'many')
+    os.mkdir(many)
+    for at in range(130):
+        with open(os.path.join(many, f'{at:03}.rs'), 'wb') as file:
+            file.write(b'\xff' if at == 70 else b'fn f() {}')
+    shown, other = pty.openpty()
+    subprocess.run([PROGRAM, 'tags', '-o', os.devnull, 'many'], cwd=folder, timeout=60, stderr=other)
+    os.close(other)
+    got = b''
+    try:
+        while not got.endswith(b'130 files\r\n'):
+            got += os.read(shown, 4096)
+    except OSError:
+        pass
+    os.close(shown)
+    parts = got.decode().split('\r\x1b[K')
+    tell(len(parts) == 5 and parts[0] == '' and parts[1] == '64 of 130 files' and parts[2].startswith('itemtree: many/070.rs: ')
+         and parts[2].endswith('\r\n') and parts[3:] == ['128 of 130 files', '130 of 130 files\r\n'], 'progress on a terminal', repr(parts))
+    got = run('itemtree tags -o /dev/null src', folder)
+    tell(got == '', 'no progress elsewhere', got)
+
+
 def main():
     with tempfile.TemporaryDirectory() as folder:
         shutil.copytree(os.path.join(TOP, 'tests/itemtree'), folder, dirs_exist_ok=True)
@@ -76,6 +101,7 @@ def main():
         check_long_line(folder)
         check_closed_pipe(folder)
         check_vim(folder)
+        check_progress(folder)
     print(f'itemtree: {passed} passed, {failed} failed')
     return failed > 0
 

@@ -4,6 +4,8 @@ use std::alloc::Global;
 
 static YEARS: [&str; 4] = ["2015", "2018", "2021", "2024"];
 
+static IDS: [&str; 2] = ["on", "off"];
+
 fn files<'a>(alloc: Global) -> Arg<'a> {
     Arg::new(alloc, "files")
         .value_name("FILE")
@@ -87,18 +89,34 @@ fn outline<'a>(alloc: Global) -> Result<Command<'a>, Error> {
         "Only items in fewer than N others",
     )
     .value_parser(clap::value_parser!(u32));
+    let json = flag(
+        alloc,
+        "json",
+        "Write a JSON object for each file, on a line of its own",
+    );
     let command = on_files(alloc, "outline", "Lists the items of files")?
         .arg(depth)?
+        .arg(json)?
         .arg(files(alloc))?;
     Ok(command)
 }
 
 fn page<'a>(alloc: Global) -> Result<Command<'a>, Error> {
+    let ids = option(
+        alloc,
+        "ids",
+        "WHEN",
+        ArgAction::Set,
+        "Whether rust-analyzer's ids of items are written",
+    )
+    .value_parser(IDS.as_slice())
+    .default_value("on");
     let command = on_files(
         alloc,
         "page",
         "Writes the debug pages of item trees, as rust-analyzer shows them",
     )?
+    .arg(ids)?
     .arg(files(alloc))?;
     Ok(command)
 }
@@ -114,7 +132,10 @@ fn check<'a>(alloc: Global) -> Result<Command<'a>, Error> {
 }
 
 fn imports<'a>(alloc: Global) -> Result<Command<'a>, Error> {
-    let command = on_files(alloc, "imports", "Lists the imports of files")?.arg(files(alloc))?;
+    let about = "Only imports that repeat an earlier one of their module, each with its place";
+    let command = on_files(alloc, "imports", "Lists the imports of files")?
+        .arg(flag(alloc, "duplicates", about))?
+        .arg(files(alloc))?;
     Ok(command)
 }
 

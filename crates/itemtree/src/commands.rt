@@ -3,13 +3,21 @@ use crate::files::{files_of_folder, is_a_folder, read};
 use crate::options::read_options;
 use crate::tags::write_tags;
 use clap::ArgMatches;
-use itemtree_commands::{Options, check, find, imports, is_same_tree, outline, page, push_tags};
+use itemtree_commands::{
+    Options, check, duplicates, find, imports, is_same_tree, outline, outline_json, page, push_tags,
+};
 use source_listing::{Query, Source};
 use source_tree::SourceError;
 use std::alloc::{AllocError, Global};
 use std::fmt::Display;
 use std::io;
-use std::io::Write;
+use std::io::{IsTerminal, Write};
+
+/// How many files are done between two tellings.
+const FILES_A_TIME: usize = 64;
+
+/// Back to the begin of the line on a terminal, and nothing on it.
+const CLEARED: &str = "\r\x1b[K";
 
 /// Why a run ends early.
 #[derive(Debug, Drop)]
@@ -40,9 +48,10 @@ impl From<AllocError> for Failure {
 /// What is done with each file.
 #[derive(Drop)]
 enum Action {
-    Outline { depth: Option<usize> },
-    Page,
+    Outline { depth: Option<usize>, is_json: bool },
+    Page { has_ids: bool },
     Imports,
+    Duplicates,
     Find { path: String, is_anywhere: bool },
     Tags { lines: Vec<String> },
     Check,
@@ -57,9 +66,17 @@ impl Action {
         source: Source<'_>,
     ) -> Result<(String, bool), SourceError> {
         match self {
-            Action::Outline { depth } => Ok((outline(alloc, source, options, *depth)?, true)),
-            Action::Page => Ok((page(alloc, source.text, options)?, true)),
+            Action::Outline { depth, is_json } => {
+                let text = if *is_json {
+                    outline_json(alloc, source, options, *depth)?
+                } else {
+                    outline(alloc, source, options, *depth)?
+                };
+                Ok((text, true))
+            }
+            Action::Page { has_ids } => Ok((page(alloc, source.text, options, *has_ids)?, true)),
             Action::Imports => Ok((imports(alloc, source, options)?, true)),
+            Action::Duplicates => Ok((duplicates(alloc, source, options)?, true)),
             Action::Find { path, is_anywhere } => {
                 let query = Query {
                     path: path.as_str(),
@@ -93,13 +110,25 @@ struct Run<'a> {
     status: u8,
     /// Whether anything was written.
     has_written: bool,
+    /// Whether somebody sees how many files are done.
+    is_watched: bool,
 }
 
 impl Run<'_> {
     /// Tells on standard error that a file is not done.
     fn complain(&mut self, path: &str, error: impl Display + Drop) {
         self.status = 1;
-        let _ = eprintln!(self.rt; "itemtree: {path}: {error}");
+        let front = if self.is_watched { CLEARED } else { "" };
+        let _ = eprintln!(self.rt; "{front}itemtree: {path}: {error}");
+    }
+
+    /// Tells on the terminal how many files of a folder are done: after the last, and now and then before.
+    fn tell_progress(&self, done: usize, count: usize) {
+        let is_last = done == count;
+        if self.is_watched && (is_last || done % FILES_A_TIME == 0) {
+            let end = if is_last { "\n" } else { "" };
+            let _ = eprint!(self.rt; "{CLEARED}{done} of {count} files{end}");
+        }
     }
 
     fn write(&mut self, text: &str, is_good: bool) -> io::Result<()> {
@@ -134,8 +163,9 @@ impl Run<'_> {
     fn do_folder(&mut self, path: &str) -> Result<(), Failure> {
         match files_of_folder(self.rt, path) {
             Ok(files) => {
-                for file in &files {
+                for (before, file) in files.iter().enumerate() {
                     self.do_file(file)?;
+                    self.tell_progress(before + 1, files.len());
                 }
                 Ok(())
             }
@@ -174,9 +204,14 @@ fn action_of(alloc: Global, name: &str, matches: &ArgMatches<'_>) -> Result<Acti
     match name {
         "outline" => {
             let depth = matches.get_one::<usize>("depth");
-            Ok(Action::Outline { depth })
+            let is_json = matches.get_flag("json");
+            Ok(Action::Outline { depth, is_json })
         }
-        "page" => Ok(Action::Page),
+        "page" => {
+            let has_ids = matches.get_str("ids") != Some("off");
+            Ok(Action::Page { has_ids })
+        }
+        "imports" if matches.get_flag("duplicates") => Ok(Action::Duplicates),
         "imports" => Ok(Action::Imports),
         "find" => path_of_names(alloc, matches.get_str("name").unwrap_or("")),
         "tags" => {
@@ -202,7 +237,11 @@ fn finish(run: Run<'_>, matches: &ArgMatches<'_>) -> Result<u8, Failure> {
             Ok(status)
         }
         Action::Find { .. } => Ok(if has_written { status } else { 1 }),
-        Action::Outline { .. } | Action::Page | Action::Imports | Action::Check => Ok(status),
+        Action::Outline { .. }
+        | Action::Page { .. }
+        | Action::Imports
+        | Action::Duplicates
+        | Action::Check => Ok(status),
     }
 }
 
@@ -255,8 +294,10 @@ pub(crate) fn run_command(rt: &HostRuntime, matches: &ArgMatches<'_>) -> Result<
         return compare(rt, &options, old, new);
     }
     let action = action_of(rt.alloc(), name, inner)?;
+    let is_watched = name == "tags" && rt.stderr().is_terminal();
     let mut run = Run {
         rt,
+        is_watched,
         action,
         options: &options,
         status: 0,

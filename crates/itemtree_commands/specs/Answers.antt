@@ -1,9 +1,12 @@
 -- What the commands answer, from the text of a file on.
-use Rattle.std.specs.Prelude.{◌≡◌, ◌↔◌, ◌⊎◌, ℕ, Bool, IsTrue, Option, None, List, ◌++◌, length, string_bytes}
+use Rattle.std.specs.Prelude.{◌≡◌, ◌↔◌, ◌⊎◌, ℕ, Bool, IsTrue, if◌then◌else◌, Option, None, List, ◌++◌, length, string_bytes}
 use Rattle.item_tree.specs.Page.{page}
 use Rattle.item_rows.specs.Rows.{rows}
 use Rattle.source_listing.specs.Imports.{import_lines}
 use Rattle.source_listing.specs.Lines.{Choice, Source, outline_text, problem_lines}
+use Rattle.source_listing.specs.Objects.{json_line}
+use Rattle.source_listing.specs.Pages.{without_ids}
+use Rattle.source_listing.specs.Repeated.{repeated_lines}
 use Rattle.source_listing.specs.Search.{Query, found_lines}
 use Rattle.source_listing.specs.Tags.{tags}
 use Rattle.source_tree.specs.declared.SourceTree.{SourceTree}
@@ -25,9 +28,18 @@ abbrev pub IsOutline : Options → Option ℕ → Source → List ℕ → Type 0
 IsOutline o depth s out =
     (t : SourceTree) × HasTree o s.text t × (out ≡ outline_text s o.edition.reserved.items t.places.items (choice o depth) (rows t.tree.forest))
 
+-- their objects, on one line
+abbrev pub IsJson : Options → Option ℕ → Source → List ℕ → Type 0
+IsJson o depth s out =
+    (t : SourceTree) × HasTree o s.text t × (out ≡ json_line s o.edition.reserved.items t.places.items (choice o depth) t.tree.forest)
+
 -- the lines of the imports
 abbrev pub AreImports : Options → Source → List ℕ → Type 0
 AreImports o s out = (t : SourceTree) × HasTree o s.text t × (out ≡ import_lines s o.edition.reserved.items t.places.items t.tree.forest)
+
+-- the lines of those that repeat an earlier one
+abbrev pub AreRepeated : Options → Source → List ℕ → Type 0
+AreRepeated o s out = (t : SourceTree) × HasTree o s.text t × (out ≡ repeated_lines s o.edition.reserved.items t.places.items t.tree.forest)
 
 -- the lines of the items that are looked for
 abbrev pub AreFound : Options → Query → Source → List ℕ → Type 0
@@ -39,9 +51,12 @@ abbrev pub AddsTags : Options → Source → List (List ℕ) → List (List ℕ)
 AddsTags o s old new =
     (t : SourceTree) × HasTree o s.text t × (new ≡ old ++ tags s t.places.items (choice o None) (rows t.tree.forest))
 
--- the debug page
-abbrev pub IsPage : Options → List ℕ → List ℕ → Type 0
-IsPage o text out = (t : SourceTree) × HasTree o text t × (out ≡ page o.edition.reserved.items t.tree)
+-- the debug page, with or without the lines of ids
+abbrev pub if_ids : Bool → List ℕ → List ℕ
+if_ids has_ids page = if has_ids then page else without_ids page
+
+abbrev pub IsPage : Options → Bool → List ℕ → List ℕ → Type 0
+IsPage o has_ids text out = (t : SourceTree) × HasTree o text t × (out ≡ if_ids has_ids (page o.edition.reserved.items t.tree))
 
 -- the lines of what could not be read, and whether there are any
 abbrev pub IsCheck : Options → Source → Checked → Type 0

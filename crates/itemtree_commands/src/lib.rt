@@ -8,9 +8,9 @@ ghost use Rattle.source_tree.specs.Trees.{HasOwnIds};
 
 use hir_input::{Edition, Name};
 use item_tree::CrateData;
-use source_listing::{Choice, Query, Source};
+use source_listing::{Choice, Query, Source, without_ids};
 use source_tree::{SourceError, SourceTree, source_tree};
-use std::alloc::Global;
+use std::alloc::{AllocError, Global};
 
 /// What trees are made and written under.
 #[derive(Debug, Drop)]
@@ -73,16 +73,54 @@ pub fn outline(
     Ok(text)
 }
 
-/// `itemtree page`: the debug page of the tree.
+/// `itemtree outline --json`: one JSON object on one line, with an object for each item, or for those in fewer than so
+/// many others.
 ///
 /// Its errors are those of `source_tree`.
 #[tactic(auto, using(source_tree::proofs::Refused::no_memory))]
-pub fn page(alloc: Global, text: &str, options: &Options) -> Result<String, SourceError>
-    ensures text { IfOk result (λ out. spec.IsPage options.now text.now (string_bytes out)) }
+pub fn outline_json(
+    alloc: Global,
+    source: Source<'_>,
+    options: &Options,
+    depth: Option<usize>,
+) -> Result<String, SourceError>
+    ensures text { IfOk result (λ out. spec.IsJson options.now depth (source_view source.entry) (string_bytes out)) }
+    ensures refused { IfErr result (spec.HasNoTree options.now source.entry.text.now) }
+{
+    let file = read(alloc, source.text, options)?;
+    let choice = options.choice(depth);
+    let edition = &options.edition;
+    let (places, tree) = (&file.places, &file.tree);
+    let text = source_listing::outline_json(alloc, source, places, tree, edition, choice)?;
+    Ok(text)
+}
+
+/// A debug page, with or without the lines of ids.
+fn shown_page(alloc: Global, page: String, has_ids: bool) -> Result<String, AllocError>
+    ensures { IfOk result (λ out. string_bytes out ≡ spec.if_ids has_ids (string_bytes page)) }
+{
+    if has_ids {
+        return Ok(page);
+    }
+    without_ids(alloc, &page)
+}
+
+/// `itemtree page`: the debug page of the tree, with or without the ids of its items.
+///
+/// Its errors are those of `source_tree`.
+#[tactic(auto, using(source_tree::proofs::Refused::no_memory))]
+pub fn page(
+    alloc: Global,
+    text: &str,
+    options: &Options,
+    has_ids: bool,
+) -> Result<String, SourceError>
+    ensures text { IfOk result (λ out. spec.IsPage options.now has_ids text.now (string_bytes out)) }
     ensures refused { IfErr result (spec.HasNoTree options.now text.now) }
 {
     let file = read(alloc, text, options)?;
     let page = file.tree.pretty_print(alloc, &options.edition)?;
+    let page = shown_page(alloc, page, has_ids)?;
     Ok(page)
 }
 
@@ -96,7 +134,8 @@ pub fn find(
     options: &Options,
     query: Query<'_>,
 ) -> Result<String, SourceError>
-    ensures text { IfOk result (λ out. spec.AreFound options.now (query_view query.entry) (source_view source.entry) (string_bytes out)) }
+    ensures text { let found = spec.AreFound options.now (query_view query.entry) (source_view source.entry) in
+        IfOk result (λ out. found (string_bytes out)) }
     ensures refused { IfErr result (spec.HasNoTree options.now source.entry.text.now) }
 {
     let file = read(alloc, source.text, options)?;
@@ -126,6 +165,24 @@ pub fn imports(alloc: Global, source: Source<'_>, options: &Options) -> Result<S
     Ok(text)
 }
 
+/// `itemtree imports --duplicates`: a line for each import that repeats an earlier one of its module.
+///
+/// Its errors are those of `source_tree`.
+#[tactic(auto, using(source_tree::proofs::Refused::no_memory))]
+pub fn duplicates(
+    alloc: Global,
+    source: Source<'_>,
+    options: &Options,
+) -> Result<String, SourceError>
+    ensures text { IfOk result (λ out. spec.AreRepeated options.now (source_view source.entry) (string_bytes out)) }
+    ensures refused { IfErr result (spec.HasNoTree options.now source.entry.text.now) }
+{
+    let file = read(alloc, source.text, options)?;
+    let edition = &options.edition;
+    let text = source_listing::repeated_lines(alloc, source, &file.places, &file.tree, edition)?;
+    Ok(text)
+}
+
 /// `itemtree tags`: adds the tags of the file.
 ///
 /// Its errors are those of `source_tree`.
@@ -136,18 +193,18 @@ pub fn push_tags(
     options: &Options,
     tags: &mut Vec<String>,
 ) -> Result<(), SourceError>
-    ensures tags { OnOk result (spec.AddsTags options.now (source_view source.entry) (map string_bytes tags.old.items) (map string_bytes tags.new.items)) }
+    ensures tags { let added = spec.AddsTags options.now (source_view source.entry) in
+        OnOk result (added (map string_bytes tags.old.items) (map string_bytes tags.new.items)) }
     ensures refused { IfErr result (spec.HasNoTree options.now source.entry.text.now) }
 {
     let file = read(alloc, source.text, options)?;
     let choice = options.choice(None);
-    let edition = &options.edition;
-    let (places, tree) = (&file.places, &file.tree);
-    source_listing::push_tags(alloc, source, places, tree, edition, choice, tags)?;
+    source_listing::push_tags(alloc, source, &file.places, &file.tree, choice, tags)?;
     Ok(())
 }
 
-/// `itemtree changed`: whether the trees of two texts are equal, as where only bodies, comments or layout became others.
+/// `itemtree changed`: whether the trees of two texts are equal, as where only bodies, comments or layout became
+/// others.
 ///
 /// Its errors are those of `source_tree`, for the old text first.
 #[tactic(auto, using(source_tree::proofs::Refused::no_memory))]

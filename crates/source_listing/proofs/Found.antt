@@ -10,7 +10,7 @@ use Rattle.hir_input.specs.declared.ids.FileAstId.{FileAstId}
 use Rattle.rust_ids.specs.Ids.{kind_place}
 use Rattle.rust_items.specs.declared.source_file.ItemPlace.{ItemPlace}
 use Rattle.source_listing.specs.Places.{AreDistinct, is_id, place_of}
-use Rattle.source_listing.specs.Inner.{IsEndOf}
+use Rattle.source_listing.specs.Ends.{IsEndOf}
 
 to_end : {A : Type 0} (front left all : List A) → front ++ left ≡ all → IsEndOf left all
 to_end front left all e =

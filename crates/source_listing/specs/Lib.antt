@@ -1,6 +1,10 @@
+pub mod Ends
 pub mod Places
 pub mod Lines
+pub mod Objects
 pub mod Imports
+pub mod Repeated
+pub mod Pages
 pub mod Search
 pub mod Tags
 pub mod Views

@@ -14,7 +14,7 @@ use Rattle.rust_items.specs.declared.source_file.ItemPlace.{ItemPlace}
 use Rattle.rust_items.specs.declared.log.Problem.{Problem}
 use Rattle.rust_items.specs.declared.log.ProblemKind.{ProblemKind}
 use Rattle.rust_items.specs.declared.log.ProblemKind.TheVariants as problem
-use Rattle.source_listing.specs.Places.{place_of, stands_at, place_text}
+use Rattle.source_listing.specs.Places.{item_place, place_text, spot_of}
 
 -- the word of a kind
 abbrev pub word : AstIdKind → List ℕ
@@ -55,13 +55,12 @@ abbrev pub is_within : Option ℕ → ℕ → Bool
 is_within None level = true
 is_within (Some depth) level = nat_lt level depth
 
-abbrev pub is_listed : Choice → RowView → Bool
-is_listed c r = is_within c.depth r.level && (not c.only_active || r.is_active)
+-- an item in so many others, which a cfg disables or not
+abbrev pub is_chosen : Choice → ℕ → Bool → Bool
+is_chosen c level is_active = is_within c.depth level && (not c.only_active || is_active)
 
--- where an item stands; each has a place
-abbrev pub item_place : Source → Option ItemPlace → List ℕ
-item_place s None = s.path ++ codes ": "
-item_place s (Some p) = place_at s (stands_at p)
+abbrev pub is_listed : Choice → RowView → Bool
+is_listed c r = is_chosen c r.level r.is_active
 
 -- a visibility is written where it was
 abbrev pub visibility_text : List (List ℕ) → Option RawVisibility → List ℕ
@@ -83,7 +82,7 @@ indent level = replicate (4 * level) 32
 -- the line of an item: its place, four blanks for each item that it stands in, its visibility, the word of its kind, its name, and whether a cfg disables it
 abbrev pub item_line : Source → List (List ℕ) → List ItemPlace → RowView → List ℕ
 item_line s reserved places r =
-    item_place s (place_of r.id places) ++ indent r.level ++ visibility_text reserved r.visibility ++ word r.id.kind ++ name_text reserved r.name ++ line_end r.is_active
+    item_place s.path (spot_of s.text places r.id) ++ indent r.level ++ visibility_text reserved r.visibility ++ word r.id.kind ++ name_text reserved r.name ++ line_end r.is_active
 
 abbrev pub outline_text : Source → List (List ℕ) → List ItemPlace → Choice → List RowView → List ℕ
 outline_text s reserved places c rs = flat_map (item_line s reserved places) (filter (is_listed c) rs)

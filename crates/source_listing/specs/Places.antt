@@ -1,11 +1,13 @@
 -- Where an item stands, by its id.
-use Rattle.std.specs.Prelude.{◌≢◌, ℕ, Bool, ◌==◌, ◌&&◌, if◌then◌else◌, List, [], ◌∷◌, ◌++◌, codes, decimal, Option, Some, None}
+use Rattle.std.specs.Prelude.{◌≢◌, ℕ, Bool, ◌==◌, ◌&&◌, if◌then◌else◌, List, [], ◌∷◌, ◌++◌, codes, decimal, Option, Some, None, option_map}
 use Rattle.std.specs.List.{AllPairs}
 use Rattle.hir_input.specs.declared.ids.FileAstId.{FileAstId}
 use Rattle.line_index.specs.declared.Position.{Position}
+use Rattle.line_index.specs.Positions.{position_of}
 use Rattle.rust_ids.specs.Ids.{kind_place}
 use Rattle.rust_paths.specs.declared.names.TextRange.{TextRange}
 use Rattle.rust_items.specs.declared.source_file.ItemPlace.{ItemPlace}
+use Rattle.source_listing.specs.declared.finder.Spot.{Spot}
 
 -- no two places have one id
 abbrev pub AreDistinct : List ItemPlace → Type 0
@@ -28,6 +30,18 @@ at_name (Some name) start = name.start
 abbrev pub stands_at : ItemPlace → ℕ
 stands_at p = at_name p.name p.range.start
 
+-- its line and column in a text, and its bytes
+abbrev pub spot_at : List ℕ → ItemPlace → Spot
+spot_at text p = record { position = position_of text (stands_at p); range = p.range }
+
+abbrev pub spot_of : List ℕ → List ItemPlace → FileAstId → Option Spot
+spot_of text places id = option_map (spot_at text) (place_of id places)
+
 -- what an editor and a compiler write of a place: the file, the line and the column
 abbrev pub place_text : List ℕ → Position → List ℕ
 place_text path p = path ++ codes ":" ++ decimal p.line ++ codes ":" ++ decimal p.column ++ codes ": "
+
+-- the same of an item; each has a place
+abbrev pub item_place : List ℕ → Option Spot → List ℕ
+item_place path None = path ++ codes ": "
+item_place path (Some spot) = place_text path spot.position

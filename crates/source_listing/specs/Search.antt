@@ -4,8 +4,8 @@ use Rattle.std.specs.List.{flat_map, ends_with}
 use Rattle.std.specs.Str.{bytes_eq}
 use Rattle.item_rows.specs.Rows.{RowView}
 use Rattle.rust_items.specs.declared.source_file.ItemPlace.{ItemPlace}
-use Rattle.source_listing.specs.Lines.{Source, item_place, name_text, word}
-use Rattle.source_listing.specs.Places.{place_of}
+use Rattle.source_listing.specs.Lines.{Source, name_text, word}
+use Rattle.source_listing.specs.Places.{item_place, spot_of}
 
 -- what is looked for: names with two colons before each, from the top on or anywhere, with or without what a cfg disables
 pub record Query : Type 0 where
@@ -36,7 +36,7 @@ is_found q r = is_some r.name && (is_shown q r && is_path q (item_path r))
 
 -- the place of an item, the word of its kind and its name
 abbrev pub found_line : Source → List (List ℕ) → List ItemPlace → RowView → List ℕ
-found_line s reserved places r = item_place s (place_of r.id places) ++ word r.id.kind ++ name_text reserved r.name ++ codes "\n"
+found_line s reserved places r = item_place s.path (spot_of s.text places r.id) ++ word r.id.kind ++ name_text reserved r.name ++ codes "\n"
 
 abbrev pub found_lines : Source → List (List ℕ) → List ItemPlace → Query → List RowView → List ℕ
 found_lines s reserved places q rs = flat_map (found_line s reserved places) (filter (is_found q) rs)

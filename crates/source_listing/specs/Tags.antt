@@ -4,10 +4,9 @@ use Rattle.std.specs.List.{flat_map}
 use Rattle.hir_input.specs.declared.ids.AstIdKind.{AstIdKind}
 use Rattle.hir_input.specs.declared.ids.AstIdKind.TheVariants as kind
 use Rattle.item_rows.specs.Rows.{RowView}
-use Rattle.line_index.specs.Positions.{position_of}
 use Rattle.rust_items.specs.declared.source_file.ItemPlace.{ItemPlace}
 use Rattle.source_listing.specs.Lines.{Choice, Source, is_listed}
-use Rattle.source_listing.specs.Places.{place_of, stands_at}
+use Rattle.source_listing.specs.Places.{spot_of}
 use Rattle.source_listing.specs.Search.{segment}
 
 -- the letter of a kind, as Universal Ctags has it; items of the other kinds have no tag
@@ -30,10 +29,6 @@ abbrev pub scope_field : List (List ℕ) → List ℕ
 scope_field [] = []
 scope_field (name ∷ names) = codes "\tmodule:" ++ name ++ flat_map segment names
 
--- the line of the text on which an item stands
-abbrev pub line_at : List ℕ → ItemPlace → ℕ
-line_at text p = (position_of text (stands_at p)).line
-
 -- name, file, line, letter and modules
 abbrev pub tag_text : List ℕ → List ℕ → ℕ → List ℕ → List (List ℕ) → List ℕ
 tag_text name path line letter scope = name ++ codes "\t" ++ path ++ codes "\t" ++ decimal line ++ codes ";\"\t" ++ letter ++ scope_field scope ++ codes "\n"
@@ -44,7 +39,7 @@ tag_of path scope _ _ _ = None
 
 -- an item has a tag if it has a name, and its kind a letter
 abbrev pub tag : Source → List ItemPlace → RowView → Option (List ℕ)
-tag s places r = tag_of s.path r.scope r.name (letter r.id.kind) (option_map (line_at s.text) (place_of r.id places))
+tag s places r = tag_of s.path r.scope r.name (letter r.id.kind) (option_map (λ spot. spot.position.line) (spot_of s.text places r.id))
 
 abbrev pub if_any : Option (List ℕ) → List (List ℕ)
 if_any None = []

@@ -6,8 +6,8 @@ ghost use Rattle.import_lister.specs.Listed.{import_of};
 ghost use Rattle.item_tree.specs.Shown.{IsContained};
 ghost use Rattle.item_tree.specs.UseText.{shown_rename};
 ghost use Rattle.source_listing.specs.Imports as spec;
-ghost use Rattle.source_listing.specs.Lines as lines;
-ghost use Rattle.source_listing.specs.Places.{AreDistinct, place_of};
+ghost use Rattle.source_listing.specs.Inner.{IsSameFile, file_of, places_of, reserved_of};
+ghost use Rattle.source_listing.specs.Places.{AreDistinct, spot_of};
 ghost use Rattle.source_listing.specs.Views.{source_view};
 
 use crate::lines::{Printer, Source};
@@ -23,7 +23,8 @@ fn push_rename(
     alias: &Option<ImportAlias>,
     out: &mut String,
 ) -> Result<(), AllocError>
-    ensures { OnOk result (string_bytes out.new ≡ string_bytes out.old ++ shown_rename edition.now.reserved.items alias.now) }
+    ensures { let text = shown_rename edition.now.reserved.items alias.now in
+        OnOk result (string_bytes out.new ≡ string_bytes out.old ++ text) }
 {
     match alias {
         None => Ok(()),
@@ -36,8 +37,13 @@ fn push_rename(
 }
 
 /// An import as a use of it alone would be written.
-fn push_import_text(edition: &Edition, import: &Listed, out: &mut String) -> Result<(), AllocError>
-    ensures { OnOk result (string_bytes out.new ≡ string_bytes out.old ++ spec.import_text edition.now.reserved.items import.now.kind import.now.path import.now.alias) }
+pub(crate) fn push_import_text(
+    edition: &Edition,
+    import: &Listed,
+    out: &mut String,
+) -> Result<(), AllocError>
+    ensures { let text = spec.import_text edition.now.reserved.items import.now.kind import.now.path import.now.alias in
+        OnOk result (string_bytes out.new ≡ string_bytes out.old ++ text) }
 {
     let path = import.path.display(edition);
     write!(out, "{path}")?;
@@ -59,10 +65,11 @@ impl Printer<'_> {
         import: &Listed,
         out: &mut String,
     ) -> Result<(), AllocError>
-        requires { AreDistinct self.old.places.all.now }
-        ensures text { let s : lines.Source = record { path = self.old.path.now; text = self.old.lines } in
-            OnOk result (string_bytes out.new ≡ string_bytes out.old ++ spec.import_line s self.old.edition.now.reserved.items (place_of id self.old.places.all.now) (import_of import.now)) }
-        ensures same { (self.new.lines ≡ self.old.lines) × (self.new.places.all.now ≡ self.old.places.all.now) × (self.new.path ≡ self.old.path) × (self.new.edition ≡ self.old.edition) }
+        requires { AreDistinct (places_of self.old) }
+        ensures text { let spot = spot_of (file_of self.old).text (places_of self.old) id in
+            let line = spec.import_line (file_of self.old).path (reserved_of self.old) spot in
+            OnOk result (string_bytes out.new ≡ string_bytes out.old ++ line (import_of import.now)) }
+        ensures same { IsSameFile self.old self.new }
     {
         self.push_place_of(id, out)?;
         push_import_text(self.edition, import, out)?;
@@ -75,10 +82,11 @@ impl Printer<'_> {
         imports: &[Listed],
         out: &mut String,
     ) -> Result<(), AllocError>
-        requires { AreDistinct self.old.places.all.now }
-        ensures text { let s : lines.Source = record { path = self.old.path.now; text = self.old.lines } in
-            OnOk result (string_bytes out.new ≡ string_bytes out.old ++ flat_map (spec.import_line s self.old.edition.now.reserved.items (place_of id self.old.places.all.now)) (map import_of imports.now)) }
-        ensures same { (self.new.lines ≡ self.old.lines) × (self.new.places.all.now ≡ self.old.places.all.now) × (self.new.path ≡ self.old.path) × (self.new.edition ≡ self.old.edition) }
+        requires { AreDistinct (places_of self.old) }
+        ensures text { let spot = spot_of (file_of self.old).text (places_of self.old) id in
+            let line = spec.import_line (file_of self.old).path (reserved_of self.old) spot in
+            OnOk result (string_bytes out.new ≡ string_bytes out.old ++ flat_map line (map import_of imports.now)) }
+        ensures same { IsSameFile self.old self.new }
     {
         for import in imports {
             self.push_import(id, import, out)?;
@@ -93,11 +101,11 @@ impl Printer<'_> {
         declaration: &Declaration<'_>,
         out: &mut String,
     ) -> Result<(), AllocError>
-        requires distinct { AreDistinct self.old.places.all.now }
+        requires distinct { AreDistinct (places_of self.old) }
         requires contained { IsContained tree.now declaration.now.id }
-        ensures text { let s : lines.Source = record { path = self.old.path.now; text = self.old.lines } in
-            OnOk result (string_bytes out.new ≡ string_bytes out.old ++ spec.seen_lines s self.old.edition.now.reserved.items self.old.places.all.now (seen tree.now declaration.now)) }
-        ensures same { (self.new.lines ≡ self.old.lines) × (self.new.places.all.now ≡ self.old.places.all.now) × (self.new.path ≡ self.old.path) × (self.new.edition ≡ self.old.edition) }
+        ensures text { let lines = spec.seen_lines (file_of self.old) (reserved_of self.old) (places_of self.old) in
+            OnOk result (string_bytes out.new ≡ string_bytes out.old ++ lines (seen tree.now declaration.now)) }
+        ensures same { IsSameFile self.old self.new }
     {
         match &declaration.declares {
             Declares::Name(_) => Ok(()),
@@ -109,8 +117,8 @@ impl Printer<'_> {
     }
 }
 
-/// A line for each import of a file, in the order in which they are written: file, line and column of its use item, and the import
-/// as a use of it alone would be written. What a cfg disables is not left out.
+/// A line for each import of a file, in the order in which they are written: file, line and column of its use item, and the
+/// import as a use of it alone would be written. What a cfg disables is not left out.
 ///
 /// The places are those that the reader gave with the syntax of the tree. The only error is want of memory.
 #[tactic(auto, using(crate::proofs::Imported::lines_of_all))]
@@ -122,7 +130,8 @@ pub fn import_lines(
     edition: &Edition,
 ) -> Result<String, AllocError>
     requires { AreDistinct places.now }
-    ensures { IfOk result (λ text. string_bytes text ≡ spec.import_lines (source_view source.entry) edition.now.reserved.items places.now tree.now.forest) }
+    ensures { let lines = spec.import_lines (source_view source.entry) edition.now.reserved.items places.now in
+        IfOk result (λ text. string_bytes text ≡ lines tree.now.forest) }
 {
     let mut printer = Printer::new(source, places, edition);
     let mut out = String::new(alloc);

@@ -1,15 +1,22 @@
 //! Lists of the items and of the problems of Rust source, with the line and the column of each.
 #![tactic(auto)]
 
+mod finder;
 mod imports;
+mod json;
 mod lines;
+mod pages;
 mod places;
 mod problems;
+mod repeated;
 mod search;
 mod tags;
 
 pub use imports::import_lines;
+pub use json::outline_json;
 pub use lines::{Choice, Source, outline};
+pub use pages::without_ids;
 pub use problems::problem_lines;
+pub use repeated::repeated_lines;
 pub use search::{Query, found_lines};
 pub use tags::push_tags;

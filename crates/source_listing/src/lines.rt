@@ -1,18 +1,18 @@
 //! Outlines as lines of text.
 ghost use Rattle.std.specs.Prelude.{◌≡◌, ◌++◌, ◌∷◌, [], IfOk, OnOk, option_copied, string_bytes, map};
-ghost use Rattle.line_index.specs.Positions.{position_of};
 ghost use Rattle.item_rows.specs.Views.{row_view};
 ghost use Rattle.item_rows.specs.Rows as rows;
+ghost use Rattle.source_listing.specs.Inner.{IsPrinterOf, IsSameFile, file_of, places_of, reserved_of};
 ghost use Rattle.source_listing.specs.Lines as spec;
-ghost use Rattle.source_listing.specs.Places.{AreDistinct, place_of, place_text, stands_at};
+ghost use Rattle.source_listing.specs.Places.{AreDistinct, item_place, place_text, spot_of};
 ghost use Rattle.source_listing.specs.Search.{found_line};
 ghost use Rattle.source_listing.specs.Views.{choice_view, source_view};
 
-use crate::places::Places;
+use crate::finder::Finder;
 use hir_input::{AstIdKind, Edition, FileAstId, Name};
 use item_rows::{Row, item_rows};
 use item_tree::{ItemTree, RawVisibility, VisibilityExplicitness};
-use line_index::{LineIndex, Position};
+use line_index::Position;
 use rust_items::ItemPlace;
 use std::alloc::{AllocError, Global};
 
@@ -33,14 +33,21 @@ pub struct Choice {
 }
 
 impl Choice {
+    /// Whether an item in so many others, which a cfg disables or not, is listed.
+    pub(crate) fn takes(self, level: usize, is_active: bool) -> bool
+        ensures { result ≡ spec.is_chosen (choice_view self) level is_active }
+    {
+        let is_within = match self.depth {
+            Some(depth) => level < depth,
+            None => true,
+        };
+        is_within && (!self.only_active || is_active)
+    }
+
     pub(crate) fn lists(self, row: &Row<'_>) -> bool
         ensures { result ≡ spec.is_listed (choice_view self) (row_view row.now) }
     {
-        let is_within = match self.depth {
-            Some(depth) => row.level < depth,
-            None => true,
-        };
-        is_within && (!self.only_active || row.is_active)
+        self.takes(row.level, row.is_active)
     }
 }
 
@@ -53,7 +60,7 @@ pub(crate) fn push_place(path: &str, position: Position, out: &mut String) -> Re
 }
 
 /// The word of a kind.
-fn word(kind: AstIdKind) -> &'static str
+pub(crate) fn word(kind: AstIdKind) -> &'static str
     ensures { result.now ≡ spec.word kind }
 {
     match kind {
@@ -91,7 +98,8 @@ fn push_visibility(
     visibility: Option<&RawVisibility>,
     out: &mut String,
 ) -> Result<(), AllocError>
-    ensures { OnOk result (string_bytes out.new ≡ string_bytes out.old ++ spec.visibility_text edition.now.reserved.items (option_copied visibility.entry)) }
+    ensures { let text = spec.visibility_text edition.now.reserved.items (option_copied visibility.entry) in
+        OnOk result (string_bytes out.new ≡ string_bytes out.old ++ text) }
 {
     match visibility {
         None | Some(RawVisibility::PubSelf(VisibilityExplicitness::Implicit)) => Ok(()),
@@ -108,7 +116,8 @@ fn push_visibility(
 }
 
 fn push_name(edition: &Edition, name: Option<&Name>, out: &mut String) -> Result<(), AllocError>
-    ensures { OnOk result (string_bytes out.new ≡ string_bytes out.old ++ spec.name_text edition.now.reserved.items (option_copied name.entry)) }
+    ensures { let text = spec.name_text edition.now.reserved.items (option_copied name.entry) in
+        OnOk result (string_bytes out.new ≡ string_bytes out.old ++ text) }
 {
     match name {
         None => Ok(()),
@@ -130,23 +139,18 @@ fn push_end(is_active: bool, out: &mut String) -> Result<(), AllocError>
 #[derive(Drop)]
 pub(crate) struct Printer<'a> {
     pub(crate) path: &'a str,
-    pub(crate) lines: LineIndex<'a>,
-    pub(crate) places: Places<'a>,
     pub(crate) edition: &'a Edition,
+    pub(crate) finder: Finder<'a>,
 }
 
 impl<'a> Printer<'a> {
     pub(crate) fn new(source: Source<'a>, places: &'a [ItemPlace], edition: &'a Edition) -> Self
-        ensures path { result.path.now ≡ source.entry.path.now }
-        ensures lines { result.lines ≡ source.entry.text.now }
-        ensures places { result.places.all.now ≡ places.entry.now }
-        ensures edition { result.edition ≡ edition.entry }
+        ensures { IsPrinterOf (source_view source.entry) places.entry.now edition.entry.now result }
     {
         Printer {
             path: source.path,
-            lines: LineIndex::new(source.text),
-            places: Places::new(places),
             edition,
+            finder: Finder::new(source.text, places),
         }
     }
 }
@@ -158,19 +162,13 @@ impl Printer<'_> {
         id: FileAstId,
         out: &mut String,
     ) -> Result<(), AllocError>
-        requires { AreDistinct self.old.places.all.now }
-        ensures text { let s : spec.Source = record { path = self.old.path.now; text = self.old.lines } in
-            OnOk result (string_bytes out.new ≡ string_bytes out.old ++ spec.item_place s (place_of id self.old.places.all.now)) }
-        ensures same { (self.new.lines ≡ self.old.lines) × (self.new.places.all.now ≡ self.old.places.all.now) × (self.new.path ≡ self.old.path) × (self.new.edition ≡ self.old.edition) }
+        requires { AreDistinct (places_of self.old) }
+        ensures text { let spot = spot_of (file_of self.old).text (places_of self.old) id in
+            OnOk result (string_bytes out.new ≡ string_bytes out.old ++ item_place (file_of self.old).path spot) }
+        ensures same { IsSameFile self.old self.new }
     {
-        match self.places.find(id) {
-            Some(place) => {
-                let at = match place.name {
-                    Some(name) => name.start,
-                    None => place.range.start,
-                };
-                push_place(self.path, self.lines.position(at), out)
-            }
+        match self.finder.find(id) {
+            Some(spot) => push_place(self.path, spot.position, out),
             None => {
                 out.push_str(self.path)?;
                 out.push_str(": ")
@@ -180,10 +178,10 @@ impl Printer<'_> {
 
     /// The line of an item.
     fn push_item(&mut self, row: &Row<'_>, out: &mut String) -> Result<(), AllocError>
-        requires { AreDistinct self.old.places.all.now }
-        ensures text { let s : spec.Source = record { path = self.old.path.now; text = self.old.lines } in
-            OnOk result (string_bytes out.new ≡ string_bytes out.old ++ spec.item_line s self.old.edition.now.reserved.items self.old.places.all.now (row_view row.now)) }
-        ensures same { (self.new.lines ≡ self.old.lines) × (self.new.places.all.now ≡ self.old.places.all.now) × (self.new.path ≡ self.old.path) × (self.new.edition ≡ self.old.edition) }
+        requires { AreDistinct (places_of self.old) }
+        ensures text { let line = spec.item_line (file_of self.old) (reserved_of self.old) (places_of self.old) in
+            OnOk result (string_bytes out.new ≡ string_bytes out.old ++ line (row_view row.now)) }
+        ensures same { IsSameFile self.old self.new }
     {
         self.push_place_of(row.id, out)?;
         push_indent(row.level, out)?;
@@ -195,10 +193,10 @@ impl Printer<'_> {
 
     /// The place, the kind and the name of an item.
     pub(crate) fn push_found(&mut self, row: &Row<'_>, out: &mut String) -> Result<(), AllocError>
-        requires { AreDistinct self.old.places.all.now }
-        ensures text { let s : spec.Source = record { path = self.old.path.now; text = self.old.lines } in
-            OnOk result (string_bytes out.new ≡ string_bytes out.old ++ found_line s self.old.edition.now.reserved.items self.old.places.all.now (row_view row.now)) }
-        ensures same { (self.new.lines ≡ self.old.lines) × (self.new.places.all.now ≡ self.old.places.all.now) × (self.new.path ≡ self.old.path) × (self.new.edition ≡ self.old.edition) }
+        requires { AreDistinct (places_of self.old) }
+        ensures text { let line = found_line (file_of self.old) (reserved_of self.old) (places_of self.old) in
+            OnOk result (string_bytes out.new ≡ string_bytes out.old ++ line (row_view row.now)) }
+        ensures same { IsSameFile self.old self.new }
     {
         self.push_place_of(row.id, out)?;
         out.push_str(word(row.id.kind))?;
@@ -213,10 +211,10 @@ impl Printer<'_> {
         row: &Row<'_>,
         out: &mut String,
     ) -> Result<(), AllocError>
-        requires { AreDistinct self.old.places.all.now }
-        ensures text { let s : spec.Source = record { path = self.old.path.now; text = self.old.lines } in
-            OnOk result (string_bytes out.new ≡ string_bytes out.old ++ spec.outline_text s self.old.edition.now.reserved.items self.old.places.all.now (choice_view choice) (row_view row.now ∷ [])) }
-        ensures same { (self.new.lines ≡ self.old.lines) × (self.new.places.all.now ≡ self.old.places.all.now) × (self.new.path ≡ self.old.path) × (self.new.edition ≡ self.old.edition) }
+        requires { AreDistinct (places_of self.old) }
+        ensures text { let lines = spec.outline_text (file_of self.old) (reserved_of self.old) (places_of self.old) in
+            OnOk result (string_bytes out.new ≡ string_bytes out.old ++ lines (choice_view choice) (row_view row.now ∷ [])) }
+        ensures same { IsSameFile self.old self.new }
     {
         if !choice.lists(row) {
             return Ok(());
@@ -225,8 +223,9 @@ impl Printer<'_> {
     }
 }
 
-/// A line for each chosen item of a file's tree, before those of the items in it: file, line and column, four blanks for each
-/// item that it stands in, its visibility as it was written, the word of its kind, its name, and whether a cfg disables it.
+/// A line for each chosen item of a file's tree, before those of the items in it: file, line and column, four blanks for
+/// each item that it stands in, its visibility as it was written, the word of its kind, its name, and whether a cfg
+/// disables it.
 ///
 /// The places are those that the reader gave with the syntax of the tree. The only error is want of memory.
 #[tactic(auto, using(crate::proofs::Pushed::one_more))]
@@ -239,7 +238,8 @@ pub fn outline(
     choice: Choice,
 ) -> Result<String, AllocError>
     requires { AreDistinct places.now }
-    ensures { IfOk result (λ text. string_bytes text ≡ spec.outline_text (source_view source.entry) edition.now.reserved.items places.now (choice_view choice) (rows.rows tree.now.forest)) }
+    ensures { let lines = spec.outline_text (source_view source.entry) edition.now.reserved.items places.now in
+        IfOk result (λ text. string_bytes text ≡ lines (choice_view choice) (rows.rows tree.now.forest)) }
 {
     let mut printer = Printer::new(source, places, edition);
     let mut out = String::new(alloc);

@@ -1,13 +1,13 @@
 //! Places of items by their ids.
 ghost use Rattle.std.specs.Prelude.{◌≡◌};
 ghost use Rattle.source_listing.specs.Places as spec;
-ghost use Rattle.source_listing.specs.Inner.{IsEndOf};
+ghost use Rattle.source_listing.specs.Ends.{IsEndOf};
 
 use hir_input::FileAstId;
 use rust_items::ItemPlace;
 
-/// The places of a file's items, to be found by their ids. It goes on from the one that was found last, so that ids in the order
-/// of the places cost one pass over them in all.
+/// The places of a file's items, to be found by their ids. It goes on from the one that was found last, so that ids in the
+/// order of the places cost one pass over them in all.
 #[derive(Drop)]
 pub(crate) struct Places<'a> {
     pub(crate) all: &'a [ItemPlace],
@@ -15,7 +15,7 @@ pub(crate) struct Places<'a> {
     ghost left_is: { IsEndOf left.now all.now },
 }
 
-fn is_id(id: FileAstId, other: FileAstId) -> bool
+pub(crate) fn is_id(id: FileAstId, other: FileAstId) -> bool
     ensures { result ≡ spec.is_id id other }
 {
     id.kind as u8 == other.kind as u8 && id.hash == other.hash && id.number == other.number

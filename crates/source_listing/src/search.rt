@@ -3,7 +3,7 @@ ghost use Rattle.std.specs.Prelude.{◌≡◌, ◌++◌, ◌∷◌, [], IfOk, On
 ghost use Rattle.std.specs.List.{flat_map};
 ghost use Rattle.item_rows.specs.Views.{row_view};
 ghost use Rattle.item_rows.specs.Rows as rows;
-ghost use Rattle.source_listing.specs.Lines as lines;
+ghost use Rattle.source_listing.specs.Inner.{IsSameFile, file_of, places_of, reserved_of};
 ghost use Rattle.source_listing.specs.Search as spec;
 ghost use Rattle.source_listing.specs.Places.{AreDistinct};
 ghost use Rattle.source_listing.specs.Views.{query_view, source_view};
@@ -34,7 +34,8 @@ fn push_segment(name: &Name, path: &mut String) -> Result<(), AllocError>
 }
 
 pub(crate) fn push_scope(scope: &[&Name], path: &mut String) -> Result<(), AllocError>
-    ensures { OnOk result (string_bytes path.new ≡ string_bytes path.old ++ flat_map (λ n. spec.segment n.now) scope.now) }
+    ensures { let segments = flat_map (λ n. spec.segment n.now) scope.now in
+        OnOk result (string_bytes path.new ≡ string_bytes path.old ++ segments) }
 {
     for name in scope {
         push_segment(name, path)?;
@@ -45,7 +46,8 @@ pub(crate) fn push_scope(scope: &[&Name], path: &mut String) -> Result<(), Alloc
 /// The path of an item that has a name: the modules that it stands in, and the name.
 #[tactic(auto, using(crate::proofs::Pushed::segments_of))]
 fn path_of(alloc: Global, row: &Row<'_>, name: &Name) -> Result<String, AllocError>
-    ensures { IfOk result (λ path. string_bytes path ≡ flat_map spec.segment (map (λ n. n.now) row.now.scope.items) ++ spec.segment name.now) }
+    ensures { let around = flat_map spec.segment (map (λ n. n.now) row.now.scope.items) in
+        IfOk result (λ path. string_bytes path ≡ around ++ spec.segment name.now) }
 {
     let mut path = String::new(alloc);
     push_scope(&row.scope, &mut path)?;
@@ -93,10 +95,10 @@ impl Printer<'_> {
         row: &Row<'_>,
         out: &mut String,
     ) -> Result<(), AllocError>
-        requires { AreDistinct self.old.places.all.now }
-        ensures text { let s : lines.Source = record { path = self.old.path.now; text = self.old.lines } in
-            OnOk result (string_bytes out.new ≡ string_bytes out.old ++ spec.found_lines s self.old.edition.now.reserved.items self.old.places.all.now (query_view query.entry) (row_view row.now ∷ [])) }
-        ensures same { (self.new.lines ≡ self.old.lines) × (self.new.places.all.now ≡ self.old.places.all.now) × (self.new.path ≡ self.old.path) × (self.new.edition ≡ self.old.edition) }
+        requires { AreDistinct (places_of self.old) }
+        ensures text { let lines = spec.found_lines (file_of self.old) (reserved_of self.old) (places_of self.old) in
+            OnOk result (string_bytes out.new ≡ string_bytes out.old ++ lines (query_view query.entry) (row_view row.now ∷ [])) }
+        ensures same { IsSameFile self.old self.new }
     {
         if !query.finds(alloc, row)? {
             return Ok(());
@@ -118,7 +120,8 @@ pub fn found_lines(
     query: Query<'_>,
 ) -> Result<String, AllocError>
     requires { AreDistinct places.now }
-    ensures { IfOk result (λ text. string_bytes text ≡ spec.found_lines (source_view source.entry) edition.now.reserved.items places.now (query_view query.entry) (rows.rows tree.now.forest)) }
+    ensures { let lines = spec.found_lines (source_view source.entry) edition.now.reserved.items places.now in
+        IfOk result (λ text. string_bytes text ≡ lines (query_view query.entry) (rows.rows tree.now.forest)) }
 {
     let mut printer = Printer::new(source, places, edition);
     let mut out = String::new(alloc);

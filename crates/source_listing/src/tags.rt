@@ -2,14 +2,16 @@
 ghost use Rattle.std.specs.Prelude.{◌≡◌, ◌++◌, ◌∷◌, [], IfOk, OnOk, map, option_map, string_bytes};
 ghost use Rattle.item_rows.specs.Rows as rows;
 ghost use Rattle.item_rows.specs.Views.{row_view};
+ghost use Rattle.source_listing.specs.Inner.{IsSameFinder};
 ghost use Rattle.source_listing.specs.Lines as lines;
-ghost use Rattle.source_listing.specs.Places.{AreDistinct, place_of, stands_at};
+ghost use Rattle.source_listing.specs.Places.{AreDistinct};
 ghost use Rattle.source_listing.specs.Tags as spec;
 ghost use Rattle.source_listing.specs.Views.{choice_view, source_view};
 
-use crate::lines::{Choice, Printer, Source};
+use crate::finder::Finder;
+use crate::lines::{Choice, Source};
 use crate::search::push_scope;
-use hir_input::{AstIdKind, Edition, Name};
+use hir_input::{AstIdKind, Name};
 use item_rows::{Row, item_rows};
 use item_tree::ItemTree;
 use rust_items::ItemPlace;
@@ -39,7 +41,8 @@ fn letter(kind: AstIdKind) -> Option<&'static str>
 
 /// The modules that an item stands in.
 fn push_modules(scope: &[&Name], out: &mut String) -> Result<(), AllocError>
-    ensures { OnOk result (string_bytes out.new ≡ string_bytes out.old ++ spec.scope_field (map (λ n. n.now) scope.now)) }
+    ensures { let modules = spec.scope_field (map (λ n. n.now) scope.now) in
+        OnOk result (string_bytes out.new ≡ string_bytes out.old ++ modules) }
 {
     let Some((first, rest)) = scope.split_first() else {
         return Ok(());
@@ -58,7 +61,8 @@ fn tag_text(
     letter: &str,
     scope: &[&Name],
 ) -> Result<String, AllocError>
-    ensures { IfOk result (λ text. string_bytes text ≡ spec.tag_text name.now path.now line letter.now (map (λ n. n.now) scope.now)) }
+    ensures { let tag = spec.tag_text name.now path.now line letter.now (map (λ n. n.now) scope.now) in
+        IfOk result (λ text. string_bytes text ≡ tag) }
 {
     let mut tag = String::new(alloc);
     let name = name.text();
@@ -68,71 +72,59 @@ fn tag_text(
     Ok(tag)
 }
 
-impl Printer<'_> {
-    /// The line where an item stands, if it has a place.
-    fn line_of(&mut self, row: &Row<'_>) -> Option<usize>
-        requires { AreDistinct self.old.places.all.now }
-        ensures line { result ≡ option_map (spec.line_at self.old.lines) (place_of row.now.id self.old.places.all.now) }
-        ensures same { (self.new.lines ≡ self.old.lines) × (self.new.places.all.now ≡ self.old.places.all.now) × (self.new.path ≡ self.old.path) × (self.new.edition ≡ self.old.edition) }
-    {
-        match self.places.find(row.id) {
-            Some(place) => {
-                let at = match place.name {
-                    Some(name) => name.start,
-                    None => place.range.start,
-                };
-                Some(self.lines.position(at).line)
-            }
-            None => None,
-        }
-    }
-
-    /// The tag of an item, if it has one.
-    fn tag(&mut self, alloc: Global, row: &Row<'_>) -> Result<Option<String>, AllocError>
-        requires { AreDistinct self.old.places.all.now }
-        ensures tag { let s : lines.Source = record { path = self.old.path.now; text = self.old.lines } in
-            IfOk result (λ tag. option_map string_bytes tag ≡ spec.tag s self.old.places.all.now (row_view row.now)) }
-        ensures same { (self.new.lines ≡ self.old.lines) × (self.new.places.all.now ≡ self.old.places.all.now) × (self.new.path ≡ self.old.path) × (self.new.edition ≡ self.old.edition) }
-    {
-        let Some(name) = row.name else {
-            return Ok(None);
-        };
-        let Some(letter) = letter(row.id.kind) else {
-            return Ok(None);
-        };
-        let Some(line) = self.line_of(row) else {
-            return Ok(None);
-        };
-        let tag = tag_text(alloc, name, self.path, line, letter, &row.scope)?;
-        Ok(Some(tag))
-    }
-
-    /// Adds the tag of an item, if it is chosen and has one.
-    fn push_tag(
-        &mut self,
-        alloc: Global,
-        choice: Choice,
-        row: &Row<'_>,
-        tags: &mut Vec<String>,
-    ) -> Result<(), AllocError>
-        requires { AreDistinct self.old.places.all.now }
-        ensures tags { let s : lines.Source = record { path = self.old.path.now; text = self.old.lines } in
-            OnOk result (map string_bytes tags.new.items ≡ map string_bytes tags.old.items ++ spec.tags s self.old.places.all.now (choice_view choice) (row_view row.now ∷ [])) }
-        ensures same { (self.new.lines ≡ self.old.lines) × (self.new.places.all.now ≡ self.old.places.all.now) × (self.new.path ≡ self.old.path) × (self.new.edition ≡ self.old.edition) }
-    {
-        if !choice.lists(row) {
-            return Ok(());
-        }
-        let Some(tag) = self.tag(alloc, row)? else {
-            return Ok(());
-        };
-        tags.push(tag)?;
-        Ok(())
-    }
+/// The tag of an item, if it has one.
+fn tag(
+    alloc: Global,
+    finder: &mut Finder<'_>,
+    path: &str,
+    row: &Row<'_>,
+) -> Result<Option<String>, AllocError>
+    requires { AreDistinct finder.old.places.all.now }
+    ensures tag { let s : lines.Source = record { path = path.now; text = finder.old.lines } in
+        let tag = spec.tag s finder.old.places.all.now (row_view row.now) in
+        IfOk result (λ made. option_map string_bytes made ≡ tag) }
+    ensures same { IsSameFinder finder.old finder.new }
+{
+    let Some(name) = row.name else {
+        return Ok(None);
+    };
+    let Some(letter) = letter(row.id.kind) else {
+        return Ok(None);
+    };
+    let Some(spot) = finder.find(row.id) else {
+        return Ok(None);
+    };
+    let tag = tag_text(alloc, name, path, spot.position.line, letter, &row.scope)?;
+    Ok(Some(tag))
 }
 
-/// Adds the tags of a file: for each chosen item with a name of a kind that has a letter its name, the file, the line, the letter
-/// and the modules that it stands in, as Universal Ctags writes them, in the order of the items.
+/// Adds the tag of an item, if it is chosen and has one.
+fn push_tag(
+    alloc: Global,
+    finder: &mut Finder<'_>,
+    path: &str,
+    choice: Choice,
+    row: &Row<'_>,
+    tags: &mut Vec<String>,
+) -> Result<(), AllocError>
+    requires { AreDistinct finder.old.places.all.now }
+    ensures tags { let s : lines.Source = record { path = path.now; text = finder.old.lines } in
+        let added = spec.tags s finder.old.places.all.now (choice_view choice) (row_view row.now ∷ []) in
+        OnOk result (map string_bytes tags.new.items ≡ map string_bytes tags.old.items ++ added) }
+    ensures same { IsSameFinder finder.old finder.new }
+{
+    if !choice.lists(row) {
+        return Ok(());
+    }
+    let Some(tag) = tag(alloc, finder, path, row)? else {
+        return Ok(());
+    };
+    tags.push(tag)?;
+    Ok(())
+}
+
+/// Adds the tags of a file: for each chosen item with a name of a kind that has a letter its name, the file, the line, the
+/// letter and the modules that it stands in, as Universal Ctags writes them, in the order of the items.
 ///
 /// The places are those that the reader gave with the syntax of the tree. The only error is want of memory.
 #[tactic(auto, using(crate::proofs::Pushed::one_more_tag))]
@@ -141,17 +133,17 @@ pub fn push_tags(
     source: Source<'_>,
     places: &[ItemPlace],
     tree: &ItemTree,
-    edition: &Edition,
     choice: Choice,
     tags: &mut Vec<String>,
 ) -> Result<(), AllocError>
     requires { AreDistinct places.now }
-    ensures { OnOk result (map string_bytes tags.new.items ≡ map string_bytes tags.old.items ++ spec.tags (source_view source.entry) places.now (choice_view choice) (rows.rows tree.now.forest)) }
+    ensures { let added = spec.tags (source_view source.entry) places.now (choice_view choice) in
+        OnOk result (map string_bytes tags.new.items ≡ map string_bytes tags.old.items ++ added (rows.rows tree.now.forest)) }
 {
-    let mut printer = Printer::new(source, places, edition);
+    let mut finder = Finder::new(source.text, places);
     let rows = item_rows(alloc, tree)?;
     for row in &rows {
-        printer.push_tag(alloc, choice, row, tags)?;
+        push_tag(alloc, &mut finder, source.path, choice, row, tags)?;
     }
     Ok(())
 }

@@ -2,14 +2,12 @@ use Rattle.std.proofs.Common.{◌≡◌, take, string_bytes}
 use Rattle.std.specs.List.{flat_map}
 use Rattle.def_collector.specs.Seen.{seen}
 use Rattle.source_listing.specs.Imports as spec
+use Rattle.source_listing.specs.Inner.{IsPrinterOf}
 use Rattle.source_listing.specs.Views.{source_view}
 use Rattle.source_listing.proofs.imports.import_lines.Given as goal
 
 abbrev pub invariant-loop-declaration : goal.invariant-loop-declaration
 invariant-loop-declaration l = record {
   text : string_bytes l.out ≡ flat_map (λ d. spec.seen_lines (source_view l.fn.source) l.fn.edition.reserved.items l.fn.places (seen l.fn.tree d)) (take l.declaration-index l.declaration-items);
-  path : l.printer.path.now ≡ l.fn.source.path.now;
-  lines : l.printer.lines ≡ l.fn.source.text.now;
-  places : l.printer.places.all.now ≡ l.fn.places;
-  edition : l.printer.edition.now ≡ l.fn.edition;
+  is : IsPrinterOf (source_view l.fn.source) l.fn.places l.fn.edition l.printer;
 }

@@ -1,0 +1,5 @@
+use Rattle.std.proofs.Common.{rules}
+use Rattle.itemtree_commands.proofs.outline_json.Goals as goal
+
+pub returns-clause-text : goal.returns-clause-text
+returns-clause-text c = (c.in_ok-file.file, search rules, search rules)

@@ -1,0 +1,168 @@
+-- Objects by the ids of items, and that they hold no float.
+use Rattle.std.proofs.Common.{◌≡◌, ℕ, ◌+◌, Bool, true, false, ◌||◌, if◌then◌else◌, List, [], ◌∷◌, ◌++◌, Option, Some, None, refl, ap, sym, ◌∙◌}
+use Rattle.std.specs.List.{flat_map}
+use Rattle.std.specs.Option.{option_map_or}
+use Rattle.serde_json.specs.Data.{Data, Items}
+use Rattle.serde_json.specs.View.{items_of}
+use Rattle.serde_json.specs.Written.{has_float, items_have_float}
+use Rattle.item_tree.specs.declared.visibility.RawVisibility.{RawVisibility}
+use Rattle.item_tree.specs.declared.visibility.RawVisibility.TheVariants.{Module, PubSelf, PubCrate, Public}
+use Rattle.item_tree.specs.declared.visibility.VisibilityExplicitness.TheVariants.{Explicit, Implicit}
+use Rattle.item_tree.specs.Layout.{node_at}
+use Rattle.item_tree.specs.Node.{Node, leaf, parent, Forest, empty, more, nodes, Unfolding}
+use Rattle.item_tree.specs.Shown.{StandFor}
+use Rattle.item_tree.specs.Walk.{children, children_at}
+use Rattle.item_tree.proofs.Walking.{flat_map_of_id}
+use Rattle.rust_items.specs.declared.source_file.ItemPlace.{ItemPlace}
+use Rattle.source_listing.specs.declared.finder.Spot.{Spot}
+use Rattle.source_listing.specs.Lines.{Choice, Source, is_chosen}
+use Rattle.source_listing.specs.Places.{spot_of}
+use Rattle.source_listing.specs.Objects.{ItemView, item_in, name_form, visibility_form, line_form, column_form, range_form, object_form, file_form, own_objects, node_objects, forest_objects}
+use Rattle.hir_input.specs.declared.edition.Edition.{Edition}
+use Rattle.source_listing.specs.declared.finder.Finder.{Finder}
+use Rattle.source_listing.specs.declared.lines.Printer.{Printer}
+use Rattle.source_listing.specs.Inner.{IsPrinterOf, IsSameFinder, file_of, item_at, objects_at, places_of, reserved_of}
+use Rattle.source_listing.proofs.Printers.{file_is}
+
+-- ---- no floats
+
+name_none : (o : Option (List ℕ)) → has_float (name_form o) ≡ false
+name_none None = refl
+name_none (Some name) = refl
+
+visibility_none : (reserved : List (List ℕ)) (o : Option RawVisibility) → has_float (visibility_form reserved o) ≡ false
+visibility_none reserved None = refl
+visibility_none reserved (Some Public) = refl
+visibility_none reserved (Some PubCrate) = refl
+visibility_none reserved (Some (PubSelf Explicit)) = refl
+visibility_none reserved (Some (PubSelf Implicit)) = refl
+visibility_none reserved (Some (Module path e)) = refl
+
+line_none : (o : Option Spot) → has_float (line_form o) ≡ false
+line_none None = refl
+line_none (Some spot) = refl
+
+column_none : (o : Option Spot) → has_float (column_form o) ≡ false
+column_none None = refl
+column_none (Some spot) = refl
+
+range_none : (o : Option Spot) → has_float (range_form o) ≡ false
+range_none None = refl
+range_none (Some spot) = refl
+
+object_none : (reserved : List (List ℕ)) (x : ItemView) (spot : Option Spot) (ds : Items) → items_have_float ds ≡ false → has_float (object_form reserved x spot ds) ≡ false
+object_none reserved x spot ds e = rw (e, column_none spot, line_none spot, name_none x.name, range_none spot, visibility_none reserved x.visibility) refl
+
+or_none : (a b : Bool) → a ≡ false → b ≡ false → (a || b) ≡ false
+or_none a b e f = rw (e, f) refl
+
+first_none : (a b : Bool) → (a || b) ≡ false → a ≡ false
+first_none false b e = refl
+first_none true b e = absurd (cc)
+
+second_none : (a b : Bool) → (a || b) ≡ false → b ≡ false
+second_none false b e = e
+second_none true b e = absurd (cc)
+
+both_none : (xs ys : List Data) → items_have_float (items_of xs) ≡ false → items_have_float (items_of ys) ≡ false → items_have_float (items_of (xs ++ ys)) ≡ false
+both_none [] ys e f = f
+both_none (x ∷ xs) ys e f =
+    let here = first_none (has_float x) (items_have_float (items_of xs)) e in
+    let rest = second_none (has_float x) (items_have_float (items_of xs)) e in or_none (has_float x) (items_have_float (items_of (xs ++ ys))) here (both_none xs ys rest f)
+
+one_none : (b : Bool) (d : Data) → has_float d ≡ false → items_have_float (items_of (if b then d ∷ [] else [])) ≡ false
+one_none false d e = refl
+one_none true d e = or_none (has_float d) false e refl
+
+module _ (s : Source) (reserved : List (List ℕ)) (places : List ItemPlace) (c : Choice) where
+  own_none : (level : ℕ) (x : ItemView) (ds : List Data) → items_have_float (items_of ds) ≡ false → items_have_float (items_of (own_objects s reserved places c level x ds)) ≡ false
+  own_none level x ds e =
+      one_none (is_chosen c level x.is_active) (object_form reserved x (spot_of s.text places x.id) (items_of ds)) (object_none reserved x (spot_of s.text places x.id) (items_of ds) e)
+
+  mutual
+    node_none : (level : ℕ) (a : Bool) (n : Node) → items_have_float (items_of (node_objects s reserved places c level a n)) ≡ false
+    node_none level a (leaf h l) = own_none level (item_in a (leaf h l)) [] refl
+    node_none level a (parent h t f) = own_none level (item_in a (parent h t f)) (forest_objects s reserved places c (level + 1) (item_in a (parent h t f)).is_active f) (forest_none (level + 1) (item_in a (parent h t f)).is_active f)
+
+    forest_none : (level : ℕ) (a : Bool) (f : Forest) → items_have_float (items_of (forest_objects s reserved places c level a f)) ≡ false
+    forest_none level a empty = refl
+    forest_none level a (more n f) = both_none (node_objects s reserved places c level a n) (forest_objects s reserved places c level a f) (node_none level a n) (forest_none level a f)
+
+  pub file_none : (f : Forest) → has_float (file_form s.path (items_of (forest_objects s reserved places c 0 true f))) ≡ false
+  file_none f = or_none (items_have_float (items_of (forest_objects s reserved places c 0 true f))) false (forest_none 0 true f) refl
+
+  -- ---- by the ids of items
+
+  forest_is : (level : ℕ) (a : Bool) (f : Forest) → flat_map (node_objects s reserved places c level a) (nodes f) ≡ forest_objects s reserved places c level a f
+  forest_is level a empty = refl
+  forest_is level a (more n f) = ap (λ ds. node_objects s reserved places c level a n ++ ds) (forest_is level a f)
+
+  -- the objects of ids that stand for a forest
+  pub ids_objects : (u : Unfolding) (level : ℕ) (a : Bool) (is : List ℕ) (f : Forest) → StandFor u is f
+      → flat_map (objects_at s reserved places c u level a) is ≡ forest_objects s reserved places c level a f
+  ids_objects u level a is f e = flat_map_of_id u (node_objects s reserved places c level a) is (nodes f) e ∙ forest_is level a f
+
+  node_is : (level : ℕ) (a : Bool) (n : Node)
+      → node_objects s reserved places c level a n ≡ own_objects s reserved places c level (item_in a n) (forest_objects s reserved places c (level + 1) (item_in a n).is_active (children n))
+  node_is level a (leaf h l) = refl
+  node_is level a (parent h t f) = refl
+
+  one_objects : (u : Unfolding) (level : ℕ) (a : Bool) (is : List ℕ) (o : Option Node) (x : ItemView) → x ∷ [] ≡ option_map_or (λ n. item_in a n ∷ []) o [] → StandFor u is (option_map_or children o empty)
+      → option_map_or (node_objects s reserved places c level a) o [] ≡ own_objects s reserved places c level x (flat_map (objects_at s reserved places c u (level + 1) x.is_active) is)
+  one_objects u level a is None x e f = absurd (cc)
+  one_objects u level a is (Some n) x e f =
+      let e : item_in a n ≡ x = cc in
+      node_is level a n ∙ ap (λ x. own_objects s reserved places c level x (forest_objects s reserved places c (level + 1) x.is_active (children n))) e
+      ∙ ap (own_objects s reserved places c level x) (sym (ids_objects u (level + 1) x.is_active is (children n) f))
+
+  -- the object of an item is around those of its children
+  pub item_objects : (u : Unfolding) (level : ℕ) (a : Bool) (i : ℕ) (is : List ℕ) (x : ItemView) → x ∷ [] ≡ item_at u a i → StandFor u is (children_at u i)
+      → objects_at s reserved places c u level a i ≡ own_objects s reserved places c level x (flat_map (objects_at s reserved places c u (level + 1) x.is_active) is)
+  item_objects u level a i is x e f = one_objects u level a is (node_at u.forest i) x e f
+
+  unlisted_own : (level : ℕ) (x y : ItemView) (ds : List Data) → y ≡ x → is_chosen c level x.is_active ≡ false → own_objects s reserved places c level y ds ≡ []
+  unlisted_own level x y ds e f = rw (e, f) refl
+
+  unlisted : (level : ℕ) (a : Bool) (o : Option Node) (x : ItemView) → x ∷ [] ≡ option_map_or (λ n. item_in a n ∷ []) o [] → is_chosen c level x.is_active ≡ false
+      → option_map_or (node_objects s reserved places c level a) o [] ≡ []
+  unlisted level a None x e f = refl
+  unlisted level a (Some n) x e f =
+      let e : item_in a n ≡ x = cc in
+      node_is level a n ∙ unlisted_own level x (item_in a n) (forest_objects s reserved places c (level + 1) (item_in a n).is_active (children n)) e f
+
+  -- an item that is not chosen has none
+  pub item_unlisted : (u : Unfolding) (level : ℕ) (a : Bool) (i : ℕ) (x : ItemView) → x ∷ [] ≡ item_at u a i → is_chosen c level x.is_active ≡ false
+      → objects_at s reserved places c u level a i ≡ []
+  item_unlisted u level a i x e f = unlisted level a (node_at u.forest i) x e f
+
+  own_chosen : (level : ℕ) (x : ItemView) (ds : List Data) → is_chosen c level x.is_active ≡ true
+      → own_objects s reserved places c level x ds ≡ object_form reserved x (spot_of s.text places x.id) (items_of ds) ∷ []
+  own_chosen level x ds e = rw e refl
+
+  -- the object of an item that is chosen, pushed behind others
+  pub object_adds : (u : Unfolding) (level : ℕ) (a : Bool) (i : ℕ) (is : List ℕ) (x : ItemView) (ds : List Data) (d : Data) (before after : List Data)
+      → x ∷ [] ≡ item_at u a i → StandFor u is (children_at u i) → is_chosen c level x.is_active ≡ true
+      → ds ≡ flat_map (objects_at s reserved places c u (level + 1) x.is_active) is → d ≡ object_form reserved x (spot_of s.text places x.id) (items_of ds)
+      → after ≡ before ++ d ∷ [] → after ≡ before ++ objects_at s reserved places c u level a i
+  object_adds u level a i is x ds d before after e f t g h p =
+      p ∙ ap (λ d. before ++ d ∷ []) h
+      ∙ ap (λ xs. before ++ xs) (sym (own_chosen level x ds t) ∙ ap (own_objects s reserved places c level x) g ∙ sym (item_objects u level a i is x e f))
+
+-- ---- under printers
+
+-- the objects of ids by a printer whose places were looked up
+pub objects_kept : (p : Printer) (f : Finder) (c : Choice) (u : Unfolding) (level : ℕ) (a : Bool) (is : List ℕ) (ds : List Data) → IsSameFinder p.finder f
+    → ds ≡ flat_map (objects_at (record { path = p.path.now; text = f.lines }) (reserved_of p) f.places.all.now c u level a) is
+    → ds ≡ flat_map (objects_at (file_of p) (reserved_of p) (places_of p) c u level a) is
+objects_kept p f c u level a is ds h e =
+    e ∙ ap (λ text. flat_map (objects_at (record { path = p.path.now; text = text }) (reserved_of p) f.places.all.now c u level a) is) h.0
+    ∙ ap (λ places. flat_map (objects_at (file_of p) (reserved_of p) places c u level a) is) h.1
+
+-- and of all ids by one that is made for a file
+pub objects_are : (s : Source) (places : List ItemPlace) (edition : Edition) (p : Printer) (c : Choice) (u : Unfolding) (is : List ℕ) (ds : List Data) → IsPrinterOf s places edition p
+    → StandFor u is u.forest → ds ≡ flat_map (objects_at (file_of p) (reserved_of p) (places_of p) c u 0 true) is → ds ≡ forest_objects s edition.reserved.items places c 0 true u.forest
+objects_are s places edition p c u is ds h f e =
+    e ∙ ids_objects (file_of p) (reserved_of p) (places_of p) c u 0 true is u.forest f
+    ∙ ap (λ file. forest_objects file (reserved_of p) (places_of p) c 0 true u.forest) (file_is s places edition p h)
+    ∙ ap (λ (x : Edition). forest_objects s x.reserved.items (places_of p) c 0 true u.forest) h.1
+    ∙ ap (λ ps. forest_objects s edition.reserved.items ps c 0 true u.forest) h.2.1

@@ -1,0 +1,26 @@
+-- Debug pages without the lines of ids.
+use Rattle.std.specs.Prelude.{ℕ, Bool, not, ◌==◌, if◌then◌else◌, List, [], ◌∷◌, codes, filter, nat_eq}
+use Rattle.std.specs.List.{join_by, slice_split, starts_with}
+
+-- a text behind its blanks
+abbrev pub unindented : List ℕ → List ℕ
+unindented [] = []
+unindented (b ∷ bs) = if b == 32 then unindented bs else b ∷ bs
+
+-- how the line of an id begins
+abbrev pub id_opening : List ℕ
+id_opening = codes "// AstId: "
+
+abbrev pub is_id_line : List ℕ → Bool
+is_id_line line = starts_with nat_eq (unindented line) id_opening
+
+-- the lines of a text, which stand between its line feeds
+abbrev pub text_lines : List ℕ → List (List ℕ)
+text_lines text = slice_split (λ b. b == 10) text
+
+abbrev pub joined : List (List ℕ) → List ℕ
+joined lines = join_by (λ line. line) (10 ∷ []) lines
+
+-- the other lines
+abbrev pub without_ids : List ℕ → List ℕ
+without_ids page = joined (filter (λ line. not (is_id_line line)) (text_lines page))

@@ -1,0 +1,56 @@
+//! Where items stand in a text.
+ghost use Rattle.std.specs.Prelude.{◌≡◌};
+ghost use Rattle.source_listing.specs.Inner.{IsFinderOf, IsSameFinder};
+ghost use Rattle.source_listing.specs.Places as spec;
+
+use crate::places::Places;
+use hir_input::FileAstId;
+use line_index::{LineIndex, Position};
+use rust_items::ItemPlace;
+use rust_paths::TextRange;
+
+/// Where an item stands, and its bytes.
+#[derive(Clone, Copy)]
+pub(crate) struct Spot {
+    pub(crate) position: Position,
+    pub(crate) range: TextRange,
+}
+
+/// Where a text's items stand, to be found by their ids.
+#[derive(Drop)]
+pub(crate) struct Finder<'a> {
+    pub(crate) lines: LineIndex<'a>,
+    pub(crate) places: Places<'a>,
+}
+
+impl<'a> Finder<'a> {
+    pub(crate) fn new(text: &'a str, places: &'a [ItemPlace]) -> Self
+        ensures { IsFinderOf text.now places.now result }
+    {
+        Finder {
+            lines: LineIndex::new(text),
+            places: Places::new(places),
+        }
+    }
+
+    /// Where the item of an id stands: at its name, or where it begins.
+    pub(crate) fn find(&mut self, id: FileAstId) -> Option<Spot>
+        requires { spec.AreDistinct self.old.places.all.now }
+        ensures spot { result ≡ spec.spot_of self.old.lines self.old.places.all.now id }
+        ensures same { IsSameFinder self.old self.new }
+    {
+        match self.places.find(id) {
+            Some(place) => {
+                let at = match place.name {
+                    Some(name) => name.start,
+                    None => place.range.start,
+                };
+                Some(Spot {
+                    position: self.lines.position(at),
+                    range: place.range,
+                })
+            }
+            None => None,
+        }
+    }
+}
