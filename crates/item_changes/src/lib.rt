@@ -1,0 +1,10 @@
+//! What became of the items of a tree in another: which were removed, which added, and which changed.
+#![tactic(auto)]
+
+mod compare;
+mod items;
+mod laws;
+mod own;
+mod own_item;
+
+pub use compare::{Change, ChangeKind, changes};
