@@ -1,6 +1,6 @@
 -- No two items of a tree are the same item.
-use Rattle.std.proofs.Common.{◌≡◌, ℕ, ◌+◌, ◌≤◌, Bool, true, false, List, [], ◌∷◌, ◌++◌, map, Option, Some, None, refl, ap, sym, ◌∙◌, subst, arith, ⊎_elim, cond}
-use Rattle.std.specs.Prelude.{◌==◌, ◌&&◌, nat_eq}
+use Rattle.std.proofs.Common.{◌≡◌, ℕ, ◌+◌, ◌≤◌, Bool, true, false, List, [], ◌∷◌, ◌++◌, map, Option, Some, None, refl, ap, sym, ◌∙◌, arith, ⊎_elim, cond}
+use Rattle.std.specs.Prelude.{nat_eq}
 use Rattle.std.specs.Bool.{Decides}
 use Rattle.std.specs.Cmp.Lexicographic.{pointwise, pointwise_decides}
 use Rattle.std.specs.List.{count_by, find, flat_map, zip}
@@ -12,19 +12,10 @@ use Rattle.item_tree.specs.Same.{same_itself}
 use Rattle.rust_ids.specs.Ids.{kind_place}
 use Rattle.tree_walk.specs.Preorder.{preorder}
 use Rattle.item_rows.specs.Rows.{RowView, rows}
-use Rattle.item_changes.specs.Changes.{is_name, is_like, Item, items_behind, items, is_same, ChangeView, left_change, came_change, changes_between, changes}
+use Rattle.item_changes.specs.Changes.{is_name, Key, key, has_key, is_like, Item, items_behind, is_same, ChangeView, left_change, came_change, changes_between, changes}
 use Rattle.item_changes.specs.Own.{own, node_code}
 
 -- ---- what makes items alike
-
-abbrev Key : Type 0
-Key = ℕ × (ℕ × (Option (List ℕ) × List (List ℕ)))
-
-abbrev key : RowView → Key
-key r = (kind_place r.id.kind, (r.level, (r.name, r.scope)))
-
-abbrev has_key : Key → RowView → Bool
-has_key k s = k.0 == kind_place s.id.kind && (k.1.0 == s.level && (is_name k.1.1.0 s.name && pointwise (pointwise nat_eq) k.1.1.1 s.scope))
 
 names_decide : (a b : List ℕ) → Decides (pointwise nat_eq a b) (a ≡ b)
 names_decide = pointwise_decides Decides-eqb
@@ -35,10 +26,13 @@ name_decides (Some a) (Some b) = Decides-like _ (ap Some) (λ e. cc) (names_deci
 name_decides None (Some b) = (λ h. absurd (false≢true h), λ e. cc)
 name_decides (Some a) None = (λ h. absurd (false≢true h), λ e. cc)
 
+pub key_decides : (k : Key) (s : RowView) → Decides (has_key k s) (k ≡ key s)
+key_decides k s =
+    Decides-like _ (λ p i. record { kind = p.0 i; level = p.1.0 i; name = p.1.1.0 i; scope = p.1.1.1 i }) (λ e. (ap (λ k. k.kind) e, (ap (λ k. k.level) e, (ap (λ k. k.name) e, ap (λ k. k.scope) e))))
+    (Decides-and _ _ (Decides-eqb k.kind (kind_place s.id.kind)) (Decides-and _ _ (Decides-eqb k.level s.level) (Decides-and _ _ (name_decides k.name s.name) (pointwise_decides names_decide k.scope s.scope))))
+
 like_decides : (r s : RowView) → Decides (is_like r s) (key r ≡ key s)
-like_decides r s =
-    Decides-like _ (λ p i. (p.0 i, (p.1.0 i, (p.1.1.0 i, p.1.1.1 i)))) (λ e. (ap (λ k. k.0) e, (ap (λ k. k.1.0) e, (ap (λ k. k.1.1.0) e, ap (λ k. k.1.1.1) e))))
-    (Decides-and _ _ (Decides-eqb (kind_place r.id.kind) (kind_place s.id.kind)) (Decides-and _ _ (Decides-eqb r.level s.level) (Decides-and _ _ (name_decides r.name s.name) (pointwise_decides names_decide r.scope s.scope))))
+like_decides r s = key_decides (key r) s
 
 like_back : (r s : RowView) → is_like r s ≡ true → is_like s r ≡ true
 like_back r s h = (like_decides s r).1 (sym ((like_decides r s).0 h))
@@ -50,7 +44,7 @@ like_itself r = (like_decides r r).1 refl
 count_alike : (r s : RowView) (rs : List RowView) → is_like r s ≡ true → count_by (is_like r) rs ≡ count_by (is_like s) rs
 count_alike r s rs h = ap (λ k. count_by (has_key k) rs) ((like_decides r s).0 h)
 
-count_more : (p : RowView → Bool) (rs : List RowView) (r : RowView) → count_by p (rs ++ r ∷ []) ≡ count_by p rs + cond (p r) 1 0
+pub count_more : (p : RowView → Bool) (rs : List RowView) (r : RowView) → count_by p (rs ++ r ∷ []) ≡ count_by p rs + cond (p r) 1 0
 count_more p rs r = let one : 0 + cond (p r) 1 0 ≡ cond (p r) 1 0 = omega arith in sum_by-append (λ x. cond (p x) 1 0) rs (r ∷ []) ∙ ap (λ n. count_by p rs + n) one
 
 -- ---- of each of several items

@@ -16,7 +16,7 @@ use Rattle.item_tree.specs.Tree.{tree_of}
 use Rattle.item_tree.proofs.Equal.{call_decides}
 use Rattle.item_changes.specs.declared.own.Rest.TheVariants.{Named, Struct, Mod, Use, ExternCrate, ExternBlock, Impl, MacroCall}
 use Rattle.item_changes.specs.contracts.own.RestPartialEq.TheImpl as rest_eqs
-use Rattle.item_changes.specs.Inner.{Rest, named, struct_rest, module_rest, use_rest, crate_rest, impl_rest, call_rest, rest_view}
+use Rattle.item_changes.specs.Inner.{named, struct_rest, module_rest, use_rest, crate_rest, impl_rest, call_rest, rest_view}
 
 never : {P : Type 0} → (P → ⊥) → Decides false P
 never f = (λ h. absurd (false≢true h), λ p. absurd (f p))
@@ -27,11 +27,11 @@ tag_decides x y = search rules
 shape_decides : DecidesEq shape_eqs.ghosts.eq
 shape_decides x y = search rules
 
-name_decides : (a b : List ℕ) → Decides (pointwise nat_eq a b) (a ≡ b)
+pub name_decides : (a b : List ℕ) → Decides (pointwise nat_eq a b) (a ≡ b)
 name_decides = pointwise_decides Decides-eqb
 
 -- references are compared by what they refer to
-lent_decide : {T : Type 0} (test : T → T → Bool) → DecidesEq test → (o p : Option (Bor T)) → Decides (option_eq (λ a b. test a.now b.now) o p) (option_copied o ≡ option_copied p)
+pub lent_decide : {T : Type 0} (test : T → T → Bool) → DecidesEq test → (o p : Option (Bor T)) → Decides (option_eq (λ a b. test a.now b.now) o p) (option_copied o ≡ option_copied p)
 lent_decide test d None None = (λ h. refl, λ e. refl)
 lent_decide test d (Some a) (Some b) = Decides-like _ (ap Some) (λ e. cc) (d a.now b.now)
 lent_decide test d None (Some b) = never (λ e. cc)

@@ -6,7 +6,7 @@ use Rattle.item_tree.specs.Layout.{ctor_map, leaf_map, trunk_map, or_public, vis
 use Rattle.item_tree.specs.Node.{Ctor, no_ctor, ctor_with, ctor_with_min, Leaf, plain, constant, struct_item, outline, use_item, extern_crate, impl_item, macro_call, macro_rules, Trunk, inline, extern_block, Unfolding}
 use Rattle.item_tree.specs.Shown.{Lent, lent_leaf, lent_parent, IsLent}
 use Rattle.item_tree.proofs.Walking.{leaf_of_id, parent_of_id}
-use Rattle.item_changes.specs.Inner.{Rest, leaf_rest, trunk_rest, node_rest, lent_rest, leaf_ctor, node_ctor, lent_ctor, rest_at, ctor_at}
+use Rattle.item_changes.specs.Inner.{leaf_rest, trunk_rest, node_rest, lent_rest, leaf_ctor, node_ctor, lent_ctor, rest_at, ctor_at}
 
 rest-leaf : {V W : Type 0} (f : V → W) (l : Leaf V) → leaf_rest (leaf_map f l) ≡ leaf_rest l
 rest-leaf f (plain k n v) = refl

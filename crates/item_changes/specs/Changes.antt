@@ -15,9 +15,22 @@ is_name None None = true
 is_name (Some a) (Some b) = pointwise nat_eq a b
 is_name _ _ = false
 
--- two items are of one kind and name, in modules of the same names, and as deep: only modules and extern blocks have items in them, so the depth tells who stands in an extern block
+-- what items that are alike have in common: their kind, their depth, their name, and the names of the modules that they stand in; only modules and extern blocks have items in them, so the depth tells who stands in an extern block
+pub record Key : Type 0 where
+  pub kind : ℕ
+  pub level : ℕ
+  pub name : Option (List ℕ)
+  pub scope : List (List ℕ)
+
+abbrev pub key : RowView → Key
+key r = record { kind = kind_place r.id.kind; level = r.level; name = r.name; scope = r.scope }
+
+abbrev pub has_key : Key → RowView → Bool
+has_key k r = k.kind == kind_place r.id.kind && (k.level == r.level && (is_name k.name r.name && pointwise (pointwise nat_eq) k.scope r.scope))
+
+-- two items are alike
 abbrev pub is_like : RowView → RowView → Bool
-is_like r s = kind_place r.id.kind == kind_place s.id.kind && (r.level == s.level && (is_name r.name s.name && pointwise (pointwise nat_eq) r.scope s.scope))
+is_like r s = has_key (key r) s
 
 -- an item of a tree: its row, how many like it stand before it, and what the tree keeps of it by itself
 pub record Item : Type 0 where

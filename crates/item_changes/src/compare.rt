@@ -1,12 +1,13 @@
 //! Changes of items.
 ghost use Rattle.std.specs.Prelude.{◌≡◌, ◌++◌, ◌∷◌, [], map, option_map, IfOk, OnOk};
-ghost use Rattle.std.specs.List.{find, flat_map};
+ghost use Rattle.std.specs.List.{flat_map};
 ghost use Rattle.item_rows.specs.Views.{row_view};
 ghost use Rattle.item_changes.specs.Changes as spec;
-ghost use Rattle.item_changes.specs.Inner.{item_view};
+ghost use Rattle.item_changes.specs.Inner.{Finds, item_view};
 ghost use Rattle.item_changes.specs.Views.{change_view};
 
-use crate::items::{Item, is_same, items};
+use crate::finder::Finder;
+use crate::items::{Item, items};
 use item_rows::{Row, item_rows};
 use item_tree::ItemTree;
 use std::alloc::{AllocError, Global};
@@ -28,16 +29,6 @@ pub struct Change<'tree> {
     pub kind: ChangeKind,
     /// The item in the new tree, or the one that was removed in the old tree.
     pub row: Row<'tree>,
-}
-
-/// The item that is the same one.
-fn counterpart<'o, 'r, 'tree>(
-    others: &'o [Item<'r, 'tree>],
-    item: &Item<'_, '_>,
-) -> Option<&'o Item<'r, 'tree>>
-    ensures { option_map (λ i. item_view i.now) result ≡ find (spec.is_same (item_view item.now)) (map item_view others.now) }
-{
-    others.iter().find(|other| is_same(item, other))
 }
 
 fn left_as(new: Option<&Item<'_, '_>>) -> Option<ChangeKind>
@@ -68,7 +59,8 @@ fn push_change<'tree>(
     row: &Row<'tree>,
     changes: &mut Vec<Change<'tree>>,
 ) -> Result<(), AllocError>
-    ensures { OnOk result (map change_view changes.new.items ≡ map change_view changes.old.items ++ spec.change_of kind (row_view row.now)) }
+    ensures { let change = spec.change_of kind (row_view row.now) in
+        OnOk result (map change_view changes.new.items ≡ map change_view changes.old.items ++ change) }
 {
     let Some(kind) = kind else {
         return Ok(());
@@ -85,35 +77,34 @@ fn push_change<'tree>(
     Ok(())
 }
 
-fn push_left<'tree>(
+fn push_left<'r, 'tree>(
     alloc: Global,
-    olds: &[Item<'_, 'tree>],
-    news: &[Item<'_, 'tree>],
+    olds: &[Item<'r, 'tree>],
+    news: &Finder<'_, 'r, 'tree>,
     changes: &mut Vec<Change<'tree>>,
 ) -> Result<(), AllocError>
-    ensures { OnOk result (map change_view changes.new.items ≡ map change_view changes.old.items ++ flat_map (spec.left_change (map item_view news.now)) (map item_view olds.now)) }
+    requires { Finds news.now }
+    ensures { let left = flat_map (spec.left_change (map item_view news.now.items.now)) (map item_view olds.now) in
+        OnOk result (map change_view changes.new.items ≡ map change_view changes.old.items ++ left) }
 {
     for item in olds {
-        push_change(alloc, left_as(counterpart(news, item)), item.row, changes)?;
+        push_change(alloc, left_as(news.find(item)), item.row, changes)?;
     }
     Ok(())
 }
 
-fn push_came<'tree>(
+fn push_came<'r, 'tree>(
     alloc: Global,
-    olds: &[Item<'_, 'tree>],
-    news: &[Item<'_, 'tree>],
+    olds: &Finder<'_, 'r, 'tree>,
+    news: &[Item<'r, 'tree>],
     changes: &mut Vec<Change<'tree>>,
 ) -> Result<(), AllocError>
-    ensures { OnOk result (map change_view changes.new.items ≡ map change_view changes.old.items ++ flat_map (spec.came_change (map item_view olds.now)) (map item_view news.now)) }
+    requires { Finds olds.now }
+    ensures { let came = flat_map (spec.came_change (map item_view olds.now.items.now)) (map item_view news.now) in
+        OnOk result (map change_view changes.new.items ≡ map change_view changes.old.items ++ came) }
 {
     for item in news {
-        push_change(
-            alloc,
-            came_as(item, counterpart(olds, item)),
-            item.row,
-            changes,
-        )?;
+        push_change(alloc, came_as(item, olds.find(item)), item.row, changes)?;
     }
     Ok(())
 }
@@ -137,7 +128,7 @@ pub fn changes<'tree>(
     let olds = items(alloc, old, &old_rows)?;
     let news = items(alloc, new, &new_rows)?;
     let mut changes = Vec::new(alloc);
-    push_left(alloc, &olds, &news, &mut changes)?;
-    push_came(alloc, &olds, &news, &mut changes)?;
+    push_left(alloc, &olds, &Finder::new(alloc, &news)?, &mut changes)?;
+    push_came(alloc, &Finder::new(alloc, &olds)?, &news, &mut changes)?;
     Ok(changes)
 }

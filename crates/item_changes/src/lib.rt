@@ -2,7 +2,9 @@
 #![tactic(auto)]
 
 mod compare;
+mod finder;
 mod items;
+mod keys;
 mod laws;
 mod own;
 mod own_item;

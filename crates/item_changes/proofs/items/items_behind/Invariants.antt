@@ -3,7 +3,7 @@ use Rattle.std.specs.List.{zip}
 use Rattle.item_tree.specs.Walk.{AreContained}
 use Rattle.item_rows.specs.Views.{row_view}
 use Rattle.item_changes.specs.Changes.{items_behind}
-use Rattle.item_changes.specs.Inner.{item_view}
+use Rattle.item_changes.specs.Inner.{CountsAll, item_view}
 use Rattle.item_changes.specs.Own.{own_at}
 use Rattle.item_changes.proofs.items.items_behind.Given as goal
 
@@ -13,6 +13,7 @@ invariant-loop-left_rows l =
     record {
       items : done ++ items_behind (map (λ i. i.row) done) (zip (map row_view l.left_rows) (map (own_at l.fn.tree) l.left_ids)) ≡ items_behind [] (zip (map row_view l.fn.rows) (map (own_at l.fn.tree) l.fn.ids));
       contained : AreContained l.fn.tree l.left_ids;
+      counted : CountsAll l.counts (map (λ i. i.row) done);
     }
 
 abbrev pub decreases-loop-left_rows : goal.decreases-loop-left_rows
