@@ -109,13 +109,13 @@ fn push_came<'r, 'tree>(
     Ok(())
 }
 
-/// What became of the items of a tree in another: first those that were removed, in the order of the old tree, and then those
-/// that were added or changed, in the order of the new tree.
+/// What became of the items of a tree in another: first those that were removed, in the order of the old tree, and then
+/// those that were added or changed, in the order of the new tree.
 ///
 /// Two items are the same item where both are the n-th of their kind and name in modules of the same names, at the same
-/// depth. It changed where the trees keep other data of it by itself: not its id, nor the items in it. So an item that was
-/// renamed or moved into another module was removed and added, and trees that differ in the order of their items alone may
-/// have no changes. The only error is want of memory.
+/// depth. It changed where the trees keep other data of it by itself, which is not its id, nor the items in it. So an
+/// item that was renamed, or moved into another module, was removed and added, and trees that differ in the order of
+/// their items alone may have no changes. The only error is want of memory.
 pub fn changes<'tree>(
     alloc: Global,
     old: &'tree ItemTree,

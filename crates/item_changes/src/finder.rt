@@ -12,6 +12,7 @@ use std::collections::HashMap;
 /// Finds, among the items of one tree, the one that is the same item as one of another tree.
 #[derive(Drop)]
 pub(crate) struct Finder<'o, 'r, 'tree> {
+    // What the table has, of which the contracts speak.
     items: &'o [Item<'r, 'tree>],
     table: HashMap<(Key<'r, 'tree>, usize), &'o Item<'r, 'tree>>,
 }
@@ -33,7 +34,8 @@ impl<'o, 'r, 'tree> Finder<'o, 'r, 'tree> {
 
     pub(crate) fn find(&self, item: &Item<'r, 'tree>) -> Option<&'o Item<'r, 'tree>>
         requires { Finds self.now }
-        ensures { option_map (λ i. item_view i.now) result ≡ find (is_same (item_view item.now)) (map item_view self.now.items.now) }
+        ensures { let found = find (is_same (item_view item.now)) (map item_view self.now.items.now) in
+            option_map (λ i. item_view i.now) result ≡ found }
     {
         self.table.get(&(key_of(item.row), item.place)).copied()
     }

@@ -62,7 +62,9 @@ fn rest_of(item: ModItemKind<'_>) -> Rest<'_>
 }
 
 fn is_same_attrs(left: Option<&AttrsOrCfg>, right: Option<&AttrsOrCfg>) -> bool
-    ensures { IsTrue result ↔ (option_map (λ attrs. collected attrs.now) left.entry ≡ option_map (λ attrs. collected attrs.now) right.entry) }
+    ensures { let left = option_map (λ attrs. collected attrs.now) left.entry in
+        let right = option_map (λ attrs. collected attrs.now) right.entry in
+        IsTrue result ↔ (left ≡ right) }
 {
     match (left, right) {
         (Some(left), Some(right)) => *left == *right,
@@ -124,7 +126,9 @@ fn is_same_constructor(
     new: &ItemTree,
     right: &StructValueNsCtor,
 ) -> bool
-    ensures { IsTrue result ↔ (ctor_map (vis_at old.now.forest) (ctor_ids left.now) ≡ ctor_map (vis_at new.now.forest) (ctor_ids right.now)) }
+    ensures { let left = ctor_map (vis_at old.now.forest) (ctor_ids left.now) in
+        let right = ctor_map (vis_at new.now.forest) (ctor_ids right.now) in
+        IsTrue result ↔ (left ≡ right) }
 {
     match (left, right) {
         (StructValueNsCtor::NoValueNsCtor, StructValueNsCtor::NoValueNsCtor) => true,
@@ -146,9 +150,9 @@ fn are_same_constructors(
     new: &ItemTree,
     right: Option<&StructValueNsCtor>,
 ) -> bool
-    ensures { let left = option_map (λ c. ctor_ids c.now) left.entry in
-        let right = option_map (λ c. ctor_ids c.now) right.entry in
-        IsTrue result ↔ (option_map (ctor_map (vis_at old.now.forest)) left ≡ option_map (ctor_map (vis_at new.now.forest)) right) }
+    ensures { let left = option_map (ctor_map (vis_at old.now.forest)) (option_map (λ c. ctor_ids c.now) left.entry) in
+        let right = option_map (ctor_map (vis_at new.now.forest)) (option_map (λ c. ctor_ids c.now) right.entry) in
+        IsTrue result ↔ (left ≡ right) }
 {
     match (left, right) {
         (Some(left), Some(right)) => is_same_constructor(old, left, new, right),
