@@ -1,0 +1,36 @@
+use Rattle.std.proofs.Common.{rules, map, subst, sym, refl, ◌∙◌}
+use Rattle.item_tree.specs.Walk.{AreContained}
+use Rattle.item_rows.specs.Views.{row_view}
+use Rattle.item_changes.specs.Inner.{CountsAll, item_view}
+use Rattle.item_changes.specs.Own.{own_at}
+use Rattle.item_changes.proofs.Tables.{counted_like, one_counted, rows_pushed}
+use Rattle.item_changes.proofs.Behind.{first_and_rest, no_ids, no_rows, none_below, others_contained, row_of, step}
+use Rattle.item_changes.proofs.items.items_behind.Goals as goal
+use Rattle.item_changes.proofs.items.items_behind.Goals.{in_default, in_default-2}
+
+pub loop-left_rows-preserved : goal.loop-left_rows-preserved
+loop-left_rows-preserved c =
+    let u = c.args.tree.now in
+    let rows = c.loop-left_rows.left_rows.now in
+    let ids = c.loop-left_rows.left_ids.now in
+    let row = first_and_rest rows c.row-item.result (search rules) c.row-item.is in
+    let id = first_and_rest ids c.id-item.result (search rules) c.id-item.is in
+    let done = map row_of (map item_view c.loop-left_rows.items.items) in
+    let place = c.in_ok-place.ensures.count ∙ counted_like c.loop-left_rows.counts done (row_view c.row-item.result) c.key_of.result c.key_of.ensures c.loop-left_rows.invariant.counted in
+    record {
+      items =
+          step row_view (own_at u) item_view c.loop-left_rows.items.items c.push.new.self.items _ rows _ c.row-item.result ids _ c.id-item.result _ row id c.in_ok-push.ensures.items
+          (λ k. record { row = row_view c.row-item.result; place = place k; own = c.new.ensures k }) c.loop-left_rows.invariant.items;
+      counted =
+          subst (CountsAll c.count_one.new.counts) (sym (rows_pushed item_view c.loop-left_rows.items.items c.push.new.self.items _ (row_view c.row-item.result) c.in_ok-push.ensures.items refl))
+          (one_counted c.loop-left_rows.counts c.count_one.new.counts done (row_view c.row-item.result) c.key_of.result c.key_of.ensures c.in_ok-place.ensures.counted c.loop-left_rows.invariant.counted);
+      contained = others_contained u _ _ (subst (AreContained u) id c.loop-left_rows.invariant.contained);
+    }
+
+pub returns : goal.returns
+returns c =
+    let u = c.args.tree.now in
+    elim c.if-left_rows-lt1.branch [
+      | in_default w ↦ no_rows row_view (own_at u) _ _ _ _ (none_below _ w.in_default.len_below) c.loop-left_rows.invariant.items
+      | in_default-2 w ↦ no_ids row_view (own_at u) _ _ _ _ (none_below _ (search rules)) c.loop-left_rows.invariant.items
+    ]

@@ -1,0 +1,20 @@
+use Rattle.std.proofs.Common.{◌≡◌, ◌++◌, [], length, map}
+use Rattle.std.specs.List.{zip}
+use Rattle.item_tree.specs.Walk.{AreContained}
+use Rattle.item_rows.specs.Views.{row_view}
+use Rattle.item_changes.specs.Changes.{items_behind}
+use Rattle.item_changes.specs.Inner.{CountsAll, item_view}
+use Rattle.item_changes.specs.Own.{own_at}
+use Rattle.item_changes.proofs.items.items_behind.Given as goal
+
+abbrev pub invariant-loop-left_rows : goal.invariant-loop-left_rows
+invariant-loop-left_rows l =
+    let done = map item_view l.items.items in
+    record {
+      items : done ++ items_behind (map (λ i. i.row) done) (zip (map row_view l.left_rows) (map (own_at l.fn.tree) l.left_ids)) ≡ items_behind [] (zip (map row_view l.fn.rows) (map (own_at l.fn.tree) l.fn.ids));
+      contained : AreContained l.fn.tree l.left_ids;
+      counted : CountsAll l.counts (map (λ i. i.row) done);
+    }
+
+abbrev pub decreases-loop-left_rows : goal.decreases-loop-left_rows
+decreases-loop-left_rows l = length l.left_rows

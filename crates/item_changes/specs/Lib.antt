@@ -1,0 +1,4 @@
+pub mod Own
+pub mod Changes
+pub mod Views
+pub mod Inner

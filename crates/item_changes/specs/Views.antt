@@ -1,0 +1,7 @@
+-- Changes as plain data.
+use Rattle.item_rows.specs.Views.{row_view}
+use Rattle.item_changes.specs.declared.compare.Change as code_change
+use Rattle.item_changes.specs.Changes.{ChangeView}
+
+abbrev pub change_view : code_change.Change → ChangeView
+change_view c = record { kind = c.kind; row = row_view c.row }
