@@ -1,22 +1,23 @@
 -- An atom and a condition that are written are read again.
-use Rattle.std.proofs.Common.{◌≡◌, ℕ, List, [], ◌∷◌, false, IfSome, Option, Some, None, option_map, option_and_then, codes, refl, ap, ◌∙◌}
-use Rattle.serde_json.specs.Data.{Data, Items, no_items, item}
-use Rattle.serde_json.specs.Written.{has_float, items_have_float}
+use Rattle.std.proofs.Common.{◌≡◌, ℕ, List, [], ◌∷◌, false, IfSome, Option, Some, None, refl, ap, subst, ◌∙◌}
+use Rattle.serde_json.specs.Data.{Data}
+use Rattle.serde_json.specs.Written.{has_float}
 use Rattle.hir_input.specs.Cfg.{AtomView, CfgView, CfgViews, invalid, all_of, any_of, not_of, no_cfgs, cfg_and, cfgs_from}
 use Rattle.hir_input.specs.Cfg as condition
-use Rattle.hir_input_json.specs.Forms.{each, field, name}
+use Rattle.hir_input_json.specs.Forms.{field, name}
 use Rattle.hir_input_json.specs.Cfgs.{atom, cfg}
 use Rattle.hir_input_json.proofs.Attrs.{cfg_reads_itself}
 use Rattle.hir_input_writer.specs.Cfgs.{atom_by, atom_data, cfg_data, cfgs_data}
 use Rattle.hir_input_writer.specs.Parts.{name_data}
-use Rattle.hir_input_writer.proofs.Held.{Holds, HoldEach, bind, mapped, named_law, name_law, weaker}
+use Rattle.hir_input_writer.specs.Held.{Holds, HoldEach}
+use Rattle.hir_input_writer.proofs.Held.{bind, mapped, named_law, name_law}
 
 -- what a condition's data may be: a null too
 pub record CfgHolds (c : CfgView) (d : Data) : Type 0 where
   pub reads : cfg d ≡ Some c
   pub exact : has_float d ≡ false
 
-listed : CfgViews → List CfgView
+abbrev listed : CfgViews → List CfgView
 listed no_cfgs = []
 listed (cfg_and c cs) = c ∷ listed cs
 
@@ -34,6 +35,9 @@ atom_by_law n (Some value) =
 pub atom_law : (a : AtomView) → IfSome (atom_data a) (Holds atom a)
 atom_law a = atom_by_law a.name a.value
 
+pub atom_again : (a : AtomView) (d : Data) → atom_data a ≡ Some d → Holds atom a d
+atom_again a d is = subst (λ o. IfSome o (Holds atom a)) is (atom_law a)
+
 -- the same as a condition
 atom_cfg : (n : List ℕ) (value : Option (List ℕ)) → IfSome (atom_by n value) (CfgHolds (condition.atom (record { name = n; value = value })))
 unfolding field
@@ -43,8 +47,9 @@ atom_cfg n (Some value) =
     (λ d h. record { reads = cfg_reads_itself _ ∙ rw (h.there, h.reads) refl; exact = rw h.exact refl })
 
 mutual
-  pub cfg_law : (c : CfgView) → IfSome (cfg_data c) (CfgHolds c)
   unfolding field
+
+  pub cfg_law : (c : CfgView) → IfSome (cfg_data c) (CfgHolds c)
   cfg_law invalid = record { reads = cfg_reads_itself _; exact = refl }
   cfg_law (condition.atom a) = atom_cfg a.name a.value
   cfg_law (all_of cs) =

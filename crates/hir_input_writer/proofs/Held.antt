@@ -1,26 +1,10 @@
 -- What is written of a part, and how parts are put together.
-use Rattle.std.proofs.Common.{◌≡◌, ℕ, List, [], ◌∷◌, Bool, true, false, nat_lt, IfSome, Option, Some, None, if◌then◌else◌, option_map, option_and_then, refl, ap, ◌∙◌}
-use Rattle.serde_json.specs.Data.{Data, null, number, unsigned, string, Items, no_items, item}
+use Rattle.std.proofs.Common.{◌≡◌, ℕ, List, [], ◌∷◌, Bool, true, false, nat_lt, IfSome, Option, Some, None, if◌then◌else◌, option_map, option_and_then, refl}
+use Rattle.serde_json.specs.Data.{Data, number, unsigned, string}
 use Rattle.serde_json.specs.Find.{as_str}
-use Rattle.serde_json.specs.Written.{has_float, items_have_float}
-use Rattle.hir_input_json.specs.Forms.{below, each, is_name, maybe, name, name_in, unless_null, whole}
+use Rattle.hir_input_json.specs.Forms.{below, is_name, name, name_in, whole}
+use Rattle.hir_input_writer.specs.Held.{Holds, MayHold, HoldEach}
 use Rattle.hir_input_writer.specs.Parts.{each_data, maybe_data, name_data, text_or_null, whole_data}
-
--- the data is no null and is read as the value, and has no float
-pub record Holds {A : Type 0} (form : Data → Option A) (a : A) (d : Data) : Type 0 where
-  pub there : unless_null d ≡ Some d
-  pub reads : form d ≡ Some a
-  pub exact : has_float d ≡ false
-
--- the same of what may be absent
-pub record MayHold {A : Type 0} (form : Data → Option A) (o : Option A) (d : Data) : Type 0 where
-  pub reads : maybe form (unless_null d) ≡ Some o
-  pub exact : has_float d ≡ false
-
--- and of the items of a list
-pub record HoldEach {A : Type 0} (form : Data → Option A) (as' : List A) (ds : Items) : Type 0 where
-  pub reads : each form ds ≡ Some as'
-  pub exact : items_have_float ds ≡ false
 
 -- ---- steps
 

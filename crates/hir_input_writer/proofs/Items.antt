@@ -1,9 +1,9 @@
 -- The data of an extern block and of a module by their parts.
-use Rattle.std.proofs.Common.{◌≡◌, Bool, List, Option, Some, None, option_map, option_and_then, map, Vec, Global, refl, ◌∙◌}
+use Rattle.std.proofs.Common.{◌≡◌, Bool, List, Option, Some, None, option_map, option_and_then, Vec, Global, refl, ◌∙◌}
 use Rattle.serde_json.specs.Data.{Items, array}
 use Rattle.hir_input.specs.declared.ast.Item.{Item}
 use Rattle.hir_input.specs.declared.ast.Module as ast_module
-use Rattle.hir_input.specs.Syntax.{NodeView, ItemView, bare_module, listed_module, extern_block_from, items_from, items_view, item_view, module_view, named_from}
+use Rattle.hir_input.specs.Syntax.{NodeView, ItemView, bare_module, listed_module, extern_block_from, items_from, items_view, module_view, named_from}
 use Rattle.hir_input.proofs.SyntaxViews.{module_view-fields}
 use Rattle.hir_input_writer.specs.Items.{extern_block_data, extern_items_data, item_data, listed_data}
 

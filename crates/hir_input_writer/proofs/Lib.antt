@@ -6,3 +6,11 @@ pub mod Nulls
 pub mod Items
 pub mod Held
 pub mod PathLaws
+pub mod LiteralLaws
+pub mod CfgLaws
+pub mod MetaLaws
+pub mod UseTreeLaws
+pub mod NodeLaws
+pub mod KindLaws
+pub mod ItemLaws
+pub mod SyntaxLaws

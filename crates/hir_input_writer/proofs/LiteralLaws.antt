@@ -1,9 +1,7 @@
 -- A context and a literal that are written are read again.
-use Rattle.std.proofs.Common.{◌≡◌, ◌^◌, ◌==◌, ℕ, List, Bool, true, false, IfSome, Option, Some, None, if◌then◌else◌, option_map, option_and_then, codes, refl, sym, ap, ◌∙◌, arith}
+use Rattle.std.proofs.Common.{◌≡◌, ◌^◌, ◌==◌, ℕ, Bool, true, false, IfSome, Option, None, if◌then◌else◌, refl, ap, arith}
 use Rattle.std.proofs.lemmas.Bool.Decides.{nat_tests}
-use Rattle.serde_json.specs.Data.{Data, number, unsigned, array, no_items, item}
-use Rattle.serde_json.specs.Find.{as_str}
-use Rattle.serde_json.specs.Written.{has_float}
+use Rattle.serde_json.specs.Data.{Data, number, unsigned}
 use Rattle.hir_input.specs.declared.edition.EditionYear.{EditionYear}
 use Rattle.hir_input.specs.declared.edition.EditionYear.TheVariants.{E2015, E2018, E2021, E2024}
 use Rattle.hir_input.specs.declared.ids.SyntaxContext.{SyntaxContext}
@@ -13,8 +11,9 @@ use Rattle.hir_input.specs.Literal.{LiteralView}
 use Rattle.hir_input_json.specs.Forms.{field, whole}
 use Rattle.hir_input_json.specs.Literals.{context, literal, span}
 use Rattle.hir_input_writer.specs.Literals.{context_data, is_same_context, literal_data, span_data, year_number}
-use Rattle.hir_input_writer.specs.Parts.{text_or_null, whole_data}
-use Rattle.hir_input_writer.proofs.Held.{Holds, bind, below_law, text_law, whole_law}
+use Rattle.hir_input_writer.specs.Parts.{whole_data}
+use Rattle.hir_input_writer.specs.Held.{Holds}
+use Rattle.hir_input_writer.proofs.Held.{bind, below_law, text_law, whole_law}
 
 pub context_law : (c : SyntaxContext) → IfSome (context_data c) (Holds context c)
 context_law (Root E2015) = record { there = refl; reads = refl; exact = refl }

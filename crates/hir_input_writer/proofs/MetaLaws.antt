@@ -1,6 +1,5 @@
 -- A meta that is written is read again.
-use Rattle.std.proofs.Common.{◌≡◌, ℕ, List, [], ◌∷◌, false, IfSome, Option, Some, None, option_map, option_and_then, codes, refl, ap, ◌∙◌}
-use Rattle.serde_json.specs.Data.{Data, Items, no_items, item}
+use Rattle.std.proofs.Common.{◌≡◌, ℕ, List, [], ◌∷◌, IfSome, Option, Some, refl, ap, ◌∙◌}
 use Rattle.hir_input.specs.declared.ast.PathNode.{PathNode}
 use Rattle.hir_input.specs.declared.ids.SyntaxContext.{SyntaxContext}
 use Rattle.hir_input.specs.Literal.{LiteralView}
@@ -15,12 +14,13 @@ use Rattle.hir_input_writer.specs.Literals.{context_data, literal_data}
 use Rattle.hir_input_writer.specs.Metas.{key_value_data, meta_data, metas_data, path_meta_data, tokens_data}
 use Rattle.hir_input_writer.specs.Parts.{maybe_data}
 use Rattle.hir_input_writer.specs.Paths.{path_data}
-use Rattle.hir_input_writer.proofs.Held.{Holds, MayHold, HoldEach, bind, mapped, maybe_law}
+use Rattle.hir_input_writer.specs.Held.{Holds, MayHold, HoldEach}
+use Rattle.hir_input_writer.proofs.Held.{bind, mapped, maybe_law}
 use Rattle.hir_input_writer.proofs.CfgLaws.{CfgHolds, cfg_law}
 use Rattle.hir_input_writer.proofs.LiteralLaws.{context_law, literal_law}
 use Rattle.hir_input_writer.proofs.PathLaws.{path_law}
 
-pub listed : MetaViews → List MetaView
+abbrev pub listed : MetaViews → List MetaView
 listed no_metas = []
 listed (meta_and m ms) = m ∷ listed ms
 
@@ -55,8 +55,9 @@ tokens_law p t c =
     record { there = refl; reads = meta_reads_itself _ ∙ rw (h.reads, k.there, k.reads) refl; exact = rw (k.exact, h.exact) refl }))
 
 mutual
-  pub meta_law : (m : MetaView) → IfSome (meta_data m) (Holds meta m)
   unfolding field
+
+  pub meta_law : (m : MetaView) → IfSome (meta_data m) (Holds meta m)
   meta_law (path_meta p c) = path_meta_law p c
   meta_law (key_value_meta p v c) = key_value_law p v c
   meta_law (token_tree_meta p t c) = tokens_law p t c

@@ -1,25 +1,25 @@
 -- A path and a visibility that are written are read again.
-use Rattle.std.proofs.Common.{◌≡◌, ◌^◌, ℕ, List, [], ◌∷◌, true, false, IfSome, Option, Some, None, option_map, option_and_then, codes, refl, ap, ◌∙◌}
-use Rattle.serde_json.specs.Data.{Data, string, array, object, Items, no_items, item, no_members, member}
+use Rattle.std.proofs.Common.{◌≡◌, ◌^◌, ℕ, List, [], ◌∷◌, IfSome, Option, Some, None, option_map, option_and_then, codes, refl}
+use Rattle.serde_json.specs.Data.{Data, string, array, Items, no_items, item}
 use Rattle.hir_input.specs.declared.mod_path.PathKind.{PathKind}
 use Rattle.hir_input.specs.declared.mod_path.PathKind.TheVariants.{Plain, Super, Crate, Abs, DollarCrate}
 use Rattle.hir_input.specs.declared.ast.PathNode.{PathNode}
 use Rattle.hir_input.specs.declared.ast.PathNode.TheVariants.{Readable, Unreadable}
 use Rattle.hir_input.specs.declared.ast.Visibility.{Visibility}
 use Rattle.hir_input.specs.declared.ast.Visibility.TheVariants.{Pub, PubCrate, PubSuper, PubSelf, InPath}
-use Rattle.hir_input.specs.Path.{Path}
 use Rattle.hir_input_json.specs.Forms.{each, field, name, whole}
 use Rattle.hir_input_json.specs.Paths.{path, visibility}
 use Rattle.hir_input_writer.specs.Parts.{each_data, name_data, whole_data}
-use Rattle.hir_input_writer.specs.Paths.{kind_data, mod_path_data, path_data, visibility_data}
-use Rattle.hir_input_writer.proofs.Held.{Holds, HoldEach, bind, mapped, each_law, name_law, whole_law}
+use Rattle.hir_input_writer.specs.Paths.{kind_data, path_data, visibility_data}
+use Rattle.hir_input_writer.specs.Held.{Holds, HoldEach}
+use Rattle.hir_input_writer.proofs.Held.{bind, mapped, each_law, name_law, whole_law}
 
 not_none : {A : Type 0} (o : Option A) (os : Option (List A)) → option_and_then (λ a. option_map (λ as'. a ∷ as') os) o ≡ Some [] → ⊥
 not_none None os h = absurd cc
 not_none (Some a) None h = absurd cc
 not_none (Some a) (Some as') h = absurd cc
 
-node_of : PathKind → List (List ℕ) → PathNode
+abbrev node_of : PathKind → List (List ℕ) → PathNode
 node_of kind names = Readable (record { kind = kind; names = names })
 
 plain_law : (names : List (List ℕ)) (d : Data) (ds : Items) → HoldEach name names (item d ds) → Holds path (node_of Plain names) (array (item (string (codes "plain")) (item d ds)))

@@ -1,5 +1,5 @@
 -- The data of a path of a kind.
-use Rattle.std.proofs.Common.{◌≡◌, ◌<◌, ℕ, List, [], ◌∷◌, length, Option, Some, None, option_map, option_and_then, codes, refl, arith}
+use Rattle.std.proofs.Common.{◌≡◌, ◌<◌, ℕ, List, [], ◌∷◌, length, Option, Some, None, option_and_then, codes, refl, arith}
 use Rattle.serde_json.specs.Data.{Data, Items, item}
 use Rattle.hir_input.specs.declared.mod_path.PathKind.TheVariants.{Plain}
 use Rattle.hir_input_writer.specs.Paths.{behind, kind_data}

@@ -5,10 +5,14 @@ use Rattle.hir_input.specs.Cfg.{AtomView, CfgView, CfgViews, invalid, atom, all_
 use Rattle.hir_input_json.specs.Forms.{◌>>=◌}
 use Rattle.hir_input_writer.specs.Parts.{name_data}
 
+-- a key and its value
+abbrev pub keyed : Data → List ℕ → Data
+keyed key value = object (member (codes "key") key (member (codes "value") (string value) no_members))
+
 -- a flag, or a key with its value
 abbrev pub atom_by : List ℕ → Option (List ℕ) → Option Data
 atom_by name None = name_data name
-atom_by name (Some value) = option_map (λ d. object (member (codes "key") d (member (codes "value") (string value) no_members))) (name_data name)
+atom_by name (Some value) = option_map (λ d. keyed d value) (name_data name)
 
 abbrev pub atom_data : AtomView → Option Data
 atom_data a = atom_by a.name a.value

@@ -1,4 +1,5 @@
 pub mod Writes
+pub mod Held
 pub mod Lists
 pub mod Parts
 pub mod Paths
@@ -9,4 +10,5 @@ pub mod UseTrees
 pub mod Items
 pub mod Seen
 pub mod Syntaxes
+pub mod Kept
 pub mod Laws

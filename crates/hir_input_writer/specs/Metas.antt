@@ -1,10 +1,9 @@
 -- The data of a meta.
-use Rattle.std.specs.Prelude.{ℕ, List, codes, Option, Some, None, option_map}
+use Rattle.std.specs.Prelude.{ℕ, List, codes, Option, Some, option_map}
 use Rattle.serde_json.specs.Data.{Data, string, array, object, Items, no_items, item, no_members, member}
 use Rattle.hir_input.specs.declared.ast.PathNode.{PathNode}
 use Rattle.hir_input.specs.declared.ids.SyntaxContext.{SyntaxContext}
 use Rattle.hir_input.specs.Attr.{MetaView, MetaViews, path_meta, key_value_meta, token_tree_meta, cfg_meta, cfg_attr_meta, unsafe_meta, no_metas, meta_and}
-use Rattle.hir_input.specs.Cfg.{CfgView}
 use Rattle.hir_input.specs.Literal.{LiteralView}
 use Rattle.hir_input_json.specs.Forms.{◌>>=◌}
 use Rattle.hir_input_writer.specs.Cfgs.{cfg_data}

@@ -1,5 +1,5 @@
 -- The data of a rename and of a use tree.
-use Rattle.std.specs.Prelude.{ℕ, List, Bool, codes, bytes_eq, if◌then◌else◌, Option, Some, None, option_map}
+use Rattle.std.specs.Prelude.{ℕ, List, Bool, codes, bytes_eq, if◌then◌else◌, Option, Some, None}
 use Rattle.serde_json.specs.Data.{Data, null, boolean, string, array, object, Items, no_items, item, no_members, member}
 use Rattle.hir_input.specs.declared.ast.Rename.{Rename}
 use Rattle.hir_input.specs.UseTreeView.{UseNode, UseTreeView, UseTreeViews, bare_tree, listed_tree, no_trees, tree_and}

@@ -1,29 +1,45 @@
 //! Conditions as JSON.
-ghost use Rattle.std.specs.Prelude.{map};
+ghost use Rattle.std.specs.Prelude.{◌≡◌, IfOk, map, string_bytes};
 ghost use Rattle.serde_json.specs.View.{view, items_view};
 ghost use Rattle.hir_input.specs.Cfg.{atom_view, cfg_view, cfgs_from};
-ghost use Rattle.hir_input_writer.specs.Cfgs.{atom_data, cfg_data, cfgs_data};
+ghost use Rattle.hir_input_json.specs.Cfgs.{atom as atom_form};
+ghost use Rattle.hir_input_writer.specs.Cfgs.{atom_data, cfg_data, cfgs_data, keyed};
+ghost use Rattle.hir_input_writer.specs.Held.{Holds};
 ghost use Rattle.hir_input_writer.specs.Writes.{Writes};
 
 use crate::fault::WriteFault;
 use crate::name::name_value;
 use hir_input::{CfgAtom, CfgExpr};
 use serde_json::{Value, json};
-use std::alloc::Global;
+use std::alloc::{AllocError, Global};
 
-/// An atom as JSON: the text of a flag, or an object with a key and its value.
-///
-/// Errors: want of memory alone.
-pub fn atom_value(alloc: Global, atom: &CfgAtom) -> Result<Value, WriteFault>
+fn key_object(alloc: Global, key: Value, value: &String) -> Result<Value, AllocError>
+    ensures { IfOk result (λ v. view v ≡ keyed (view key) (string_bytes value.now)) }
+{
+    json!(in alloc; {"key": key, "value": value})
+}
+
+fn written(alloc: Global, atom: &CfgAtom) -> Result<Value, WriteFault>
     ensures { Writes view result (atom_data (atom_view atom.now)) }
 {
     match atom {
         CfgAtom::Flag(name) => name_value(alloc, name),
         CfgAtom::KeyValue { key, value } => {
             let key = name_value(alloc, key)?;
-            Ok(json!(in alloc; {"key": key, "value": value})?)
+            Ok(key_object(alloc, key, value)?)
         }
     }
+}
+
+/// An atom as JSON: the text of a flag, or an object with a key and its value. It is read as the atom again.
+///
+/// Errors: want of memory alone.
+pub fn atom_value(alloc: Global, atom: &CfgAtom) -> Result<Value, WriteFault>
+    ensures written { Writes view result (atom_data (atom_view atom.now)) }
+    ensures reads { IfOk result (λ v. Holds atom_form (atom_view atom.now) (view v)) }
+{
+    let value = written(alloc, atom)?;
+    Ok(value)
 }
 
 #[cycle(cfgs)]

@@ -36,7 +36,8 @@ pub(crate) fn is_same(context: SyntaxContext, other: SyntaxContext) -> bool
     ensures { result ≡ is_same_context context other }
 {
     match (context, other) {
-        (SyntaxContext::Root(year), SyntaxContext::Root(other)) => year_number(year) == year_number(other),
+        (SyntaxContext::Root(year), SyntaxContext::Root(other)) => year_number(year)
+            == year_number(other),
         (SyntaxContext::Expanded(number), SyntaxContext::Expanded(other)) => number == other,
         _ => false,
     }

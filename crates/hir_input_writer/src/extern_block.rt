@@ -27,7 +27,11 @@ fn extern_item_value(alloc: Global, bodies: bool, item: &ExternItem) -> Result<V
 }
 
 #[tactic(auto, using(crate::proofs::Lists::lists))]
-fn extern_item_values(alloc: Global, bodies: bool, extern_items: &[ExternItem]) -> Result<Vec<Value>, WriteFault>
+fn extern_item_values(
+    alloc: Global,
+    bodies: bool,
+    extern_items: &[ExternItem],
+) -> Result<Vec<Value>, WriteFault>
     ensures { Writes (λ v. items_view v.items) result (extern_items_data bodies (items_from (map extern_item_view extern_items.now))) }
 {
     let mut values = Vec::new(alloc);
@@ -47,7 +51,12 @@ fn extern_block_object(alloc: Global, node: Node, items: Value) -> Result<Value,
 }
 
 // An extern block, whose items are written.
-fn block_with(alloc: Global, bodies: bool, block: &ExternBlock, items: Value) -> Result<Value, WriteFault>
+fn block_with(
+    alloc: Global,
+    bodies: bool,
+    block: &ExternBlock,
+    items: Value,
+) -> Result<Value, WriteFault>
     ensures { let n = block.now in
         Writes view result (extern_block_data bodies (node_from n.hash n.number n.attrs.items n.body) (view items)) }
 {
@@ -66,7 +75,11 @@ fn listed(alloc: Global, bodies: bool, list: &Option<Vec<ExternItem>>) -> Result
 }
 
 #[tactic(auto, using(crate::proofs::Items::extern_block_listed))]
-pub(crate) fn extern_block_value(alloc: Global, bodies: bool, block: &ExternBlock) -> Result<Value, WriteFault>
+pub(crate) fn extern_block_value(
+    alloc: Global,
+    bodies: bool,
+    block: &ExternBlock,
+) -> Result<Value, WriteFault>
     ensures { Writes view result (item_data bodies (extern_block_view block.now)) }
 {
     let items = listed(alloc, bodies, &block.items)?;

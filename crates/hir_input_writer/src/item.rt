@@ -9,14 +9,25 @@ ghost use Rattle.hir_input_writer.specs.Writes.{Writes};
 
 use crate::extern_block::extern_block_value;
 use crate::fault::WriteFault;
-use crate::kinds::{asm_value, call_value, extern_crate_value, impl_value, macro_rules_value, struct_value, use_value};
+use crate::kinds::{
+    asm_value, call_value, extern_crate_value, impl_value, macro_rules_value, struct_value,
+    use_value,
+};
 use crate::node::{Named, named_of, node, node_of};
-use crate::plain::{const_value, enum_value, fn_value, macro_def_value, static_value, trait_value, type_alias_value, union_value};
+use crate::plain::{
+    const_value, enum_value, fn_value, macro_def_value, static_value, trait_value,
+    type_alias_value, union_value,
+};
 use hir_input::ast::{Item, Module};
 use serde_json::{Value, json};
 use std::alloc::{AllocError, Global};
 
-fn module_object(alloc: Global, item: Named, semicolon: bool, items: Value) -> Result<Value, AllocError>
+fn module_object(
+    alloc: Global,
+    item: Named,
+    semicolon: bool,
+    items: Value,
+) -> Result<Value, AllocError>
     ensures { IfOk result (λ v. view v ≡ objects.module_object (named_seen item) semicolon (view items)) }
 {
     let Named { node, name, vis } = item;
@@ -27,7 +38,12 @@ fn module_object(alloc: Global, item: Named, semicolon: bool, items: Value) -> R
 }
 
 // A module, whose items are written.
-fn module_with(alloc: Global, bodies: bool, item: &Module, items: Value) -> Result<Value, WriteFault>
+fn module_with(
+    alloc: Global,
+    bodies: bool,
+    item: &Module,
+    items: Value,
+) -> Result<Value, WriteFault>
     ensures { let m = item.now in
         let named = named_from m.hash m.number m.attrs.items m.name m.visibility m.body in
         Writes view result (module_data bodies named m.semicolon (view items)) }
@@ -79,7 +95,11 @@ pub(crate) fn item_value(alloc: Global, bodies: bool, item: &Item) -> Result<Val
 
 #[cycle(items)]
 #[tactic(auto, using(crate::proofs::Lists::lists))]
-pub(crate) fn item_values(alloc: Global, bodies: bool, items: &[Item]) -> Result<Vec<Value>, WriteFault>
+pub(crate) fn item_values(
+    alloc: Global,
+    bodies: bool,
+    items: &[Item],
+) -> Result<Vec<Value>, WriteFault>
     ensures { Writes (λ v. items_view v.items) result (items_data bodies (items_seen items.now)) }
 {
     let mut values = Vec::new(alloc);

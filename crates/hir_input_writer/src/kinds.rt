@@ -19,7 +19,9 @@ use crate::path::path_or_null;
 use crate::use_tree::{rename_or_null, use_tree_or_null};
 use crate::visibility::visibility_or_null;
 use hir_input::ExpandTo;
-use hir_input::ast::{AsmExpr, ExternCrate, Impl, MacroCall, MacroRules, Struct, StructKind, TupleField, Use};
+use hir_input::ast::{
+    AsmExpr, ExternCrate, Impl, MacroCall, MacroRules, Struct, StructKind, TupleField, Use,
+};
 use serde_json::{Value, json};
 use std::alloc::{AllocError, Global};
 
@@ -91,7 +93,11 @@ fn extern_crate_object(alloc: Global, item: Named, rename: Value) -> Result<Valu
     })
 }
 
-pub(crate) fn extern_crate_value(alloc: Global, bodies: bool, item: &ExternCrate) -> Result<Value, WriteFault>
+pub(crate) fn extern_crate_value(
+    alloc: Global,
+    bodies: bool,
+    item: &ExternCrate,
+) -> Result<Value, WriteFault>
     ensures { Writes view result (extern_crate_data bodies (extern_crate_view item.now) item.now.rename) }
 {
     let node = node!(alloc, bodies, item)?;
@@ -150,7 +156,11 @@ fn macro_rules_object(alloc: Global, node: Node, name: Value) -> Result<Value, A
     })
 }
 
-pub(crate) fn macro_rules_value(alloc: Global, bodies: bool, item: &MacroRules) -> Result<Value, WriteFault>
+pub(crate) fn macro_rules_value(
+    alloc: Global,
+    bodies: bool,
+    item: &MacroRules,
+) -> Result<Value, WriteFault>
     ensures { Writes view result (macro_rules_data bodies (macro_rules_view item.now) item.now.name) }
 {
     let node = node!(alloc, bodies, item)?;

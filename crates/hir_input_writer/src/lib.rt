@@ -11,8 +11,8 @@ pub mod fault;
 mod item;
 mod kinds;
 mod literal;
-pub mod meta;
-mod name;
+mod meta;
+pub mod name;
 mod node;
 mod path;
 mod plain;
@@ -21,3 +21,4 @@ mod use_tree;
 mod visibility;
 
 pub use fault::WriteFault;
+pub use syntax::syntax_value;

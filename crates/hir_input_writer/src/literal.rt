@@ -26,13 +26,22 @@ fn text_or_null(alloc: Global, text: &Option<String>) -> Result<Value, AllocErro
     }
 }
 
-fn literal_object(alloc: Global, rendered: &String, span: Value, string: Value) -> Result<Value, AllocError>
+fn literal_object(
+    alloc: Global,
+    rendered: &String,
+    span: Value,
+    string: Value,
+) -> Result<Value, AllocError>
     ensures { IfOk result (λ v. view v ≡ object_of (string_bytes rendered.now) (view span) (view string)) }
 {
     json!(in alloc; {"rendered": rendered, "span": span, "string": string})
 }
 
-fn literal_value(alloc: Global, context: SyntaxContext, literal: &Literal) -> Result<Value, WriteFault>
+fn literal_value(
+    alloc: Global,
+    context: SyntaxContext,
+    literal: &Literal,
+) -> Result<Value, WriteFault>
     ensures { Writes view result (literal_data context literal.now) }
 {
     if !is_same(context, literal.span.ctxt) {

@@ -22,13 +22,23 @@ fn path_object(alloc: Global, path: Value, context: Value) -> Result<Value, Allo
     json!(in alloc; {"ctxt": context, "meta": "path", "path": path})
 }
 
-fn key_value_object(alloc: Global, path: Value, value: Value, context: Value) -> Result<Value, AllocError>
+fn key_value_object(
+    alloc: Global,
+    path: Value,
+    value: Value,
+    context: Value,
+) -> Result<Value, AllocError>
     ensures { IfOk result (λ v. view v ≡ objects.key_value_object (view path) (view value) (view context)) }
 {
     json!(in alloc; {"ctxt": context, "meta": "key_value", "path": path, "value": value})
 }
 
-fn tokens_object(alloc: Global, path: Value, tokens: &String, context: Value) -> Result<Value, AllocError>
+fn tokens_object(
+    alloc: Global,
+    path: Value,
+    tokens: &String,
+    context: Value,
+) -> Result<Value, AllocError>
     ensures { IfOk result (λ v. view v ≡ objects.tokens_object (view path) (string_bytes tokens.now) (view context)) }
 {
     json!(in alloc; {"ctxt": context, "meta": "tokens", "path": path, "tokens": tokens})
@@ -52,7 +62,11 @@ fn unsafe_object(alloc: Global, inner: Value) -> Result<Value, AllocError>
     json!(in alloc; {"inner": inner, "meta": "unsafe"})
 }
 
-fn path_meta(alloc: Global, path: &Option<PathNode>, context: SyntaxContext) -> Result<Value, WriteFault>
+fn path_meta(
+    alloc: Global,
+    path: &Option<PathNode>,
+    context: SyntaxContext,
+) -> Result<Value, WriteFault>
     ensures { Writes view result (path_meta_data path.now context) }
 {
     let path = path_or_null(alloc, path)?;
@@ -87,12 +101,10 @@ fn tokens(
     Ok(tokens_object(alloc, path, &tokens.rendered, context)?)
 }
 
-/// A meta as JSON.
-///
-/// Errors: `NoForm` exactly where a literal in it has a span of another context than its meta; else want of memory.
+// `NoForm` comes exactly where a literal in it has a span of another context than its meta.
 #[cycle(metas)]
 #[tactic(auto, using(hir_input::proofs::MetaLemmas::meta_views))]
-pub fn meta_value(alloc: Global, meta: &Meta) -> Result<Value, WriteFault>
+pub(crate) fn meta_value(alloc: Global, meta: &Meta) -> Result<Value, WriteFault>
     ensures { Writes view result (meta_data (meta_view meta.now)) }
 {
     match meta {
@@ -119,12 +131,9 @@ pub fn meta_value(alloc: Global, meta: &Meta) -> Result<Value, WriteFault>
     }
 }
 
-/// Metas as JSON, each in its place.
-///
-/// Errors: those of `meta_value`.
 #[cycle(metas)]
 #[tactic(auto, using(crate::proofs::Lists::lists))]
-pub fn meta_values(alloc: Global, metas: &[Meta]) -> Result<Vec<Value>, WriteFault>
+pub(crate) fn meta_values(alloc: Global, metas: &[Meta]) -> Result<Vec<Value>, WriteFault>
     ensures { Writes (λ v. items_view v.items) result (metas_data (metas_from (map meta_view metas.now))) }
 {
     let mut values = Vec::new(alloc);

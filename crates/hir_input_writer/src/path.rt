@@ -15,7 +15,11 @@ use std::alloc::{AllocError, Global};
 
 // The values of names behind others.
 #[tactic(auto, using(crate::proofs::Lists::lists))]
-fn names_behind(alloc: Global, mut values: Vec<Value>, names: &[Name]) -> Result<Vec<Value>, WriteFault>
+fn names_behind(
+    alloc: Global,
+    mut values: Vec<Value>,
+    names: &[Name],
+) -> Result<Vec<Value>, WriteFault>
     ensures { Writes (λ v. items_view v.items) result (joined (map view values.items) (each_data name_data names.now)) }
 {
     for name in names {
@@ -26,7 +30,12 @@ fn names_behind(alloc: Global, mut values: Vec<Value>, names: &[Name]) -> Result
 
 // Names behind a word and a number.
 #[tactic(auto, using(crate::proofs::Paths::names_joined))]
-fn behind(alloc: Global, word: &str, number: Option<u32>, names: &[Name]) -> Result<Value, WriteFault>
+fn behind(
+    alloc: Global,
+    word: &str,
+    number: Option<u32>,
+    names: &[Name],
+) -> Result<Value, WriteFault>
     ensures { Writes view result (option_and_then (behind_data word.now number) (each_data name_data names.now)) }
 {
     let mut front = Vec::new(alloc);

@@ -20,7 +20,11 @@ pub(crate) fn fn_value(alloc: Global, bodies: bool, item: &ast::Fn) -> Result<Va
     plain_value(alloc, "fn", node, &item.name, &item.visibility)
 }
 
-pub(crate) fn union_value(alloc: Global, bodies: bool, item: &ast::Union) -> Result<Value, WriteFault>
+pub(crate) fn union_value(
+    alloc: Global,
+    bodies: bool,
+    item: &ast::Union,
+) -> Result<Value, WriteFault>
     ensures { let n = item.now in
         let named = named_from n.hash n.number n.attrs.items n.name n.visibility n.body in
         Writes view result (plain_data bodies (codes "union") named) }
@@ -38,7 +42,11 @@ pub(crate) fn enum_value(alloc: Global, bodies: bool, item: &ast::Enum) -> Resul
     plain_value(alloc, "enum", node, &item.name, &item.visibility)
 }
 
-pub(crate) fn static_value(alloc: Global, bodies: bool, item: &ast::Static) -> Result<Value, WriteFault>
+pub(crate) fn static_value(
+    alloc: Global,
+    bodies: bool,
+    item: &ast::Static,
+) -> Result<Value, WriteFault>
     ensures { let n = item.now in
         let named = named_from n.hash n.number n.attrs.items n.name n.visibility n.body in
         Writes view result (plain_data bodies (codes "static") named) }
@@ -47,7 +55,11 @@ pub(crate) fn static_value(alloc: Global, bodies: bool, item: &ast::Static) -> R
     plain_value(alloc, "static", node, &item.name, &item.visibility)
 }
 
-pub(crate) fn trait_value(alloc: Global, bodies: bool, item: &ast::Trait) -> Result<Value, WriteFault>
+pub(crate) fn trait_value(
+    alloc: Global,
+    bodies: bool,
+    item: &ast::Trait,
+) -> Result<Value, WriteFault>
     ensures { let n = item.now in
         let named = named_from n.hash n.number n.attrs.items n.name n.visibility n.body in
         Writes view result (plain_data bodies (codes "trait") named) }
@@ -56,7 +68,11 @@ pub(crate) fn trait_value(alloc: Global, bodies: bool, item: &ast::Trait) -> Res
     plain_value(alloc, "trait", node, &item.name, &item.visibility)
 }
 
-pub(crate) fn type_alias_value(alloc: Global, bodies: bool, item: &ast::TypeAlias) -> Result<Value, WriteFault>
+pub(crate) fn type_alias_value(
+    alloc: Global,
+    bodies: bool,
+    item: &ast::TypeAlias,
+) -> Result<Value, WriteFault>
     ensures { let n = item.now in
         let named = named_from n.hash n.number n.attrs.items n.name n.visibility n.body in
         Writes view result (plain_data bodies (codes "type_alias") named) }
@@ -65,7 +81,11 @@ pub(crate) fn type_alias_value(alloc: Global, bodies: bool, item: &ast::TypeAlia
     plain_value(alloc, "type_alias", node, &item.name, &item.visibility)
 }
 
-pub(crate) fn macro_def_value(alloc: Global, bodies: bool, item: &ast::MacroDef) -> Result<Value, WriteFault>
+pub(crate) fn macro_def_value(
+    alloc: Global,
+    bodies: bool,
+    item: &ast::MacroDef,
+) -> Result<Value, WriteFault>
     ensures { let n = item.now in
         let named = named_from n.hash n.number n.attrs.items n.name n.visibility n.body in
         Writes view result (plain_data bodies (codes "macro_def") named) }
@@ -74,7 +94,11 @@ pub(crate) fn macro_def_value(alloc: Global, bodies: bool, item: &ast::MacroDef)
     plain_value(alloc, "macro_def", node, &item.name, &item.visibility)
 }
 
-pub(crate) fn const_value(alloc: Global, bodies: bool, item: &ast::Const) -> Result<Value, WriteFault>
+pub(crate) fn const_value(
+    alloc: Global,
+    bodies: bool,
+    item: &ast::Const,
+) -> Result<Value, WriteFault>
     ensures { let n = item.now in
         let named = named_from n.hash n.number n.attrs.items n.name n.visibility n.body in
         Writes view result (plain_data bodies (codes "const") named) }

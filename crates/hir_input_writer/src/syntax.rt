@@ -3,6 +3,7 @@ ghost use Rattle.std.specs.Prelude.{◌≡◌, IfOk, map};
 ghost use Rattle.serde_json.specs.View.{view, items_view};
 ghost use Rattle.hir_input.specs.Attr.{meta_view};
 ghost use Rattle.hir_input.specs.Syntax.{items_view as items_seen, stmt_view, syntax_view, tail_view};
+ghost use Rattle.hir_input_writer.specs.Laws.{IsReadAs, kept};
 ghost use Rattle.hir_input_writer.specs.Parts.{each_data};
 ghost use Rattle.hir_input_writer.specs.Syntaxes as objects;
 ghost use Rattle.hir_input_writer.specs.Syntaxes.{macro_items_data, macro_stmts_data, source_data, stmt_data, syntax_data, tail_data};
@@ -75,7 +76,12 @@ fn source_object(alloc: Global, attrs: Value, items: Vec<Value>) -> Result<Value
     json!(in alloc; {"attrs": attrs, "items": items, "root": "source_file"})
 }
 
-fn source_value(alloc: Global, bodies: bool, attrs: &Vec<Meta>, items: &[Item]) -> Result<Value, WriteFault>
+fn source_value(
+    alloc: Global,
+    bodies: bool,
+    attrs: &Vec<Meta>,
+    items: &[Item],
+) -> Result<Value, WriteFault>
     ensures { Writes view result (source_data bodies (map meta_view attrs.now.items) (items_seen items.now)) }
 {
     let attrs = attrs_value(alloc, attrs)?;
@@ -102,7 +108,12 @@ fn macro_stmts_object(alloc: Global, stmts: Vec<Value>, tail: Value) -> Result<V
     json!(in alloc; {"root": "macro_stmts", "stmts": stmts, "tail": tail})
 }
 
-fn macro_stmts_value(alloc: Global, bodies: bool, stmts: &[Stmt], tail: &Tail) -> Result<Value, WriteFault>
+fn macro_stmts_value(
+    alloc: Global,
+    bodies: bool,
+    stmts: &[Stmt],
+    tail: &Tail,
+) -> Result<Value, WriteFault>
     ensures { Writes view result (macro_stmts_data bodies (map stmt_view stmts.now) (tail_view tail.now)) }
 {
     let stmts = stmt_values(alloc, bodies, stmts)?;
@@ -116,6 +127,17 @@ fn error_value(alloc: Global) -> Result<Value, AllocError>
     json!(in alloc; {"root": "error"})
 }
 
+fn written(alloc: Global, syntax: &Syntax, bodies: bool) -> Result<Value, WriteFault>
+    ensures { Writes view result (syntax_data bodies (syntax_view syntax.now)) }
+{
+    match syntax {
+        Syntax::SourceFile { attrs, items } => source_value(alloc, bodies, attrs, items),
+        Syntax::MacroItems { items } => macro_items_value(alloc, bodies, items),
+        Syntax::MacroStmts { stmts, tail } => macro_stmts_value(alloc, bodies, stmts, tail),
+        Syntax::Error => Ok(error_value(alloc)?),
+    }
+}
+
 /// The syntax of a file, or of a macro's result, as JSON, with its body texts or with a null for each.
 ///
 /// Reading the JSON gives the syntax again: with its bodies, or with each of them empty. No number of it is a float.
@@ -124,11 +146,8 @@ fn error_value(alloc: Global) -> Result<Value, AllocError>
 /// another context than its meta. Else want of memory.
 pub fn syntax_value(alloc: Global, syntax: &Syntax, bodies: bool) -> Result<Value, WriteFault>
     ensures written { Writes view result (syntax_data bodies (syntax_view syntax.now)) }
+    ensures reads { IfOk result (λ v. IsReadAs (kept bodies (syntax_view syntax.now)) (view v)) }
 {
-    match syntax {
-        Syntax::SourceFile { attrs, items } => source_value(alloc, bodies, attrs, items),
-        Syntax::MacroItems { items } => macro_items_value(alloc, bodies, items),
-        Syntax::MacroStmts { stmts, tail } => macro_stmts_value(alloc, bodies, stmts, tail),
-        Syntax::Error => Ok(error_value(alloc)?),
-    }
+    let value = written(alloc, syntax, bodies)?;
+    Ok(value)
 }

@@ -26,7 +26,10 @@ pub(crate) fn visibility_value(alloc: Global, visibility: &Visibility) -> Result
 }
 
 // Null where there is no visibility.
-pub(crate) fn visibility_or_null(alloc: Global, visibility: &Option<Visibility>) -> Result<Value, WriteFault>
+pub(crate) fn visibility_or_null(
+    alloc: Global,
+    visibility: &Option<Visibility>,
+) -> Result<Value, WriteFault>
     ensures { Writes view result (maybe_data visibility_data visibility.now) }
 {
     match visibility {
