@@ -24,7 +24,7 @@ joined_nil (Some ds) = refl
 abbrev pub led : Option Data → Option Items → Option Items
 led d o = option_and_then (λ e. option_and_then (λ ds. Some (item e ds)) o) d
 
-joined_push : (vs : List Value) (v : Value) (o : Option Items) → joined (map view vs) (led (Some (view v)) o) ≡ joined (map view (vs ++ v ∷ [])) o
+pub joined_push : (vs : List Value) (v : Value) (o : Option Items) → joined (map view vs) (led (Some (view v)) o) ≡ joined (map view (vs ++ v ∷ [])) o
 joined_push vs v None = refl
 joined_push vs v (Some ds) = ap Some (sym (after_push vs v ds))
 

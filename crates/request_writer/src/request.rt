@@ -107,7 +107,6 @@ fn written(
 ///
 /// Errors: `NoForm` exactly where a part has no form: a syntax, as `syntax_value` says, a show of another crate than 0, or a file
 /// behind 2^32 others. Else want of memory.
-#[tactic(auto, using(crate::proofs::Requests::request_again))]
 pub fn request_value(
     alloc: Global,
     options: &RequestOptions,
