@@ -22,4 +22,5 @@ meant bodies skipped edition options files shows = record {
   edition = edition;
   crates = record { root = record { 0 = 0 }; options = options; attrs = [] } ∷ [];
   edits = files_set bodies 0 files;
-  shows = shows }
+  shows = shows;
+}

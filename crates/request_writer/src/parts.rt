@@ -90,7 +90,12 @@ fn edit_object(alloc: Global, file: u32, syntax: Value) -> Result<Value, AllocEr
 }
 
 // A file set to its syntax.
-fn edit_value(alloc: Global, bodies: bool, index: usize, syntax: &Syntax) -> Result<Value, WriteFault>
+fn edit_value(
+    alloc: Global,
+    bodies: bool,
+    index: usize,
+    syntax: &Syntax,
+) -> Result<Value, WriteFault>
     ensures { Writes view result (edit_data bodies index (syntax_view syntax.now)) }
 {
     let file = file_number(index)?;
@@ -98,7 +103,11 @@ fn edit_value(alloc: Global, bodies: bool, index: usize, syntax: &Syntax) -> Res
     Ok(edit_object(alloc, file, syntax)?)
 }
 
-pub(crate) fn edit_values(alloc: Global, bodies: bool, files: &[Syntax]) -> Result<Vec<Value>, WriteFault>
+pub(crate) fn edit_values(
+    alloc: Global,
+    bodies: bool,
+    files: &[Syntax],
+) -> Result<Vec<Value>, WriteFault>
     ensures { Writes (λ v. items_view v.items) result (edits_data bodies 0 (map syntax_view files.now)) }
 {
     let mut values = Vec::new(alloc);

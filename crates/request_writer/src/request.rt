@@ -11,7 +11,9 @@ ghost use Rattle.request_writer.specs.Unwritten.{IsUnwritten, fault_of};
 ghost use Rattle.request_writer.specs.Written.{request_data, request_object as object_of};
 
 use crate::depth::nests_past;
-use crate::parts::{atom_values, crate_object, edit_values, edition_value, name_values, show_values};
+use crate::parts::{
+    atom_values, crate_object, edit_values, edition_value, name_values, show_values,
+};
 use hir_input::ast::Syntax;
 use hir_input::{CfgAtom, Edition, Name};
 use hir_input_writer::WriteFault;
