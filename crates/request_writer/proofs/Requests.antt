@@ -1,5 +1,5 @@
 -- A request that is written is read again.
-use Rattle.std.proofs.Common.{◌≡◌, ◌^◌, ◌<◌, ℕ, suc, List, [], ◌∷◌, Bool, true, false, nat_lt, IfSome, Option, Some, None, if◌then◌else◌, option_map, option_and_then, codes, refl, sym, ap, subst, ◌∙◌, arith}
+use Rattle.std.proofs.Common.{◌≡◌, ◌+◌, ◌^◌, ◌<◌, ℕ, List, [], ◌∷◌, Bool, true, false, nat_lt, IfSome, Option, Some, None, if◌then◌else◌, option_map, option_and_then, codes, refl, sym, ap, subst, ◌∙◌, arith}
 use Rattle.std.proofs.lemmas.Bool.Decides.{nat_tests}
 use Rattle.serde_json.specs.Data.{Data, null, boolean, number, unsigned, string, array, object, Items, no_items, item}
 use Rattle.serde_json.specs.Written.{has_float, items_have_float}
@@ -80,7 +80,7 @@ edits_law : (count : ℕ) (bodies : Bool) (n : ℕ) (ss : List SyntaxView) → I
 edits_law count bodies n [] = record { reads = refl; exact = refl }
 edits_law count bodies n (s ∷ ss) =
     bind (edit_data bodies n s) _ (Holds (edit count) (set (File (record { 0 = n })) (kept bodies s))) (HoldEach (edit count) (files_set bodies n (s ∷ ss))) (edit_law count bodies n s) (λ d h.
-    bind (edits_data bodies (suc n) ss) _ (HoldEach (edit count) (files_set bodies (suc n) ss)) (HoldEach (edit count) (files_set bodies n (s ∷ ss))) (edits_law count bodies (suc n) ss) (λ ds hs.
+    bind (edits_data bodies (n + 1) ss) _ (HoldEach (edit count) (files_set bodies (n + 1) ss)) (HoldEach (edit count) (files_set bodies n (s ∷ ss))) (edits_law count bodies (n + 1) ss) (λ ds hs.
     record { reads = rw (h.reads, hs.reads) refl; exact = rw (h.exact, hs.exact) refl }))
 
 -- ---- shows

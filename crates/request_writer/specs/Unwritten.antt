@@ -16,3 +16,9 @@ abbrev pub IsUnwritten : Option Data → RequestFault → Type 0
 IsUnwritten wanted NoForm = wanted ≡ None
 IsUnwritten wanted TooDeep = (d : Data) × (wanted ≡ Some d) × (max_depth < depth d)
 IsUnwritten wanted OutOfMemory = Unit {0}
+
+-- the data nests too deep for a text, or memory is wanting
+abbrev pub IsNoText : Data → RequestFault → Type 0
+IsNoText d NoForm = ⊥
+IsNoText d TooDeep = max_depth < depth d
+IsNoText d OutOfMemory = Unit {0}

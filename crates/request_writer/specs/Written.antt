@@ -1,5 +1,5 @@
 -- The data of a request.
-use Rattle.std.specs.Prelude.{ℕ, suc, ◌^◌, List, [], ◌∷◌, Bool, codes, Option, Some, None, option_map}
+use Rattle.std.specs.Prelude.{ℕ, ◌+◌, ◌^◌, List, [], ◌∷◌, Bool, codes, Option, Some, None, option_map}
 use Rattle.serde_json.specs.Data.{Data, number, unsigned, string, array, object, Items, no_items, item, no_members, member}
 use Rattle.hir_input.specs.Cfg.{AtomView}
 use Rattle.hir_input.specs.Syntax.{SyntaxView}
@@ -58,7 +58,7 @@ abbrev pub edits_data : Bool → ℕ → List SyntaxView → Option Items
 edits_data bodies n [] = Some no_items
 edits_data bodies n (s ∷ ss) = do
   d ← edit_data bodies n s
-  ds ← edits_data bodies (suc n) ss
+  ds ← edits_data bodies (n + 1) ss
   Some (item d ds)
 
 abbrev pub kind_word : ShowKind → List ℕ

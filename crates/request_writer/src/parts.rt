@@ -154,8 +154,8 @@ fn changed_object(alloc: Global, since: u64) -> Result<Value, AllocError>
     json!(in alloc; {"show": "changed", "since": since})
 }
 
-fn show_value(alloc: Global, show: Show) -> Result<Value, WriteFault>
-    ensures { Writes view result (show_data show) }
+fn show_value(alloc: Global, show: &Show) -> Result<Value, WriteFault>
+    ensures { Writes view result (show_data show.now) }
 {
     match show {
         Show::OfTree(tree) => {
@@ -164,7 +164,7 @@ fn show_value(alloc: Global, show: Show) -> Result<Value, WriteFault>
             }
             place_value(alloc, kind_word(tree.kind), tree.place)
         }
-        Show::Changed { since } => Ok(changed_object(alloc, since)?),
+        Show::Changed { since } => Ok(changed_object(alloc, *since)?),
     }
 }
 
@@ -174,7 +174,7 @@ pub(crate) fn show_values(alloc: Global, shows: &[Show]) -> Result<Vec<Value>, W
 {
     let mut values = Vec::new(alloc);
     for show in shows {
-        values.push(show_value(alloc, *show)?)?;
+        values.push(show_value(alloc, show)?)?;
     }
     Ok(values)
 }

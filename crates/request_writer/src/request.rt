@@ -1,13 +1,13 @@
 //! A request as JSON.
-ghost use Rattle.std.specs.Prelude.{◌≡◌, IfErr, IfOk, Some, map, string_bytes};
+ghost use Rattle.std.specs.Prelude.{◌≡◌, IfErr, IfOk, MatchResult, Some, map, string_bytes};
 ghost use Rattle.serde_json.specs.View.{view, items_view};
 ghost use Rattle.hir_input.specs.Cfg.{atom_view};
 ghost use Rattle.hir_input.specs.Syntax.{syntax_view};
 ghost use Rattle.hir_input_json.specs.Editions.{edition_view};
 ghost use Rattle.hir_input_writer.specs.Writes.{Writes};
-ghost use Rattle.item_tree_request.specs.Requests.{IsRequest, request as request_form};
+ghost use Rattle.item_tree_request.specs.Requests.{IsJsonText, IsRequest, request as request_form};
 ghost use Rattle.request_writer.specs.Meant.{meant};
-ghost use Rattle.request_writer.specs.Unwritten.{IsUnwritten, fault_of};
+ghost use Rattle.request_writer.specs.Unwritten.{IsNoText, IsUnwritten, fault_of};
 ghost use Rattle.request_writer.specs.Written.{request_data, request_object as object_of};
 
 use crate::depth::nests_past;
@@ -125,10 +125,19 @@ pub fn request_value(
     Ok(value)
 }
 
+// A value as a text, unless it nests too deep for one that is read again.
+fn text_of(alloc: Global, value: &Value) -> Result<String, RequestFault>
+    ensures { MatchResult result (λ text. IsJsonText (string_bytes text) (view value.now)) (IsNoText (view value.now)) }
+{
+    if nests_past(value, MOST_DEPTH) {
+        return Err(RequestFault::TooDeep);
+    }
+    Ok(value.to_string(alloc)?)
+}
+
 /// The request as a JSON text, which is read as exactly this request.
 ///
 /// Errors: `NoForm` as in `request_value`, `TooDeep` exactly where the JSON nests deeper than 127, and want of memory.
-#[tactic(auto, using(crate::proofs::Depths::nestings))]
 pub fn request_text(
     alloc: Global,
     options: &RequestOptions,
@@ -143,8 +152,5 @@ pub fn request_text(
         IfErr result (IsUnwritten wanted) }
 {
     let value = request_value(alloc, options, files, shows)?;
-    if nests_past(&value, MOST_DEPTH) {
-        return Err(RequestFault::TooDeep);
-    }
-    Ok(value.to_string(alloc)?)
+    text_of(alloc, &value)
 }

@@ -9,7 +9,7 @@ use Rattle.request_writer.proofs.parts.edit_values.Goals as goal
 
 pub loop-i-preserved : goal.loop-i-preserved
 loop-i-preserved c =
-    edit_more c.args.bodies _ c.args.files.now c.loop-i.i c.index.result.now c.loop-i.values.items c.in_ok-edit_value.field-0
+    edit_more c.args.bodies _ c.args.files.now c.loop-i.i c.index-files-i.result c.loop-i.values.items c.in_ok-edit_value.field-0
     (search rules) c.loop-i.invariant (search rules)
     ∙ ap (λ vs. joined (map view vs) (edits_data c.args.bodies (c.loop-i.i + 1) (map syntax_view (drop (c.loop-i.i + 1) c.args.files.now)))) (sym c.in_ok-push.ensures.items)
 

@@ -10,8 +10,8 @@ use Rattle.request_writer.proofs.parts.show_values.Goals as goal
 
 pub loop-show-preserved : goal.loop-show-preserved
 loop-show-preserved c =
-    one_more (λ (xs : List (Show)). each_data show_data xs) (λ (x : Show). show_data x) (λ x xs. refl) _ c.args.shows.now c.loop-show.show-index c.show-item.result c.loop-show.values.items c.in_ok-show_value.field-0
-    (search rules) c.loop-show.invariant (search rules)
+    one_more (λ (xs : List (Show)). each_data show_data xs) (λ (x : Show). show_data x) (λ x xs. refl) _ c.args.shows.now c.loop-show.show-index _ c.loop-show.values.items c.in_ok-show_value.field-0
+    (search rules) c.loop-show.invariant c.in_ok-show_value.ensures
     ∙ ap (λ vs. joined (map view vs) (each_data show_data (drop (c.loop-show.show-index + 1) c.args.shows.now))) (sym c.in_ok-push.ensures.items)
 
 pub returns : goal.returns
