@@ -1,0 +1,70 @@
+-- An atom and a condition that are written are read again.
+use Rattle.std.proofs.Common.{◌≡◌, ℕ, List, [], ◌∷◌, false, IfSome, Option, Some, None, refl, ap, subst, ◌∙◌}
+use Rattle.serde_json.specs.Data.{Data}
+use Rattle.serde_json.specs.Written.{has_float}
+use Rattle.hir_input.specs.Cfg.{AtomView, CfgView, CfgViews, invalid, all_of, any_of, not_of, no_cfgs, cfg_and, cfgs_from}
+use Rattle.hir_input.specs.Cfg as condition
+use Rattle.hir_input_json.specs.Forms.{field, name}
+use Rattle.hir_input_json.specs.Cfgs.{atom, cfg}
+use Rattle.hir_input_json.proofs.Attrs.{cfg_reads_itself}
+use Rattle.hir_input_writer.specs.Cfgs.{atom_by, atom_data, cfg_data, cfgs_data}
+use Rattle.hir_input_writer.specs.Parts.{name_data}
+use Rattle.hir_input_writer.specs.Held.{Holds, HoldEach}
+use Rattle.hir_input_writer.proofs.Held.{bind, mapped, named_law, name_law}
+
+-- what a condition's data may be: a null too
+pub record CfgHolds (c : CfgView) (d : Data) : Type 0 where
+  pub reads : cfg d ≡ Some c
+  pub exact : has_float d ≡ false
+
+abbrev listed : CfgViews → List CfgView
+listed no_cfgs = []
+listed (cfg_and c cs) = c ∷ listed cs
+
+from_listed : (cs : CfgViews) → cfgs_from (listed cs) ≡ cs
+from_listed no_cfgs = refl
+from_listed (cfg_and c cs) = ap (cfg_and c) (from_listed cs)
+
+atom_by_law : (n : List ℕ) (value : Option (List ℕ)) → IfSome (atom_by n value) (Holds atom (record { name = n; value = value }))
+unfolding field
+atom_by_law n None = named_law n (Holds atom (record { name = n; value = None })) (λ e. record { there = refl; reads = rw e refl; exact = refl })
+atom_by_law n (Some value) =
+    mapped (name_data n) _ (Holds name n) (Holds atom (record { name = n; value = Some value })) (name_law n)
+    (λ d h. record { there = refl; reads = rw (h.there, h.reads) refl; exact = rw h.exact refl })
+
+pub atom_law : (a : AtomView) → IfSome (atom_data a) (Holds atom a)
+atom_law a = atom_by_law a.name a.value
+
+pub atom_again : (a : AtomView) (d : Data) → atom_data a ≡ Some d → Holds atom a d
+atom_again a d is = subst (λ o. IfSome o (Holds atom a)) is (atom_law a)
+
+-- the same as a condition
+atom_cfg : (n : List ℕ) (value : Option (List ℕ)) → IfSome (atom_by n value) (CfgHolds (condition.atom (record { name = n; value = value })))
+unfolding field
+atom_cfg n None = named_law n (CfgHolds (condition.atom (record { name = n; value = None }))) (λ e. record { reads = cfg_reads_itself _ ∙ rw e refl; exact = refl })
+atom_cfg n (Some value) =
+    mapped (name_data n) _ (Holds name n) (CfgHolds (condition.atom (record { name = n; value = Some value }))) (name_law n)
+    (λ d h. record { reads = cfg_reads_itself _ ∙ rw (h.there, h.reads) refl; exact = rw h.exact refl })
+
+mutual
+  unfolding field
+
+  pub cfg_law : (c : CfgView) → IfSome (cfg_data c) (CfgHolds c)
+  cfg_law invalid = record { reads = cfg_reads_itself _; exact = refl }
+  cfg_law (condition.atom a) = atom_cfg a.name a.value
+  cfg_law (all_of cs) =
+      mapped (cfgs_data cs) _ (HoldEach cfg (listed cs)) (CfgHolds (all_of cs)) (cfgs_law cs)
+      (λ ds h. record { reads = cfg_reads_itself _ ∙ rw h.reads (ap (λ x. Some (all_of x)) (from_listed cs)); exact = rw h.exact refl })
+  cfg_law (any_of cs) =
+      mapped (cfgs_data cs) _ (HoldEach cfg (listed cs)) (CfgHolds (any_of cs)) (cfgs_law cs)
+      (λ ds h. record { reads = cfg_reads_itself _ ∙ rw h.reads (ap (λ x. Some (any_of x)) (from_listed cs)); exact = rw h.exact refl })
+  cfg_law (not_of c) =
+      mapped (cfg_data c) _ (CfgHolds c) (CfgHolds (not_of c)) (cfg_law c)
+      (λ d h. record { reads = cfg_reads_itself _ ∙ rw h.reads refl; exact = rw h.exact refl })
+
+  cfgs_law : (cs : CfgViews) → IfSome (cfgs_data cs) (HoldEach cfg (listed cs))
+  cfgs_law no_cfgs = record { reads = refl; exact = refl }
+  cfgs_law (cfg_and c cs) =
+      bind (cfg_data c) _ (CfgHolds c) (HoldEach cfg (c ∷ listed cs)) (cfg_law c) (λ d h.
+      bind (cfgs_data cs) _ (HoldEach cfg (listed cs)) (HoldEach cfg (c ∷ listed cs)) (cfgs_law cs) (λ ds hs.
+      record { reads = rw (h.reads, hs.reads) refl; exact = rw (h.exact, hs.exact) refl }))

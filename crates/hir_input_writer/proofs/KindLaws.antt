@@ -1,0 +1,164 @@
+-- An item that has no items in it is read again.
+use Rattle.std.proofs.Common.{◌≡◌, ℕ, List, [], ◌∷◌, Bool, false, IfSome, Option, Some, option_map, option_and_then, codes, refl, ap, ◌∙◌}
+use Rattle.serde_json.specs.Data.{Data, string, array, Members}
+use Rattle.serde_json.specs.Find.{as_object}
+use Rattle.serde_json.specs.Written.{has_float}
+use Rattle.hir_input.specs.declared.ast.Rename.{Rename}
+use Rattle.hir_input.specs.declared.ast.Visibility.{Visibility}
+use Rattle.hir_input.specs.declared.expand_to.ExpandTo.{ExpandTo}
+use Rattle.hir_input.specs.declared.expand_to.ExpandTo.TheVariants as expand_to
+use Rattle.hir_input.specs.declared.edition.EditionYear.TheVariants.{E2024}
+use Rattle.hir_input.specs.declared.ids.SyntaxContext.TheVariants.{Root}
+use Rattle.hir_input.specs.Id.{shown_expand_to}
+use Rattle.hir_input.specs.Syntax.{NodeView, NamedView, UseView, CallView, FieldsView, record_fields, tuple_fields, no_fields, ItemView, struct_item, use_item, extern_crate, impl_item, macro_rules, asm_item}
+use Rattle.hir_input_json.specs.Forms.{field, maybe, name, optional, required, unless_null}
+use Rattle.hir_input_json.specs.Items as forms
+use Rattle.hir_input_json.specs.Items.{named, node, fields, tuple_field, expand_word, expand_to_at, call_form}
+use Rattle.hir_input_json.specs.Literals.{context}
+use Rattle.hir_input_json.specs.Paths.{path, visibility}
+use Rattle.hir_input_json.specs.UseTrees.{rename, use_tree}
+use Rattle.hir_input_json.proofs.Items.{item_reads_itself}
+use Rattle.hir_input_writer.specs.Held.{Holds, MayHold, HoldEach}
+use Rattle.hir_input_writer.specs.Items.{asm_data, asm_object, call_data, call_object, extern_crate_data, extern_crate_object, fields_data, impl_data, impl_object, macro_rules_data, macro_rules_object, named_data, node_data, plain_data, plain_object, struct_data, struct_object, use_data, use_object}
+use Rattle.hir_input_writer.specs.Kept.{call_kept, named_kept, node_kept, use_kept}
+use Rattle.hir_input_writer.specs.Literals.{context_data}
+use Rattle.hir_input_writer.specs.Parts.{each_data, maybe_data, name_data}
+use Rattle.hir_input_writer.specs.Paths.{path_data, visibility_data}
+use Rattle.hir_input_writer.specs.UseTrees.{rename_data, use_tree_data}
+use Rattle.hir_input_writer.proofs.Held.{bind, mapped, maybe_law, name_law}
+use Rattle.hir_input_writer.proofs.LiteralLaws.{context_law}
+use Rattle.hir_input_writer.proofs.NodeLaws.{NamedHolds, NodeHolds, named_law, named_reads, node_law, node_reads}
+use Rattle.hir_input_writer.proofs.PathLaws.{path_law, visibility_law}
+use Rattle.hir_input_writer.proofs.UseTreeLaws.{rename_law, use_tree_law}
+
+-- an item of this word that is read by its name and visibility
+pub plain_law : (form : Data → Option ItemView) (word : List ℕ) (make : NamedView → ItemView) → ((d : Data) → field (codes "is") d ≡ Some (string word) → form d ≡ option_map make (named d))
+    → (bodies : Bool) (n : NamedView) → IfSome (plain_data bodies word n) (Holds form (make (named_kept bodies n)))
+unfolding field
+plain_law form word make by bodies n =
+    mapped (named_data bodies n) (plain_object word) (NamedHolds bodies n) (Holds form (make (named_kept bodies n))) (named_law bodies n) (λ nd h.
+    record {
+      there = refl;
+      reads = by (plain_object word nd) refl ∙ ap (option_map make) (named_reads bodies n nd (plain_object word nd) h refl refl refl refl refl refl);
+      exact = rw (h.node.attrs.exact, h.node.body.exact, h.node.hash.exact, h.name.exact, h.node.number.exact, h.vis.exact) refl;
+    })
+
+field_each : (fs : List (Option Visibility)) → IfSome (each_data (maybe_data visibility_data) fs) (HoldEach tuple_field fs)
+field_each [] = record { reads = refl; exact = refl }
+field_each (f ∷ fs) =
+    bind (maybe_data visibility_data f) _ (MayHold visibility f) (HoldEach tuple_field (f ∷ fs)) (maybe_law visibility_data visibility visibility_law f) (λ d h.
+    bind (each_data (maybe_data visibility_data) fs) _ (HoldEach tuple_field fs) (HoldEach tuple_field (f ∷ fs)) (field_each fs) (λ ds hs.
+    record { reads = rw (h.reads, hs.reads) refl; exact = rw (h.exact, hs.exact) refl }))
+
+fields_law : (f : FieldsView) → IfSome (fields_data f) (Holds fields f)
+fields_law record_fields = record { there = refl; reads = refl; exact = refl }
+fields_law (tuple_fields fs) =
+    mapped (each_data (maybe_data visibility_data) fs) array (HoldEach tuple_field fs) (Holds fields (tuple_fields fs)) (field_each fs)
+    (λ ds h. record { there = refl; reads = ap (option_map tuple_fields) h.reads; exact = h.exact })
+fields_law no_fields = record { there = refl; reads = refl; exact = refl }
+
+pub struct_law : (bodies : Bool) (n : NamedView) (f : FieldsView) → IfSome (struct_data bodies n f) (Holds forms.item (struct_item (named_kept bodies n) f))
+unfolding field
+struct_law bodies n f =
+    bind (named_data bodies n) _ (NamedHolds bodies n) (Holds forms.item (struct_item (named_kept bodies n) f)) (named_law bodies n) (λ nd h.
+    bind (fields_data f) _ (Holds fields f) (Holds forms.item (struct_item (named_kept bodies n) f)) (fields_law f) (λ fd k.
+    record {
+      there = refl;
+      reads = item_reads_itself _
+          ∙ ap (λ o. option_and_then (λ m. option_and_then (λ kind. Some (struct_item m kind)) (required fields (unless_null fd))) o) (named_reads bodies n nd (struct_object nd fd) h refl refl refl refl refl refl)
+          ∙ rw (k.there, k.reads) refl;
+      exact = rw (h.node.attrs.exact, h.node.body.exact, k.exact, h.node.hash.exact, h.name.exact, h.node.number.exact, h.vis.exact) refl;
+    }))
+
+pub use_law : (bodies : Bool) (u : UseView) → IfSome (use_data bodies u) (Holds forms.item (use_item (use_kept bodies u)))
+unfolding field
+use_law bodies u =
+    bind (node_data bodies u.node) _ (NodeHolds bodies u.node) (Holds forms.item (use_item (use_kept bodies u))) (node_law bodies u.node) (λ nd h.
+    bind (maybe_data visibility_data u.visibility) _ (MayHold visibility u.visibility) (Holds forms.item (use_item (use_kept bodies u))) (maybe_law visibility_data visibility visibility_law u.visibility) (λ vd k.
+    bind (maybe_data use_tree_data u.use_tree) _ (MayHold use_tree u.use_tree) (Holds forms.item (use_item (use_kept bodies u))) (maybe_law use_tree_data use_tree use_tree_law u.use_tree) (λ td m.
+    record {
+      there = refl;
+      reads = item_reads_itself _
+          ∙ ap (λ o. option_and_then (λ n. option_and_then (λ vis. option_and_then (λ tree. Some (use_item (record { node = n; visibility = vis; use_tree = tree }))) (maybe use_tree (unless_null td))) (maybe visibility (unless_null vd))) o)
+          (node_reads bodies u.node nd (use_object nd td vd) h refl refl refl refl)
+          ∙ rw (k.reads, m.reads) refl;
+      exact = rw (h.attrs.exact, h.body.exact, h.hash.exact, h.number.exact, m.exact, k.exact) refl;
+    })))
+
+pub extern_crate_law : (bodies : Bool) (n : NamedView) (r : Option Rename) → IfSome (extern_crate_data bodies n r) (Holds forms.item (extern_crate (named_kept bodies n) r))
+unfolding field
+extern_crate_law bodies n r =
+    bind (named_data bodies n) _ (NamedHolds bodies n) (Holds forms.item (extern_crate (named_kept bodies n) r)) (named_law bodies n) (λ nd h.
+    bind (maybe_data rename_data r) _ (MayHold rename r) (Holds forms.item (extern_crate (named_kept bodies n) r)) (maybe_law rename_data rename rename_law r) (λ rd k.
+    record {
+      there = refl;
+      reads = item_reads_itself _
+          ∙ ap (λ o. option_and_then (λ m. option_and_then (λ renamed. Some (extern_crate m renamed)) (maybe rename (unless_null rd))) o) (named_reads bodies n nd (extern_crate_object nd rd) h refl refl refl refl refl refl)
+          ∙ rw k.reads refl;
+      exact = rw (h.node.attrs.exact, h.node.body.exact, h.node.hash.exact, h.name.exact, h.node.number.exact, k.exact, h.vis.exact) refl;
+    }))
+
+pub impl_law : (bodies : Bool) (n : NodeView) (of_trait : Bool) → IfSome (impl_data bodies n of_trait) (Holds forms.item (impl_item (node_kept bodies n) of_trait))
+unfolding field
+impl_law bodies n of_trait =
+    mapped (node_data bodies n) _ (NodeHolds bodies n) (Holds forms.item (impl_item (node_kept bodies n) of_trait)) (node_law bodies n) (λ nd h.
+    record {
+      there = refl;
+      reads = item_reads_itself _ ∙ ap (λ o. option_and_then (λ m. Some (impl_item m of_trait)) o) (node_reads bodies n nd (impl_object nd of_trait) h refl refl refl refl);
+      exact = rw (h.attrs.exact, h.body.exact, h.hash.exact, h.number.exact) refl;
+    })
+
+expand_law : (e : ExpandTo) → expand_word (shown_expand_to e) ≡ Some e
+expand_law expand_to.Statements = refl
+expand_law expand_to.Items = refl
+expand_law expand_to.Pattern = refl
+expand_law expand_to.Ty = refl
+expand_law expand_to.Expr = refl
+
+-- a call by its own form, and the word of its kind
+pub record CallHolds (bodies : Bool) (c : CallView) (d : Data) : Type 0 where
+  pub is : field (codes "is") d ≡ Some (string (codes "macro_call"))
+  pub members : Members
+  pub object : as_object d ≡ Some members
+  pub there : unless_null d ≡ Some d
+  pub reads : call_form d ≡ Some (call_kept bodies c)
+  pub exact : has_float d ≡ false
+
+pub call_law : (bodies : Bool) (c : CallView) → IfSome (call_data bodies c) (CallHolds bodies c)
+unfolding field
+call_law bodies c =
+    bind (node_data bodies c.node) _ (NodeHolds bodies c.node) (CallHolds bodies c) (node_law bodies c.node) (λ nd h.
+    bind (maybe_data path_data c.path) _ (MayHold path c.path) (CallHolds bodies c) (maybe_law path_data path path_law c.path) (λ pd k.
+    bind (context_data c.ctxt) _ (Holds context c.ctxt) (CallHolds bodies c) (context_law c.ctxt) (λ cd m.
+    record {
+      is = refl;
+      members = _;
+      object = refl;
+      there = refl;
+      reads =
+          ap (λ o. option_and_then (λ n. option_and_then (λ p. option_and_then (λ expands. option_and_then (λ ctxt. Some (record { node = n; path = p; expand_to = expands; ctxt = ctxt })) (optional (Root E2024) context (unless_null cd))) (expand_word (shown_expand_to c.expand_to))) (maybe path (unless_null pd))) o)
+          (node_reads bodies c.node nd (call_object nd pd (string (shown_expand_to c.expand_to)) cd) h refl refl refl refl)
+          ∙ rw (k.reads, expand_law c.expand_to, m.there, m.reads) refl;
+      exact = rw (h.attrs.exact, h.body.exact, m.exact, h.hash.exact, h.number.exact, k.exact) refl;
+    })))
+
+pub macro_rules_law : (bodies : Bool) (n : NodeView) (called : Option (List ℕ)) → IfSome (macro_rules_data bodies n called) (Holds forms.item (macro_rules (node_kept bodies n) called))
+unfolding field
+macro_rules_law bodies n called =
+    bind (node_data bodies n) _ (NodeHolds bodies n) (Holds forms.item (macro_rules (node_kept bodies n) called)) (node_law bodies n) (λ nd h.
+    bind (maybe_data name_data called) _ (MayHold name called) (Holds forms.item (macro_rules (node_kept bodies n) called)) (maybe_law name_data name name_law called) (λ cd k.
+    record {
+      there = refl;
+      reads = item_reads_itself _ ∙ ap (λ o. option_and_then (λ m. option_and_then (λ x. Some (macro_rules m x)) (maybe name (unless_null cd))) o) (node_reads bodies n nd (macro_rules_object nd cd) h refl refl refl refl) ∙ rw k.reads refl;
+      exact = rw (h.attrs.exact, h.body.exact, h.hash.exact, k.exact, h.number.exact) refl;
+    }))
+
+pub asm_law : (bodies : Bool) (n : NodeView) → IfSome (asm_data bodies n) (Holds forms.item (asm_item (node_kept bodies n)))
+unfolding field
+asm_law bodies n =
+    mapped (node_data bodies n) _ (NodeHolds bodies n) (Holds forms.item (asm_item (node_kept bodies n))) (node_law bodies n) (λ nd h.
+    record {
+      there = refl;
+      reads = item_reads_itself _ ∙ ap (option_map asm_item) (node_reads bodies n nd (asm_object nd) h refl refl refl refl);
+      exact = rw (h.attrs.exact, h.body.exact, h.hash.exact, h.number.exact) refl;
+    })

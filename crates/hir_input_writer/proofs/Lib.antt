@@ -1,0 +1,16 @@
+pub mod Names
+pub mod Lists
+pub mod UseTrees
+pub mod Paths
+pub mod Nulls
+pub mod Items
+pub mod Held
+pub mod PathLaws
+pub mod LiteralLaws
+pub mod CfgLaws
+pub mod MetaLaws
+pub mod UseTreeLaws
+pub mod NodeLaws
+pub mod KindLaws
+pub mod ItemLaws
+pub mod SyntaxLaws

@@ -1,0 +1,76 @@
+-- What items have in common is read again.
+use Rattle.std.proofs.Common.{◌≡◌, ◌^◌, ℕ, List, [], Bool, true, false, IfSome, Some, option_and_then, codes, refl, ap, ◌∙◌}
+use Rattle.serde_json.specs.Data.{Data, array, no_items}
+use Rattle.serde_json.specs.Find.{as_array, as_str}
+use Rattle.serde_json.specs.Written.{has_float}
+use Rattle.hir_input.specs.Attr.{MetaView, metas_from}
+use Rattle.hir_input.specs.Syntax.{NodeView, NamedView}
+use Rattle.hir_input_json.specs.Forms.{each, field, maybe, name, optional, unless_null, whole}
+use Rattle.hir_input_json.specs.Items.{named, node}
+use Rattle.hir_input_json.specs.Metas.{meta}
+use Rattle.hir_input_json.specs.Paths.{visibility}
+use Rattle.hir_input_writer.specs.Held.{Holds, MayHold, HoldEach}
+use Rattle.hir_input_writer.specs.Items.{NodeData, NamedData, attrs_data, body_data, named_data, node_data}
+use Rattle.hir_input_writer.specs.Kept.{body_kept, node_kept, named_kept}
+use Rattle.hir_input_writer.specs.Metas.{metas_data}
+use Rattle.hir_input_writer.specs.Parts.{maybe_data, name_data, whole_data}
+use Rattle.hir_input_writer.specs.Paths.{visibility_data}
+use Rattle.hir_input_writer.proofs.Held.{bind, mapped, maybe_law, name_law, whole_law}
+use Rattle.hir_input_writer.proofs.MetaLaws.{listed, listed_from, metas_law}
+use Rattle.hir_input_writer.proofs.PathLaws.{visibility_law}
+
+pub record AttrsHold (ms : List MetaView) (d : Data) : Type 0 where
+  pub reads : option_and_then (each meta) (optional no_items as_array (unless_null d)) ≡ Some ms
+  pub exact : has_float d ≡ false
+
+pub attrs_law : (ms : List MetaView) → IfSome (attrs_data ms) (AttrsHold ms)
+attrs_law ms =
+    mapped (metas_data (metas_from ms)) array (HoldEach meta (listed (metas_from ms))) (AttrsHold ms) (metas_law (metas_from ms))
+    (λ ds h. record { reads = h.reads ∙ ap Some (listed_from ms); exact = h.exact })
+
+pub record BodyHolds (bodies : Bool) (text : List ℕ) (d : Data) : Type 0 where
+  pub reads : optional [] as_str (unless_null d) ≡ Some (body_kept bodies text)
+  pub exact : has_float d ≡ false
+
+body_law : (bodies : Bool) (text : List ℕ) → BodyHolds bodies text (body_data bodies text)
+body_law true text = record { reads = refl; exact = refl }
+body_law false text = record { reads = refl; exact = refl }
+
+pub record NodeHolds (bodies : Bool) (n : NodeView) (d : NodeData) : Type 0 where
+  pub hash : Holds (whole (2 ^ 16)) n.hash d.hash
+  pub number : Holds (whole (2 ^ 32)) n.number d.number
+  pub attrs : AttrsHold n.attrs d.attrs
+  pub body : BodyHolds bodies n.body d.body
+
+pub node_law : (bodies : Bool) (n : NodeView) → IfSome (node_data bodies n) (NodeHolds bodies n)
+node_law bodies n =
+    bind (whole_data (2 ^ 16) n.hash) _ (Holds (whole (2 ^ 16)) n.hash) (NodeHolds bodies n) (whole_law (2 ^ 16) n.hash) (λ a h.
+    bind (whole_data (2 ^ 32) n.number) _ (Holds (whole (2 ^ 32)) n.number) (NodeHolds bodies n) (whole_law (2 ^ 32) n.number) (λ b k.
+    bind (attrs_data n.attrs) _ (AttrsHold n.attrs) (NodeHolds bodies n) (attrs_law n.attrs) (λ c m.
+    record { hash = h; number = k; attrs = m; body = body_law bodies n.body })))
+
+pub record NamedHolds (bodies : Bool) (n : NamedView) (d : NamedData) : Type 0 where
+  pub node : NodeHolds bodies n.node d.node
+  pub name : MayHold name n.name d.name
+  pub vis : MayHold visibility n.visibility d.vis
+
+pub named_law : (bodies : Bool) (n : NamedView) → IfSome (named_data bodies n) (NamedHolds bodies n)
+named_law bodies n =
+    bind (node_data bodies n.node) _ (NodeHolds bodies n.node) (NamedHolds bodies n) (node_law bodies n.node) (λ d h.
+    bind (maybe_data name_data n.name) _ (MayHold name n.name) (NamedHolds bodies n) (maybe_law name_data name name_law n.name) (λ a k.
+    bind (maybe_data visibility_data n.visibility) _ (MayHold visibility n.visibility) (NamedHolds bodies n) (maybe_law visibility_data visibility visibility_law n.visibility) (λ b m.
+    record { node = h; name = k; vis = m })))
+
+-- in whatever object these stand
+pub node_reads : (bodies : Bool) (n : NodeView) (nd : NodeData) (d : Data) → NodeHolds bodies n nd
+    → field (codes "hash") d ≡ unless_null nd.hash → field (codes "number") d ≡ unless_null nd.number → field (codes "attrs") d ≡ unless_null nd.attrs → field (codes "body") d ≡ unless_null nd.body
+    → node d ≡ Some (node_kept bodies n)
+node_reads bodies n nd d h a b c e = rw (a, b, c, e, h.hash.there, h.hash.reads, h.number.there, h.number.reads, h.attrs.reads, h.body.reads) refl
+
+pub named_reads : (bodies : Bool) (n : NamedView) (nd : NamedData) (d : Data) → NamedHolds bodies n nd
+    → field (codes "hash") d ≡ unless_null nd.node.hash → field (codes "number") d ≡ unless_null nd.node.number → field (codes "attrs") d ≡ unless_null nd.node.attrs → field (codes "body") d ≡ unless_null nd.node.body
+    → field (codes "name") d ≡ unless_null nd.name → field (codes "vis") d ≡ unless_null nd.vis
+    → named d ≡ Some (named_kept bodies n)
+named_reads bodies n nd d h a b c e f g =
+    ap (λ o. option_and_then (λ m. option_and_then (λ called. option_and_then (λ vis. Some (record { node = m; name = called; visibility = vis })) (maybe visibility (field (codes "vis") d))) (maybe name (field (codes "name") d))) o)
+    (node_reads bodies n.node nd.node d h.node a b c e) ∙ rw (f, g, h.name.reads, h.vis.reads) refl

@@ -1,0 +1,53 @@
+-- A path and a visibility that are written are read again.
+use Rattle.std.proofs.Common.{◌≡◌, ◌^◌, ℕ, List, [], ◌∷◌, IfSome, Option, Some, None, option_map, option_and_then, codes, refl}
+use Rattle.serde_json.specs.Data.{Data, string, array, Items, no_items, item}
+use Rattle.hir_input.specs.declared.mod_path.PathKind.{PathKind}
+use Rattle.hir_input.specs.declared.mod_path.PathKind.TheVariants.{Plain, Super, Crate, Abs, DollarCrate}
+use Rattle.hir_input.specs.declared.ast.PathNode.{PathNode}
+use Rattle.hir_input.specs.declared.ast.PathNode.TheVariants.{Readable, Unreadable}
+use Rattle.hir_input.specs.declared.ast.Visibility.{Visibility}
+use Rattle.hir_input.specs.declared.ast.Visibility.TheVariants.{Pub, PubCrate, PubSuper, PubSelf, InPath}
+use Rattle.hir_input_json.specs.Forms.{each, field, name, whole}
+use Rattle.hir_input_json.specs.Paths.{path, visibility}
+use Rattle.hir_input_writer.specs.Parts.{each_data, name_data, whole_data}
+use Rattle.hir_input_writer.specs.Paths.{kind_data, path_data, visibility_data}
+use Rattle.hir_input_writer.specs.Held.{Holds, HoldEach}
+use Rattle.hir_input_writer.proofs.Held.{bind, mapped, each_law, name_law, whole_law}
+
+not_none : {A : Type 0} (o : Option A) (os : Option (List A)) → option_and_then (λ a. option_map (λ as'. a ∷ as') os) o ≡ Some [] → ⊥
+not_none None os h = absurd cc
+not_none (Some a) None h = absurd cc
+not_none (Some a) (Some as') h = absurd cc
+
+abbrev node_of : PathKind → List (List ℕ) → PathNode
+node_of kind names = Readable (record { kind = kind; names = names })
+
+plain_law : (names : List (List ℕ)) (d : Data) (ds : Items) → HoldEach name names (item d ds) → Holds path (node_of Plain names) (array (item (string (codes "plain")) (item d ds)))
+plain_law [] d ds h = absurd (not_none (name d) (each name ds) h.reads)
+plain_law (n ∷ ns) d ds h = record { there = refl; reads = rw h.reads refl; exact = h.exact }
+
+kind_law : (kind : PathKind) (names : List (List ℕ)) (ds : Items) → HoldEach name names ds → IfSome (kind_data kind ds) (Holds path (node_of kind names))
+kind_law Plain names no_items h = tt
+kind_law Plain names (item d ds) h = plain_law names d ds h
+kind_law (Super n) names ds h =
+    mapped (whole_data (2 ^ 32) n) _ (Holds (whole (2 ^ 32)) n) (Holds path (node_of (Super n) names)) (whole_law (2 ^ 32) n)
+    (λ d k. record { there = refl; reads = rw (k.reads, h.reads) refl; exact = rw (k.exact, h.exact) refl })
+kind_law Crate names ds h = record { there = refl; reads = rw h.reads refl; exact = h.exact }
+kind_law Abs names ds h = record { there = refl; reads = rw h.reads refl; exact = h.exact }
+kind_law (DollarCrate c) names ds h =
+    mapped (whole_data (2 ^ 32) c.0) _ (Holds (whole (2 ^ 32)) c.0) (Holds path (node_of (DollarCrate c) names)) (whole_law (2 ^ 32) c.0)
+    (λ d k. record { there = refl; reads = rw (k.reads, h.reads) refl; exact = rw (k.exact, h.exact) refl })
+
+pub path_law : (p : PathNode) → IfSome (path_data p) (Holds path p)
+path_law (Readable p) =
+    bind (each_data name_data p.names) (kind_data p.kind) (HoldEach name p.names) (Holds path (Readable p)) (each_law name_data name name_law p.names) (λ ds h. kind_law p.kind p.names ds h)
+path_law Unreadable = record { there = refl; reads = refl; exact = refl }
+
+pub visibility_law : (v : Visibility) → IfSome (visibility_data v) (Holds visibility v)
+unfolding field
+visibility_law Pub = record { there = refl; reads = refl; exact = refl }
+visibility_law PubCrate = record { there = refl; reads = refl; exact = refl }
+visibility_law PubSuper = record { there = refl; reads = refl; exact = refl }
+visibility_law PubSelf = record { there = refl; reads = refl; exact = refl }
+visibility_law (InPath p) =
+    mapped (path_data p) _ (Holds path p) (Holds visibility (InPath p)) (path_law p) (λ d h. record { there = refl; reads = rw (h.there, h.reads) refl; exact = rw h.exact refl })

@@ -1,0 +1,14 @@
+pub mod Writes
+pub mod Held
+pub mod Lists
+pub mod Parts
+pub mod Paths
+pub mod Literals
+pub mod Cfgs
+pub mod Metas
+pub mod UseTrees
+pub mod Items
+pub mod Seen
+pub mod Syntaxes
+pub mod Kept
+pub mod Laws

@@ -1,0 +1,8 @@
+-- What a writing function answers beside the data that is to be written.
+use Rattle.std.specs.Prelude.{◌≡◌, Option, Some, None, Result, MatchResult}
+use Rattle.hir_input_writer.specs.declared.fault.WriteFault.{WriteFault}
+use Rattle.hir_input_writer.specs.declared.fault.WriteFault.TheVariants.{NoForm}
+
+-- the answer is the data, or there is none, or memory ran out
+abbrev pub Writes : {T D : Type 0} → (T → D) → Result T WriteFault → Option D → Type 0
+Writes view r wanted = MatchResult r (λ t. wanted ≡ Some (view t)) (λ e. e ≡ NoForm → wanted ≡ None)

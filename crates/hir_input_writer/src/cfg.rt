@@ -1,0 +1,78 @@
+//! Conditions as JSON.
+ghost use Rattle.std.specs.Prelude.{◌≡◌, IfOk, map, string_bytes};
+ghost use Rattle.serde_json.specs.View.{view, items_view};
+ghost use Rattle.hir_input.specs.Cfg.{atom_view, cfg_view, cfgs_from};
+ghost use Rattle.hir_input_json.specs.Cfgs.{atom as atom_form};
+ghost use Rattle.hir_input_writer.specs.Cfgs.{atom_data, cfg_data, cfgs_data, keyed};
+ghost use Rattle.hir_input_writer.specs.Held.{Holds};
+ghost use Rattle.hir_input_writer.specs.Writes.{Writes};
+
+use crate::fault::WriteFault;
+use crate::name::name_value;
+use hir_input::{CfgAtom, CfgExpr};
+use serde_json::{Value, json};
+use std::alloc::{AllocError, Global};
+
+fn key_object(alloc: Global, key: Value, value: &String) -> Result<Value, AllocError>
+    ensures { IfOk result (λ v. view v ≡ keyed (view key) (string_bytes value.now)) }
+{
+    json!(in alloc; {"key": key, "value": value})
+}
+
+fn written(alloc: Global, atom: &CfgAtom) -> Result<Value, WriteFault>
+    ensures { Writes view result (atom_data (atom_view atom.now)) }
+{
+    match atom {
+        CfgAtom::Flag(name) => name_value(alloc, name),
+        CfgAtom::KeyValue { key, value } => {
+            let key = name_value(alloc, key)?;
+            Ok(key_object(alloc, key, value)?)
+        }
+    }
+}
+
+/// An atom as JSON: the text of a flag, or an object with a key and its value. It is read as the atom again.
+///
+/// Errors: want of memory alone.
+pub fn atom_value(alloc: Global, atom: &CfgAtom) -> Result<Value, WriteFault>
+    ensures written { Writes view result (atom_data (atom_view atom.now)) }
+    ensures reads { IfOk result (λ v. Holds atom_form (atom_view atom.now) (view v)) }
+{
+    let value = written(alloc, atom)?;
+    Ok(value)
+}
+
+#[cycle(cfgs)]
+#[tactic(auto, using(hir_input::proofs::CfgLemmas::cfg_views))]
+pub(crate) fn cfg_value(alloc: Global, cfg: &CfgExpr) -> Result<Value, WriteFault>
+    ensures { Writes view result (cfg_data (cfg_view cfg.now)) }
+{
+    match cfg {
+        CfgExpr::Invalid => Ok(Value::Null),
+        CfgExpr::Atom(atom) => atom_value(alloc, atom),
+        CfgExpr::All(members) => {
+            let members = cfg_values(alloc, members)?;
+            Ok(json!(in alloc; {"all": members})?)
+        }
+        CfgExpr::Any(members) => {
+            let members = cfg_values(alloc, members)?;
+            Ok(json!(in alloc; {"any": members})?)
+        }
+        CfgExpr::Not(inner) => {
+            let inner = cfg_value(alloc, inner)?;
+            Ok(json!(in alloc; {"not": inner})?)
+        }
+    }
+}
+
+#[cycle(cfgs)]
+#[tactic(auto, using(crate::proofs::Lists::lists))]
+fn cfg_values(alloc: Global, members: &[CfgExpr]) -> Result<Vec<Value>, WriteFault>
+    ensures { Writes (λ v. items_view v.items) result (cfgs_data (cfgs_from (map cfg_view members.now))) }
+{
+    let mut values = Vec::new(alloc);
+    for member in members {
+        values.push(cfg_value(alloc, member)?)?;
+    }
+    Ok(values)
+}

@@ -1,0 +1,110 @@
+//! Items as JSON.
+ghost use Rattle.std.specs.Prelude.{◌≡◌, IfOk, map};
+ghost use Rattle.serde_json.specs.View.{view, items_view};
+ghost use Rattle.hir_input.specs.Syntax.{item_view, items_view as items_seen, module_view, named_from};
+ghost use Rattle.hir_input_writer.specs.Items as objects;
+ghost use Rattle.hir_input_writer.specs.Items.{item_data, items_data, module_data};
+ghost use Rattle.hir_input_writer.specs.Seen.{named_seen};
+ghost use Rattle.hir_input_writer.specs.Writes.{Writes};
+
+use crate::extern_block::extern_block_value;
+use crate::fault::WriteFault;
+use crate::kinds::{
+    asm_value, call_value, extern_crate_value, impl_value, macro_rules_value, struct_value,
+    use_value,
+};
+use crate::node::{Named, named_of, node, node_of};
+use crate::plain::{
+    const_value, enum_value, fn_value, macro_def_value, static_value, trait_value,
+    type_alias_value, union_value,
+};
+use hir_input::ast::{Item, Module};
+use serde_json::{Value, json};
+use std::alloc::{AllocError, Global};
+
+fn module_object(
+    alloc: Global,
+    item: Named,
+    semicolon: bool,
+    items: Value,
+) -> Result<Value, AllocError>
+    ensures { IfOk result (λ v. view v ≡ objects.module_object (named_seen item) semicolon (view items)) }
+{
+    let Named { node, name, vis } = item;
+    json!(in alloc; {
+        "attrs": node.attrs, "body": node.body, "hash": node.hash, "is": "module", "items": items,
+        "name": name, "number": node.number, "semicolon": semicolon, "vis": vis
+    })
+}
+
+// A module, whose items are written.
+fn module_with(
+    alloc: Global,
+    bodies: bool,
+    item: &Module,
+    items: Value,
+) -> Result<Value, WriteFault>
+    ensures { let m = item.now in
+        let named = named_from m.hash m.number m.attrs.items m.name m.visibility m.body in
+        Writes view result (module_data bodies named m.semicolon (view items)) }
+{
+    let node = node!(alloc, bodies, item)?;
+    let named = named_of(alloc, node, &item.name, &item.visibility)?;
+    Ok(module_object(alloc, named, item.semicolon, items)?)
+}
+
+#[cycle(items)]
+#[tactic(auto, using(crate::proofs::Items::modules))]
+fn module_value(alloc: Global, bodies: bool, item: &Module) -> Result<Value, WriteFault>
+    ensures { Writes view result (item_data bodies (module_view item.now)) }
+{
+    match &item.items {
+        None => module_with(alloc, bodies, item, Value::Null),
+        Some(items) => {
+            let items = Value::from(item_values(alloc, bodies, items)?);
+            module_with(alloc, bodies, item, items)
+        }
+    }
+}
+
+#[cycle(items)]
+#[tactic(auto, using(hir_input::proofs::SyntaxViews::item_views))]
+pub(crate) fn item_value(alloc: Global, bodies: bool, item: &Item) -> Result<Value, WriteFault>
+    ensures { Writes view result (item_data bodies (item_view item.now)) }
+{
+    match item {
+        Item::AsmExpr(item) => asm_value(alloc, bodies, item),
+        Item::Const(item) => const_value(alloc, bodies, item),
+        Item::Enum(item) => enum_value(alloc, bodies, item),
+        Item::ExternBlock(item) => extern_block_value(alloc, bodies, item),
+        Item::ExternCrate(item) => extern_crate_value(alloc, bodies, item),
+        Item::Fn(item) => fn_value(alloc, bodies, item),
+        Item::Impl(item) => impl_value(alloc, bodies, item),
+        Item::MacroCall(item) => call_value(alloc, bodies, item),
+        Item::MacroDef(item) => macro_def_value(alloc, bodies, item),
+        Item::MacroRules(item) => macro_rules_value(alloc, bodies, item),
+        Item::Module(item) => module_value(alloc, bodies, item),
+        Item::Static(item) => static_value(alloc, bodies, item),
+        Item::Struct(item) => struct_value(alloc, bodies, item),
+        Item::Trait(item) => trait_value(alloc, bodies, item),
+        Item::TypeAlias(item) => type_alias_value(alloc, bodies, item),
+        Item::Union(item) => union_value(alloc, bodies, item),
+        Item::Use(item) => use_value(alloc, bodies, item),
+    }
+}
+
+#[cycle(items)]
+#[tactic(auto, using(crate::proofs::Lists::lists))]
+pub(crate) fn item_values(
+    alloc: Global,
+    bodies: bool,
+    items: &[Item],
+) -> Result<Vec<Value>, WriteFault>
+    ensures { Writes (λ v. items_view v.items) result (items_data bodies (items_seen items.now)) }
+{
+    let mut values = Vec::new(alloc);
+    for item in items {
+        values.push(item_value(alloc, bodies, item)?)?;
+    }
+    Ok(values)
+}

@@ -1,0 +1,24 @@
+//! The syntax of a file, written as the JSON that `hir_input_json` reads.
+//!
+//! What is written is read again as exactly the syntax that was handed in, or as that syntax without its body texts. A syntax that no
+//! JSON is read as has no form: one with a rename to a name `_`, or with a literal whose span is in another context than its meta.
+#![tactic(auto)]
+
+pub mod cfg;
+mod context;
+mod extern_block;
+pub mod fault;
+mod item;
+mod kinds;
+mod literal;
+mod meta;
+pub mod name;
+mod node;
+mod path;
+mod plain;
+pub mod syntax;
+mod use_tree;
+mod visibility;
+
+pub use fault::WriteFault;
+pub use syntax::syntax_value;

@@ -1,0 +1,67 @@
+//! Literals as JSON.
+ghost use Rattle.std.specs.Prelude.{◌≡◌, IfOk, option_map, string_bytes};
+ghost use Rattle.serde_json.specs.View.{view};
+ghost use Rattle.hir_input_writer.specs.Literals.{literal_data, literal_object as object_of, span_data};
+ghost use Rattle.hir_input_writer.specs.Parts.{maybe_data, text_or_null as text_data};
+ghost use Rattle.hir_input_writer.specs.Writes.{Writes};
+
+use crate::context::is_same;
+use crate::fault::WriteFault;
+use hir_input::{Literal, Span, SyntaxContext};
+use serde_json::{Value, json};
+use std::alloc::{AllocError, Global};
+
+fn span_value(alloc: Global, span: Span) -> Result<Value, WriteFault>
+    ensures { Writes view result (span_data span) }
+{
+    Ok(json!(in alloc; [span.start, span.end])?)
+}
+
+fn text_or_null(alloc: Global, text: &Option<String>) -> Result<Value, AllocError>
+    ensures { IfOk result (λ v. view v ≡ text_data (option_map string_bytes text.now)) }
+{
+    match text {
+        Some(text) => Value::try_from_str(alloc, text.as_str()),
+        None => Ok(Value::Null),
+    }
+}
+
+fn literal_object(
+    alloc: Global,
+    rendered: &String,
+    span: Value,
+    string: Value,
+) -> Result<Value, AllocError>
+    ensures { IfOk result (λ v. view v ≡ object_of (string_bytes rendered.now) (view span) (view string)) }
+{
+    json!(in alloc; {"rendered": rendered, "span": span, "string": string})
+}
+
+fn literal_value(
+    alloc: Global,
+    context: SyntaxContext,
+    literal: &Literal,
+) -> Result<Value, WriteFault>
+    ensures { Writes view result (literal_data context literal.now) }
+{
+    if !is_same(context, literal.span.ctxt) {
+        return Err(WriteFault::NoForm);
+    }
+    let span = span_value(alloc, literal.span)?;
+    let string = text_or_null(alloc, &literal.string)?;
+    Ok(literal_object(alloc, &literal.rendered, span, string)?)
+}
+
+// The literal of a meta in this context, null where there is none.
+pub(crate) fn literal_or_null(
+    alloc: Global,
+    context: SyntaxContext,
+    literal: &Option<Literal>,
+) -> Result<Value, WriteFault>
+    ensures { Writes view result (maybe_data (literal_data context) literal.now) }
+{
+    match literal {
+        Some(literal) => literal_value(alloc, context, literal),
+        None => Ok(Value::Null),
+    }
+}

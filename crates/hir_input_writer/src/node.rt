@@ -1,0 +1,117 @@
+//! What items have in common, as JSON.
+ghost use Rattle.std.specs.Prelude.{◌≡◌, IfOk, map, option_map, string_bytes};
+ghost use Rattle.serde_json.specs.View.{view};
+ghost use Rattle.hir_input.specs.Attr.{meta_view};
+ghost use Rattle.hir_input.specs.Syntax.{node_from};
+ghost use Rattle.hir_input_writer.specs.Items.{attrs_data, body_data, node_data, plain_object as object_of, with_name};
+ghost use Rattle.hir_input_writer.specs.Seen.{named_seen, node_seen};
+ghost use Rattle.hir_input_writer.specs.Writes.{Writes};
+
+use crate::fault::WriteFault;
+use crate::meta::meta_values;
+use crate::name::name_or_null;
+use crate::visibility::visibility_or_null;
+use hir_input::ast::Visibility;
+use hir_input::{Meta, Name};
+use serde_json::{Value, json};
+use std::alloc::{AllocError, Global};
+
+// The parts of every item.
+#[derive(Drop)]
+pub(crate) struct Node {
+    pub(crate) hash: u16,
+    pub(crate) number: u32,
+    pub(crate) attrs: Value,
+    pub(crate) body: Value,
+}
+
+// The parts of an item that may have a name and a visibility.
+#[derive(Drop)]
+pub(crate) struct Named {
+    pub(crate) node: Node,
+    pub(crate) name: Value,
+    pub(crate) vis: Value,
+}
+
+// The parts of an item, its body left out where that is asked.
+macro_rules! node {
+    ($alloc:expr, $bodies:expr, $item:expr) => {
+        node_of($alloc, $bodies, $item.hash, $item.number, &$item.attrs, &$item.body)
+    };
+}
+
+pub(crate) use node;
+
+pub(crate) fn attrs_value(alloc: Global, attrs: &Vec<Meta>) -> Result<Value, WriteFault>
+    ensures { Writes view result (attrs_data (map meta_view attrs.now.items)) }
+{
+    Ok(Value::from(meta_values(alloc, attrs)?))
+}
+
+// Null where bodies are left out.
+fn body_value(alloc: Global, bodies: bool, body: &String) -> Result<Value, AllocError>
+    ensures { IfOk result (λ v. view v ≡ body_data bodies (string_bytes body.now)) }
+{
+    if bodies {
+        Value::try_from_str(alloc, body.as_str())
+    } else {
+        Ok(Value::Null)
+    }
+}
+
+pub(crate) fn node_of(
+    alloc: Global,
+    bodies: bool,
+    hash: u16,
+    number: u32,
+    attrs: &Vec<Meta>,
+    body: &String,
+) -> Result<Node, WriteFault>
+    ensures { Writes node_seen result (node_data bodies (node_from hash number attrs.now.items body.now)) }
+{
+    let attrs = attrs_value(alloc, attrs)?;
+    let body = body_value(alloc, bodies, body)?;
+    Ok(Node {
+        hash,
+        number,
+        attrs,
+        body,
+    })
+}
+
+pub(crate) fn named_of(
+    alloc: Global,
+    node: Node,
+    name: &Option<Name>,
+    visibility: &Option<Visibility>,
+) -> Result<Named, WriteFault>
+    ensures { Writes named_seen result (with_name (node_seen node) name.now visibility.now) }
+{
+    let name = name_or_null(alloc, name)?;
+    let vis = visibility_or_null(alloc, visibility)?;
+    Ok(Named { node, name, vis })
+}
+
+fn plain_object(alloc: Global, word: &str, item: Named) -> Result<Value, AllocError>
+    ensures { IfOk result (λ v. view v ≡ object_of word.now (named_seen item)) }
+{
+    let Named { node, name, vis } = item;
+    json!(in alloc; {
+        "attrs": node.attrs, "body": node.body, "hash": node.hash, "is": word,
+        "name": name, "number": node.number, "vis": vis
+    })
+}
+
+// An item that has no parts but a name and a visibility.
+pub(crate) fn plain_value(
+    alloc: Global,
+    word: &str,
+    node: Node,
+    name: &Option<Name>,
+    visibility: &Option<Visibility>,
+) -> Result<Value, WriteFault>
+    ensures { Writes view result (option_map (object_of word.now) (with_name (node_seen node) name.now visibility.now)) }
+{
+    let named = named_of(alloc, node, name, visibility)?;
+    Ok(plain_object(alloc, word, named)?)
+}

@@ -1,0 +1,153 @@
+//! The syntax of a file as JSON.
+ghost use Rattle.std.specs.Prelude.{◌≡◌, IfOk, map};
+ghost use Rattle.serde_json.specs.View.{view, items_view};
+ghost use Rattle.hir_input.specs.Attr.{meta_view};
+ghost use Rattle.hir_input.specs.Syntax.{items_view as items_seen, stmt_view, syntax_view, tail_view};
+ghost use Rattle.hir_input_writer.specs.Laws.{IsReadAs, kept};
+ghost use Rattle.hir_input_writer.specs.Parts.{each_data};
+ghost use Rattle.hir_input_writer.specs.Syntaxes as objects;
+ghost use Rattle.hir_input_writer.specs.Syntaxes.{macro_items_data, macro_stmts_data, source_data, stmt_data, syntax_data, tail_data};
+ghost use Rattle.hir_input_writer.specs.Writes.{Writes};
+
+use crate::fault::WriteFault;
+use crate::item::{item_value, item_values};
+use crate::kinds::call_value;
+use crate::node::attrs_value;
+use hir_input::Meta;
+use hir_input::ast::{Item, Stmt, Syntax, Tail};
+use serde_json::{Value, json};
+use std::alloc::{AllocError, Global};
+
+fn item_object(alloc: Global, item: Value) -> Result<Value, AllocError>
+    ensures { IfOk result (λ v. view v ≡ objects.item_object (view item)) }
+{
+    json!(in alloc; {"item": item})
+}
+
+fn call_object(alloc: Global, call: Value) -> Result<Value, AllocError>
+    ensures { IfOk result (λ v. view v ≡ objects.call_object (view call)) }
+{
+    json!(in alloc; {"call": call})
+}
+
+fn stmt_value(alloc: Global, bodies: bool, stmt: &Stmt) -> Result<Value, WriteFault>
+    ensures { Writes view result (stmt_data bodies (stmt_view stmt.now)) }
+{
+    match stmt {
+        Stmt::Item(item) => {
+            let item = item_value(alloc, bodies, item)?;
+            Ok(item_object(alloc, item)?)
+        }
+        Stmt::MacroCall(call) => {
+            let call = call_value(alloc, bodies, call)?;
+            Ok(call_object(alloc, call)?)
+        }
+        Stmt::Other => Ok(Value::try_from_str(alloc, "other")?),
+    }
+}
+
+fn stmt_values(alloc: Global, bodies: bool, stmts: &[Stmt]) -> Result<Vec<Value>, WriteFault>
+    ensures { Writes (λ v. items_view v.items) result (each_data (stmt_data bodies) (map stmt_view stmts.now)) }
+{
+    let mut values = Vec::new(alloc);
+    for stmt in stmts {
+        values.push(stmt_value(alloc, bodies, stmt)?)?;
+    }
+    Ok(values)
+}
+
+// Null where there is nothing.
+fn tail_value(alloc: Global, bodies: bool, tail: &Tail) -> Result<Value, WriteFault>
+    ensures { Writes view result (tail_data bodies (tail_view tail.now)) }
+{
+    match tail {
+        Tail::Nothing => Ok(Value::Null),
+        Tail::MacroCall(call) => {
+            let call = call_value(alloc, bodies, call)?;
+            Ok(call_object(alloc, call)?)
+        }
+        Tail::Other => Ok(Value::try_from_str(alloc, "other")?),
+    }
+}
+
+fn source_object(alloc: Global, attrs: Value, items: Vec<Value>) -> Result<Value, AllocError>
+    ensures { IfOk result (λ v. view v ≡ objects.source_object (view attrs) (items_view items.items)) }
+{
+    json!(in alloc; {"attrs": attrs, "items": items, "root": "source_file"})
+}
+
+fn source_value(
+    alloc: Global,
+    bodies: bool,
+    attrs: &Vec<Meta>,
+    items: &[Item],
+) -> Result<Value, WriteFault>
+    ensures { Writes view result (source_data bodies (map meta_view attrs.now.items) (items_seen items.now)) }
+{
+    let attrs = attrs_value(alloc, attrs)?;
+    let items = item_values(alloc, bodies, items)?;
+    Ok(source_object(alloc, attrs, items)?)
+}
+
+fn macro_items_object(alloc: Global, items: Vec<Value>) -> Result<Value, AllocError>
+    ensures { IfOk result (λ v. view v ≡ objects.macro_items_object (items_view items.items)) }
+{
+    json!(in alloc; {"items": items, "root": "macro_items"})
+}
+
+fn macro_items_value(alloc: Global, bodies: bool, items: &[Item]) -> Result<Value, WriteFault>
+    ensures { Writes view result (macro_items_data bodies (items_seen items.now)) }
+{
+    let items = item_values(alloc, bodies, items)?;
+    Ok(macro_items_object(alloc, items)?)
+}
+
+fn macro_stmts_object(alloc: Global, stmts: Vec<Value>, tail: Value) -> Result<Value, AllocError>
+    ensures { IfOk result (λ v. view v ≡ objects.macro_stmts_object (items_view stmts.items) (view tail)) }
+{
+    json!(in alloc; {"root": "macro_stmts", "stmts": stmts, "tail": tail})
+}
+
+fn macro_stmts_value(
+    alloc: Global,
+    bodies: bool,
+    stmts: &[Stmt],
+    tail: &Tail,
+) -> Result<Value, WriteFault>
+    ensures { Writes view result (macro_stmts_data bodies (map stmt_view stmts.now) (tail_view tail.now)) }
+{
+    let stmts = stmt_values(alloc, bodies, stmts)?;
+    let tail = tail_value(alloc, bodies, tail)?;
+    Ok(macro_stmts_object(alloc, stmts, tail)?)
+}
+
+fn error_value(alloc: Global) -> Result<Value, AllocError>
+    ensures { IfOk result (λ v. view v ≡ objects.error_object) }
+{
+    json!(in alloc; {"root": "error"})
+}
+
+fn written(alloc: Global, syntax: &Syntax, bodies: bool) -> Result<Value, WriteFault>
+    ensures { Writes view result (syntax_data bodies (syntax_view syntax.now)) }
+{
+    match syntax {
+        Syntax::SourceFile { attrs, items } => source_value(alloc, bodies, attrs, items),
+        Syntax::MacroItems { items } => macro_items_value(alloc, bodies, items),
+        Syntax::MacroStmts { stmts, tail } => macro_stmts_value(alloc, bodies, stmts, tail),
+        Syntax::Error => Ok(error_value(alloc)?),
+    }
+}
+
+/// The syntax of a file, or of a macro's result, as JSON, with its body texts or with a null for each.
+///
+/// Reading the JSON gives the syntax again: with its bodies, or with each of them empty. No number of it is a float.
+///
+/// Errors: `NoForm` exactly where the syntax has no form: a rename in it is to a name `_`, or the span of a literal is in
+/// another context than its meta. Else want of memory.
+pub fn syntax_value(alloc: Global, syntax: &Syntax, bodies: bool) -> Result<Value, WriteFault>
+    ensures written { Writes view result (syntax_data bodies (syntax_view syntax.now)) }
+    ensures reads { IfOk result (λ v. IsReadAs (kept bodies (syntax_view syntax.now)) (view v)) }
+{
+    let value = written(alloc, syntax, bodies)?;
+    Ok(value)
+}

@@ -1,0 +1,4 @@
+pub mod Depths
+pub mod Requests
+pub mod EditLists
+pub mod Texts

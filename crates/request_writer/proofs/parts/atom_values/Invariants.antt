@@ -1,0 +1,13 @@
+-- what is to be written is what was made, and behind it what is left
+use Rattle.std.proofs.Common.{◌≡◌, map, drop}
+use Rattle.serde_json.specs.View.{view}
+use Rattle.hir_input.specs.declared.cfg.CfgAtom.{CfgAtom}
+use Rattle.hir_input.specs.Cfg.{atom_view}
+use Rattle.hir_input_writer.specs.Cfgs.{atom_data}
+use Rattle.hir_input_writer.specs.Parts.{each_data}
+use Rattle.hir_input_writer.specs.Lists.{joined}
+use Rattle.request_writer.proofs.parts.atom_values.Given as goal
+
+abbrev pub invariant-loop-atom : goal.invariant-loop-atom
+invariant-loop-atom l =
+    each_data atom_data (map atom_view l.atoms) ≡ joined (map view l.values.items) (each_data atom_data (map atom_view (drop l.atom-index l.atoms)))

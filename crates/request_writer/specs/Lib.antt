@@ -1,0 +1,4 @@
+pub mod Written
+pub mod Meant
+pub mod Depth
+pub mod Unwritten

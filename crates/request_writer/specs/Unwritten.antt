@@ -1,0 +1,24 @@
+-- Why a request is not written.
+use Rattle.std.specs.Prelude.{◌≡◌, ◌<◌, Option, Some, None}
+use Rattle.serde_json.specs.Data.{Data, depth}
+use Rattle.serde_json.specs.Read.{max_depth}
+use Rattle.hir_input_writer.specs.declared.fault.WriteFault.{WriteFault}
+use Rattle.hir_input_writer.specs.declared.fault.WriteFault.TheVariants as write
+use Rattle.request_writer.specs.declared.request.RequestFault.{RequestFault}
+use Rattle.request_writer.specs.declared.request.RequestFault.TheVariants.{NoForm, TooDeep, OutOfMemory}
+
+abbrev pub fault_of : WriteFault → RequestFault
+fault_of write.NoForm = NoForm
+fault_of write.OutOfMemory = OutOfMemory
+
+-- there is no data to be written, or it nests too deep for a text, or memory is wanting
+abbrev pub IsUnwritten : Option Data → RequestFault → Type 0
+IsUnwritten wanted NoForm = wanted ≡ None
+IsUnwritten wanted TooDeep = (d : Data) × (wanted ≡ Some d) × (max_depth < depth d)
+IsUnwritten wanted OutOfMemory = Unit {0}
+
+-- the data nests too deep for a text, or memory is wanting
+abbrev pub IsNoText : Data → RequestFault → Type 0
+IsNoText d NoForm = ⊥
+IsNoText d TooDeep = max_depth < depth d
+IsNoText d OutOfMemory = Unit {0}

@@ -1,0 +1,13 @@
+//! A request over the syntaxes of files, written as the JSON that `item_tree_request` reads.
+//!
+//! The request has one crate, whose root is file 0, and sets each file to its syntax, numbered from 0. Reading what is written gives
+//! exactly this request.
+#![tactic(auto)]
+
+mod depth;
+mod parts;
+pub mod request;
+#[cfg(test)]
+mod tests;
+
+pub use request::{RequestFault, RequestOptions, request_text, request_value};

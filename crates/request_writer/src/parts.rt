@@ -1,0 +1,180 @@
+//! The parts of a request as JSON.
+ghost use Rattle.std.specs.Prelude.{◌≡◌, ◌^◌, IfOk, codes, map, option_and_then, option_map};
+ghost use Rattle.serde_json.specs.Data.{number, unsigned};
+ghost use Rattle.serde_json.specs.View.{view, items_view};
+ghost use Rattle.hir_input.specs.Cfg.{atom_view};
+ghost use Rattle.hir_input.specs.Syntax.{syntax_view};
+ghost use Rattle.hir_input_json.specs.Editions.{edition_view};
+ghost use Rattle.hir_input_writer.specs.Cfgs.{atom_data};
+ghost use Rattle.hir_input_writer.specs.Literals.{year_number as number_of_year};
+ghost use Rattle.hir_input_writer.specs.Parts.{each_data, name_data, whole_data};
+ghost use Rattle.hir_input_writer.specs.Syntaxes.{syntax_data};
+ghost use Rattle.hir_input_writer.specs.Writes.{Writes};
+ghost use Rattle.request_writer.specs.Written as objects;
+ghost use Rattle.request_writer.specs.Written.{edit_data, edition_data, edits_data, kind_word as word_of_kind, place_show, show_data};
+
+use hir_input::ast::Syntax;
+use hir_input::{CfgAtom, Edition, EditionYear, Name};
+use hir_input_writer::WriteFault;
+use hir_input_writer::cfg::atom_value;
+use hir_input_writer::name::name_value;
+use hir_input_writer::syntax::syntax_value;
+use item_tree_db::Place;
+use item_tree_request::request::show::{Show, ShowKind};
+use serde_json::{Value, json};
+use std::alloc::{AllocError, Global};
+
+#[tactic(auto, using(hir_input_writer::proofs::Lists::lists))]
+pub(crate) fn name_values(alloc: Global, names: &[Name]) -> Result<Vec<Value>, WriteFault>
+    ensures { Writes (λ v. items_view v.items) result (each_data name_data names.now) }
+{
+    let mut values = Vec::new(alloc);
+    for name in names {
+        values.push(name_value(alloc, name)?)?;
+    }
+    Ok(values)
+}
+
+#[tactic(auto, using(hir_input_writer::proofs::Lists::lists))]
+pub(crate) fn atom_values(alloc: Global, atoms: &[CfgAtom]) -> Result<Vec<Value>, WriteFault>
+    ensures { Writes (λ v. items_view v.items) result (each_data atom_data (map atom_view atoms.now)) }
+{
+    let mut values = Vec::new(alloc);
+    for atom in atoms {
+        values.push(atom_value(alloc, atom)?)?;
+    }
+    Ok(values)
+}
+
+pub(crate) fn crate_object(alloc: Global, atoms: Vec<Value>) -> Result<Value, AllocError>
+    ensures { IfOk result (λ v. view v ≡ objects.crate_object (items_view atoms.items)) }
+{
+    json!(in alloc; {"cfg": atoms, "root": 0u32})
+}
+
+fn year_number(year: EditionYear) -> u32
+    ensures { result ≡ number_of_year year }
+{
+    match year {
+        EditionYear::E2015 => 2015,
+        EditionYear::E2018 => 2018,
+        EditionYear::E2021 => 2021,
+        EditionYear::E2024 => 2024,
+    }
+}
+
+fn edition_object(alloc: Global, year: u32, reserved: Vec<Value>) -> Result<Value, AllocError>
+    ensures { IfOk result (λ v. view v ≡ objects.edition_object year (items_view reserved.items)) }
+{
+    json!(in alloc; {"reserved": reserved, "year": year})
+}
+
+pub(crate) fn edition_value(alloc: Global, edition: &Edition) -> Result<Value, WriteFault>
+    ensures { Writes view result (edition_data (edition_view edition.now)) }
+{
+    let reserved = name_values(alloc, &edition.reserved)?;
+    Ok(edition_object(alloc, year_number(edition.year), reserved)?)
+}
+
+// The number of a file. There is none where too many files stand before it.
+fn file_number(index: usize) -> Result<u32, WriteFault>
+    ensures { Writes (λ n. number (unsigned n)) result (whole_data (2 ^ 32) index) }
+{
+    u32::try_from(index).ok().ok_or(WriteFault::NoForm)
+}
+
+fn edit_object(alloc: Global, file: u32, syntax: Value) -> Result<Value, AllocError>
+    ensures { IfOk result (λ v. view v ≡ objects.edit_object (number (unsigned file)) (view syntax)) }
+{
+    json!(in alloc; {"edit": "set_file", "file": file, "syntax": syntax})
+}
+
+// A file set to its syntax.
+fn edit_value(
+    alloc: Global,
+    bodies: bool,
+    index: usize,
+    syntax: &Syntax,
+) -> Result<Value, WriteFault>
+    ensures { Writes view result (edit_data bodies index (syntax_view syntax.now)) }
+{
+    let file = file_number(index)?;
+    let syntax = syntax_value(alloc, syntax, bodies)?;
+    Ok(edit_object(alloc, file, syntax)?)
+}
+
+pub(crate) fn edit_values(
+    alloc: Global,
+    bodies: bool,
+    files: &[Syntax],
+) -> Result<Vec<Value>, WriteFault>
+    ensures { Writes (λ v. items_view v.items) result (edits_data bodies 0 (map syntax_view files.now)) }
+{
+    let mut values = Vec::new(alloc);
+    for i in 0..files.len() {
+        values.push(edit_value(alloc, bodies, i, &files[i])?)?;
+    }
+    Ok(values)
+}
+
+fn kind_word(kind: ShowKind) -> &'static str
+    ensures { result.now ≡ word_of_kind kind }
+{
+    match kind {
+        ShowKind::Page => "page",
+        ShowKind::Tree => "tree",
+        ShowKind::Imports => "imports",
+    }
+}
+
+fn file_object(alloc: Global, word: &str, file: u32) -> Result<Value, AllocError>
+    ensures { IfOk result (λ v. view v ≡ objects.file_object word.now (number (unsigned 0)) (number (unsigned file))) }
+{
+    json!(in alloc; {"crate": 0u32, "file": file, "show": word})
+}
+
+fn block_object(alloc: Global, word: &str, block: u32) -> Result<Value, AllocError>
+    ensures { IfOk result (λ v. view v ≡ objects.block_object word.now (number (unsigned 0)) (number (unsigned block))) }
+{
+    json!(in alloc; {"block": block, "crate": 0u32, "show": word})
+}
+
+fn place_value(alloc: Global, word: &str, place: Place) -> Result<Value, WriteFault>
+    ensures { Writes view result (place_show word.now (number (unsigned 0)) place) }
+{
+    match place {
+        Place::File(file) => Ok(file_object(alloc, word, file.0)?),
+        Place::Block(block) => Ok(block_object(alloc, word, block.0)?),
+    }
+}
+
+fn changed_object(alloc: Global, since: u64) -> Result<Value, AllocError>
+    ensures { IfOk result (λ v. view v ≡ objects.changed_object (number (unsigned since))) }
+{
+    json!(in alloc; {"show": "changed", "since": since})
+}
+
+fn show_value(alloc: Global, show: &Show) -> Result<Value, WriteFault>
+    ensures { Writes view result (show_data show.now) }
+{
+    match show {
+        Show::OfTree(tree) => {
+            if tree.krate.0 > 0 {
+                return Err(WriteFault::NoForm);
+            }
+            place_value(alloc, kind_word(tree.kind), tree.place)
+        }
+        Show::Changed { since } => Ok(changed_object(alloc, *since)?),
+    }
+}
+
+#[tactic(auto, using(hir_input_writer::proofs::Lists::lists))]
+pub(crate) fn show_values(alloc: Global, shows: &[Show]) -> Result<Vec<Value>, WriteFault>
+    ensures { Writes (λ v. items_view v.items) result (each_data show_data shows.now) }
+{
+    let mut values = Vec::new(alloc);
+    for show in shows {
+        values.push(show_value(alloc, show)?)?;
+    }
+    Ok(values)
+}

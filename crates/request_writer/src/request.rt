@@ -1,0 +1,156 @@
+//! A request as JSON.
+ghost use Rattle.std.specs.Prelude.{◌≡◌, IfErr, IfOk, MatchResult, Some, map, string_bytes};
+ghost use Rattle.serde_json.specs.View.{view, items_view};
+ghost use Rattle.hir_input.specs.Cfg.{atom_view};
+ghost use Rattle.hir_input.specs.Syntax.{syntax_view};
+ghost use Rattle.hir_input_json.specs.Editions.{edition_view};
+ghost use Rattle.hir_input_writer.specs.Writes.{Writes};
+ghost use Rattle.item_tree_request.specs.Requests.{IsJsonText, IsRequest, request as request_form};
+ghost use Rattle.request_writer.specs.Meant.{meant};
+ghost use Rattle.request_writer.specs.Unwritten.{IsNoText, IsUnwritten, fault_of};
+ghost use Rattle.request_writer.specs.Written.{request_data, request_object as object_of};
+
+use crate::depth::nests_past;
+use crate::parts::{
+    atom_values, crate_object, edit_values, edition_value, name_values, show_values,
+};
+use hir_input::ast::Syntax;
+use hir_input::{CfgAtom, Edition, Name};
+use hir_input_writer::WriteFault;
+use item_tree_request::request::show::Show;
+use serde_json::{Value, json};
+use std::alloc::{AllocError, Global};
+use thiserror::Error;
+
+/// How deep a JSON text may nest that is read again.
+const MOST_DEPTH: u32 = 127;
+
+/// What a request has beside its files and its shows.
+#[derive(Drop)]
+pub struct RequestOptions {
+    /// Whether the body texts are written.
+    pub bodies: bool,
+    /// The names of attributes that no tree is to have.
+    pub skipped: Vec<Name>,
+    pub edition: Edition,
+    /// The options that are set in the crate.
+    pub cfg: Vec<CfgAtom>,
+}
+
+/// Why a request is not written.
+#[derive(Clone, Copy, Debug, PartialEq, Eq, Error)]
+pub enum RequestFault {
+    /// A part of it has no form: a syntax, as `WriteFault::NoForm` says; a show of another crate than 0; or a file that
+    /// stands behind 2^32 others.
+    #[error("no form")]
+    NoForm,
+    /// The JSON nests deeper than 127, which no reader of texts takes.
+    #[error("nested too deep")]
+    TooDeep,
+    #[error("out of memory")]
+    OutOfMemory,
+}
+
+impl From<WriteFault> for RequestFault {
+    ghost from_gives = { λ fault e. e ≡ fault_of fault };
+
+    fn from(fault: WriteFault) -> RequestFault {
+        match fault {
+            WriteFault::NoForm => RequestFault::NoForm,
+            WriteFault::OutOfMemory => RequestFault::OutOfMemory,
+        }
+    }
+}
+
+impl From<AllocError> for RequestFault {
+    ghost use Rattle.request_writer.specs.declared.request.RequestFault.TheVariants.{OutOfMemory};
+
+    ghost from_gives = { λ _ e. e ≡ OutOfMemory };
+
+    fn from(_failed: AllocError) -> RequestFault {
+        RequestFault::OutOfMemory
+    }
+}
+
+fn request_object(
+    alloc: Global,
+    krate: Value,
+    edition: Value,
+    edits: Vec<Value>,
+    shows: Vec<Value>,
+    skipped: Vec<Value>,
+) -> Result<Value, AllocError>
+    ensures { IfOk result (λ v. view v ≡ object_of (view krate) (view edition) (items_view edits.items) (items_view shows.items) (items_view skipped.items)) }
+{
+    json!(in alloc; {"crates": [krate], "edition": edition, "edits": edits, "shows": shows, "skipped": skipped})
+}
+
+fn written(
+    alloc: Global,
+    options: &RequestOptions,
+    files: &[Syntax],
+    shows: &[Show],
+) -> Result<Value, WriteFault>
+    ensures { let o = options.now in
+        Writes view result (request_data o.bodies o.skipped.items (edition_view o.edition) (map atom_view o.cfg.items) (map syntax_view files.now) shows.now) }
+{
+    let skipped = name_values(alloc, &options.skipped)?;
+    let edition = edition_value(alloc, &options.edition)?;
+    let atoms = atom_values(alloc, &options.cfg)?;
+    let edits = edit_values(alloc, options.bodies, files)?;
+    let shows = show_values(alloc, shows)?;
+    let krate = crate_object(alloc, atoms)?;
+    Ok(request_object(alloc, krate, edition, edits, shows, skipped)?)
+}
+
+/// The request of one crate, whose root is file 0, with each file set to its syntax, numbered from 0, and these shows, as JSON.
+///
+/// Reading the JSON gives exactly this request, with empty body texts where `bodies` is false.
+///
+/// Errors: `NoForm` exactly where a part has no form: a syntax, as `syntax_value` says, a show of another crate than 0, or a file
+/// behind 2^32 others. Else want of memory.
+pub fn request_value(
+    alloc: Global,
+    options: &RequestOptions,
+    files: &[Syntax],
+    shows: &[Show],
+) -> Result<Value, WriteFault>
+    ensures written { let o = options.now in
+        Writes view result (request_data o.bodies o.skipped.items (edition_view o.edition) (map atom_view o.cfg.items) (map syntax_view files.now) shows.now) }
+    ensures reads { let o = options.now in
+        let asked = meant o.bodies o.skipped.items (edition_view o.edition) (map atom_view o.cfg.items) (map syntax_view files.now) shows.now in
+        IfOk result (λ v. request_form (view v) ≡ Some asked) }
+{
+    let value = written(alloc, options, files, shows)?;
+    Ok(value)
+}
+
+// A value as a text, unless it nests too deep for one that is read again.
+fn text_of(alloc: Global, value: &Value) -> Result<String, RequestFault>
+    ensures { MatchResult result (λ text. IsJsonText (string_bytes text) (view value.now)) (IsNoText (view value.now)) }
+{
+    if nests_past(value, MOST_DEPTH) {
+        return Err(RequestFault::TooDeep);
+    }
+    Ok(value.to_string(alloc)?)
+}
+
+/// The request as a JSON text, which is read as exactly this request.
+///
+/// Errors: `NoForm` as in `request_value`, `TooDeep` exactly where the JSON nests deeper than 127, and want of memory.
+pub fn request_text(
+    alloc: Global,
+    options: &RequestOptions,
+    files: &[Syntax],
+    shows: &[Show],
+) -> Result<String, RequestFault>
+    ensures reads { let o = options.now in
+        let asked = meant o.bodies o.skipped.items (edition_view o.edition) (map atom_view o.cfg.items) (map syntax_view files.now) shows.now in
+        IfOk result (λ text. IsRequest (string_bytes text) asked) }
+    ensures refused { let o = options.now in
+        let wanted = request_data o.bodies o.skipped.items (edition_view o.edition) (map atom_view o.cfg.items) (map syntax_view files.now) shows.now in
+        IfErr result (IsUnwritten wanted) }
+{
+    let value = request_value(alloc, options, files, shows)?;
+    text_of(alloc, &value)
+}
