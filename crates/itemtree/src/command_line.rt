@@ -4,6 +4,8 @@ use std::alloc::Global;
 
 static YEARS: [&str; 4] = ["2015", "2018", "2021", "2024"];
 
+static SHOWS: [&str; 3] = ["page", "tree", "imports"];
+
 static IDS: [&str; 2] = ["on", "off"];
 
 fn files<'a>(alloc: Global) -> Arg<'a> {
@@ -174,8 +176,26 @@ fn tags<'a>(alloc: Global) -> Result<Command<'a>, Error> {
 fn changed<'a>(alloc: Global) -> Result<Command<'a>, Error> {
     let old = Arg::new(alloc, "old").value_name("OLD").required(true);
     let new = Arg::new(alloc, "new").value_name("NEW").required(true);
-    let about = "Tells whether two files have different item trees, by the status of diff";
+    let about = "Lists what of the item tree became another; its status is that of diff";
     let command = on_files(alloc, "changed", about)?.arg(old)?.arg(new)?;
+    Ok(command)
+}
+
+fn request<'a>(alloc: Global) -> Result<Command<'a>, Error> {
+    let show = option(
+        alloc,
+        "show",
+        "KIND",
+        ArgAction::Append,
+        "What the request asks to be shown of each file",
+    )
+    .value_parser(SHOWS.as_slice());
+    let bodies = flag(alloc, "no-bodies", "Leave the texts of bodies out");
+    let about = "Writes the request in JSON that sets these files, as item_tree_tool reads it";
+    let command = on_files(alloc, "request", about)?
+        .arg(show)?
+        .arg(bodies)?
+        .arg(files(alloc))?;
     Ok(command)
 }
 
@@ -192,6 +212,7 @@ pub(crate) fn command<'a>(alloc: Global) -> Result<Command<'a>, Error> {
         .subcommand(find(alloc)?)?
         .subcommand(tags(alloc)?)?
         .subcommand(changed(alloc)?)?
+        .subcommand(request(alloc)?)?
         .subcommand(check(alloc)?)?;
     Ok(command)
 }

@@ -1,10 +1,11 @@
 //! The commands, file by file.
 use crate::files::{files_of_folder, is_a_folder, read};
 use crate::options::read_options;
+use crate::request::write_request;
 use crate::tags::write_tags;
 use clap::ArgMatches;
 use itemtree_commands::{
-    Options, check, duplicates, find, imports, is_same_tree, outline, outline_json, page, push_tags,
+    Options, changed, check, duplicates, find, imports, outline, outline_json, page, push_tags,
 };
 use source_listing::{Query, Source};
 use source_tree::SourceError;
@@ -18,6 +19,9 @@ const FILES_A_TIME: usize = 64;
 
 /// Back to the begin of the line on a terminal, and nothing on it.
 const CLEARED: &str = "\r\x1b[K";
+
+/// How trees differ whose items are the same.
+const ONLY_ORDER: &str = "the order of items or the attributes of the file differ";
 
 /// Why a run ends early.
 #[derive(Debug, Drop)]
@@ -245,7 +249,8 @@ fn finish(run: Run<'_>, matches: &ArgMatches<'_>) -> Result<u8, Failure> {
     }
 }
 
-/// The status of `diff`: 0 where two trees are equal, 1 where they differ, 2 where one cannot be had.
+/// Lists the changes between two trees. The status is that of `diff`: 0 where they are equal, 1 where they differ, 2 where
+/// one cannot be had.
 fn compare(
     rt: &HostRuntime,
     options: &Options,
@@ -258,13 +263,21 @@ fn compare(
         (Err(error), _) => return unread(rt, old_path, error),
         (_, Err(error)) => return unread(rt, new_path, error),
     };
-    match is_same_tree(alloc, &old, &new, options) {
-        Ok(true) => Ok(0),
-        Ok(false) => {
-            let _ = writeln!(
-                rt.stdout(),
-                "{old_path} and {new_path} have different item trees"
-            );
+    let olds = Source {
+        path: old_path,
+        text: &old,
+    };
+    let news = Source {
+        path: new_path,
+        text: &new,
+    };
+    match changed(alloc, olds, news, options) {
+        Ok(compared) if compared.is_same => Ok(0),
+        Ok(compared) => {
+            rt.stdout().write_all(compared.text.as_bytes())?;
+            if compared.text.is_empty() {
+                writeln!(rt.stdout(), "{old_path} and {new_path}: {ONLY_ORDER}")?;
+            }
             Ok(1)
         }
         Err(error) => unread(rt, new_path, error),
@@ -292,6 +305,9 @@ pub(crate) fn run_command(rt: &HostRuntime, matches: &ArgMatches<'_>) -> Result<
     };
     if let (Some(old), Some(new)) = (inner.get_str("old"), inner.get_str("new")) {
         return compare(rt, &options, old, new);
+    }
+    if name == "request" {
+        return write_request(rt, options, inner);
     }
     let action = action_of(rt.alloc(), name, inner)?;
     let is_watched = name == "tags" && rt.stderr().is_terminal();

@@ -5,6 +5,7 @@ mod command_line;
 mod commands;
 mod files;
 mod options;
+mod request;
 mod tags;
 mod words;
 

@@ -39,6 +39,17 @@ fn atoms<'a>(
     Ok(Ok(atoms))
 }
 
+/// The cfgs of a command line; none, if one of its words is none.
+pub(crate) fn atoms_of(
+    alloc: Global,
+    matches: &ArgMatches<'_>,
+) -> Result<Vec<CfgAtom>, AllocError> {
+    match atoms(alloc, matches.get_strs("cfg").unwrap_or(&[]))? {
+        Ok(atoms) => Ok(atoms),
+        Err(_word) => Ok(Vec::new(alloc)),
+    }
+}
+
 fn year(matches: &ArgMatches<'_>) -> EditionYear {
     match matches.get_str("edition") {
         Some("2015") => EditionYear::E2015,

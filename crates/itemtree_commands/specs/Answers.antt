@@ -2,6 +2,8 @@
 use Rattle.std.specs.Prelude.{◌≡◌, ◌↔◌, ◌⊎◌, ℕ, Bool, IsTrue, if◌then◌else◌, Option, None, List, ◌++◌, length, string_bytes}
 use Rattle.item_tree.specs.Page.{page}
 use Rattle.item_rows.specs.Rows.{rows}
+use Rattle.item_changes.specs.Changes.{changes}
+use Rattle.source_listing.specs.Changed.{Side, change_lines}
 use Rattle.source_listing.specs.Imports.{import_lines}
 use Rattle.source_listing.specs.Lines.{Choice, Source, outline_text, problem_lines}
 use Rattle.source_listing.specs.Objects.{json_line}
@@ -14,6 +16,7 @@ use Rattle.source_tree.specs.declared.SourceError.{SourceError}
 use Rattle.source_tree.specs.Trees.{IsRefused, IsTreeOf}
 use Rattle.itemtree_commands.specs.declared.Options.{Options}
 use Rattle.itemtree_commands.specs.declared.Checked.{Checked}
+use Rattle.itemtree_commands.specs.declared.Compared.{Compared}
 
 -- the tree of a text under the options
 abbrev pub HasTree : Options → List ℕ → SourceTree → Type 0
@@ -67,10 +70,16 @@ IsCheck o s c =
 abbrev pub HasNoTree : Options → List ℕ → SourceError → Type 0
 HasNoTree o = IsRefused o.krate o.skipped.items
 
--- whether the trees of two texts are equal
-abbrev pub AreCompared : Options → List ℕ → List ℕ → Bool → Type 0
-AreCompared o old new same =
-    (before after : SourceTree) × HasTree o old before × HasTree o new after × (IsTrue same ↔ (before.tree ≡ after.tree))
+-- a file, and where its items stand
+abbrev pub side : Source → SourceTree → Side
+side s t = record { source = s; places = t.places.items }
+
+-- the lines of the changes of the items, and whether the trees are equal
+abbrev pub AreCompared : Options → Source → Source → Compared → Type 0
+AreCompared o old new c =
+    (before after : SourceTree) × HasTree o old.text before × HasTree o new.text after
+    × (string_bytes c.text ≡ change_lines o.edition.reserved.items (side old before) (side new after) (changes before.tree.forest after.tree.forest))
+    × (IsTrue c.is_same ↔ (before.tree ≡ after.tree))
 
 abbrev pub HasNoTreeOfBoth : Options → List ℕ → List ℕ → SourceError → Type 0
 HasNoTreeOfBoth o old new e = HasNoTree o old e ⊎ HasNoTree o new e

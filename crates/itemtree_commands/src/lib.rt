@@ -3,12 +3,13 @@
 
 ghost use Rattle.std.specs.Prelude.{◌≡◌, ◌≤◌, ◌^◌, length, map, IfOk, IfErr, OnOk, string_bytes};
 ghost use Rattle.itemtree_commands.specs.Answers as spec;
+ghost use Rattle.itemtree_commands.specs.Typing.{IsSameWhereTyped};
 ghost use Rattle.source_listing.specs.Views.{choice_view, query_view, source_view};
 ghost use Rattle.source_tree.specs.Trees.{HasOwnIds};
 
 use hir_input::{Edition, Name};
 use item_tree::CrateData;
-use source_listing::{Choice, Query, Source, without_ids};
+use source_listing::{Choice, Query, Side, Source, without_ids};
 use source_tree::{SourceError, SourceTree, source_tree};
 use std::alloc::{AllocError, Global};
 
@@ -41,6 +42,15 @@ pub struct Checked {
     pub text: String,
     /// Whether there is none.
     pub is_clean: bool,
+}
+
+/// What became of the tree of one file in that of another.
+#[derive(Debug, Drop)]
+pub struct Compared {
+    /// A line for each change of an item.
+    pub text: String,
+    /// Whether the trees are equal.
+    pub is_same: bool,
 }
 
 /// The tree of a text under the options.
@@ -203,23 +213,39 @@ pub fn push_tags(
     Ok(())
 }
 
-/// `itemtree changed`: whether the trees of two texts are equal, as where only bodies, comments or layout became
-/// others.
+/// `itemtree changed`: a line for each item that was removed, added or changed, and whether the trees are equal, as
+/// where only bodies, comments or layout became others.
 ///
-/// Its errors are those of `source_tree`, for the old text first.
+/// Trees that differ in the order of their items or in the attributes of the file alone have no such line. Its errors are
+/// those of `source_tree`, for the old text first.
 #[tactic(auto, using(source_tree::proofs::Refused::no_memory))]
-pub fn is_same_tree(
+pub fn changed(
     alloc: Global,
-    old: &str,
-    new: &str,
+    old: Source<'_>,
+    new: Source<'_>,
     options: &Options,
-) -> Result<bool, SourceError>
-    ensures compared { IfOk result (spec.AreCompared options.now old.now new.now) }
-    ensures refused { IfErr result (spec.HasNoTreeOfBoth options.now old.now new.now) }
+) -> Result<Compared, SourceError>
+    ensures compared { let compared = spec.AreCompared options.now (source_view old.entry) (source_view new.entry) in
+        IfOk result compared }
+    ensures typing { IfOk result (λ c. IsSameWhereTyped old.entry.text.now new.entry.text.now c.is_same) }
+    ensures refused { IfErr result (spec.HasNoTreeOfBoth options.now old.entry.text.now new.entry.text.now) }
 {
-    let before = read(alloc, old, options)?;
-    let after = read(alloc, new, options)?;
-    Ok(before.tree == after.tree)
+    let before = read(alloc, old.text, options)?;
+    let after = read(alloc, new.text, options)?;
+    let olds = Side {
+        source: old,
+        places: &before.places,
+        tree: &before.tree,
+    };
+    let news = Side {
+        source: new,
+        places: &after.places,
+        tree: &after.tree,
+    };
+    Ok(Compared {
+        text: source_listing::change_lines(alloc, olds, news, &options.edition)?,
+        is_same: before.tree == after.tree,
+    })
 }
 
 /// `itemtree check`: a line for each problem.

@@ -4,3 +4,4 @@ pub mod Pushed
 pub mod Imported
 pub mod Repeats
 pub mod Printers
+pub mod Between

@@ -11,6 +11,7 @@ use Rattle.source_listing.specs.declared.json.Item as code_item
 use Rattle.source_listing.specs.declared.lines.Printer.{Printer}
 use Rattle.source_listing.specs.declared.finder.Finder.{Finder}
 use Rattle.source_listing.specs.declared.repeated.Named as code_named
+use Rattle.source_listing.specs.Changed.{Side}
 use Rattle.source_listing.specs.Lines.{Choice, Source}
 use Rattle.source_listing.specs.Objects.{ItemView, item_in, node_objects}
 use Rattle.source_listing.specs.Repeated.{Named, leaf_named, node_named}
@@ -25,6 +26,9 @@ places_of p = p.finder.places.all.now
 
 abbrev pub reserved_of : Printer → List (List ℕ)
 reserved_of p = p.edition.now.reserved.items
+
+abbrev pub side_of_printer : Printer → Side
+side_of_printer p = record { source = file_of p; places = places_of p }
 
 -- the places that are found are those of a text
 abbrev pub IsFinderOf : List ℕ → List ItemPlace → Finder → Type 0

@@ -4,6 +4,8 @@ use Rattle.source_listing.specs.declared.lines.Choice as code_choice
 use Rattle.source_listing.specs.declared.search.Query as code_query
 use Rattle.source_listing.specs.Lines.{Source, Choice}
 use Rattle.source_listing.specs.Search.{Query}
+use Rattle.source_listing.specs.declared.changed.Side as code_side
+use Rattle.source_listing.specs.Changed.{Side}
 
 abbrev pub source_view : code_source.Source → Source
 source_view s = record { path = s.path.now; text = s.text.now }
@@ -13,3 +15,6 @@ choice_view c = record { depth = c.depth; only_active = c.only_active }
 
 abbrev pub query_view : code_query.Query → Query
 query_view q = record { path = q.path.now; is_anywhere = q.is_anywhere; only_active = q.only_active }
+
+abbrev pub side_view : code_side.Side → Side
+side_view s = record { source = source_view s.source; places = s.places.now }

@@ -1,6 +1,7 @@
 //! Lists of the items and of the problems of Rust source, with the line and the column of each.
 #![tactic(auto)]
 
+mod changed;
 mod finder;
 mod imports;
 mod json;
@@ -12,6 +13,7 @@ mod repeated;
 mod search;
 mod tags;
 
+pub use changed::{Side, change_lines};
 pub use imports::import_lines;
 pub use json::outline_json;
 pub use lines::{Choice, Source, outline};

@@ -1,0 +1,34 @@
+-- The lines of what became of items, between two files.
+use Rattle.std.specs.Prelude.{ℕ, List, ◌++◌, codes}
+use Rattle.std.specs.List.{flat_map}
+use Rattle.rust_items.specs.declared.source_file.ItemPlace.{ItemPlace}
+use Rattle.item_changes.specs.declared.compare.ChangeKind.{ChangeKind}
+use Rattle.item_changes.specs.declared.compare.ChangeKind.TheVariants.{Removed, Added, Changed}
+use Rattle.item_changes.specs.Changes.{ChangeView}
+use Rattle.source_listing.specs.Lines.{Source, name_text, word}
+use Rattle.source_listing.specs.Places.{item_place, spot_of}
+
+-- a file, and where its items stand
+pub record Side : Type 0 where
+  pub source : Source
+  pub places : List ItemPlace
+
+abbrev pub change_word : ChangeKind → List ℕ
+change_word Removed = codes "removed "
+change_word Added = codes "added "
+change_word Changed = codes "changed "
+
+-- what was removed stands in the old file, and all else in the new one
+abbrev pub side_of : ChangeKind → Side → Side → Side
+side_of Removed old new = old
+side_of _ old new = new
+
+-- the place of an item, what became of it, the word of its kind, and its name
+abbrev pub change_line : List (List ℕ) → Side → ChangeView → List ℕ
+change_line reserved s c = item_place s.source.path (spot_of s.source.text s.places c.row.id) ++ change_word c.kind ++ word c.row.id.kind ++ name_text reserved c.row.name ++ codes "\n"
+
+abbrev pub line_between : List (List ℕ) → Side → Side → ChangeView → List ℕ
+line_between reserved old new c = change_line reserved (side_of c.kind old new) c
+
+abbrev pub change_lines : List (List ℕ) → Side → Side → List ChangeView → List ℕ
+change_lines reserved old new cs = flat_map (line_between reserved old new) cs

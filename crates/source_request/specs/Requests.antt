@@ -1,0 +1,39 @@
+-- The request over Rust texts.
+use Rattle.std.specs.Prelude.{◌≡◌, ◌⊎◌, ℕ, List, [], ◌∷◌, map}
+use Rattle.hir_input.specs.Cfg.{atom_view}
+use Rattle.hir_input.specs.Syntax.{SyntaxView, syntax_view}
+use Rattle.hir_input_json.specs.Editions.{edition_view}
+use Rattle.item_tree_request.specs.declared.request.show.Show.{Show}
+use Rattle.item_tree_request.specs.Requests.{IsRequest, Request}
+use Rattle.request_writer.specs.declared.request.RequestOptions.{RequestOptions}
+use Rattle.request_writer.specs.declared.request.RequestFault.{RequestFault}
+use Rattle.request_writer.specs.declared.request.RequestFault.TheVariants.{OutOfMemory}
+use Rattle.request_writer.specs.Meant.{meant}
+use Rattle.request_writer.specs.Unwritten as writing
+use Rattle.request_writer.specs.Written.{request_data}
+use Rattle.rust_items.specs.declared.source_file.SourceFile.{SourceFile}
+use Rattle.rust_items.specs.SourceFiles.{IsSourceFile}
+
+-- a syntax is that of what is read of a text
+abbrev pub IsRead : List ℕ → SyntaxView → Type 0
+IsRead text s = (file : SourceFile) × IsSourceFile text file × (syntax_view file.syntax ≡ s)
+
+-- and each is that of its text
+abbrev pub AreRead : List (List ℕ) → List SyntaxView → Type 0
+AreRead [] [] = Unit {0}
+AreRead (text ∷ texts) (s ∷ ss) = IsRead text s × AreRead texts ss
+AreRead _ _ = ⊥
+
+-- the request over these syntaxes
+abbrev pub asked : RequestOptions → List SyntaxView → List Show → Request
+asked o ss shows = meant o.bodies o.skipped.items (edition_view o.edition) (map atom_view o.cfg.items) ss shows
+
+-- a text is read as the request over what is read of these
+abbrev pub IsAsked : RequestOptions → List (List ℕ) → List Show → List ℕ → Type 0
+IsAsked o texts shows out = (ss : List SyntaxView) × AreRead texts ss × IsRequest out (asked o ss shows)
+
+-- what is read of these has no request in JSON, or one that nests too deep, or memory is wanting
+abbrev pub IsUnwritten : RequestOptions → List (List ℕ) → List Show → RequestFault → Type 0
+IsUnwritten o texts shows e =
+    (e ≡ OutOfMemory)
+    ⊎ ((ss : List SyntaxView) × AreRead texts ss × writing.IsUnwritten (request_data o.bodies o.skipped.items (edition_view o.edition) (map atom_view o.cfg.items) ss shows) e)

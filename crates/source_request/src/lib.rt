@@ -1,0 +1,43 @@
+//! The request over Rust texts, as the JSON that `item_tree_tool` reads.
+#![tactic(auto)]
+
+ghost use Rattle.std.specs.Prelude.{◌≡◌, IfErr, IfOk, map, string_bytes};
+ghost use Rattle.hir_input.specs.Syntax.{syntax_view};
+ghost use Rattle.source_request.specs.Requests.{AreRead, IsAsked, IsUnwritten};
+
+use hir_input::ast::Syntax;
+use item_tree_request::request::show::Show;
+use request_writer::{RequestFault, RequestOptions, request_text};
+use rust_items::read_source_file;
+use std::alloc::{AllocError, Global};
+
+/// What is read of each text.
+#[tactic(auto, using(crate::proofs::More::one_more))]
+fn syntaxes(alloc: Global, texts: &[String]) -> Result<Vec<Syntax>, AllocError>
+    ensures { IfOk result (λ files. AreRead (map string_bytes texts.now) (map syntax_view files.items)) }
+{
+    let mut files = Vec::new(alloc);
+    for text in texts {
+        let file = read_source_file(alloc, text)?;
+        files.push(file.syntax)?;
+    }
+    Ok(files)
+}
+
+/// The request of one crate, whose root is file 0, that sets each file to what is read of its text, numbered from 0, with
+/// these shows. The JSON text is read as exactly this request.
+///
+/// Errors: those of `request_text`, for what is read.
+pub fn source_request(
+    alloc: Global,
+    texts: &[String],
+    options: &RequestOptions,
+    shows: &[Show],
+) -> Result<String, RequestFault>
+    ensures asked { let asked = IsAsked options.now (map string_bytes texts.now) shows.now in
+        IfOk result (λ out. asked (string_bytes out)) }
+    ensures refused { IfErr result (IsUnwritten options.now (map string_bytes texts.now) shows.now) }
+{
+    let files = syntaxes(alloc, texts)?;
+    request_text(alloc, options, &files, shows)
+}
