@@ -10,6 +10,7 @@ import tempfile
 
 TOP = os.path.dirname(os.path.dirname(os.path.realpath(__file__)))
 PROGRAM = os.path.join(TOP, 'crates/itemtree/out/itemtree')
+TOOL = os.path.join(TOP, 'crates/item_tree_tool/out/item_tree_tool')
 passed = failed = 0
 
 
@@ -69,6 +70,13 @@ def check_vim(folder):
     tell(got.split() == ['5'], 'vim -t Circle', got, '5\n')
 
 
+def check_request(folder):
+    """The program over JSON answers a request with the page that `itemtree page` writes."""
+    wanted = run('itemtree page known.rs', folder)
+    got = run(f'itemtree request --show page known.rs | {TOOL}', folder)
+    tell(got == wanted, 'a request and the page that it asks for', got, wanted)
+
+
 def check_progress(folder):
     """On a terminal `tags` tells on standard error how many files of a folder are done; a complaint has a line of its own."""
     many = os.path.join(folder, 'many')
@@ -102,6 +110,7 @@ def main():
         check_closed_pipe(folder)
         check_vim(folder)
         check_progress(folder)
+        check_request(folder)
     print(f'itemtree: {passed} passed, {failed} failed')
     return failed > 0
 

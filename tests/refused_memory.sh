@@ -54,13 +54,15 @@ try_request() {
     judge $? "$2: status $status with no request for memory refused"
 }
 
-# A command of itemtree, in one word, on a small file.
+# A command of itemtree, in one word, on a small file, which FILE in it stands for too. `changed` may end as where it cannot read.
 try_command() {
     local request command
     read -ra command <<< "$2"
+    command=("${command[@]/#FILE/$here/itemtree/shapes.rs}")
     for ((request = 1; ; request++)); do
         refuse "$request" "$1" "${command[@]}" "$here/itemtree/shapes.rs"
         [ "$made" -ge "$request" ] || break
+        [ "$2" = 'changed FILE' ] && [ "$status" = 2 ] && status=1
         [ "$status" = 1 ] && ! grep -qv '^!_TAG' "$own/out" && [[ $(cat "$own/err") = *'out of memory' ]]
         judge $? "itemtree $2: status $status with request $request for memory refused"
     done
@@ -100,7 +102,7 @@ subjects() {
     cd "$here" || exit 2
     for name in requests/*/*.out; do printf '%s\0' try_request "$program" "${name%.out}"; done
     for name in outlines/*/*.out; do printf '%s\0' try_request "$outlines" "${name%.out}"; done
-    for name in outline page imports 'find area' 'tags -o -' check; do printf '%s\0' try_command "$itemtree" "$name"; done
+    for name in outline page imports 'find area' 'imports --duplicates' 'outline --json' 'page --ids off' 'tags -o -' 'changed FILE' 'request --show page' check; do printf '%s\0' try_command "$itemtree" "$name"; done
     for binary in "${binaries[@]}"; do
         while IFS= read -r name; do
             case $name in

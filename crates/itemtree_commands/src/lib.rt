@@ -218,7 +218,6 @@ pub fn push_tags(
 ///
 /// Trees that differ in the order of their items or in the attributes of the file alone have no such line. Its errors are
 /// those of `source_tree`, for the old text first.
-#[tactic(auto, using(source_tree::proofs::Refused::no_memory))]
 pub fn changed(
     alloc: Global,
     old: Source<'_>,

@@ -12,7 +12,6 @@ use rust_items::read_source_file;
 use std::alloc::{AllocError, Global};
 
 /// What is read of each text.
-#[tactic(auto, using(crate::proofs::More::one_more))]
 fn syntaxes(alloc: Global, texts: &[String]) -> Result<Vec<Syntax>, AllocError>
     ensures { IfOk result (λ files. AreRead (map string_bytes texts.now) (map syntax_view files.items)) }
 {
