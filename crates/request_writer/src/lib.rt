@@ -7,7 +7,5 @@
 mod depth;
 mod parts;
 pub mod request;
-#[cfg(test)]
-mod tests;
 
 pub use request::{RequestFault, RequestOptions, request_text, request_value};

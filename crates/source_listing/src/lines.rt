@@ -115,7 +115,11 @@ fn push_visibility(
     }
 }
 
-pub(crate) fn push_name(edition: &Edition, name: Option<&Name>, out: &mut String) -> Result<(), AllocError>
+pub(crate) fn push_name(
+    edition: &Edition,
+    name: Option<&Name>,
+    out: &mut String,
+) -> Result<(), AllocError>
     ensures { let text = spec.name_text edition.now.reserved.items (option_copied name.entry) in
         OnOk result (string_bytes out.new ≡ string_bytes out.old ++ text) }
 {
