@@ -1,12 +1,11 @@
--- A list of edits, against the whole history.
-use Rattle.std.proofs.Common.{◌≡◌, ◌≢◌, ◌⊎◌, inl, inr, ℕ, zero, suc, ◌+◌, ◌<◌, ◌≤◌, Bool, true, false, not, List, [], ◌∷◌, length, take, cond, Some, None, Option, IfSome, slice_get, refl, sym, ap, subst, ◌∙◌, arith, true≢false, eq-or-lt_of_le, le_of_suc-le-suc}
+-- Histories: the change number without a test, one more edit, and what an index rests on.
+use Rattle.std.proofs.Common.{◌≡◌, ◌≢◌, ◌⊎◌, inl, inr, ℕ, zero, suc, ◌+◌, ◌<◌, ◌≤◌, Bool, true, false, not, List, [], ◌∷◌, ◌++◌, length, take, cond, Some, None, Option, IfSome, slice_get, refl, sym, ap, subst, ◌∙◌, arith, true≢false, eq-or-lt_of_le, le_of_suc-le-suc}
 use Rattle.std.specs.Option.{option_or, option_map, unwrap_or}
 use Rattle.std.proofs.lemmas.Option.{same_Some, none-some}
 use Rattle.std.proofs.lemmas.List.{take_all}
 use Rattle.hir_input.specs.Cfg.{AtomView}
 use Rattle.hir_input.specs.Syntax.{SyntaxView}
 use Rattle.item_tree.specs.CrateView.{CrateView}
-use Rattle.item_tree.specs.Node.{Unfolding}
 use Rattle.item_tree.specs.Code.Node.{unfolding_code}
 use Rattle.item_tree.specs.Same.{same, equal_of_same, same_of_equal}
 use Rattle.item_tree_db.specs.declared.place.Place.{Place}
@@ -14,58 +13,6 @@ use Rattle.item_tree_db.specs.State.{State, present, unfolding_of, unfolding_at,
 use Rattle.item_tree_db.specs.Edits.{EditView, set, remove, set_cfg}
 use Rattle.item_tree_db.specs.Refusal.{TreeFits, FitsAfter, FirstFit}
 use Rattle.item_tree_db.specs.History.{sets, gives, under, crate_after, last_some, last_below, present_after, unfolding_after, moves, changed_after, IsChangeNumber, IsAfter, IsFooting}
-use Rattle.item_tree_db.specs.Since.{IsGrounded}
-use Rattle.item_tree_db.specs.Table.{Table, after, after_all, state_of, IsSound}
-use Rattle.item_tree_db.proofs.Runs.{same_count, same_skipped, same_skipped_all}
-use Rattle.item_tree_db.proofs.Steps.{present_step, crate_step, change_number_is, change_step, sound_step, start_step, number_step}
-
-or_else : {A : Type 0} (a b : Option A) (d : A) → unwrap_or a (unwrap_or b d) ≡ unwrap_or (option_or a b) d
-or_else None b d = refl
-or_else (Some x) b d = refl
-
--- the last number that passes, with one more in front
-last_front : (p : ℕ → Bool) (n : ℕ) → last_below p (suc n) ≡ option_or (option_map suc (last_below (λ k. p (suc k)) n)) (cond (p zero) (Some zero) None)
-last_front p zero = refl
-last_front p (suc n) = elim (p (suc n)) as (λ b. cond b (Some (suc n)) (last_below p (suc n)) ≡ option_or (option_map suc (cond b (Some n) (last_below (λ k. p (suc k)) n))) (cond (p zero) (Some zero) None)) [ true ↦ refl | false ↦ last_front p n ]
-
--- ---- the history from after the first edit on is the history from before it
-
-front_present : (t : Table) (e : EditView) (es : List EditView) (place : Place) → present_after (state_of (after t e)) es place ≡ present_after (state_of t) (e ∷ es) place
-front_present t e es place = ap (unwrap_or (last_some (sets place) es)) (present_step t e place) ∙ or_else (last_some (sets place) es) (sets place e) (present (state_of t) place)
-
--- options given, and given again
-under_both : (a b : Option (List AtomView)) (krate : Option CrateView) → under a (under b krate) ≡ under (option_or a b) krate
-under_both None b krate = refl
-under_both (Some o) None krate = refl
-under_both (Some o) (Some p) None = refl
-under_both (Some o) (Some p) (Some krate) = refl
-
-front_crate : (t : Table) (e : EditView) (es : List EditView) (i : ℕ) → crate_after (state_of (after t e)) es i ≡ crate_after (state_of t) (e ∷ es) i
-front_crate t e es i = ap (under (last_some (gives i) es)) (crate_step t e i) ∙ under_both (last_some (gives i) es) (gives i e) (slice_get t.crates i)
-
-front_unfolding : (t : Table) (e : EditView) (es : List EditView) (place : Place) (i : ℕ) → unfolding_after (state_of (after t e)) es place i ≡ unfolding_after (state_of t) (e ∷ es) place i
-front_unfolding t e es place i j = unfolding_of (same_skipped t e j) place (front_crate t e es i j) (front_present t e es place j)
-
-front_moves : (t : Table) (e : EditView) (es : List EditView) (place : Place) (i : ℕ) → moves (state_of (after t e)) es place i ≡ (λ k. moves (state_of t) (e ∷ es) place i (suc k))
-front_moves t e es place i j k = not (same unfolding_code (front_unfolding t e (take k es) place i j) (front_unfolding t e (take (suc k) es) place i j))
-
--- the number of the last edit that moved it
-numbers : (m m' : ℕ) (o : Option ℕ) (b : Bool) (now then : ℕ) → m' ≡ m + 1 → then ≡ cond b now (m + 1)
-    → unwrap_or (option_map (λ n. m' + n + 1) o) then ≡ unwrap_or (option_map (λ n. m + n + 1) (option_or (option_map suc o) (cond (not b) (Some zero) None))) now
-numbers m m' None true now then e h = h
-numbers m m' None false now then e h = let q : m + 1 ≡ m + 0 + 1 = omega arith in h ∙ q
-numbers m m' (Some n) b now then e h = omega arith
-
-front_changed : (t : Table) (e : EditView) (es : List EditView) (place : Place) (i : ℕ) → IsSound t → i < length t.crates → changed_after (state_of (after t e)) es place i ≡ changed_after (state_of t) (e ∷ es) place i
-front_changed t e es place i h p =
-    let s = state_of t in
-    let all = moves s (e ∷ es) place i in
-    let same_now : Bool = same unfolding_code (unfolding_at s place i) (unfolding_after s (e ∷ []) place i) in
-    let step : change_number (state_of (after t e)) place i ≡ cond same_now (change_number s place i) (t.number + 1) =
-    change_step t e place i h p ∙ ap (λ (x : Unfolding). cond (same unfolding_code (unfolding_at s place i) x) (change_number s place i) (t.number + 1)) (front_unfolding t e [] place i) in
-    ap (λ (m : ℕ → Bool). unwrap_or (option_map (λ n. (after t e).number + n + 1) (last_below m (length es))) (change_number (state_of (after t e)) place i)) (front_moves t e es place i)
-    ∙ numbers t.number (after t e).number (last_below (λ k. all (suc k)) (length es)) same_now (change_number s place i) (change_number (state_of (after t e)) place i) (number_step t e) step
-    ∙ ap (λ (o : Option ℕ). unwrap_or (option_map (λ n. t.number + n + 1) o) (change_number s place i)) (sym (last_front all (length es)))
 
 -- ---- the last edit that moved it, without the tests
 
@@ -112,7 +59,7 @@ unmoved s es place i m h = equal_of_same unfolding_code (unfolding_after s (take
 moved : (s : State) (es : List EditView) (place : Place) (i m : ℕ) → moves s es place i m ≡ true → unfolding_after s (take m es) place i ≢ unfolding_after s (take (suc m) es) place i
 moved s es place i m h e = not_false _ h (same_of_equal unfolding_code (unfolding_after s (take m es) place i) (unfolding_after s (take (suc m) es) place i) e)
 
-change_number_by : (s : State) (es : List EditView) (place : Place) (i : ℕ) → IsChangeNumber s es place i (changed_after s es place i)
+pub change_number_by : (s : State) (es : List EditView) (place : Place) (i : ℕ) → IsChangeNumber s es place i (changed_after s es place i)
 change_number_by s es place i = elim (last_below (moves s es place i) (length es)) as (λ o. last_below (moves s es place i) (length es) ≡ o → IsChangeNumber s es place i (unwrap_or (option_map (λ n. s.number + n + 1) o) (change_number s place i))) [
   | None ↦ λ e. inl (record { number = refl; still = λ m h. unmoved s es place i m (none_is (moves s es place i) (length es) e m h) })
   | Some n ↦ λ e. let r = last_is (moves s es place i) (length es) n e in inr (
@@ -126,66 +73,129 @@ change_number_by s es place i = elim (last_below (moves s es place i) (length es
   )
 ] refl
 
--- ---- the table after all edits is the one that the history tells of
+-- ---- one more edit
 
-pub history : (t : Table) (es : List EditView) → IsSound t → IsSound (after_all t es) × IsAfter (state_of t) es (state_of (after_all t es))
-history t [] h = (
-  h,
-  record {
-    number = omega arith;
-    start = refl;
-    count = refl;
-    crates = λ i. refl;
-    skipped = refl;
-    syntaxes = λ place. refl;
-    unfoldings = λ place i p. refl;
-    changes = λ place i p. refl;
-    last_changes = λ place i p. change_number_by (state_of t) [] place i;
-  },
-)
-history t (e ∷ es) h =
-    let many = same_count t e in
-    let rest = history (after t e) es (sound_step t e h) in
-    let r = rest.1 in (
-      rest.0,
-      record {
-        number = let a = r.number in let b = number_step t e in omega arith;
-        start = r.start ∙ start_step t e;
-        count = r.count ∙ many;
-        crates = λ i. r.crates i ∙ front_crate t e es i;
-        skipped = r.skipped ∙ same_skipped t e;
-        syntaxes = λ place. r.syntaxes place ∙ front_present t e es place;
-        unfoldings = λ place i p. r.unfoldings place i (rw many p) ∙ front_unfolding t e es place i;
-        changes = λ place i p. r.changes place i (rw many p) ∙ front_changed t e es place i h p;
-        last_changes = λ place i p. subst (λ (c : ℕ). IsChangeNumber (state_of t) (e ∷ es) place i c) (sym (r.changes place i (rw many p) ∙ front_changed t e es place i h p)) (change_number_by (state_of t) (e ∷ es) place i);
-      },
-    )
+or_assoc : {A : Type 0} (a b c : Option A) → option_or (option_or a b) c ≡ option_or a (option_or b c)
+or_assoc None b c = refl
+or_assoc (Some x) b c = refl
+
+or_none : {A : Type 0} (a : Option A) → a ≡ option_or a None
+or_none None = refl
+or_none (Some x) = refl
+
+last_more : {A B : Type 0} (f : A → Option B) (xs : List A) (x : A) → last_some f (xs ++ x ∷ []) ≡ option_or (f x) (last_some f xs)
+last_more f [] x = or_none (f x)
+last_more f (y ∷ xs) x = ap (λ o. option_or o (f y)) (last_more f xs x) ∙ or_assoc (f x) (last_some f xs) (f y)
+
+or_else : {A : Type 0} (a b : Option A) (d : A) → unwrap_or (option_or a b) d ≡ unwrap_or a (unwrap_or b d)
+or_else None b d = refl
+or_else (Some x) b d = refl
+
+-- options given, and given again
+under_both : (a b : Option (List AtomView)) (krate : Option CrateView) → under (option_or a b) krate ≡ under a (under b krate)
+under_both None b krate = refl
+under_both (Some o) None krate = refl
+under_both (Some o) (Some p) None = refl
+under_both (Some o) (Some p) (Some krate) = refl
+
+take_front : {A : Type 0} (n : ℕ) (xs ys : List A) → n ≤ length xs → take n (xs ++ ys) ≡ take n xs
+take_front zero xs ys h = refl
+take_front (suc n) [] ys h = absurd (omega arith)
+take_front {A} (suc n) (x ∷ xs) ys h = ap (λ (l : List A). x ∷ l) (take_front n xs ys (omega arith))
+
+length-more : {A : Type 0} (xs : List A) (x : A) → length (xs ++ x ∷ []) ≡ suc (length xs)
+length-more [] x = refl
+length-more (y ∷ xs) x = ap suc (length-more xs x)
+
+same_below : (p q : ℕ → Bool) (n : ℕ) → ((k : ℕ) → k < n → p k ≡ q k) → last_below p n ≡ last_below q n
+same_below p q zero h = refl
+same_below p q (suc n) h = (λ j. cond (h n (omega arith) j) (Some n) (same_below p q n (λ k b. h k (omega arith)) j))
+
+-- the number of the last edit that moved it
+numbers : (s u m now then : ℕ) (b : Bool) (o : Option ℕ) → u ≡ s + m → then ≡ unwrap_or (option_map (λ n. s + n + 1) o) now
+    → unwrap_or (option_map (λ n. u + n + 1) (cond b (Some zero) None)) then ≡ unwrap_or (option_map (λ n. s + n + 1) (cond b (Some m) o)) now
+numbers s u m now then true o e h = omega arith
+numbers s u m now then false o e h = h
+
+module _ (s u v : State) (es : List EditView) (e : EditView) (front : IsAfter s es u) (last : IsAfter u (e ∷ []) v) where
+  abbrev all : List EditView
+  all = es ++ e ∷ []
+
+  more_present : (place : Place) → present_after u (e ∷ []) place ≡ present_after s all place
+  more_present place = ap (unwrap_or (sets place e)) (front.syntaxes place) ∙ sym (or_else (sets place e) (last_some (sets place) es) (present s place)) ∙ ap (λ o. unwrap_or o (present s place)) (sym (last_more (sets place) es e))
+
+  more_crate : (i : ℕ) → crate_after u (e ∷ []) i ≡ crate_after s all i
+  more_crate i = ap (under (gives i e)) (front.crates i) ∙ sym (under_both (gives i e) (last_some (gives i) es) (slice_get s.crates i)) ∙ ap (λ o. under o (slice_get s.crates i)) (sym (last_more (gives i) es e))
+
+  more_unfolding : (place : Place) (i : ℕ) → unfolding_after u (e ∷ []) place i ≡ unfolding_after s all place i
+  more_unfolding place i j = unfolding_of (front.skipped j) place (more_crate i j) (more_present place j)
+
+  more_moves : (place : Place) (i : ℕ) → i < length s.crates → moves u (e ∷ []) place i zero ≡ moves s all place i (length es)
+  more_moves place i p =
+      let before : es ≡ take (length es) all = sym (take_front (length es) es (e ∷ []) (omega arith) ∙ take_all (length es) es (omega arith)) in
+      let whole : all ≡ take (suc (length es)) all = sym (take_all (suc (length es)) all (let n = length-more es e in omega arith)) in
+      (λ j. not (same unfolding_code ((front.unfoldings place i p ∙ ap (λ (xs : List EditView). unfolding_after s xs place i) before) j) ((more_unfolding place i ∙ ap (λ (xs : List EditView). unfolding_after s xs place i) whole) j)))
+
+  old_moves : (place : Place) (i k : ℕ) → k < length es → moves s es place i k ≡ moves s all place i k
+  old_moves place i k p =
+      let a : take k es ≡ take k all = sym (take_front k es (e ∷ []) (omega arith)) in
+      let b : take (suc k) es ≡ take (suc k) all = sym (take_front (suc k) es (e ∷ []) (omega arith)) in
+      λ j. not (same unfolding_code (unfolding_after s (a j) place i) (unfolding_after s (b j) place i))
+
+  more_changed : (place : Place) (i : ℕ) → i < length s.crates → change_number v place i ≡ changed_after s all place i
+  more_changed place i p =
+      let m = length es in
+      let now = change_number s place i in
+      let was = last_below (moves s es place i) m in
+      last.changes place i (rw front.count p)
+      ∙ numbers s.number u.number m now (change_number u place i) (moves u (e ∷ []) place i zero) was front.number (front.changes place i p)
+      ∙ (λ j. unwrap_or (option_map (λ n. s.number + n + 1) (cond (more_moves place i p j) (Some m) (same_below (moves s es place i) (moves s all place i) m (old_moves place i) j))) now)
+      ∙ ap (λ (n : ℕ). unwrap_or (option_map (λ n. s.number + n + 1) (last_below (moves s all place i) n)) now) (sym (length-more es e))
+
+  pub after_more : IsAfter s all v
+  after_more = record {
+    number = let a = front.number in let b = last.number in let c = length-more es e in omega arith;
+    start = last.start ∙ front.start;
+    count = last.count ∙ front.count;
+    crates = λ i. last.crates i ∙ more_crate i;
+    skipped = last.skipped ∙ front.skipped;
+    syntaxes = λ place. last.syntaxes place ∙ more_present place;
+    unfoldings = λ place i p. last.unfoldings place i (rw front.count p) ∙ more_unfolding place i;
+    changes = more_changed;
+    last_changes = λ place i p. subst (λ (c : ℕ). IsChangeNumber s all place i c) (sym (more_changed place i p)) (change_number_by s all place i);
+  }
+
+-- no edit
+pub after_none : (s : State) → IsAfter s [] s
+after_none s = record {
+  number = omega arith;
+  start = refl;
+  count = refl;
+  crates = λ i. refl;
+  skipped = refl;
+  syntaxes = λ place. refl;
+  unfoldings = λ place i p. refl;
+  changes = λ place i p. refl;
+  last_changes = λ place i p. change_number_by s [] place i;
+}
 
 -- ---- what each edit of a list fits
 
-run_present : (t : Table) (es : List EditView) (place : Place) → present (state_of (after_all t es)) place ≡ present_after (state_of t) es place
-run_present t [] place = refl
-run_present t (e ∷ es) place = run_present (after t e) es place ∙ front_present t e es place
-
-run_crate : (t : Table) (es : List EditView) (i : ℕ) → slice_get (after_all t es).crates i ≡ crate_after (state_of t) es i
-run_crate t [] i = refl
-run_crate t (e ∷ es) i = run_crate (after t e) es i ∙ front_crate t e es i
-
-fits_front : (t : Table) (es : List EditView) (e : EditView) → FitsAfter (state_of (after_all t es)) [] e → FitsAfter (state_of t) es e
-fits_front t es (set place syntax) h = λ i. subst (λ (names : List (List ℕ)). TreeFits names place (crate_after (state_of t) es i) (Some syntax)) (same_skipped_all t es) (subst (λ (krate : Option CrateView). TreeFits (after_all t es).skipped place krate (Some syntax)) (run_crate t es i) (h i))
-fits_front t es (remove place) h = tt
-fits_front t es (set_cfg i o) h = λ place.
-    let krate = under (Some o) (crate_after (state_of t) es i) in
-    subst (λ (names : List (List ℕ)). TreeFits names place krate (present_after (state_of t) es place)) (same_skipped_all t es)
-    (subst (λ (syntax : Option SyntaxView). TreeFits (after_all t es).skipped place krate syntax) (run_present t es place)
-    (subst (λ (k : Option CrateView). TreeFits (after_all t es).skipped place (under (Some o) k) (present (state_of (after_all t es)) place)) (run_crate t es i) (h place)))
+fits_front : (s u : State) (es : List EditView) (e : EditView) → IsAfter s es u → FitsAfter u [] e → FitsAfter s es e
+fits_front s u es (set place syntax) after h = λ i. subst (λ (names : List (List ℕ)). TreeFits names place (crate_after s es i) (Some syntax)) after.skipped (subst (λ (krate : Option CrateView). TreeFits u.skipped place krate (Some syntax)) (after.crates i) (h i))
+fits_front s u es (remove place) after h = tt
+fits_front s u es (set_cfg i o) after h = λ place.
+    let krate = under (Some o) (crate_after s es i) in
+    subst (λ (names : List (List ℕ)). TreeFits names place krate (present_after s es place)) after.skipped
+    (subst (λ (syntax : Option SyntaxView). TreeFits u.skipped place krate syntax) (after.syntaxes place)
+    (subst (λ (k : Option CrateView). TreeFits u.skipped place (under (Some o) k) (present u place)) (after.crates i) (h place)))
 
 -- one more edit
-pub fits_more : (t u : Table) (es : List EditView) (n : ℕ) (e : EditView) → FirstFit (state_of t) es n → u ≡ after_all t (take n es) → slice_get es n ≡ Some e → FitsAfter (state_of u) [] e → FirstFit (state_of t) es (n + 1)
-fits_more t u es n e fit is at fits m p = elim (eq_or_below m n (omega (arith, p))) as (λ _. IfSome (slice_get es m) (FitsAfter (state_of t) (take m es))) [
+pub fits_more : (s u : State) (es : List EditView) (n : ℕ) (e : EditView) → FirstFit s es n → IsAfter s (take n es) u → slice_get es n ≡ Some e → FitsAfter u [] e → FirstFit s es (n + 1)
+fits_more s u es n e fit is at fits m p = elim (eq_or_below m n (omega (arith, p))) as (λ _. IfSome (slice_get es m) (FitsAfter s (take m es))) [
   | inl q ↦
-      let now = fits_front t (take n es) e (subst (λ (v : Table). FitsAfter (state_of v) [] e) is fits) in
-      subst (λ (k : ℕ). IfSome (slice_get es k) (FitsAfter (state_of t) (take k es))) (sym q) (subst (λ (o : Option EditView). IfSome o (FitsAfter (state_of t) (take n es))) (sym at) now)
+      let now = fits_front s u (take n es) e is fits in
+      subst (λ (k : ℕ). IfSome (slice_get es k) (FitsAfter s (take k es))) (sym q) (subst (λ (o : Option EditView). IfSome o (FitsAfter s (take n es))) (sym at) now)
   | inr q ↦ fit m q
 ]
 
@@ -209,18 +219,9 @@ kept_low s u es place i after p low = elim (after.last_changes place i p) as (λ
   | inr last ↦ let e = last.1.number in absurd (omega arith)
 ]
 
-bound_is : (t : Table) → IsSound t → (place : Place) (i : ℕ) → i < length t.crates → change_number (state_of t) place i ≤ t.number
-bound_is t h place i p = rw (change_number_is t place i) (h.bounded place i p)
-
-pub grounded : (t : Table) → IsSound t → IsGrounded (state_of t)
-grounded t h = record { started = h.started; empty = λ place i p low. sym (h.trees place i p) ∙ h.grounded place i p (rw (← change_number_is t place i) low) }
-
-pub footing : (t u : Table) (es : List EditView) → IsSound u → IsAfter (state_of t) es (state_of u) → IsFooting (state_of t) (state_of u)
-footing t u es h after = record {
-  bounded = λ place i p. bound_is u h place i (rw after.count p);
-  numbers = λ place i p low. (kept_low (state_of t) (state_of u) es place i after p low).number;
-  trees = λ place i p low. (kept_low (state_of t) (state_of u) es place i after p low).tree;
+pub footing : (s u : State) (es : List EditView) → ((place : Place) (i : ℕ) → i < length u.crates → change_number u place i ≤ u.number) → IsAfter s es u → IsFooting s u
+footing s u es bounded after = record {
+  bounded = λ place i p. bounded place i (rw after.count p);
+  numbers = λ place i p low. (kept_low s u es place i after p low).number;
+  trees = λ place i p low. (kept_low s u es place i after p low).tree;
 }
-
-pub footing_itself : (t : Table) → IsSound t → IsFooting (state_of t) (state_of t)
-footing_itself t h = record { bounded = bound_is t h; numbers = λ place i p low. refl; trees = λ place i p low. refl }

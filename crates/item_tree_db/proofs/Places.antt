@@ -1,5 +1,5 @@
 -- The order of places.
-use Rattle.std.proofs.Common.{◌≡◌, true, false, refl, ap, ◌∙◌, arith}
+use Rattle.std.proofs.Common.{◌≡◌, ◌≢◌, true, false, refl, sym, ap, ◌∙◌, arith, true≢false}
 use Rattle.std.specs.Cmp.{tied_itself}
 use Rattle.std.specs.Ordering.{eq_by_cmp, is_eq, is_lt, ordering_reverse}
 use Rattle.std.specs.declared.cmp.Ordering.{Ordering}
@@ -47,3 +47,12 @@ tests (Block a) (Block b) = grind (arith, nat_tests)
 
 pub same_is : (p q : Place) → same_place q p ≡ true → p ≡ q
 same_is p q h = equal_of p q (tests p q ∙ h)
+
+pub same_here : (p : Place) → same_place p p ≡ true
+same_here p = sym (tests p p) ∙ itself p
+
+pub other_of : (p q : Place) → same_place p q ≡ false → q ≢ p
+other_of p q h e = true≢false (sym (same_here q) ∙ ap (λ (r : Place). same_place r q) e ∙ h)
+
+pub same_away : (p q : Place) → q ≢ p → same_place p q ≡ false
+same_away p q h = elim (same_place p q) as (λ b. same_place p q ≡ b → b ≡ false) [ true ↦ λ t. absurd (h (same_is q p t)) | false ↦ λ t. refl ] refl

@@ -7,8 +7,7 @@ pub mod Refusal
 pub mod Since
 pub mod Source
 pub mod Settled
-pub mod Slots
+pub mod Shelf
 pub mod Walk
 pub mod Table
-pub mod Lowering
 pub mod Codes

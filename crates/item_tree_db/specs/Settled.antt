@@ -1,16 +1,13 @@
 -- Within the crate: the trees of a place under edits.
-use Rattle.std.specs.Prelude.{ℕ, List, [], ◌∷◌, if◌then◌else◌, map, Option, None, Some}
+use Rattle.std.specs.Prelude.{ℕ, List, [], ◌∷◌, if◌then◌else◌, map, Option, Some}
 use Rattle.hir_input.specs.Syntax.{SyntaxView}
-use Rattle.item_tree.specs.declared.crate_data.CrateData.{CrateData}
-use Rattle.item_tree.specs.CrateView.{CrateView, crate_view}
+use Rattle.item_tree.specs.CrateView.{CrateView}
 use Rattle.item_tree.specs.Node.{nothing}
 use Rattle.item_tree.specs.Code.Node.{unfolding_code}
 use Rattle.item_tree.specs.Same.{same}
 use Rattle.item_tree_db.specs.declared.rows.Row.{Row}
 use Rattle.item_tree_db.specs.declared.place.Place.{Place}
-use Rattle.item_tree_db.specs.declared.source.Source.{Source}
-use Rattle.item_tree_db.specs.Source.{source_place, source_view}
-use Rattle.item_tree_db.specs.State.{kept_at, unfolding_of}
+use Rattle.item_tree_db.specs.State.{unfolding_of}
 
 -- the empty tree
 abbrev pub empty_row : ℕ → Row
@@ -35,13 +32,4 @@ fresh_row n skipped place krate syntax = record { tree = unfolding_of skipped pl
 
 -- what edit n brings to a crate when it sets this syntax of a place
 abbrev pub brought : ℕ → List (List ℕ) → Place → SyntaxView → CrateView → Row
-brought n skipped place syntax krate = record { tree = kept_at skipped place syntax krate; changed = n }
-
--- the same before the syntax and the crate are plain data
-abbrev pub brought_to : ℕ → List (List ℕ) → Source → CrateData → Row
-brought_to n skipped source krate = brought n skipped (source_place source) (source_view source) (crate_view krate)
-
--- what edit n brings to a crate of a place at which this is set, if anything is
-abbrev pub fresh_at : ℕ → List (List ℕ) → CrateView → Option Source → Row
-fresh_at n skipped krate None = empty_row n
-fresh_at n skipped krate (Some source) = brought n skipped (source_place source) (source_view source) krate
+brought n skipped place syntax krate = fresh_row n skipped place (Some krate) (Some syntax)

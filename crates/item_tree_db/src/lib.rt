@@ -9,7 +9,6 @@ mod shelf;
 pub mod since;
 mod source;
 pub mod sources;
-mod store;
 pub mod tree_id;
 
 pub use edit::{AllRefused, Edit, EditRefused};

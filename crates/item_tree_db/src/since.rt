@@ -2,7 +2,6 @@
 use crate::place::Place;
 use crate::rows::Row;
 use crate::shelf::Entry;
-use crate::source::Source;
 use hir_input::{Crate, HirFileId};
 use std::collections::btree_map::Iter;
 use std::marker::Model;
@@ -10,7 +9,7 @@ use std::marker::Model;
 /// What changed since a number: places and crates with their change numbers, in order.
 #[derive(Drop)]
 pub struct ChangedSince<'a> {
-    slots: Iter<'a, Place, Entry<Source>>,
+    slots: Iter<'a, Place, Entry>,
     // Of the place at hand: its rows, and the crate that is next.
     place: Place,
     rows: &'a [Row],
@@ -36,7 +35,7 @@ impl<'a> ChangedSince<'a> {
     ghost use Rattle.item_tree_db.specs.Walk.{HasFew, all_changes, late};
 
     /// The change numbers above a bound.
-    pub(crate) fn new(slots: Iter<'a, Place, Entry<Source>>, above: u64) -> Self
+    pub(crate) fn new(slots: Iter<'a, Place, Entry>, above: u64) -> Self
         requires { HasFew slots }
         ensures { result ≡ late above (all_changes slots.entry) }
     {
