@@ -38,19 +38,11 @@ passes_front s u before (set_cfg i options) error after h =
 
 -- the cause of a refusal that is a size
 size_of : (u : State) (edit : EditView) (error : LowerError) → error ≢ OutOfMemory → IsCause u edit (Lower error) → PassesAfter u [] edit error
-size_of u (set place syntax) TooManyItems size cause = cause
-size_of u (set place syntax) TooManyVisibilities size cause = cause
-size_of u (set place syntax) TooManyUseTrees size cause = cause
-size_of u (set place syntax) TooManyAttributes size cause = cause
-size_of u (set place syntax) TooManySupers size cause = cause
-size_of u (set place syntax) OutOfMemory size cause = absurd (size refl)
-size_of u (set_cfg i options) TooManyItems size cause = cause
-size_of u (set_cfg i options) TooManyVisibilities size cause = cause
-size_of u (set_cfg i options) TooManyUseTrees size cause = cause
-size_of u (set_cfg i options) TooManyAttributes size cause = cause
-size_of u (set_cfg i options) TooManySupers size cause = cause
-size_of u (set_cfg i options) OutOfMemory size cause = absurd (size refl)
-size_of u (remove place) error size cause = absurd cause
+size_of u (set place syntax) error size (inl e) = absurd (size e)
+size_of u (set place syntax) error size (inr h) = h
+size_of u (remove place) error size h = absurd h
+size_of u (set_cfg i options) error size (inl e) = absurd (size e)
+size_of u (set_cfg i options) error size (inr h) = h
 
 -- an edit refused in the table after others
 tree_passes : (s u : State) (edits : List EditView) (place : ℕ) (edit : EditView) (error : LowerError)
