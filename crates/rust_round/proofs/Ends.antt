@@ -3,7 +3,7 @@ use Rattle.std.proofs.Common.{◌≡◌, ℕ, ◌||◌, ◌==◌, Bool, true, fa
 use Rattle.rust_cursor.specs.declared.cursor.nest.Before.{Before}
 use Rattle.rust_cursor.specs.declared.cursor.nest.Before.TheVariants as befores
 use Rattle.rust_cursor.specs.Tokens.{Tokens}
-use Rattle.rust_cursor.specs.Words.{symbol, bumped}
+use Rattle.rust_cursor.specs.Words.{bumped}
 use Rattle.rust_cursor.specs.Extents.{ExcerptRead, excerpt, goes_on, item_rest, value_rest}
 use Rattle.rust_cursor.proofs.Rests.{taking_rest, item_rest_taking, value_rest_taking, stops_here, ends_here, rest_end}
 use Rattle.rust_round.specs.Trees.{mark, curly, open_of, close_of, Trees, group, tree_words, trees_words, AreTrees, GoesOn, angles_behind, angles_behind_all, before_behind, and_words, spaced}

@@ -1,8 +1,7 @@
 -- Generics, the types of fields and the headers of impls are passed over.
-use Rattle.std.proofs.Common.{◌≡◌, ℕ, ◌+◌, ◌-◌, ◌==◌, ◌||◌, ◌&&◌, Bool, true, false, Option, Some, None, List, [], ◌∷◌, ◌++◌, codes, refl, ap, ◌∙◌, sym, subst, append_assoc}
+use Rattle.std.proofs.Common.{◌≡◌, ℕ, ◌==◌, ◌||◌, ◌&&◌, Bool, true, false, Option, Some, None, List, [], ◌∷◌, ◌++◌, codes, refl, ap, ◌∙◌, sym, subst, append_assoc}
 use Rattle.std.specs.Prelude.{if◌then◌else◌, not, is_some}
 use Rattle.std.specs.Str.{bytes_eq}
-use Rattle.rust_cursor.specs.declared.cursor.generics.Reach.{Reach}
 use Rattle.rust_cursor.specs.declared.cursor.generics.Reach.TheVariants as reaches
 use Rattle.rust_cursor.specs.declared.cursor.nest.Before.{Before}
 use Rattle.rust_cursor.specs.declared.cursor.nest.Before.TheVariants as befores
@@ -10,7 +9,7 @@ use Rattle.rust_cursor.specs.Tokens.{Tokens}
 use Rattle.rust_cursor.specs.Words.{symbol, word, is_at_end, bumped}
 use Rattle.rust_cursor.specs.Extents.{begins}
 use Rattle.rust_cursor.specs.Nests.{is_dash, nest_behind}
-use Rattle.rust_cursor.specs.Angles.{begins_binder, is_lone_for, is_header_end, is_barred, is_reached, is_closed, reaching, reached, behind_angles, behind_field, is_trait_impl}
+use Rattle.rust_cursor.specs.Angles.{begins_binder, is_lone_for, is_header_end, is_reached, is_closed, reaching, reached, behind_angles, behind_field, is_trait_impl}
 use Rattle.rust_cursor.proofs.Reaches.{reaching_stop, reaching_end}
 use Rattle.rust_round.specs.Words.{Word}
 use Rattle.rust_round.specs.Trees.{mark, Bracket, round, square, curly, open_of, close_of, Tree, single, group, Trees, no_trees, tree_and, tree_words, trees_words, IsTree, AreTrees, first_of, GoesBehind, GoesOn, AreClosed, angles_behind, angles_behind_all, before_behind}
@@ -18,9 +17,9 @@ use Rattle.rust_round.specs.Trees as trees
 use Rattle.rust_round.specs.Impls.{before_behind_all, trees_append, StaysOpen, AreGenerics, generics, is_header_word, HasNoComma, IsFieldType, IsOnePart, IsPart, ImplHeader, trait_part, where_part, type_part, behind_generics, header_trees, HasGenerics, HasTrait, IsImplHeader}
 use Rattle.rust_round.proofs.Begins.{Shows, Begins, behind, behind_append, begins_left, begins_right}
 use Rattle.rust_round.proofs.Same.{shows_first}
-use Rattle.rust_round.proofs.Nested.{nest, and_false, no_first, plain_word, IsOther}
-use Rattle.rust_round.proofs.Flat.{flat_word, mark_begins, open_begins}
-use Rattle.rust_round.proofs.Reaching.{Passes, passes_append, passes_word, passes_trees, IsBefore, AreBefore, may_be_other, open_no_block, flat_reached}
+use Rattle.rust_round.proofs.Nested.{nest, and_false, plain_word}
+use Rattle.rust_round.proofs.Flat.{flat_word, mark_begins}
+use Rattle.rust_round.proofs.Reaching.{Passes, passes_word, passes_trees, IsBefore, AreBefore, may_be_other, open_no_block, flat_reached}
 
 -- the words of one trees behind another
 pub append_words : (ts us : Trees) → trees_words (trees_append ts us) ≡ trees_words ts ++ trees_words us
@@ -262,25 +261,25 @@ none_before_block t more ts h p b =
 -- ---- all before a block
 
 -- the words of these trees, and a block behind them
-abbrev Holds : Trees → List Word → Tokens → Type 0
-Holds t more ts = Begins (trees_words t ++ open_of curly ∷ more) ts
+abbrev HasBlock : Trees → List Word → Tokens → Type 0
+HasBlock t more ts = Begins (trees_words t ++ open_of curly ∷ more) ts
 
-split_holds : (t u : Trees) (more : List Word) (ts : Tokens) → Holds (trees_append t u) more ts → Begins (trees_words t ++ (trees_words u ++ open_of curly ∷ more)) ts
-split_holds t u more ts b =
+split_block : (t u : Trees) (more : List Word) (ts : Tokens) → HasBlock (trees_append t u) more ts → Begins (trees_words t ++ (trees_words u ++ open_of curly ∷ more)) ts
+split_block t u more ts b =
     subst (λ l. Begins l ts) (ap (λ l. l ++ open_of curly ∷ more) (append_words t u) ∙ append_assoc (trees_words t) (trees_words u) (open_of curly ∷ more)) b
 
-type_found : (s : Trees) (w : Option Trees) (more : List Word) (ts : Tokens) → AreTrees s → IsPart s (first_of (where_part w) (open_of curly)) → Holds (trees_append s (where_part w)) more ts → is_trait_impl ts ≡ false
-type_found s None more ts h p b = none_before_block s more ts h p (split_holds s no_trees more ts b)
-type_found s (Some w) more ts h p b = none_before_where s (trees_words w ++ open_of curly ∷ more) ts h p (split_holds s (where_part (Some w)) more ts b)
+type_found : (s : Trees) (w : Option Trees) (more : List Word) (ts : Tokens) → AreTrees s → IsPart s (first_of (where_part w) (open_of curly)) → HasBlock (trees_append s (where_part w)) more ts → is_trait_impl ts ≡ false
+type_found s None more ts h p b = none_before_block s more ts h p (split_block s no_trees more ts b)
+type_found s (Some w) more ts h p b = none_before_where s (trees_words w ++ open_of curly ∷ more) ts h p (split_block s (where_part (Some w)) more ts b)
 
 trait_read : (h : ImplHeader) (of_trait : Option Trees) (more : List Word) (ts : Tokens) → HasTrait of_trait h → AreTrees (trees_append (trait_part of_trait) (type_part h))
-    → Holds (trees_append (trait_part of_trait) (type_part h)) more ts → is_trait_impl ts ≡ is_some of_trait
+    → HasBlock (trees_append (trait_part of_trait) (type_part h)) more ts → is_trait_impl ts ≡ is_some of_trait
 trait_read h None more ts p a b = type_found h.self_type h.where_clause more ts (append_trees h.self_type (where_part h.where_clause) a).0 p b
 trait_read h (Some t) more ts p a b =
     let end = tree_and (single (trees.word (codes "for"))) no_trees in
     let tail = trees_words (type_part h) ++ open_of curly ∷ more in
     let parts = append_trees t end (append_trees (trees_append t end) (type_part h) a).0 in
-    let all : Begins (trees_words (trees_append t end) ++ tail) ts = split_holds (trees_append t end) (type_part h) more ts b in
+    let all : Begins (trees_words (trees_append t end) ++ tail) ts = split_block (trees_append t end) (type_part h) more ts b in
     let split : Begins (trees_words t ++ trees.word (codes "for") ∷ tail) ts = subst (λ l. Begins l ts) (ap (λ l. l ++ tail) (append_words t end) ∙ append_assoc (trees_words t) (trees_words end) tail) all in
     let behind_for = (begins_right (trees_words t) (trees.word (codes "for") ∷ tail) ts split).1 in
     trait_found t (first_of (type_part h) (open_of curly)) tail ts parts.0 p.0 p.1 split (shows_first (type_part h) (open_of curly) more (bumped (behind (trees_words t) ts)) behind_for)
@@ -290,14 +289,14 @@ unfolding behind_angles
 no_generics w ts s e = rw (s.symbol_is, e) refl
 
 impl_read : (h : ImplHeader) (g : Option Trees) (more : List Word) (ts : Tokens) → HasGenerics g (first_of (behind_generics h) (open_of curly)) → HasTrait h.of_trait h → AreTrees (trees_append (generics g) (behind_generics h))
-    → Holds (trees_append (generics g) (behind_generics h)) more ts → is_trait_impl (behind_angles ts) ≡ is_some h.of_trait
+    → HasBlock (trees_append (generics g) (behind_generics h)) more ts → is_trait_impl (behind_angles ts) ≡ is_some h.of_trait
 impl_read h None more ts g p a b =
     ap is_trait_impl (no_generics (first_of (behind_generics h) (open_of curly)) ts (shows_first (behind_generics h) (open_of curly) more ts b) g) ∙ trait_read h h.of_trait more ts p a b
 impl_read h (Some is) more ts g p a b =
     let front = generics (Some is) in
     let all = append_trees front (behind_generics h) a in
     let tail = trees_words (behind_generics h) ++ open_of curly ∷ more in
-    let split : Begins (enclosed is ++ tail) ts = subst (λ l. Begins (l ++ tail) ts) (generics_words is) (split_holds front (behind_generics h) more ts b) in
+    let split : Begins (enclosed is ++ tail) ts = subst (λ l. Begins (l ++ tail) ts) (generics_words is) (split_block front (behind_generics h) more ts b) in
     ap is_trait_impl (generics_passed is ts (append_trees is (tree_and (single (mark 62)) no_trees) all.0.1).0 g (begins_left (enclosed is) tail ts split))
     ∙ trait_read h h.of_trait more (behind (enclosed is) ts) p all.1 (begins_right (enclosed is) tail ts split)
 

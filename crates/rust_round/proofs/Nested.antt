@@ -1,17 +1,16 @@
 -- In which brackets what stands behind words is.
-use Rattle.std.proofs.Common.{◌≡◌, ◌≤◌, ℕ, ◌+◌, ◌-◌, ◌==◌, ◌||◌, ◌&&◌, Bool, true, false, List, [], ◌∷◌, ◌++◌, refl, ap, ◌∙◌, sym, subst, arith}
-use Rattle.std.specs.Prelude.{if◌then◌else◌, not}
+use Rattle.std.proofs.Common.{◌≡◌, ◌≤◌, ℕ, ◌+◌, ◌-◌, ◌==◌, ◌||◌, ◌&&◌, Bool, true, false, refl, ap, ◌∙◌, arith}
+use Rattle.std.specs.Prelude.{if◌then◌else◌}
 use Rattle.std.proofs.lemmas.Bool.Decides.{nat_tests}
 use Rattle.rust_cursor.specs.declared.cursor.nest.Before.{Before}
 use Rattle.rust_cursor.specs.declared.cursor.nest.Before.TheVariants as befores
 use Rattle.rust_cursor.specs.declared.cursor.nest.Nest.{Nest}
 use Rattle.rust_cursor.specs.Tokens.{Tokens}
-use Rattle.rust_cursor.specs.Words.{symbol, bumped}
+use Rattle.rust_cursor.specs.Words.{symbol}
 use Rattle.rust_cursor.specs.Nests.{is_mark, is_flat, nest_behind}
 use Rattle.rust_cursor.specs.Nests as nests
-use Rattle.rust_cursor.specs.Extents as extents
 use Rattle.rust_round.specs.Words.{Word}
-use Rattle.rust_round.specs.Trees.{Bracket, round, square, curly, open_of, close_of, Tree, single, group, Trees, no_trees, tree_and, tree_words, trees_words, is_bracket, IsTree, AreTrees, first_of, Unless, StaysIn}
+use Rattle.rust_round.specs.Trees.{Bracket, round, square, curly, open_of, close_of, single, is_bracket, IsTree}
 use Rattle.rust_round.proofs.Begins.{Shows}
 
 -- in so many braces, in so many other brackets opened in them, in so many around them, of which from this one on any tokens may

@@ -15,7 +15,7 @@ use Rattle.rust_round.specs.Trees as trees
 use Rattle.rust_round.specs.Impls.{before_behind_all}
 use Rattle.rust_round.proofs.Begins.{Shows, Begins, behind, behind_append, begins_left, begins_right}
 use Rattle.rust_round.proofs.Same.{shows_first}
-use Rattle.rust_round.proofs.Nested.{nest, not_zero, and_false, plain_word, IsOther, free_in, out_open, out_close, out_enter, in_leave}
+use Rattle.rust_round.proofs.Nested.{nest, and_false, plain_word, IsOther, free_in, out_open, out_close, out_enter, in_leave}
 use Rattle.rust_round.proofs.Stays.{stays, Stays, Within, within, open_no_end, close_no_end, close_no_item, trees_braces}
 use Rattle.rust_round.proofs.Flat.{flat_word, word_begins, open_begins}
 

@@ -1,18 +1,17 @@
 -- What is passed over up to what is looked for.
-use Rattle.std.proofs.Common.{◌≡◌, ℕ, ◌+◌, ◌==◌, ◌||◌, ◌&&◌, Bool, true, false, List, [], ◌∷◌, ◌++◌, codes, refl, ap, ◌∙◌, sym, subst, append_assoc}
+use Rattle.std.proofs.Common.{◌≡◌, ℕ, ◌+◌, ◌==◌, ◌||◌, ◌&&◌, Bool, true, false, List, [], ◌∷◌, ◌++◌, refl, ap, ◌∙◌, sym, subst, append_assoc}
 use Rattle.std.specs.Prelude.{if◌then◌else◌, not}
-use Rattle.std.specs.Str.{bytes_eq}
 use Rattle.rust_cursor.specs.declared.cursor.generics.Reach.{Reach}
 use Rattle.rust_cursor.specs.declared.cursor.generics.Reach.TheVariants as reaches
 use Rattle.rust_cursor.specs.declared.cursor.nest.Before.{Before}
 use Rattle.rust_cursor.specs.declared.cursor.nest.Before.TheVariants as befores
 use Rattle.rust_cursor.specs.declared.cursor.nest.Nest.{Nest}
 use Rattle.rust_cursor.specs.Tokens.{Tokens}
-use Rattle.rust_cursor.specs.Words.{symbol, word, is_empty, is_at_end, bumped}
+use Rattle.rust_cursor.specs.Words.{symbol, is_empty, is_at_end, bumped}
 use Rattle.rust_cursor.specs.Nests.{is_mark, is_flat, nest_behind}
 use Rattle.rust_cursor.specs.Extents.{begins, begins_item, begins_behind, begins_within}
-use Rattle.rust_cursor.specs.Angles.{is_lone_for, is_header_end, is_block_end, is_barred, is_reached, is_closed, reaching, reached, to_block}
-use Rattle.rust_cursor.proofs.Reaches.{reaching_stop, reaching_end, reaching_more}
+use Rattle.rust_cursor.specs.Angles.{is_header_end, is_block_end, is_barred, is_reached, is_closed, reaching, reached, to_block}
+use Rattle.rust_cursor.proofs.Reaches.{reaching_stop, reaching_more}
 use Rattle.rust_round.specs.Words.{Word}
 use Rattle.rust_round.specs.Trees.{Bracket, round, square, curly, open_of, close_of, Tree, single, group, Trees, no_trees, tree_and, tree_words, trees_words, IsTree, AreTrees, first_of, Holds, MayStand, GoesBehind, GoesOn, AreClosed, angles_behind, angles_behind_all, before_behind}
 use Rattle.rust_round.specs.Trees as trees
@@ -20,7 +19,7 @@ use Rattle.rust_round.specs.Impls.{before_behind_all}
 use Rattle.rust_round.proofs.Begins.{Shows, Begins, behind, behind_append, begins_left, begins_right}
 use Rattle.rust_round.proofs.Same.{shows_first}
 use Rattle.rust_round.proofs.Nested.{nest, and_false, plain_word, IsOther, free_in, out_open, out_close}
-use Rattle.rust_round.proofs.Stays.{stays, Stays, Within, within, open_no_end, close_no_end, close_no_item}
+use Rattle.rust_round.proofs.Stays.{stays, Stays, within, open_no_end, close_no_end, close_no_item}
 use Rattle.rust_round.proofs.Flat.{flat_word, word_begins, open_begins}
 
 -- these words are passed over, from one nest to another

@@ -1,11 +1,11 @@
 -- What is said of words is so of the tokens that they are.
-use Rattle.std.proofs.Common.{◌≡◌, ℕ, ◌==◌, ◌||◌, ◌&&◌, Bool, true, false, List, [], ◌∷◌, ◌++◌, refl, arith}
-use Rattle.std.specs.Prelude.{if◌then◌else◌, not}
+use Rattle.std.proofs.Common.{◌≡◌, ℕ, ◌==◌, ◌&&◌, Bool, true, false, List, ◌∷◌, ◌++◌, refl, arith}
+use Rattle.std.specs.Prelude.{if◌then◌else◌}
 use Rattle.std.proofs.lemmas.Bool.Decides.{nat_tests}
 use Rattle.rust_cursor.specs.declared.cursor.nest.Before.{Before}
 use Rattle.rust_cursor.specs.declared.cursor.nest.Before.TheVariants as befores
 use Rattle.rust_cursor.specs.Tokens.{Tokens}
-use Rattle.rust_cursor.specs.Words.{at, symbol, is_glued, bumped}
+use Rattle.rust_cursor.specs.Words.{at, is_glued, bumped}
 use Rattle.rust_cursor.specs.Nests as nests
 use Rattle.rust_cursor.specs.Extents as extents
 use Rattle.rust_round.specs.Words.{Link, joined, apart, free, Word, IsAt}

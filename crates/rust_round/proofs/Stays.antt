@@ -1,5 +1,5 @@
 -- What stands in brackets is passed over, and leaves them as they were.
-use Rattle.std.proofs.Common.{◌≡◌, ◌≤◌, ℕ, ◌+◌, ◌==◌, ◌||◌, ◌&&◌, Bool, true, false, List, [], ◌∷◌, ◌++◌, refl, ap, ◌∙◌, sym, subst, arith, append_assoc}
+use Rattle.std.proofs.Common.{◌≡◌, ◌≤◌, ℕ, ◌+◌, ◌==◌, ◌&&◌, Bool, true, false, List, [], ◌∷◌, ◌++◌, refl, ap, ◌∙◌, sym, subst, arith, append_assoc}
 use Rattle.std.specs.Prelude.{if◌then◌else◌, not}
 use Rattle.rust_cursor.specs.declared.cursor.nest.Before.{Before}
 use Rattle.rust_cursor.specs.declared.cursor.nest.Before.TheVariants as befores
@@ -12,7 +12,7 @@ use Rattle.rust_cursor.specs.Extents.{begins_item, begins_within}
 use Rattle.rust_round.specs.Words.{Word}
 use Rattle.rust_round.specs.Trees.{Bracket, round, square, curly, open_of, close_of, Tree, single, group, Trees, no_trees, tree_and, tree_words, trees_words, IsTree, AreTrees, first_of, Unless, StaysIn, Holds}
 use Rattle.rust_round.specs.Trees as trees
-use Rattle.rust_round.proofs.Begins.{Shows, Begins, behind, behind_append, begins_left, begins_right}
+use Rattle.rust_round.proofs.Begins.{Shows, Begins, behind, begins_left, begins_right}
 use Rattle.rust_round.proofs.Same.{shows_first, within_same, before_same}
 use Rattle.rust_round.proofs.Nested.{nest, not_zero, plain_word, IsOther, in_plain, in_open, in_close, in_enter, in_leave, out_plain, free_in, out_open, free_open, out_close, free_close, out_enter, and_false}
 

@@ -1,11 +1,11 @@
 -- Generics, the types of fields, and what stands between `impl` and its block.
-use Rattle.std.specs.Prelude.{◌≡◌, ℕ, ◌==◌, ◌&&◌, ◌||◌, Bool, true, false, Option, Some, None, List, codes}
+use Rattle.std.specs.Prelude.{◌≡◌, ℕ, ◌==◌, ◌&&◌, ◌||◌, Bool, false, Option, Some, None, List, codes}
 use Rattle.std.specs.Str.{bytes_eq}
 use Rattle.rust_cursor.specs.declared.cursor.nest.Before.{Before}
 use Rattle.rust_cursor.specs.declared.cursor.nest.Before.TheVariants as befores
 use Rattle.rust_cursor.specs.Nests.{is_dash}
 use Rattle.rust_round.specs.Words.{Word}
-use Rattle.rust_round.specs.Trees.{word, mark, text_of, symbol_of, Tree, single, group, Trees, no_trees, tree_and, open_of, curly, first_of, before_behind, GoesBehind, GoesOn, AreClosed, angles_behind, angles_behind_all}
+use Rattle.rust_round.specs.Trees.{word, mark, text_of, symbol_of, single, group, Trees, no_trees, tree_and, open_of, curly, first_of, before_behind, GoesBehind, GoesOn, AreClosed, angles_behind, angles_behind_all}
 
 abbrev pub trees_append : Trees → Trees → Trees
 trees_append no_trees us = us

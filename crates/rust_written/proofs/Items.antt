@@ -29,7 +29,7 @@ use Rattle.rust_round.specs.Impls.{ImplHeader, header_trees}
 use Rattle.rust_round.proofs.Begins.{Shows, Begins, behind, behind_append, begins_left, begins_right, past_behind}
 use Rattle.rust_round.proofs.Same.{shows_first}
 use Rattle.rust_written.specs.Written.{Front, front_words, front_view, impl_front, AreModifiers, BlockKind, functions, unions, enums, traits, block_word, block_kind, ValueKind, statics, aliases, constants, value_word, value_id, Item, Items, blocked, valued, structure, Shape, struct_words, implemented, file_module, module_of, used, no_more, also, braced, ended, item_words, words, item_view, views, row, item_rows, rows, IsNamed, IsItem, AreItems}
-use Rattle.rust_written.specs.UseTrees.{UseTree, use_words, IsUse}
+use Rattle.rust_written.specs.UseTrees.{UseTree, use_words}
 use Rattle.rust_written.proofs.Uses.{fewer_left}
 use Rattle.rust_written.proofs.Fronts.{inner_none, first_shows, block_head, block_heads, value_head, value_heads, struct_heads, impl_heads, use_heads, module_heads, Heads, front_at, front_reads, named_at, named_reads}
 use Rattle.rust_written.proofs.Leaves.{Reads, blocked_reads, value_reads, structure_reads, impl_reads, used_reads}

@@ -6,19 +6,18 @@ use Rattle.rust_lexer.proofs.Counted.{when}
 use Rattle.hir_input.specs.declared.ids.AstIdKind.{AstIdKind}
 use Rattle.hir_input.specs.declared.ids.AstIdKind.TheVariants as kind
 use Rattle.hir_input.specs.declared.ast.Visibility.{Visibility}
-use Rattle.hir_input.specs.Syntax.{ItemView, PlainKind, fn_kind, union_kind, enum_kind, static_kind, trait_kind, type_alias_kind, ast_kind, plain_item, const_item, struct_item, impl_item, FieldsView, no_fields, record_fields}
-use Rattle.std.proofs.lemmas.Slice.Eq.{bytes_eq-Decides}
+use Rattle.hir_input.specs.Syntax.{ItemView, PlainKind, fn_kind, union_kind, enum_kind, static_kind, trait_kind, type_alias_kind, ast_kind, plain_item, const_item, struct_item, impl_item, FieldsView}
 use Rattle.rust_paths.specs.Names.{plain_name, is_strict_keyword}
 use Rattle.rust_paths.specs.declared.names.TextRange.{TextRange}
 use Rattle.rust_cursor.specs.Tokens.{Tokens}
 use Rattle.rust_cursor.specs.Reader.{Reader}
 use Rattle.rust_cursor.specs.Words.{symbol, word, bumped, documents, eat_word}
 use Rattle.rust_cursor.specs.Extents.{ExcerptRead, goes_on, item_rest, value_rest}
-use Rattle.rust_cursor.specs.Angles.{behind_angles, to_block}
+use Rattle.rust_cursor.specs.Angles.{to_block}
 use Rattle.rust_metas.specs.Attributes.{inner_attributes}
 use Rattle.rust_leaves.specs.declared.head.Head.{Head}
 use Rattle.rust_leaves.specs.declared.head.Head.TheVariants as heads
-use Rattle.rust_leaves.specs.Leaves.{NameRead, RestRead, no_name, named, has_trait, item_end, value_end, block_attributes, fields_at, struct_fields}
+use Rattle.rust_leaves.specs.Leaves.{NameRead, RestRead, no_name, named, has_trait, item_end, value_end, block_attributes, struct_fields}
 use Rattle.rust_leaves.specs.Kinds.{named_node, plain_read, leaf_read, function, block_item, union_item, enumeration, trait_item, type_alias, static_value, constant, structure, implementation, leaf}
 use Rattle.hir_input.specs.UseTreeView.{UseTreeView}
 use Rattle.hir_input.specs.Syntax.{use_item}

@@ -1,16 +1,15 @@
 -- Structs: their generics, and their fields.
-use Rattle.std.proofs.Common.{◌≡◌, ◌≤◌, ◌<◌, ℕ, zero, suc, ◌+◌, ◌==◌, ◌||◌, ◌&&◌, Bool, true, false, Option, Some, None, List, [], ◌∷◌, ◌++◌, codes, length, refl, ap, ◌∙◌, sym, subst, arith, append_assoc, append-nil}
+use Rattle.std.proofs.Common.{◌≡◌, ◌≤◌, ◌<◌, ℕ, zero, suc, ◌+◌, ◌==◌, ◌||◌, Bool, true, false, Option, Some, None, List, [], ◌∷◌, ◌++◌, codes, length, refl, ap, ◌∙◌, sym, subst, arith, append_assoc, append-nil}
 use Rattle.std.specs.Prelude.{map}
-use Rattle.std.specs.Str.{bytes_eq}
 use Rattle.hir_input.specs.declared.ast.Visibility.{Visibility}
-use Rattle.hir_input.specs.Syntax.{FieldsView, no_fields, record_fields, tuple_fields}
+use Rattle.hir_input.specs.Syntax.{no_fields, record_fields, tuple_fields}
 use Rattle.rust_cursor.specs.declared.cursor.generics.Reach.TheVariants as reaches
 use Rattle.rust_cursor.specs.declared.cursor.nest.Before.{Before}
 use Rattle.rust_cursor.specs.declared.cursor.nest.Before.TheVariants as befores
 use Rattle.rust_cursor.specs.Tokens.{Tokens}
-use Rattle.rust_cursor.specs.Words.{symbol, word, at, is_at_end, bumped, documents, eat}
+use Rattle.rust_cursor.specs.Words.{is_at_end, bumped, documents, eat}
 use Rattle.rust_cursor.specs.Elements.{most, turns, turns_from, one, beyond}
-use Rattle.rust_cursor.specs.Angles.{is_reached, reached, reaching, behind_angles, behind_field, to_block}
+use Rattle.rust_cursor.specs.Angles.{is_reached, reached, behind_field, to_block}
 use Rattle.rust_cursor.proofs.Nesting.{shorter}
 use Rattle.rust_cursor.proofs.Reaches.{reaching_stop}
 use Rattle.rust_cursor.proofs.Turns.{turns_stop}
@@ -20,7 +19,7 @@ use Rattle.rust_leaves.specs.Leaves.{field, fields, fields_at, struct_fields}
 use Rattle.rust_round.specs.Words.{Word}
 use Rattle.rust_round.specs.Trees.{mark, Bracket, round, curly, open_of, close_of, close_mark, Tree, single, group, Trees, no_trees, tree_and, tree_words, trees_words, AreTrees, first_of, GoesOn, AreClosed}
 use Rattle.rust_round.specs.Trees as trees
-use Rattle.rust_round.specs.Impls.{before_behind_all, trees_append, where_part, generics, HasGenerics, IsFieldType}
+use Rattle.rust_round.specs.Impls.{before_behind_all, trees_append, where_part, generics}
 use Rattle.rust_round.proofs.Begins.{Shows, Begins, behind, behind_append, begins_left, begins_right}
 use Rattle.rust_round.proofs.Same.{shows_first}
 use Rattle.rust_round.proofs.Nested.{nest}

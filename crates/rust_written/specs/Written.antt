@@ -15,7 +15,7 @@ use Rattle.rust_leaves.specs.Texts.{bare}
 use Rattle.rust_round.specs.Words.{Word}
 use Rattle.rust_round.specs.Impls.{trees_append, where_part, generics, HasGenerics, IsFieldType, ImplHeader, header_trees, IsImplHeader}
 use Rattle.rust_written.specs.UseTrees.{UseTree, use_words, use_view, IsUse}
-use Rattle.rust_round.specs.Trees.{word, mark, open_mark, close_mark, symbol_of, text_of, round, curly, open_of, close_of, Tree, single, group, Trees, no_trees, tree_and, tree_words, trees_words, AreTrees, first_of, GoesOn, AreClosed, spaced}
+use Rattle.rust_round.specs.Trees.{word, mark, open_mark, close_mark, symbol_of, text_of, round, curly, open_of, close_of, single, group, Trees, no_trees, tree_and, tree_words, trees_words, AreTrees, first_of, GoesOn, AreClosed, spaced}
 
 -- ---- visibilities
 
