@@ -1,13 +1,74 @@
 -- Positions from place to place.
-use Rattle.std.proofs.Common.{◌≡◌, ℕ, ◌+◌, ◌-◌, ◌≤◌, List, [], ◌∷◌, ◌++◌, sym, take, drop, length, length-take, min, refl, ap, ◌∙◌, arith, rules}
-use Rattle.std.proofs.lemmas.List.{take_min}
+use Rattle.std.proofs.Common.{◌≡◌, ◌≢◌, ℕ, Bool, true, false, cond, ⊎_elim, ◌+◌, ◌-◌, ◌≤◌, ◌==◌, List, [], ◌∷◌, ◌++◌, sym, take, drop, length, length-take, min, refl, ap, ◌∙◌, arith, rules}
+use Rattle.std.proofs.lemmas.List.{take_min, take_all, take_more}
 use Rattle.std.proofs.Math.Seq.{take-add}
+use Rattle.std.specs.List.{count_by}
+use Rattle.std.specs.Prelude.{if◌then◌else◌, slice_index_or}
+use Rattle.std.proofs.lemmas.Bool.{cases_Bool, ne_eqb}
+use Rattle.std.proofs.lemmas.List.Recursion.{is_count_by}
 use Rattle.line_index.specs.declared.Position.{Position}
-use Rattle.line_index.specs.Positions.{behind, behind_byte, start, position_of}
+use Rattle.line_index.specs.Positions.{is_continuation, behind, behind_byte, start, position_of}
 
 behind_both : (p : Position) (a b : List ℕ) → behind p (a ++ b) ≡ behind (behind p a) b
 behind_both p [] b = refl
 behind_both p (x ∷ a) b = behind_both (behind_byte p x) a b
+
+last_byte : List ℕ → ℕ
+last_byte z = slice_index_or z (length z - 1) 0
+
+others : List ℕ → List ℕ
+others z = take (length z - 1) z
+
+last_is : (z : List ℕ) → 1 ≤ length z → z ≡ others z ++ last_byte z ∷ []
+unfolding others last_byte
+last_is z h =
+    let whole : length z - 1 + 1 ≡ length z = omega arith in
+    sym (take_all (length z) z (omega arith)) ∙ ap (λ n. take n z) (sym whole) ∙ take_more z (length z - 1) 0 (omega arith)
+
+behind_last : (p : Position) (z : List ℕ) → 1 ≤ length z → behind p z ≡ behind_byte (behind p (others z)) (last_byte z)
+behind_last p z h = ap (behind p) (last_is z h) ∙ behind_both p (others z) (last_byte z ∷ [])
+
+at_feed : (p : Position) (b : ℕ) → b ≡ 10 → (behind_byte p b).column ≡ 1
+at_feed p b e = rw e refl
+
+at_other : (p : Position) (b : ℕ) → b ≢ 10 → (behind_byte p b).column ≡ (if is_continuation b then p.column else p.column + 1)
+at_other p b e =
+    let no : (b == 10) ≡ false = ne_eqb b 10 e in
+    ⊎_elim (λ (c : is_continuation b ≡ true). rw (no, c) refl) (λ (c : is_continuation b ≡ false). rw (no, c) refl) (cases_Bool (is_continuation b))
+
+-- the column behind a text, by its last byte
+pub behind_feed : (p : Position) (z : List ℕ) → 1 ≤ length z → slice_index_or z (length z - 1) 0 ≡ 10 → (behind p z).column ≡ 1
+unfolding last_byte
+behind_feed p z h e = ap (λ q. q.column) (behind_last p z h) ∙ at_feed (behind p (others z)) (last_byte z) e
+
+pub behind_other : (p : Position) (z : List ℕ) (is : Bool) → 1 ≤ length z → slice_index_or z (length z - 1) 0 ≢ 10 → is ≡ is_continuation (slice_index_or z (length z - 1) 0)
+    → (behind p z).column ≡ (if is then (behind p (take (length z - 1) z)).column else (behind p (take (length z - 1) z)).column + 1)
+unfolding last_byte others
+behind_other p z is h e f = rw f (ap (λ q. q.column) (behind_last p z h) ∙ at_other (behind p (others z)) (last_byte z) e)
+
+feeds : List ℕ → ℕ
+feeds [] = 0
+feeds (b ∷ z) = cond (b == 10) (1 + feeds z) (feeds z)
+
+feeds_counted : (z : List ℕ) → feeds z ≡ count_by (λ b. b == 10) z
+unfolding feeds
+feeds_counted z = is_count_by feeds (λ b. b == 10) refl (λ b z. refl) z
+
+line_of_byte : (p : Position) (b n : ℕ) → (behind_byte p b).line + n ≡ p.line + cond (b == 10) (1 + n) n
+line_of_byte p b n =
+    ⊎_elim (λ (e : (b == 10) ≡ true). rw e (omega arith))
+    (λ (e : (b == 10) ≡ false).
+    ⊎_elim (λ (c : is_continuation b ≡ true). rw (e, c) refl) (λ (c : is_continuation b ≡ false). rw (e, c) refl) (cases_Bool (is_continuation b)))
+    (cases_Bool (b == 10))
+
+line_from_feeds : (p : Position) (z : List ℕ) → (behind p z).line ≡ p.line + feeds z
+unfolding feeds
+line_from_feeds p [] = omega arith
+line_from_feeds p (b ∷ z) = line_from_feeds (behind_byte p b) z ∙ line_of_byte p b (feeds z)
+
+-- each line feed ends a line
+pub line_is : (p : Position) (z : List ℕ) → (behind p z).line ≡ p.line + count_by (λ b. b == 10) z
+line_is p z = line_from_feeds p z ∙ ap (λ n. p.line + n) (feeds_counted z)
 
 sum_of : (from at : ℕ) → from ≤ at → from + (at - from) ≡ at
 sum_of from at e = omega arith

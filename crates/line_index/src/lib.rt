@@ -1,7 +1,8 @@
 //! Lines and columns of places in a text.
 #![tactic(auto)]
 
-ghost use Rattle.std.specs.Prelude.{◌≡◌, ◌≤◌, ◌<◌, ◌+◌, ◌^◌, length, List, ℕ};
+ghost use Rattle.std.specs.Prelude.{◌≡◌, ◌≤◌, ◌<◌, ◌+◌, ◌^◌, ◌==◌, length, List, ℕ};
+ghost use Rattle.std.specs.List.{count_by};
 ghost use Rattle.line_index.specs.Positions as spec;
 
 use std::marker::Model;
@@ -45,38 +46,48 @@ fn is_continuation(byte: u8) -> bool
     128 <= byte && byte < 192
 }
 
-fn behind_byte(here: Position, byte: u8) -> Position
-    requires line { here.line + 1 < 2 ^ 64 }
-    requires column { here.column + 1 < 2 ^ 64 }
-    ensures { result ≡ spec.behind_byte here byte }
+/// How many line feeds stand in a text.
+fn feeds(text: &[u8]) -> usize
+    ensures { result ≡ count_by (λ b. b == 10) text.now }
 {
-    if byte == b'\n' {
-        Position {
-            line: here.line + 1,
-            column: 1,
-        }
-    } else if is_continuation(byte) {
-        here
-    } else {
-        Position {
-            line: here.line,
-            column: here.column + 1,
+    let mut count = 0;
+    for byte in text {
+        if *byte == b'\n' {
+            count += 1;
         }
     }
+    count
 }
 
+/// The column behind a text, from its end back to its last line feed.
+fn column_behind(start: Position, text: &[u8]) -> usize
+    requires { start.column + length text.now < 2 ^ 64 }
+    ensures { result ≡ (spec.behind start text.now).column }
+{
+    let mut count = 0;
+    let mut left = text;
+    while let [rest @ .., byte] = left {
+        if *byte == b'\n' {
+            return 1 + count;
+        }
+        if !is_continuation(*byte) {
+            count += 1;
+        }
+        left = rest;
+    }
+    start.column + count
+}
+
+#[tactic(auto, using(crate::proofs::Positions::line_is))]
 fn behind(start: Position, text: &[u8]) -> Position
     requires lines { start.line + length text.now < 2 ^ 64 }
     requires columns { start.column + length text.now < 2 ^ 64 }
     ensures { result ≡ spec.behind start text.now }
 {
-    let mut here = start;
-    let mut left = text;
-    while let [byte, rest @ ..] = left {
-        here = behind_byte(here, *byte);
-        left = rest;
+    Position {
+        line: start.line + feeds(text),
+        column: column_behind(start, text),
     }
-    here
 }
 
 /// From one place of a text to a later one.

@@ -8,3 +8,6 @@ pub mod Reaches
 pub mod Leads
 pub mod Laid
 pub mod Rests
+pub mod White
+pub mod Inside
+pub mod Begins

@@ -1,7 +1,7 @@
 -- Steps of nests.
-use Rattle.std.proofs.Common.{◌≡◌, ◌≤◌, ◌+◌, ◌-◌, ◌==◌, ◌&&◌, ℕ, Bool, true, false, List, [], ◌∷◌, length, ⊎_elim, refl, ap, arith}
+use Rattle.std.proofs.Common.{◌≡◌, ◌≤◌, ◌+◌, ◌-◌, ◌==◌, ℕ, Bool, true, false, List, [], ◌∷◌, length, ⊎_elim, refl, ap, arith}
 use Rattle.std.specs.Prelude.{if◌then◌else◌}
-use Rattle.std.proofs.lemmas.Bool.{cases_Bool, eqb-true}
+use Rattle.std.proofs.lemmas.Bool.{cases_Bool}
 use Rattle.rust_lexer.specs.Piece.{Piece}
 use Rattle.rust_cursor.specs.declared.cursor.nest.Nest.{Nest}
 use Rattle.rust_cursor.specs.Tokens.{Tokens}

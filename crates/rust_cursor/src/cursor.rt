@@ -52,8 +52,21 @@ fn place_if_open(token: &Token<'_>) -> Option<usize>
     }
 }
 
+/// Passes over white space, if that comes next.
+#[inline(always)]
+#[tactic(auto, using(crate::proofs::White::white_found, crate::proofs::White::white_last))]
+fn pass_white(lexer: &mut Lexer<'_>, last: &mut Option<usize>)
+    ensures found { filter is_significant lexer.new ≡ filter is_significant lexer.old }
+    ensures last { last_unended last.new lexer.new ≡ last_unended last.old lexer.old }
+{
+    if let Some(_white) = lexer.next_white() {
+        *last = None;
+    }
+}
+
 /// Puts down the next token that is neither white space nor a plain comment, in its place. The place of the last token that was
 /// passed is put down too, if that is not ended.
+#[inline(always)]
 fn find_significant<'t>(
     lexer: &mut Lexer<'t>,
     last: &mut Option<usize>,
@@ -62,10 +75,11 @@ fn find_significant<'t>(
     ensures found { filter is_significant lexer.old ≡ left_of next.new lexer.new }
     ensures last { last_unended last.new lexer.new ≡ last_unended last.old lexer.old }
 {
+    pass_white(lexer, last);
     'tokens: while let Some(token) = lexer.next() {
-        // Of the tokens that are behind one another, only the last one tells.
+        // Of the tokens that are behind one another, only the last one tells. (Its copy keeps the token out of memory.)
         if lexer.is_empty() {
-            *last = place_if_open(&token);
+            *last = place_if_open(&token.copy());
         }
         if token.is_significant() {
             *next = Some(token);
@@ -239,6 +253,7 @@ impl<'t> Cursor<'t> {
     }
 
     /// Takes one token, if one is left.
+    #[inline(never)]
     #[tactic(auto, unfolding(crate::specs::Words::bumped))]
     pub fn bump(&mut self)
         ensures { self.new ≡ spec.bumped self.old }

@@ -4,7 +4,7 @@ use Rattle.std.proofs.lemmas.Bool.{cases_eq, cases_Bool, and_left, and_from, and
 use Rattle.std.proofs.lemmas.List.{same_lists, get_or_default}
 use Rattle.hir_input.specs.declared.ids.FileAstId.{FileAstId}
 use Rattle.rust_ids.specs.Row.{Row}
-use Rattle.rust_ids.specs.Ids.{row_at, id_at, depth_at, count_below, key_of, kind_place, same_key, comes_before, number_of, hash_of, AreIds, AreDistinct, AreDetermined}
+use Rattle.rust_ids.specs.Ids.{nth_row, id_at, depth_at, count_below, key_of, kind_place, same_key, comes_before, earlier_alike, hash_of, AreIds, AreDistinct, AreDetermined}
 use Rattle.rust_ids.proofs.Below.{count_below_lt, count_below_bound}
 use Rattle.rust_ids.proofs.Order.{not_before_itself, before_onward, before_or_after, depth_if_before, module_around_same, number_of_same}
 
@@ -13,7 +13,7 @@ same_key_itself id = grind arith
 
 -- the later of two of one kind and hash has more before it
 number_more : (rows : List Row) (ids : List FileAstId) (i j : ℕ) → i < length rows → id_at ids i ≡ id_at ids j →
-    comes_before rows i j ≡ true → number_of rows ids i < number_of rows ids j
+    comes_before rows i j ≡ true → earlier_alike rows ids i < earlier_alike rows ids j
 number_more rows ids i j l e t =
     count_below_lt _ _ i (length rows) l
     (and_left _ _ (not_before_itself rows i))
@@ -22,9 +22,9 @@ number_more rows ids i j l e t =
     and_from _ _ (before_onward rows k i j parts.0 t) (ap (λ x. same_key (key_of (id_at ids k)) (key_of x)) (sym e) ∙ parts.1))
 
 -- an item does not come before itself, so fewer than all do
-number_below : (rows : List Row) (ids : List FileAstId) (i : ℕ) → i < length rows → number_of rows ids i < length rows
+number_below : (rows : List Row) (ids : List FileAstId) (i : ℕ) → i < length rows → earlier_alike rows ids i < length rows
 number_below rows ids i l =
-    let fewer : number_of rows ids i < count_below (λ _. true) (length rows) = count_below_lt _ (λ _. true) i (length rows) l (and_left _ _ (not_before_itself rows i)) refl (λ j m h. refl) in
+    let fewer : earlier_alike rows ids i < count_below (λ _. true) (length rows) = count_below_lt _ (λ _. true) i (length rows) l (and_left _ _ (not_before_itself rows i)) refl (λ j m h. refl) in
     let all : count_below (λ _. true) (length rows) ≤ length rows = count_below_bound (λ _. true) (length rows) in
     omega arith
 
@@ -32,10 +32,10 @@ one_way : (rows : List Row) (ids : List FileAstId) → length rows ≤ 2 ^ 32 �
     id_at ids i ≡ id_at ids j → comes_before rows i j ≡ false
 one_way rows ids short are i j l m e = ⊎_elim
     (λ (t : comes_before rows i j ≡ true).
-    let more : number_of rows ids i < number_of rows ids j = number_more rows ids i j l e t in
-    let below : number_of rows ids j < length rows = number_below rows ids j m in
-    let one : (id_at ids i).number ≡ min (number_of rows ids i) 4294967295 = (are.each i l).number in
-    let two : (id_at ids j).number ≡ min (number_of rows ids j) 4294967295 = (are.each j m).number in
+    let more : earlier_alike rows ids i < earlier_alike rows ids j = number_more rows ids i j l e t in
+    let below : earlier_alike rows ids j < length rows = number_below rows ids j m in
+    let one : (id_at ids i).number ≡ min (earlier_alike rows ids i) 4294967295 = (are.each i l).number in
+    let two : (id_at ids j).number ≡ min (earlier_alike rows ids j) 4294967295 = (are.each j m).number in
     let same : (id_at ids i).number ≡ (id_at ids j).number = ap (λ x. x.number) e in
     absurd (omega arith))
     (λ f. f)
@@ -61,7 +61,7 @@ same_next rows a b are bre depth less i l d = same_id i l d
     same_key_at j m h = (
       (bre.each j m).kind ∙ sym (are.each j m).kind,
       (bre.each j m).hash
-          ∙ (ap (hash_of (row_at rows j)) (module_around_same rows a b j (λ k n e. less k (omega arith) (omega arith)))
+          ∙ (ap (hash_of (nth_row rows j)) (module_around_same rows a b j (λ k n e. less k (omega arith) (omega arith)))
           ∙ sym (are.each j m).hash),
     )
 

@@ -4,7 +4,7 @@ use Rattle.std.proofs.lemmas.Bool.Decides.{nat_tests}
 use Rattle.std.proofs.lemmas.Bool.{eqb-true}
 use Rattle.hir_input.specs.declared.ids.FileAstId.{FileAstId}
 use Rattle.rust_ids.specs.Row.{Row}
-use Rattle.rust_ids.specs.Ids.{row_at, id_at, depth_at, around, module_at, module_around, hash_of, key_of, same_key, comes_before, number_of, IsId}
+use Rattle.rust_ids.specs.Ids.{nth_row, id_at, depth_at, around, module_at, module_around, hash_of, key_of, same_key, comes_before, earlier_alike, IsId}
 use Rattle.rust_ids.proofs.Below.{last_below_is, count_below_same}
 
 -- the order on depths and places alone
@@ -54,7 +54,7 @@ and_same false x y h = refl
 -- a number depends on the keys of what is counted before
 pub number_of_same : (rows : List Row) (ids new : List FileAstId) (i : ℕ) → key_of (id_at new i) ≡ key_of (id_at ids i) →
     ((j : ℕ) → j < length rows → comes_before rows j i ≡ true → key_of (id_at new j) ≡ key_of (id_at ids j)) →
-    number_of rows new i ≡ number_of rows ids i
+    earlier_alike rows new i ≡ earlier_alike rows ids i
 number_of_same rows ids new i here h =
     count_below_same _ _ (length rows)
     (λ j l. and_same (comes_before rows j i) _ _ (λ t. ap (λ k. same_key k (key_of (id_at new i))) (h j l t) ∙ ap (same_key (key_of (id_at ids j))) here))
@@ -64,6 +64,6 @@ pub IsId-same : (rows : List Row) (ids new : List FileAstId) (i : ℕ) → id_at
     ((j : ℕ) → comes_before rows j i ≡ true → id_at new j ≡ id_at ids j) → IsId rows ids i → IsId rows new i
 IsId-same rows ids new i here h is = record {
   kind = ap (λ id. id.kind) here ∙ is.kind;
-  hash = ap (λ id. id.hash) here ∙ (is.hash ∙ ap (hash_of (row_at rows i)) (sym (module_around_same rows ids new i (λ j l e. h j (before_if_shallower rows j i e)))));
+  hash = ap (λ id. id.hash) here ∙ (is.hash ∙ ap (hash_of (nth_row rows i)) (sym (module_around_same rows ids new i (λ j l e. h j (before_if_shallower rows j i e)))));
   number = ap (λ id. id.number) here ∙ (is.number ∙ ap (λ n. min n 4294967295) (sym (number_of_same rows ids new i (ap key_of here) (λ j l t. ap key_of (h j t)))));
 }

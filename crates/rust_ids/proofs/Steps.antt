@@ -8,7 +8,7 @@ use Rattle.std.proofs.lemmas.Bool.{cases_eq, cases_Bool, le-leb, both_ways, and_
 use Rattle.hir_input.specs.declared.ids.AstIdKind.{AstIdKind}
 use Rattle.hir_input.specs.declared.ids.FileAstId.{FileAstId}
 use Rattle.rust_ids.specs.Row.{Row}
-use Rattle.rust_ids.specs.Ids.{row_at, id_at, depth_at, count_below, last_below, module_at, module_around, hash_of, Key, kind_place, key_of, same_key, comes_before, number_of, IsId, AreIds}
+use Rattle.rust_ids.specs.Ids.{nth_row, id_at, depth_at, count_below, last_below, module_at, module_around, hash_of, Key, kind_place, key_of, same_key, comes_before, earlier_alike, IsId, AreIds}
 use Rattle.rust_ids.specs.Inner.Numbering.{Counts, count_of, CountsOne, reached, IsNumbered, IsNextDepth}
 use Rattle.rust_ids.proofs.Below.{count_below_same, count_below_one, count_below_bound, count_below_none}
 use Rattle.rust_ids.proofs.Order.{not_before_itself, before_one_way, module_around_same, IsId-same, and_same}
@@ -36,8 +36,8 @@ apart rows j k h e = let no : comes_before rows k k ≡ false = not_before_itsel
 pub numbered_more : (p q : ℕ → Bool) (rows : List Row) (ids : List FileAstId) (counts new : Counts) (k : ℕ) (id : FileAstId) →
     k < length rows → IsNumbered p rows ids counts →
     ((j : ℕ) → p j ≡ comes_before rows j k) → q k ≡ true → ((j : ℕ) → j ≢ k → q j ≡ p j) →
-    id.kind ≡ (row_at rows k).kind →
-    id.hash ≡ hash_of (row_at rows k) (module_around rows ids k) →
+    id.kind ≡ (nth_row rows k).kind →
+    id.hash ≡ hash_of (nth_row rows k) (module_around rows ids k) →
     id.number ≡ min (count_of counts (key_of id)) 4294967295 →
     CountsOne counts new (key_of id) →
     IsNumbered q rows (set ids k id) new
@@ -53,7 +53,7 @@ numbered_more p q rows ids counts new k id l n order here others kind hash numbe
     key_same : (j : ℕ) → j ≢ k → key_of (id_at (set ids k id) j) ≡ key_of (id_at ids j)
     key_same j ne = ap key_of (id_at_other ids k id j ne)
 
-    counted_k : count_of counts (key_of id) ≡ number_of rows (set ids k id) k
+    counted_k : count_of counts (key_of id) ≡ earlier_alike rows (set ids k id) k
     counted_k = n.counted (key_of id) ∙ count_below_same _ _ (length rows) (λ j m.
         ap (λ b. b && same_key (key_of (id_at ids j)) (key_of id)) (order j)
         ∙ and_same (comes_before rows j k) _ _ (λ t.
@@ -63,7 +63,7 @@ numbered_more p q rows ids counts new k id l n order here others kind hash numbe
     each_k : IsId rows (set ids k id) k
     each_k = record {
       kind = ap (λ i. i.kind) at_k ∙ kind;
-      hash = ap (λ i. i.hash) at_k ∙ (hash ∙ ap (hash_of (row_at rows k)) (sym (module_around_same rows ids (set ids k id) k (λ j m e. id_at_other ids k id j (omega arith)))));
+      hash = ap (λ i. i.hash) at_k ∙ (hash ∙ ap (hash_of (nth_row rows k)) (sym (module_around_same rows ids (set ids k id) k (λ j m e. id_at_other ids k id j (omega arith)))));
       number = ap (λ i. i.number) at_k ∙ (number ∙ ap (λ m. min m 4294967295) counted_k);
     }
 
@@ -116,7 +116,7 @@ reached_past rows depth at j ne = ⊎_elim
     (cases_eq j at)
 
 -- what is read at a place is what stands there
-row_read : (rows : List Row) (at : ℕ) (row : Row) → at < length rows → row ≡ get_or rows at row → row_at rows at ≡ row
+row_read : (rows : List Row) (at : ℕ) (row : Row) → at < length rows → row ≡ get_or rows at row → nth_row rows at ≡ row
 row_read rows at row l is = get_or_default rows at _ row l ∙ sym is
 
 pub numbered_past : (rows : List Row) (depth at : ℕ) (row : Row) (ids : List FileAstId) (counts : Counts) →
@@ -138,11 +138,11 @@ numbered_here rows depth at row last ids counts new kind place hash number outer
     (reached_now rows depth at deep_at)
     (λ j ne. reached_more rows depth at j ne)
     (kind_is ∙ ap (λ r. r.kind) (sym read))
-    (hash_is ∙ (ap (λ r. hash_of r outer) (sym read) ∙ ap (hash_of (row_at rows at)) (outer_is ∙ ap (module_at ids) (around ∙ ap (λ d. last_below (λ j. eqb (suc (depth_at rows j)) d) at) (sym deep_at)))))
+    (hash_is ∙ (ap (λ r. hash_of r outer) (sym read) ∙ ap (hash_of (nth_row rows at)) (outer_is ∙ ap (module_at ids) (around ∙ ap (λ d. last_below (λ j. eqb (suc (depth_at rows j)) d) at) (sym deep_at)))))
     (number_is ∙ ap (λ p. min (count_of counts (p, hash)) 4294967295) place_is)
     (subst (λ p. CountsOne counts new (p, hash)) place_is one)
   where
-    read : row_at rows at ≡ row
+    read : nth_row rows at ≡ row
     read = row_read rows at row l is
 
     deep_at : depth_at rows at ≡ depth

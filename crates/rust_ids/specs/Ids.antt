@@ -7,14 +7,14 @@ use Rattle.rust_ids.specs.Hash.{name_hash_in}
 use Rattle.rust_ids.specs.Row.{Row}
 
 -- the item at a place, and its id; what is given past the end is never asked for
-abbrev pub row_at : List Row → ℕ → Row
-row_at rows i = slice_index_or rows i (record { depth = 0; kind = kind.Use; name = [] })
+abbrev pub nth_row : List Row → ℕ → Row
+nth_row rows i = slice_index_or rows i (record { depth = 0; kind = kind.Use; name = [] })
 
 abbrev pub id_at : List FileAstId → ℕ → FileAstId
 id_at ids i = slice_index_or ids i (record { kind = kind.Use; hash = 0; number = 0 })
 
 abbrev pub depth_at : List Row → ℕ → ℕ
-depth_at rows i = (row_at rows i).depth
+depth_at rows i = (nth_row rows i).depth
 
 -- the last place below a bound that passes a test, if one does
 abbrev pub last_below : (ℕ → Bool) → ℕ → Option ℕ
@@ -98,14 +98,14 @@ abbrev pub comes_before : List Row → ℕ → ℕ → Bool
 comes_before rows j i = nat_lt (depth_at rows j) (depth_at rows i) || (depth_at rows j == depth_at rows i && nat_lt j i)
 
 -- how many items of its kind and hash are counted before an item
-abbrev pub number_of : List Row → List FileAstId → ℕ → ℕ
-number_of rows ids i = count_below (λ j. comes_before rows j i && same_key (key_of (id_at ids j)) (key_of (id_at ids i))) (length rows)
+abbrev pub earlier_alike : List Row → List FileAstId → ℕ → ℕ
+earlier_alike rows ids i = count_below (λ j. comes_before rows j i && same_key (key_of (id_at ids j)) (key_of (id_at ids i))) (length rows)
 
 -- an item has the id that it is to have; the 32 bits of a number end at 2 ^ 32 - 1
 pub record IsId (rows : List Row) (ids : List FileAstId) (i : ℕ) : Type 0 where
-  pub kind : (id_at ids i).kind ≡ (row_at rows i).kind
-  pub hash : (id_at ids i).hash ≡ hash_of (row_at rows i) (module_around rows ids i)
-  pub number : (id_at ids i).number ≡ min (number_of rows ids i) (2 ^ 32 - 1)
+  pub kind : (id_at ids i).kind ≡ (nth_row rows i).kind
+  pub hash : (id_at ids i).hash ≡ hash_of (nth_row rows i) (module_around rows ids i)
+  pub number : (id_at ids i).number ≡ min (earlier_alike rows ids i) (2 ^ 32 - 1)
 
 -- the ids of all items of a file
 pub record AreIds (rows : List Row) (ids : List FileAstId) : Type 0 where

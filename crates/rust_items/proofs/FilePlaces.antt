@@ -9,7 +9,7 @@ use Rattle.rust_cursor.specs.Tokens.{tokens_of}
 use Rattle.rust_cursor.proofs.Laid.{behind, past_within, tokens_laid}
 use Rattle.rust_metas.proofs.Leads.{inner_attributes_leads}
 use Rattle.rust_ids.specs.Row.{Row}
-use Rattle.rust_ids.specs.Ids.{row_at, id_at}
+use Rattle.rust_ids.specs.Ids.{nth_row, id_at}
 use Rattle.rust_ids.proofs.Consequences.{distinct}
 use Rattle.rust_items.specs.declared.ids.Numbers.{Numbers}
 use Rattle.rust_items.specs.declared.log.ItemSpan.{ItemSpan}
@@ -87,7 +87,7 @@ numbered {from} {to} (placed {i = i} {is = is} {p = p} {ps = ps} {mid = mid} pla
       rw (held_ids n i ids) later.1,
     )
 
-kinds_same : (ids : List FileAstId) (rows : List Row) → length ids ≡ length rows → ((k : ℕ) → k < length rows → (id_at ids k).kind ≡ (row_at rows k).kind) → map id_kind ids ≡ map row_kind rows
+kinds_same : (ids : List FileAstId) (rows : List Row) → length ids ≡ length rows → ((k : ℕ) → k < length rows → (id_at ids k).kind ≡ (nth_row rows k).kind) → map id_kind ids ≡ map row_kind rows
 kinds_same [] [] e h = refl
 kinds_same [] (row ∷ rows) e h = absurd (omega arith)
 kinds_same (id ∷ ids) [] e h = absurd (omega arith)

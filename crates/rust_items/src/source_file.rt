@@ -89,8 +89,10 @@ fn file_of(alloc: Global, text: &str) -> Result<SourceFile, AllocError>
 #[tactic(auto, using(crate::proofs::FilePlaces::file_placed, crate::proofs::FilePlaces::file_distinct))]
 pub fn read_source_file(alloc: Global, text: &str) -> Result<SourceFile, AllocError>
     ensures file { IfOk result (λ file. spec.IsSourceFile text.now file) }
-    ensures placed { IfOk result (λ file. ArePlaces 0 (length text.now) (items_of (syntax_view file.syntax)) file.places.items []) }
-    ensures distinct { length text.now ≤ 2 ^ 32 → IfOk result (λ file. AllPairs (λ p q. p.id ≢ q.id) file.places.items) }
+    ensures placed { IfOk result (λ file. let items = items_of (syntax_view file.syntax) in
+        ArePlaces 0 (length text.now) items file.places.items []) }
+    ensures distinct { length text.now ≤ 2 ^ 32
+        → IfOk result (λ file. AllPairs (λ p q. p.id ≢ q.id) file.places.items) }
 {
     file_of(alloc, text)
 }

@@ -288,7 +288,8 @@ pub fn statement_call<'t>(
     cursor: &mut Cursor<'t>,
     attrs: Vec<Meta>,
 ) -> Result<Option<Call<'t>>, AllocError>
-    ensures { Gives (option_map call_read_view) (spec.statement_call (map meta_view attrs.items) cursor.old) result cursor.new }
+    ensures { let read = spec.statement_call (map meta_view attrs.items) cursor.old in
+        Gives (option_map call_read_view) read result cursor.new }
 {
     let mut ahead = cursor.ahead();
     let path = path(alloc, &mut ahead)?;

@@ -1,5 +1,5 @@
 -- A token ends where a character does.
-use Rattle.std.proofs.Common.{◌≡◌, ℕ, suc, ◌+◌, ◌<◌, ◌≤◌, false, List, [], ◌∷◌, length, get_or, take, drop, Some, ap, ◌∙◌, add-one, arith, refl}
+use Rattle.std.proofs.Common.{◌≡◌, ℕ, suc, ◌+◌, ◌<◌, ◌≤◌, false, List, [], ◌∷◌, length, get_or, take, drop, Some, ap, ◌∙◌, add-one, arith, refl, subst, sym}
 use Rattle.std.proofs.lemmas.Bool.{cond_both}
 use Rattle.std.proofs.lemmas.List.{get_or-drop}
 use Rattle.std.proofs.lemmas.Bool.Decides.{nat_tests}
@@ -25,6 +25,12 @@ run_leads (b ∷ z) h =
 -- the same in a text of which the run begins at a place
 pub run_leads_behind : (text : List ℕ) (n k : ℕ) → k ≡ run class.Continuation (drop n text) → 128 ≤ get_or text (n + k) 0 → 192 ≤ get_or text (n + k) 0
 run_leads_behind text n k e = rw (← get_or-drop n text k 0, e) (run_leads (drop n text))
+
+-- the same where no byte of the run stands there
+pub whole_leads : (text : List ℕ) (n : ℕ) → run class.Continuation (drop n text) ≡ 0 → 128 ≤ get_or text n 0 → 192 ≤ get_or text n 0
+whole_leads text n e =
+    let at : n + 0 ≡ n = omega arith in
+    subst (λ (k : ℕ). 128 ≤ get_or text k 0 → 192 ≤ get_or text k 0) at (run_leads_behind text n 0 (sym e))
 
 -- what is split off a text
 pub split_is : (c : Cut) (at n : ℕ) (text front rest : List ℕ) → c.len < length text → n ≡ c.len + 1 + run class.Continuation (drop (c.len + 1) text) → front ≡ take n text → rest ≡ drop n text → split_of c at text ≡ Some (record { kind = c.kind; text = front; at = at }, rest)

@@ -6,3 +6,4 @@ pub mod Standing
 pub mod Frequent
 pub mod Emptied
 pub mod Table
+pub mod Wholes

@@ -1,6 +1,9 @@
 //! The token at the front of a text, by its first byte and the bytes behind that.
 
-ghost use Rattle.std.specs.Prelude.{◌≡◌, ◌≤◌, length, IfSome, IsTrue};
+ghost use Rattle.std.specs.Prelude.{◌≡◌, ◌≤◌, ◌∷◌, drop, length, IfSome, IsTrue};
+ghost use Rattle.std.specs.Str.{IsUtf8};
+ghost use Rattle.rust_lexer.specs.declared.bytes.Class.TheVariants as class;
+ghost use Rattle.rust_lexer.specs.Bytes as bytes;
 ghost use Rattle.rust_lexer.specs.Cut as spec;
 
 use crate::bytes::{
@@ -227,7 +230,7 @@ fn symbol_kind(first: u8) -> TokenKind
 /// Cuts off the token that begins with this byte, before these.
 #[inline(never)]
 #[tactic(auto, unfolding(crate::specs::Cut::first_cut))]
-fn any_cut(first: u8, z: &[u8]) -> Cut
+pub(crate) fn any_cut(first: u8, z: &[u8]) -> Cut
     ensures value { result ≡ spec.first_cut first z.now }
     ensures within { result.len ≤ length z.now }
 {
@@ -255,27 +258,28 @@ fn any_cut(first: u8, z: &[u8]) -> Cut
     }
 }
 
-/// The same, with the most frequent tokens first.
+/// The same of the most frequent tokens, by their first bytes. No byte behind them continues a character.
 #[inline(always)]
-#[tactic(auto, using(crate::proofs::Frequent::mark_first, crate::proofs::Frequent::blank_first, crate::proofs::Frequent::letter_first))]
-pub(crate) fn first_cut(first: u8, z: &[u8]) -> Cut
-    ensures value { result ≡ spec.first_cut first z.now }
-    ensures within { result.len ≤ length z.now }
+pub(crate) fn frequent_cut(first: u8, z: &[u8]) -> Option<Cut>
+    requires { IsUtf8 (first ∷ z.now) }
+    ensures value { IfSome result (λ c. c ≡ spec.first_cut first z.now) }
+    ensures within { IfSome result (λ c. c.len ≤ length z.now) }
+    ensures whole { IfSome result (λ c. bytes.run class.Continuation (drop c.len z.now) ≡ 0) }
 {
     if is_mark(first) {
-        return Cut {
+        return Some(Cut {
             kind: symbol_kind(first),
             len: 0,
-        };
+        });
     }
     if is_blank(first) {
-        return Cut {
+        return Some(Cut {
             kind: TokenKind::Whitespace,
             len: run(Class::White, z),
-        };
+        });
     }
     if is_letter(first) {
-        return plain(z);
+        return Some(plain(z));
     }
-    any_cut(first, z)
+    None
 }

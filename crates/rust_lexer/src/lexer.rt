@@ -1,13 +1,16 @@
 //! The tokens of a text.
 
-ghost use Rattle.std.specs.Prelude.{◌≡◌, ◌<◌, ◌≤◌, ◌+◌, ◌^◌, All, IsTrue, IfOk, Some, IfSome, IfNone, MatchOption, [], ◌∷◌, length};
+ghost use Rattle.std.specs.Prelude.{◌≡◌, ◌<◌, ◌≤◌, ◌+◌, ◌^◌, All, IsTrue, IfOk, Some, IfSome, IfNone, MatchOption, [], ◌∷◌, drop, length};
 ghost use Rattle.std.specs.Str.{IsUtf8};
 ghost use Rattle.rust_lexer.specs.Tokens.{AreInPlace, text_of};
 ghost use Rattle.rust_lexer.specs.Tokens as spec;
+ghost use Rattle.rust_lexer.specs.declared.kind.TokenKind.TheVariants as kinds;
 ghost use Rattle.rust_lexer.specs.Inner as inner;
+ghost use Rattle.rust_lexer.specs.Bytes as bytes;
+ghost use Rattle.rust_lexer.specs.declared.bytes.Class.TheVariants as class;
 
-use crate::bytes::{Class, byte, run};
-use crate::cut::{Cut, first_cut};
+use crate::bytes::{Class, byte, is_blank, run};
+use crate::cut::{Cut, any_cut, frequent_cut};
 use crate::kind::TokenKind;
 use crate::token::Token;
 use std::alloc::{AllocError, Global};
@@ -91,6 +94,22 @@ impl<'a> Lexer<'a> {
         }
     }
 
+    /// A short path for white space: what it takes is the next token, and white space. Where it takes nothing, the
+    /// lexer stays as it was and any token may come next: at the front of a text it takes nothing.
+    #[inline(always)]
+    pub fn next_white(&mut self) -> Option<Token<'a>>
+        ensures { MatchOption result (self.new ≡ self.old)
+            (λ t. (t.kind ≡ kinds.Whitespace) × (self.old ≡ t ∷ self.new)) }
+    {
+        let Front::Token = self.front else {
+            return None;
+        };
+        let (token, rest) = first_white(self.at, self.rest)?;
+        self.at += token.text().len();
+        self.rest = rest;
+        Some(token)
+    }
+
     /// Whether no token is left.
     pub fn is_empty(&self) -> bool
         ensures { result ≡ spec.is_nil self.now }
@@ -133,6 +152,20 @@ fn split(cut: Cut, at: usize, text: &str) -> (Token<'_>, &str)
     (Token::new(cut.kind, text, at), rest)
 }
 
+/// The same, where no byte behind it continues a character.
+#[inline(always)]
+fn split_whole(cut: Cut, at: usize, text: &str) -> (Token<'_>, &str)
+    requires within { cut.len < length text.now }
+    requires whole { bytes.run class.Continuation (drop (cut.len + 1) text.now) ≡ 0 }
+    requires fits { at + length text.now < 2 ^ 64 }
+    ensures value { inner.split_of cut at text.now ≡ Some (result.0, result.1.now) }
+    ensures utf8 { IsUtf8 result.1.now }
+    ensures takes { length result.0.text + length result.1.now ≡ length text.now }
+{
+    let (text, rest) = text.split_at(cut.len + 1);
+    (Token::new(cut.kind, text, at), rest)
+}
+
 /// The first token of a text that begins at this place, and the text behind it.
 #[inline(always)]
 fn first(at: usize, text: &str) -> Option<(Token<'_>, &str)>
@@ -143,8 +176,32 @@ fn first(at: usize, text: &str) -> Option<(Token<'_>, &str)>
     ensures takes { IfSome result (λ p. (0 < length p.0.text) × (length p.0.text + length p.1.now ≡ length text.now)) }
 {
     match text.as_bytes() {
-        [b, behind @ ..] => Some(split(first_cut(*b, behind), at, text)),
+        [b, behind @ ..] => match frequent_cut(*b, behind) {
+            Some(cut) => Some(split_whole(cut, at, text)),
+            None => Some(split(any_cut(*b, behind), at, text)),
+        },
         [] => None,
+    }
+}
+
+/// The white space in front of a text, if it begins with a byte of it, and the text behind it.
+#[inline(always)]
+fn first_white(at: usize, text: &str) -> Option<(Token<'_>, &str)>
+    requires { at + length text.now < 2 ^ 64 }
+    ensures value { IfSome result (λ p. spec.tokens_from 0 at text.now ≡ p.0 ∷ spec.tokens_from 0 (at + length p.0.text) p.1.now) }
+    ensures kind { IfSome result (λ p. p.0.kind ≡ kinds.Whitespace) }
+    ensures utf8 { IfSome result (λ p. IsUtf8 p.1.now) }
+    ensures takes { IfSome result (λ p. length p.0.text + length p.1.now ≡ length text.now) }
+{
+    match text.as_bytes() {
+        [b, behind @ ..] if is_blank(*b) => {
+            let cut = Cut {
+                kind: TokenKind::Whitespace,
+                len: run(Class::White, behind),
+            };
+            Some(split_whole(cut, at, text))
+        }
+        _ => None,
     }
 }
 

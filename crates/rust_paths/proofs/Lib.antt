@@ -2,4 +2,5 @@ pub mod Naming
 pub mod Meant
 pub mod Steps
 pub mod Trees
+pub mod Starts
 pub mod Leads

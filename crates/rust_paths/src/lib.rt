@@ -4,10 +4,12 @@
 mod meaning;
 mod names;
 mod paths;
+mod use_starts;
 mod use_trees;
 mod visibilities;
 
 pub use names::{PlacedName, TextRange, name, placed_name};
 pub use paths::path;
+pub use use_starts::use_tree_starts;
 pub use use_trees::{FoundUseTree, use_tree};
 pub use visibilities::visibility;

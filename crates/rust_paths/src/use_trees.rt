@@ -13,7 +13,7 @@ use rust_cursor::Cursor;
 use std::alloc::{AllocError, Global};
 
 /// How deep lists may stand in one another.
-const MOST_DEPTH: usize = 128;
+pub(crate) const MOST_DEPTH: usize = 128;
 
 /// A use tree that was read.
 #[derive(Debug, Drop)]
@@ -50,7 +50,7 @@ fn alias(alloc: Global, cursor: &mut Cursor<'_>) -> Result<Rename, AllocError>
 
 /// Takes `as` and what stands behind it, if it comes next.
 #[tactic(auto, unfolding(crate::specs::UseTrees::rename))]
-fn rename(alloc: Global, cursor: &mut Cursor<'_>) -> Result<Option<Rename>, AllocError>
+pub(crate) fn rename(alloc: Global, cursor: &mut Cursor<'_>) -> Result<Option<Rename>, AllocError>
     ensures { Gives (λ r. r) (spec.rename cursor.old) result cursor.new }
 {
     if !cursor.eat_word("as") {
@@ -88,7 +88,7 @@ fn listed(path: Option<PathNode>, list: Option<Vec<UseTree>>) -> Option<UseTree>
 }
 
 /// Whether a star or a list may come next: behind `::`, and where no path is written.
-fn may_be_listed(joined: bool, path: &Option<PathNode>) -> bool
+pub(crate) fn may_be_listed(joined: bool, path: &Option<PathNode>) -> bool
     ensures { result ≡ (joined || is_none path.now) }
 {
     joined || path.is_none()
@@ -96,7 +96,7 @@ fn may_be_listed(joined: bool, path: &Option<PathNode>) -> bool
 
 /// Passes over what stands before the next comma, and it, or up to a bracket that closes.
 #[tactic(auto, unfolding(crate::specs::UseTrees::behind_comma), using(crate::proofs::Trees::comma_end, crate::proofs::Trees::comma_here, crate::proofs::Trees::comma_more))]
-fn pass_comma(cursor: &mut Cursor<'_>)
+pub(crate) fn pass_comma(cursor: &mut Cursor<'_>)
     ensures { cursor.new ≡ spec.behind_comma cursor.old }
 {
     let most = Cursor::most_turns();

@@ -136,7 +136,7 @@ impl<'t> Cursor<'t> {
         let _ = &self.next;
         let mut nest = Nest::flat();
         'tokens: while !self.is_reached(reach, nest) {
-            nest = self.nest_behind(nest);
+            self.nest_behind(&mut nest);
             self.bump();
             if is_closed(reach, nest) {
                 return;

@@ -160,41 +160,47 @@ impl<'t> Cursor<'t> {
         }
     }
 
-    fn nest_inside(&self, nest: Nest) -> Nest
-        requires braces { nest.braces + 1 < 2 ^ 64 }
-        requires inner { nest.inner + 1 < 2 ^ 64 }
-        ensures { result ≡ spec.nest_inside nest self.now }
+    /// Tells where what stands behind the next token is, in braces.
+    #[inline(always)]
+    pub(crate) fn nest_inside(&self, nest: &mut Nest)
+        requires braces { nest.old.braces + 1 < 2 ^ 64 }
+        requires inner { nest.old.inner + 1 < 2 ^ 64 }
+        ensures { nest.new ≡ spec.nest_inside nest.old self.now }
     {
-        let symbol = self.symbol();
-        let before = if symbol == b'}' {
-            Before::End
-        } else {
-            Before::Other
-        };
-        Nest {
-            braces: braces_behind(nest.braces, symbol),
-            others: nest.others,
-            free: nest.free,
-            angles: nest.angles,
-            inner: count_behind(nest.inner, symbol),
-            is_torn: nest.is_torn || closes_none(nest.inner, symbol),
-            before,
+        nest.before = Before::Other;
+        match self.symbol() {
+            b'{' => nest.braces += 1,
+            b'}' => {
+                nest.braces = nest.braces.saturating_sub(1);
+                nest.before = Before::End;
+            }
+            b'(' | b'[' => nest.inner += 1,
+            b')' | b']' => {
+                nest.is_torn = nest.is_torn || nest.inner == 0;
+                nest.inner = nest.inner.saturating_sub(1);
+            }
+            _ => {}
         }
     }
 
-    /// Where what stands behind the next token is.
+    /// Tells where what stands behind the next token is.
     #[tactic(auto, unfolding(crate::specs::Nests::nest_behind))]
-    pub(crate) fn nest_behind(&self, nest: Nest) -> Nest
-        requires braces { nest.braces + 1 < 2 ^ 64 }
-        requires others { nest.others + 1 < 2 ^ 64 }
-        requires angles { nest.angles + 1 < 2 ^ 64 }
-        requires inner { nest.inner + 1 < 2 ^ 64 }
-        ensures { result ≡ spec.nest_behind nest self.now }
+    pub(crate) fn nest_behind(&self, nest: &mut Nest)
+        requires braces { nest.old.braces + 1 < 2 ^ 64 }
+        requires others { nest.old.others + 1 < 2 ^ 64 }
+        requires angles { nest.old.angles + 1 < 2 ^ 64 }
+        requires inner { nest.old.inner + 1 < 2 ^ 64 }
+        ensures { nest.new ≡ spec.nest_behind nest.old self.now }
     {
-        if nest.braces == 0 {
-            self.nest_outside(nest)
-        } else {
-            self.nest_inside(nest)
+        if nest.braces != 0 {
+            self.nest_inside(nest);
+            return;
+        }
+        match self.symbol() {
+            b'(' | b'[' | b'{' | b')' | b']' | b'}' | b'<' | b'>' => {
+                *nest = self.nest_outside(*nest);
+            }
+            _ => nest.before = self.before_behind(nest.before),
         }
     }
 }
@@ -231,17 +237,6 @@ fn braces_behind(braces: usize, symbol: u8) -> usize
         b'{' => braces + 1,
         b'}' => braces.saturating_sub(1),
         _ => braces,
-    }
-}
-
-fn count_behind(count: usize, symbol: u8) -> usize
-    requires { count + 1 < 2 ^ 64 }
-    ensures { result ≡ spec.count_behind count symbol }
-{
-    match symbol {
-        b'(' | b'[' => count + 1,
-        b')' | b']' => count.saturating_sub(1),
-        _ => count,
     }
 }
 

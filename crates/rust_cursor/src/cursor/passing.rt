@@ -37,7 +37,7 @@ impl<'t> Cursor<'t> {
         let _ = &self.next;
         let mut nest = Nest::flat();
         'tokens: while !self.is_closing(bracket, nest) {
-            nest = self.nest_behind(nest);
+            self.nest_behind(&mut nest);
             self.bump();
         }
     }

@@ -1,9 +1,9 @@
 //! The texts of what is taken.
 
-ghost use Rattle.std.specs.Prelude.{◌≡◌, OnOk, string_bytes};
+ghost use Rattle.std.specs.Prelude.{◌≡◌, ◌≤◌, ◌<◌, ◌+◌, ◌^◌, ◌++◌, ◌==◌, ◌&&◌, not, OnOk, length, string_bytes};
 ghost use Rattle.rust_cursor.specs.Extents as spec;
 ghost use Rattle.rust_cursor.specs.Reader.{Gives};
-ghost use Rattle.rust_cursor.specs.Words.{bumped};
+ghost use Rattle.rust_cursor.specs.Words.{bumped, is_empty, symbol};
 
 use crate::cursor::Cursor;
 use crate::cursor::nest::{Before, Nest};
@@ -112,6 +112,9 @@ impl<'t> Cursor<'t> {
     pub(crate) fn begins(&self, nest: Nest) -> bool
         ensures { result ≡ spec.begins nest self.now }
     {
+        if self.word().is_empty() && self.symbol() != b'#' {
+            return false;
+        }
         if nest.others == 0 {
             return self.begins_item() || self.begins_behind(nest.before);
         }
@@ -180,6 +183,7 @@ impl<'t> Cursor<'t> {
         }
     }
 
+    #[inline(always)]
     #[tactic(auto, unfolding(crate::specs::Extents::more))]
     fn push_text(&self, extent: Extent, last: usize, text: &mut String) -> Result<(), AllocError>
         ensures { OnOk result (string_bytes text.new
@@ -189,15 +193,14 @@ impl<'t> Cursor<'t> {
             return Ok(());
         }
         if text.len() != 0 && self.has_blank(extent, last) {
-            text.push_str(" ")?;
-            text.push_str(self.text())?;
-            return Ok(());
+            text.push(' ')?;
+            return push_token(text, self.text());
         }
-        text.push_str(self.text())?;
-        Ok(())
+        push_token(text, self.text())
     }
 
     /// Takes one token, and tells where the last one ends that is no documentation.
+    #[inline(always)]
     #[tactic(auto, unfolding(crate::specs::Extents::last_behind))]
     fn bump_behind(&mut self, last: usize) -> usize
         ensures value { result ≡ spec.last_behind last self.old }
@@ -206,6 +209,44 @@ impl<'t> Cursor<'t> {
         let is_doc = self.is_at_doc();
         self.bump();
         if is_doc { last } else { self.past() }
+    }
+
+    /// Whether a token comes next, in so many braces, that leaves one of them open.
+    #[inline(always)]
+    fn is_inside(&self, braces: usize) -> bool
+        ensures { result ≡ (not (braces == 0) && (not (is_empty self.now) && not (braces == 1 && symbol self.now == 125))) }
+    {
+        if braces == 0 || self.is_empty() {
+            return false;
+        }
+        !(braces == 1 && self.symbol() == b'}')
+    }
+
+    /// Takes what stands in braces, up to the one that closes the outermost of them.
+    #[inline(never)]
+    fn take_inside(
+        &mut self,
+        extent: Extent,
+        nest: &mut Nest,
+        last: &mut usize,
+        text: &mut String,
+    ) -> Result<(), AllocError>
+        requires braces { nest.old.braces + length self.old.left < 2 ^ 64 }
+        requires inner { nest.old.inner + length self.old.left < 2 ^ 64 }
+        ensures same { OnOk result (spec.taking extent (string_bytes text.new) last.new nest.new self.new
+            ≡ spec.taking extent (string_bytes text.old) last.old nest.old self.old) }
+        ensures left { OnOk result (length self.new.left ≤ length self.old.left) }
+        ensures braces { OnOk result (nest.new.braces + length self.new.left ≤ nest.old.braces + length self.old.left) }
+        ensures inner { OnOk result (nest.new.inner + length self.new.left ≤ nest.old.inner + length self.old.left) }
+        ensures others { OnOk result (nest.new.others ≡ nest.old.others) }
+        ensures angles { OnOk result (nest.new.angles ≡ nest.old.angles) }
+    {
+        'tokens: while self.is_inside(nest.braces) {
+            self.nest_inside(nest);
+            self.push_text(extent, *last, text)?;
+            *last = self.bump_behind(*last);
+        }
+        Ok(())
     }
 
     #[tactic(auto, unfolding(crate::specs::Extents::taken), using(crate::proofs::Scans::taking_stop, crate::proofs::Scans::taking_end, crate::proofs::Scans::taking_more))]
@@ -218,7 +259,7 @@ impl<'t> Cursor<'t> {
         let mut last = self.past();
         let mut nest = Nest::flat_behind(first_before(extent));
         'tokens: while !self.stops(extent, nest) {
-            nest = self.nest_behind(nest);
+            self.nest_behind(&mut nest);
             let is_last = self.ends(extent, nest);
             self.push_text(extent, last, &mut text)?;
             last = self.bump_behind(last);
@@ -226,6 +267,7 @@ impl<'t> Cursor<'t> {
                 let is_ended = nest.is_whole();
                 return Ok(Excerpt { text, is_ended });
             }
+            self.take_inside(extent, &mut nest, &mut last, &mut text)?;
         }
         Ok(Excerpt {
             text,
@@ -277,6 +319,17 @@ impl<'t> Cursor<'t> {
         ensures { Gives spec.excerpt_view (spec.macro_rest self.old) result self.new }
     {
         self.take_excerpt(alloc, Extent::Macro)
+    }
+}
+
+/// Adds the text of a token. Most are of one byte.
+#[inline(always)]
+fn push_token(text: &mut String, token: &str) -> Result<(), AllocError>
+    ensures { OnOk result (string_bytes text.new ≡ string_bytes text.old ++ token.now) }
+{
+    match token.as_bytes() {
+        [byte] if *byte < 128 => text.push(*byte as char),
+        _ => text.push_str(token),
     }
 }
 

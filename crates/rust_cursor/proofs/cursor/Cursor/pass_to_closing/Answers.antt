@@ -4,8 +4,8 @@ use Rattle.rust_cursor.proofs.Nesting.{shorter, fewer}
 use Rattle.rust_cursor.proofs.Steps.{closing_some, closing_turn}
 use Rattle.rust_cursor.proofs.cursor.Cursor.pass_to_closing.Goals as goal
 
-pub nest_behind-nest-requires : goal.nest_behind-nest-requires
-nest_behind-nest-requires c =
+pub nest_behind-requires : goal.nest_behind-requires
+nest_behind-requires c =
     let some = closing_some c.args.bracket c.tokens.nest c.tokens.self (sym c.is_closing.ensures ∙ c.tokens-test.true) in
     let less = shorter c.tokens.self some in
     record {
@@ -18,16 +18,16 @@ nest_behind-nest-requires c =
 pub tokens-smaller : goal.tokens-smaller
 tokens-smaller c =
     let some = closing_some c.args.bracket c.tokens.nest c.tokens.self (sym c.is_closing.ensures ∙ c.tokens-test.true) in
-    let less = fewer c.tokens.nest c.nest_behind-nest.result c.tokens.self c.bump.new.self some c.nest_behind-nest.ensures c.bump.ensures in
+    let less = fewer c.tokens.nest c.nest_behind.new.nest c.tokens.self c.bump.new.self some c.nest_behind.ensures c.bump.ensures in
     omega (arith, less.left)
 
 pub tokens-preserved : goal.tokens-preserved
 tokens-preserved c =
     let some = closing_some c.args.bracket c.tokens.nest c.tokens.self (sym c.is_closing.ensures ∙ c.tokens-test.true) in
-    let less = fewer c.tokens.nest c.nest_behind-nest.result c.tokens.self c.bump.new.self some c.nest_behind-nest.ensures c.bump.ensures in
+    let less = fewer c.tokens.nest c.nest_behind.new.nest c.tokens.self c.bump.new.self some c.nest_behind.ensures c.bump.ensures in
     record {
-      same = closing_turn c.args.bracket c.tokens.nest c.nest_behind-nest.result c.tokens.self c.bump.new.self (to_closing c.args.bracket c.args.self.now)
-          (sym c.is_closing.ensures ∙ c.tokens-test.true) c.nest_behind-nest.ensures c.bump.ensures c.tokens.invariant.same;
+      same = closing_turn c.args.bracket c.tokens.nest c.nest_behind.new.nest c.tokens.self c.bump.new.self (to_closing c.args.bracket c.args.self.now)
+          (sym c.is_closing.ensures ∙ c.tokens-test.true) c.nest_behind.ensures c.bump.ensures c.tokens.invariant.same;
       braces = omega (arith, less.braces, c.tokens.invariant.braces);
       others = omega (arith, less.others, c.tokens.invariant.others);
       angles = omega (arith, less.angles, c.tokens.invariant.angles);

@@ -5,8 +5,8 @@ use Rattle.rust_cursor.proofs.Nesting.{shorter, fewer}
 use Rattle.rust_cursor.proofs.Scans.{taking_some, taking_turn}
 use Rattle.rust_cursor.proofs.cursor.Cursor.take_excerpt.Goals as goal
 
-pub nest_behind-nest-requires : goal.nest_behind-nest-requires
-nest_behind-nest-requires c =
+pub nest_behind-requires : goal.nest_behind-requires
+nest_behind-requires c =
     let some = taking_some c.args.extent c.tokens.nest c.tokens.self (sym c.stops.ensures ∙ c.tokens-test.true) in
     let less = shorter c.tokens.self some in
     record {
@@ -16,21 +16,34 @@ nest_behind-nest-requires c =
       inner = omega (arith, c.tokens.invariant.inner);
     }
 
+pub take_inside-requires-clause-braces : goal.take_inside-requires-clause-braces
+take_inside-requires-clause-braces c =
+    let some = taking_some c.args.extent c.tokens.nest c.tokens.self (sym c.stops.ensures ∙ c.tokens-test.true) in
+    let less = fewer c.tokens.nest c.nest_behind.new.nest c.tokens.self c.bump_behind-last.new.self some c.nest_behind.ensures c.bump_behind-last.ensures.rest in
+    omega (arith, less.braces, c.tokens.invariant.braces)
+
+pub take_inside-requires-clause-inner : goal.take_inside-requires-clause-inner
+take_inside-requires-clause-inner c =
+    let some = taking_some c.args.extent c.tokens.nest c.tokens.self (sym c.stops.ensures ∙ c.tokens-test.true) in
+    let less = fewer c.tokens.nest c.nest_behind.new.nest c.tokens.self c.bump_behind-last.new.self some c.nest_behind.ensures c.bump_behind-last.ensures.rest in
+    omega (arith, less.inner, c.tokens.invariant.inner)
+
 pub tokens-smaller : goal.tokens-smaller
 tokens-smaller c =
     let some = taking_some c.args.extent c.tokens.nest c.tokens.self (sym c.stops.ensures ∙ c.tokens-test.true) in
-    let less = fewer c.tokens.nest c.nest_behind-nest.result c.tokens.self c.bump_behind-last.new.self some c.nest_behind-nest.ensures c.bump_behind-last.ensures.rest in
-    omega (arith, less.left)
+    let less = fewer c.tokens.nest c.nest_behind.new.nest c.tokens.self c.bump_behind-last.new.self some c.nest_behind.ensures c.bump_behind-last.ensures.rest in
+    omega (arith, less.left, c.in_ok-take_inside.ensures.left)
 
 pub tokens-preserved : goal.tokens-preserved
 tokens-preserved c =
     let some = taking_some c.args.extent c.tokens.nest c.tokens.self (sym c.stops.ensures ∙ c.tokens-test.true) in
-    let less = fewer c.tokens.nest c.nest_behind-nest.result c.tokens.self c.bump_behind-last.new.self some c.nest_behind-nest.ensures c.bump_behind-last.ensures.rest in
+    let less = fewer c.tokens.nest c.nest_behind.new.nest c.tokens.self c.bump_behind-last.new.self some c.nest_behind.ensures c.bump_behind-last.ensures.rest in
+    let more = c.in_ok-take_inside.ensures in
     record {
-      same = taking_turn c.args.extent (string_bytes c.tokens.text) (string_bytes c.push_text.new.text) c.tokens.last c.bump_behind-last.result c.tokens.nest c.nest_behind-nest.result c.tokens.self c.bump_behind-last.new.self (taken c.args.extent c.args.self.now)
-          (sym c.stops.ensures ∙ c.tokens-test.true) c.nest_behind-nest.ensures (sym c.ends-is_last.ensures ∙ c.if-is_last.false) c.in_ok-push_text.ensures c.bump_behind-last.ensures.value c.bump_behind-last.ensures.rest c.tokens.invariant.same;
-      braces = omega (arith, less.braces, c.tokens.invariant.braces);
-      others = omega (arith, less.others, c.tokens.invariant.others);
-      angles = omega (arith, less.angles, c.tokens.invariant.angles);
-      inner = omega (arith, less.inner, c.tokens.invariant.inner);
+      same = more.same ∙ taking_turn c.args.extent (string_bytes c.tokens.text) (string_bytes c.push_text.new.text) c.tokens.last c.bump_behind-last.result c.tokens.nest c.nest_behind.new.nest c.tokens.self c.bump_behind-last.new.self (taken c.args.extent c.args.self.now)
+          (sym c.stops.ensures ∙ c.tokens-test.true) c.nest_behind.ensures (sym c.ends-is_last.ensures ∙ c.if-is_last.false) c.in_ok-push_text.ensures c.bump_behind-last.ensures.value c.bump_behind-last.ensures.rest c.tokens.invariant.same;
+      braces = omega (arith, less.braces, more.braces, c.tokens.invariant.braces);
+      others = omega (arith, less.others, more.left, more.others, c.tokens.invariant.others);
+      angles = omega (arith, less.angles, more.left, more.angles, c.tokens.invariant.angles);
+      inner = omega (arith, less.inner, more.inner, c.tokens.invariant.inner);
     }

@@ -1,0 +1,57 @@
+-- Steps in braces.
+use Rattle.std.proofs.Common.{◌≡◌, ◌+◌, ◌-◌, ◌==◌, ◌&&◌, ℕ, Bool, true, false, not, refl, ap, ◌∙◌, arith}
+use Rattle.std.specs.Prelude.{if◌then◌else◌}
+use Rattle.std.proofs.lemmas.Bool.Decides.{nat_tests}
+use Rattle.rust_cursor.specs.declared.cursor.nest.Nest.{Nest}
+use Rattle.rust_cursor.specs.declared.cursor.texts.Extent.{Extent}
+use Rattle.rust_cursor.specs.Tokens.{Tokens}
+use Rattle.rust_cursor.specs.Words.{symbol, is_empty}
+use Rattle.rust_cursor.specs.Nests.{nest_inside, nest_behind}
+use Rattle.rust_cursor.specs.Extents.{stops, ends}
+
+record AreFalse (a b c : Bool) : Type 0 where
+  first : a ≡ false
+  second : b ≡ false
+  third : c ≡ false
+
+none_of : (a b c : Bool) → (not a && (not b && not c)) ≡ true → AreFalse a b c
+none_of false false false e = record { first = refl; second = refl; third = refl }
+none_of false false true e = absurd cc
+none_of false true c e = absurd cc
+none_of true b c e = absurd cc
+
+-- a brace is left open
+left_by : (opens closes : Bool) (n : ℕ) → (n == 0) ≡ false → (n == 1 && closes) ≡ false → ((if opens then n + 1 else (if closes then n - 1 else n)) == 0) ≡ false
+left_by true closes n some more = grind (arith, nat_tests)
+left_by false true n some more = grind (arith, nat_tests)
+left_by false false n some more = some
+
+goes_on : (e : Extent) (nest : Nest) (ts : Tokens) → is_empty ts ≡ false → (nest.braces == 0) ≡ false → stops e nest ts ≡ false
+unfolding stops
+goes_on e nest ts some deep = rw (some, deep) refl
+
+is_behind : (nest : Nest) (ts : Tokens) → (nest.braces == 0) ≡ false → nest_inside nest ts ≡ nest_behind nest ts
+unfolding nest_behind
+is_behind nest ts deep = rw deep refl
+
+not_last : (e : Extent) (behind : Nest) (ts : Tokens) → (behind.braces == 0) ≡ false → ends e behind ts ≡ false
+unfolding ends
+not_last e behind ts deep = rw deep refl
+
+-- a token in braces that leaves one open is taken, and more
+pub record IsInside (e : Extent) (nest behind : Nest) (ts : Tokens) : Type 0 where
+  pub some : is_empty ts ≡ false
+  pub goes : stops e nest ts ≡ false
+  pub after : behind ≡ nest_behind nest ts
+  pub more : ends e behind ts ≡ false
+
+pub inside : (e : Extent) (nest behind : Nest) (ts : Tokens) → (not (nest.braces == 0) && (not (is_empty ts) && not (nest.braces == 1 && symbol ts == 125))) ≡ true → behind ≡ nest_inside nest ts → IsInside e nest behind ts
+inside e nest behind ts test is =
+    let none = none_of (nest.braces == 0) (is_empty ts) (nest.braces == 1 && symbol ts == 125) test in
+    let left = left_by (symbol ts == 123) (symbol ts == 125) nest.braces none.first none.third in
+    record {
+      some = none.second;
+      goes = goes_on e nest ts none.second none.first;
+      after = is ∙ is_behind nest ts none.first;
+      more = not_last e behind ts (ap (λ k. k.braces == 0) is ∙ left);
+    }

@@ -1,0 +1,41 @@
+use Rattle.std.proofs.Common.{◌∙◌, ap, arith, refl, sym}
+use Rattle.std.specs.Prelude.{string_bytes}
+use Rattle.rust_cursor.specs.Extents.{taking}
+use Rattle.rust_cursor.specs.Nests.{nest_inside}
+use Rattle.rust_cursor.proofs.Inside.{inside}
+use Rattle.rust_cursor.proofs.Nesting.{shorter, fewer}
+use Rattle.rust_cursor.proofs.Scans.{taking_turn}
+use Rattle.rust_cursor.proofs.cursor.Cursor.take_inside.Goals as goal
+
+pub nest_inside-requires-clause-braces : goal.nest_inside-requires-clause-braces
+nest_inside-requires-clause-braces c =
+    let is = inside c.args.extent c.tokens.nest (nest_inside c.tokens.nest c.tokens.self) c.tokens.self (sym c.is_inside.ensures ∙ c.tokens-test.true) refl in
+    let less = shorter c.tokens.self is.some in
+    omega (arith, c.tokens.invariant.braces, c.requires.braces)
+
+pub nest_inside-requires-clause-inner : goal.nest_inside-requires-clause-inner
+nest_inside-requires-clause-inner c =
+    let is = inside c.args.extent c.tokens.nest (nest_inside c.tokens.nest c.tokens.self) c.tokens.self (sym c.is_inside.ensures ∙ c.tokens-test.true) refl in
+    let less = shorter c.tokens.self is.some in
+    omega (arith, c.tokens.invariant.inner, c.requires.inner)
+
+pub tokens-smaller : goal.tokens-smaller
+tokens-smaller c =
+    let is = inside c.args.extent c.tokens.nest c.nest_inside.new.nest c.tokens.self (sym c.is_inside.ensures ∙ c.tokens-test.true) c.nest_inside.ensures in
+    let less = fewer c.tokens.nest c.nest_inside.new.nest c.tokens.self c.bump_behind.new.self is.some is.after c.bump_behind.ensures.rest in
+    omega (arith, less.left)
+
+pub tokens-preserved : goal.tokens-preserved
+tokens-preserved c =
+    let is = inside c.args.extent c.tokens.nest c.nest_inside.new.nest c.tokens.self (sym c.is_inside.ensures ∙ c.tokens-test.true) c.nest_inside.ensures in
+    let less = fewer c.tokens.nest c.nest_inside.new.nest c.tokens.self c.bump_behind.new.self is.some is.after c.bump_behind.ensures.rest in
+    record {
+      same = taking_turn c.args.extent (string_bytes c.tokens.text) (string_bytes c.push_text.new.text) c.tokens.last c.bump_behind.result c.tokens.nest c.nest_inside.new.nest c.tokens.self c.bump_behind.new.self
+          (taking c.args.extent (string_bytes c.args.text.now) c.args.last.now c.args.nest.now c.args.self.now)
+          is.goes is.after is.more c.in_ok-push_text.ensures c.bump_behind.ensures.value c.bump_behind.ensures.rest c.tokens.invariant.same;
+      left = omega (arith, less.left, c.tokens.invariant.left);
+      braces = omega (arith, less.braces, c.tokens.invariant.braces);
+      inner = omega (arith, less.inner, c.tokens.invariant.inner);
+      others = ap (λ k. k.others) c.nest_inside.ensures ∙ c.tokens.invariant.others;
+      angles = ap (λ k. k.angles) c.nest_inside.ensures ∙ c.tokens.invariant.angles;
+    }

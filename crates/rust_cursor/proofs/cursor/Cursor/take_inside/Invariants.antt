@@ -1,0 +1,17 @@
+use Rattle.std.proofs.Common.{◌≡◌, ◌≤◌, ◌+◌, length}
+use Rattle.std.specs.Prelude.{string_bytes}
+use Rattle.rust_cursor.specs.Extents.{taking}
+use Rattle.rust_cursor.proofs.cursor.Cursor.take_inside.Given as goal
+
+abbrev pub invariant-tokens : goal.invariant-tokens
+invariant-tokens l = record {
+  same : taking l.extent (string_bytes l.text) l.last l.nest l.self ≡ taking l.extent (string_bytes l.initial.text) l.initial.last l.initial.nest l.initial.self;
+  left : length l.self.left ≤ length l.initial.self.left;
+  braces : l.nest.braces + length l.self.left ≤ l.initial.nest.braces + length l.initial.self.left;
+  inner : l.nest.inner + length l.self.left ≤ l.initial.nest.inner + length l.initial.self.left;
+  others : l.nest.others ≡ l.initial.nest.others;
+  angles : l.nest.angles ≡ l.initial.nest.angles;
+}
+
+abbrev pub decreases-tokens : goal.decreases-tokens
+decreases-tokens l = length l.self.left
