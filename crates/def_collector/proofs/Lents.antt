@@ -1,5 +1,5 @@
 -- What a lent item declares is what its node declares.
-use Rattle.std.proofs.Common.{◌≡◌, ℕ, true, false, List, [], ◌∷◌, map, Option, Some, None, refl, ap, sym, ◌∙◌}
+use Rattle.std.proofs.Common.{◌≡◌, ℕ, true, List, [], ◌∷◌, map, Option, Some, None, refl, ap, sym, ◌∙◌}
 use Rattle.std.specs.Prelude.{option_map, slice_get, is_some}
 use Rattle.std.specs.Option.{option_map_or}
 use Rattle.hir_input.specs.declared.ids.FileAstId.{FileAstId}
@@ -10,9 +10,9 @@ use Rattle.item_tree.specs.Node.{Leaf, plain, constant, struct_item, outline, us
 use Rattle.item_tree.specs.Shown.{Lent, lent_leaf, lent_parent, IsLent, lent_module, HasVisibility}
 use Rattle.item_tree.specs.Walk.{of_id}
 use Rattle.item_tree.proofs.Walking.{leaf_of_id, parent_of_id}
-use Rattle.def_collector.specs.Declarations.{Declared, name_of, leaf_name, trunk_name, node_name, leaf_declares, node_declares, node_visibility, declaration_of}
-use Rattle.def_collector.specs.Seen.{defined, is_declaring}
-use Rattle.def_collector.specs.Inner.{own_at, lent_name, lent_declares, lent_visibility}
+use Rattle.def_collector.specs.Declarations.{Declared, declared_name, leaf_name, trunk_name, node_name, leaf_declares, node_declares, node_visibility, declaration_of, with_id}
+use Rattle.def_collector.specs.DeclarationView.{defined}
+use Rattle.def_collector.specs.Inner.{own_defined, lent_name, lent_declares, lent_visibility}
 
 -- ---- modules, whose items stand in them or not
 
@@ -20,7 +20,7 @@ pub module_name : (a : FileAstId) (n : List ℕ) (v : ℕ) (k : ModKind) → len
 module_name a n v (Inline is) = refl
 module_name a n v Outline = refl
 
-pub module_declares : (a : FileAstId) (n : List ℕ) (v : ℕ) (k : ModKind) → lent_declares (lent_module a n v k) ≡ Some (name_of n)
+pub module_declares : (a : FileAstId) (n : List ℕ) (v : ℕ) (k : ModKind) → lent_declares (lent_module a n v k) ≡ Some (declared_name n)
 module_declares a n v (Inline is) = refl
 module_declares a n v Outline = refl
 
@@ -78,7 +78,7 @@ module _ (u : Unfolding) where
   pub declares_at : (i : ℕ) (x : Lent) → IsLent u i x → of_id u None node_declares i ≡ lent_declares x
   declares_at i (lent_leaf a l) p = leaf_of_id u None node_declares i a l p ∙ sym (declares-leaf Some p.item) ∙ ap leaf_declares (sym p.visible) ∙ declares-leaf (vis_at u.forest) l
   declares_at i (lent_parent a t is) p =
-      parent_of_id u None node_declares i a t is p ∙ ap (option_map name_of) (sym (name-trunk Some p.item) ∙ ap trunk_name (sym p.visible) ∙ name-trunk (vis_at u.forest) t)
+      parent_of_id u None node_declares i a t is p ∙ ap (option_map declared_name) (sym (name-trunk Some p.item) ∙ ap trunk_name (sym p.visible) ∙ name-trunk (vis_at u.forest) t)
 
   -- what is lent of its visibility stands for that of the node
   visibilities : (i : ℕ) (x : Lent) → IsLent u i x → option_map (vis_at u.forest) (lent_visibility x) ≡ option_map Some (of_id u None node_visibility i)
@@ -115,32 +115,24 @@ no_visibility u i x p e = no_one (of_id u None node_visibility i) (ap (option_ma
 -- ---- the declaration of one item
 
 module _ (u : Unfolding) (path : List (List ℕ)) (i : ℕ) where
-  -- the same of the node itself
-  seen_one : (o : Option Node) (a : FileAstId) (d : Declared) → node_at u.forest i ≡ o → option_map node_ast o ≡ Some a → of_id u None node_declares i ≡ Some d
-      → own_at u path i ≡ record { path = path; node = node_at u.forest i; kind = a.kind; visibility = of_id u None node_visibility i; declared = d } ∷ []
-  seen_one None a d e f g = absurd (cc)
-  seen_one (Some n) a d e f g =
-      let g : node_declares n ≡ Some d = sym (ap (λ o. option_map_or node_declares o None) e) ∙ g in
-      let f : node_ast n ≡ a = cc in
-      rw (e, g, sym f) refl
+  own_by : (o : Option Node) (d : Option Declared) → node_at u.forest i ≡ o → of_id u None node_declares i ≡ d → own_defined u path i ≡ map defined (option_map_or (λ n. with_id i (declaration_of path n d)) o [])
+  own_by None d e f = rw e refl
+  own_by (Some n) d e f = let f : node_declares n ≡ d = sym (ap (λ o. option_map_or node_declares o None) e) ∙ f in rw (e, f) refl
 
-pub own_seen : (u : Unfolding) (path : List (List ℕ)) (i : ℕ) (x : Lent) (a : FileAstId) (d : Declared) → IsLent u i x → option_map node_ast (node_at u.forest i) ≡ Some a → Some d ≡ lent_declares x
-    → own_at u path i ≡ record { path = path; node = node_at u.forest i; kind = a.kind; visibility = of_id u None node_visibility i; declared = d } ∷ []
-own_seen u path i x a d p f e = seen_one u path i (node_at u.forest i) a d refl f (declares_at u i x p ∙ sym e)
+  -- what it is
+  one : (o : Option Node) (a : FileAstId) (d : Declared) → node_at u.forest i ≡ o → option_map node_ast o ≡ Some a → of_id u None node_declares i ≡ Some d
+      → own_defined u path i ≡ (i, record { path = path; node = node_at u.forest i; kind = a.kind; visibility = of_id u None node_visibility i; declared = d }) ∷ []
+  one None a d e f g = absurd (cc)
+  one (Some n) a d e f g = let f : node_ast n ≡ a = cc in own_by (Some n) (Some d) e g ∙ rw (e, sym f) refl
 
--- and where it declares nothing
-unseen_one : (path : List (List ℕ)) (o : Option Node) → option_map_or node_declares o None ≡ None → option_map_or (λ n. map defined (declaration_of path n (node_declares n))) o [] ≡ []
-unseen_one path None e = refl
-unseen_one path (Some n) e = rw e refl
+  pub own_one : (x : Lent) (a : FileAstId) (d : Declared) → IsLent u i x → option_map node_ast (node_at u.forest i) ≡ Some a → Some d ≡ lent_declares x
+      → own_defined u path i ≡ (i, record { path = path; node = node_at u.forest i; kind = a.kind; visibility = of_id u None node_visibility i; declared = d }) ∷ []
+  own_one x a d p f e = one (node_at u.forest i) a d refl f (declares_at u i x p ∙ sym e)
 
-pub own_unseen : (u : Unfolding) (path : List (List ℕ)) (i : ℕ) (x : Lent) → IsLent u i x → None ≡ lent_declares x → own_at u path i ≡ []
-own_unseen u path i x p e = unseen_one path (node_at u.forest i) (declares_at u i x p ∙ sym e)
+  -- and where it declares nothing
+  none : (o : Option Node) → map defined (option_map_or (λ n. with_id i (declaration_of path n None)) o []) ≡ []
+  none None = refl
+  none (Some n) = refl
 
--- ---- whether an item declares something
-
-declaring_one : (o : Option Node) → option_map_or (λ n. is_some (node_declares n)) o false ≡ is_some (option_map_or node_declares o None)
-declaring_one None = refl
-declaring_one (Some n) = refl
-
-pub declaring_is : (u : Unfolding) (i : ℕ) (x : Lent) → IsLent u i x → is_declaring u i ≡ is_some (lent_declares x)
-declaring_is u i x p = declaring_one (node_at u.forest i) ∙ ap is_some (declares_at u i x p)
+  pub own_none : (x : Lent) → IsLent u i x → None ≡ lent_declares x → own_defined u path i ≡ []
+  own_none x p e = own_by (node_at u.forest i) None refl (declares_at u i x p ∙ sym e) ∙ none (node_at u.forest i)

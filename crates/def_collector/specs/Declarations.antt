@@ -1,11 +1,12 @@
 -- What the items of a forest declare, and in which module.
-use Rattle.std.specs.Prelude.{ℕ, List, [], ◌∷◌, ◌++◌, Option, Some, None, option_map, slice_get}
+use Rattle.std.specs.Prelude.{ℕ, List, [], ◌∷◌, ◌++◌, map, Option, Some, None, option_map, slice_get}
 use Rattle.item_tree.specs.declared.use_tree.ImportAlias.{ImportAlias}
 use Rattle.item_tree.specs.declared.use_tree.ImportAlias.TheVariants.{Underscore, Alias}
 use Rattle.item_tree.specs.declared.visibility.RawVisibility.{RawVisibility}
 use Rattle.item_tree.specs.Imports.{Import, imports}
 use Rattle.item_tree.specs.Layout.{leaf_vis, trunk_vis}
-use Rattle.item_tree.specs.Node.{Leaf, plain, constant, struct_item, outline, use_item, extern_crate, macro_rules, Trunk, inline, extern_block, Node, leaf, parent, Forest, empty, more}
+use Rattle.item_tree.specs.Node.{Leaf, plain, constant, struct_item, outline, use_item, extern_crate, macro_rules, Trunk, inline, extern_block, Node, leaf, parent, Forest, empty, more, Unfolding}
+use Rattle.item_tree.specs.Reach.{top_ids, child_ids}
 
 -- an extern crate is known by what it is renamed to; as `_` by no name
 abbrev pub crate_name : List ℕ → Option ImportAlias → Option (List ℕ)
@@ -34,17 +35,17 @@ node_name (parent h t f) = trunk_name t
 
 -- what is declared: a name, or imports
 pub data Declared : Type 0 where
-  name_of : List ℕ → Declared
-  imports_of : List Import → Declared
+  declared_name : List ℕ → Declared
+  declared_imports : List Import → Declared
 
 -- by an item: its name, if it has one, and by a use its imports
 abbrev pub leaf_declares : {V : Type 0} → Leaf V → Option Declared
-leaf_declares (use_item v t) = Some (imports_of (imports t))
-leaf_declares l = option_map name_of (leaf_name l)
+leaf_declares (use_item v t) = Some (declared_imports (imports t))
+leaf_declares l = option_map declared_name (leaf_name l)
 
 abbrev pub node_declares : Node → Option Declared
 node_declares (leaf h l) = leaf_declares l
-node_declares (parent h t f) = option_map name_of (trunk_name t)
+node_declares (parent h t f) = option_map declared_name (trunk_name t)
 
 -- the visibility of an item, if it has one
 abbrev pub node_visibility : Node → Option RawVisibility
@@ -79,3 +80,22 @@ abbrev mutual
 -- those of a whole tree
 abbrev pub declarations : Forest → List Declaration
 declarations f = declarations_in [] f
+
+-- ---- each with the id of its item
+
+abbrev pub with_id : ℕ → List Declaration → List (ℕ × Declaration)
+with_id i ds = map (λ d. (i, d)) ds
+
+-- the declarations of a node that an id stands for, and of a forest whose nodes at the top the ids stand for
+abbrev mutual
+  pub node_declared : Unfolding → List (List ℕ) → ℕ → Node → List (ℕ × Declaration)
+  node_declared u path i (leaf h l) = with_id i (declaration_of path (leaf h l) (leaf_declares l))
+  node_declared u path i (parent h t f) = with_id i (declaration_of path (parent h t f) (node_declares (parent h t f))) ++ declared_in u (path_below path t) (child_ids u i) f
+
+  pub declared_in : Unfolding → List (List ℕ) → List ℕ → Forest → List (ℕ × Declaration)
+  declared_in u path (i ∷ is) (more n f) = node_declared u path i n ++ declared_in u path is f
+  declared_in u path is f = []
+
+-- those of a whole tree
+abbrev pub declared_at : Unfolding → List (ℕ × Declaration)
+declared_at u = declared_in u [] (top_ids u) u.forest

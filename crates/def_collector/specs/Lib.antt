@@ -1,4 +1,4 @@
 pub mod Declarations
-pub mod Seen
+pub mod DeclarationView
 pub mod Found
 pub mod Inner

@@ -1,12 +1,12 @@
 //! What the items of a tree declare, in order.
-ghost use Rattle.std.specs.Prelude.{◌≡◌, ◌≢◌, ◌++◌, [], ◌∷◌, filter, map, IfOk, OnOk};
+ghost use Rattle.std.specs.Prelude.{◌≡◌, ◌≢◌, ◌++◌, ◌∷◌, [], filter, map, IfOk, OnOk};
 ghost use Rattle.std.specs.List.{flat_map, AllPairs};
 ghost use Rattle.item_tree.specs.Reach.{all_ids};
 ghost use Rattle.item_tree.specs.Shown.{IsContained, IsShown};
-ghost use Rattle.item_tree.specs.Walk.{AreContained, IsWalkedOnce};
-ghost use Rattle.def_collector.specs.Declarations.{declarations};
-ghost use Rattle.def_collector.specs.Seen.{defined, seen, id_of, is_declaring};
-ghost use Rattle.def_collector.specs.Inner.{own_at, seen_at, declaring_from};
+ghost use Rattle.item_tree.specs.Walk.{AreContained};
+ghost use Rattle.def_collector.specs.Declarations.{declarations, declared_at};
+ghost use Rattle.def_collector.specs.DeclarationView.{collected, declaration_view, defined, id_of, is_declaring, view_of};
+ghost use Rattle.def_collector.specs.Inner.{own_defined, defined_from};
 
 use crate::names::{Declares, declares_of, visibility_of};
 use hir_input::{AstIdKind, Name};
@@ -37,10 +37,12 @@ pub struct Collected<'tree> {
 /// and extern crates as `_` declare nothing, and an extern block only what stands in it.
 ///
 /// What rust-analyzer's `ModCollector::collect` passes over, without what it resolves. The only error is want of memory.
-#[tactic(auto, using(item_tree::proofs::Walking::ids_contained, crate::proofs::Below::top_seen, crate::proofs::Below::top_declaring, crate::proofs::Below::declaring_once, crate::proofs::Below::declaring_contained))]
+#[tactic(auto, using(item_tree::proofs::Walking::ids_contained))]
 pub fn collect(alloc: Global, tree: &ItemTree) -> Result<Collected<'_>, AllocError>
-    ensures declared { let all = map defined (declarations tree.now.forest) in
-        IfOk result (λ c. map (seen tree.now) c.declarations.items ≡ all) }
+    ensures all { let all = map defined (declared_at tree.now) in
+        IfOk result (λ c. map (collected tree.now) c.declarations.items ≡ all) }
+    ensures declared { let all = map view_of (declarations tree.now.forest) in
+        IfOk result (λ c. map (declaration_view tree.now) c.declarations.items ≡ all) }
     ensures ids { let ids = filter (is_declaring tree.now) (all_ids tree.now) in
         IfOk result (λ c. map id_of c.declarations.items ≡ ids) }
     ensures once { IfOk result (λ c. AllPairs (λ i j. i ≢ j) (map id_of c.declarations.items)) }
@@ -61,10 +63,8 @@ fn add_all<'tree>(
     found: &mut Vec<Declaration<'tree>>,
 ) -> Result<(), AllocError>
     requires contained { AreContained tree.now ids.now }
-    requires walk { IsWalkedOnce tree.now }
-    ensures declared { let names = map (λ name. name.now) path.now in
-        OnOk result (map (seen tree.now) found.new.items ≡ map (seen tree.now) found.old.items ++ flat_map (seen_at tree.now names) ids.now) }
-    ensures ids { OnOk result (map id_of found.new.items ≡ map id_of found.old.items ++ flat_map (declaring_from tree.now) ids.now) }
+    ensures { let shown = map (collected tree.now) in
+        OnOk result (shown found.new.items ≡ shown found.old.items ++ flat_map (defined_from tree.now (map (λ name. name.now) path.now)) ids.now) }
 {
     for id in ids {
         add_one(alloc, tree, *id, path, found)?;
@@ -74,7 +74,7 @@ fn add_all<'tree>(
 
 // Adds what an item declares, and all that stand in it.
 #[cycle(add)]
-#[tactic(auto, using(crate::proofs::Below::leaf_seen, crate::proofs::Below::inline_adds, crate::proofs::Below::block_adds, crate::proofs::Below::leaf_declaring, crate::proofs::Below::parent_adds, item_tree::proofs::Walking::parent_counts, item_tree::proofs::Walking::children_contained))]
+#[tactic(auto, using(crate::proofs::Below::leaf_defined, crate::proofs::Below::inline_adds, crate::proofs::Below::block_adds, item_tree::proofs::Walking::parent_counts, item_tree::proofs::Walking::children_contained))]
 fn add_one<'tree>(
     alloc: Global,
     tree: &'tree ItemTree,
@@ -83,10 +83,8 @@ fn add_one<'tree>(
     found: &mut Vec<Declaration<'tree>>,
 ) -> Result<(), AllocError>
     requires contained { IsContained tree.now id }
-    requires walk { IsWalkedOnce tree.now }
-    ensures declared { let names = map (λ name. name.now) path.now in
-        OnOk result (map (seen tree.now) found.new.items ≡ map (seen tree.now) found.old.items ++ seen_at tree.now names id) }
-    ensures ids { OnOk result (map id_of found.new.items ≡ map id_of found.old.items ++ declaring_from tree.now id) }
+    ensures { let shown = map (collected tree.now) in
+        OnOk result (shown found.new.items ≡ shown found.old.items ++ defined_from tree.now (map (λ name. name.now) path.now) id) }
 {
     let item = tree.index(id);
     add_own(alloc, tree, id, item, path, found)?;
@@ -111,10 +109,9 @@ fn add_below<'tree>(
     found: &mut Vec<Declaration<'tree>>,
 ) -> Result<(), AllocError>
     requires contained { AreContained tree.now ids.now }
-    requires walk { IsWalkedOnce tree.now }
-    ensures declared { let names = map (λ name. name.now) path.now ++ name.now ∷ [] in
-        OnOk result (map (seen tree.now) found.new.items ≡ map (seen tree.now) found.old.items ++ flat_map (seen_at tree.now names) ids.now) }
-    ensures ids { OnOk result (map id_of found.new.items ≡ map id_of found.old.items ++ flat_map (declaring_from tree.now) ids.now) }
+    ensures { let shown = map (collected tree.now) in
+        let names = map (λ name. name.now) path.now ++ name.now ∷ [] in
+        OnOk result (shown found.new.items ≡ shown found.old.items ++ flat_map (defined_from tree.now names) ids.now) }
 {
     let mut below = Vec::from_slice(alloc, path)?;
     below.push(name)?;
@@ -122,7 +119,7 @@ fn add_below<'tree>(
 }
 
 // Adds what an item itself declares, if anything.
-#[tactic(auto, using(crate::proofs::Lents::own_seen, crate::proofs::Lents::own_unseen, crate::proofs::Lents::declaring_is))]
+#[tactic(auto, using(crate::proofs::Lents::own_one, crate::proofs::Lents::own_none))]
 fn add_own<'tree>(
     alloc: Global,
     tree: &'tree ItemTree,
@@ -132,9 +129,8 @@ fn add_own<'tree>(
     found: &mut Vec<Declaration<'tree>>,
 ) -> Result<(), AllocError>
     requires { IsShown tree.now id item }
-    ensures declared { let names = map (λ name. name.now) path.now in
-        OnOk result (map (seen tree.now) found.new.items ≡ map (seen tree.now) found.old.items ++ own_at tree.now names id) }
-    ensures ids { OnOk result (map id_of found.new.items ≡ map id_of found.old.items ++ filter (is_declaring tree.now) (id ∷ [])) }
+    ensures { let shown = map (collected tree.now) in
+        OnOk result (shown found.new.items ≡ shown found.old.items ++ own_defined tree.now (map (λ name. name.now) path.now) id) }
 {
     let Some(declares) = declares_of(alloc, item)? else {
         return Ok(());

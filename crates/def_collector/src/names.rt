@@ -3,7 +3,7 @@ ghost use Rattle.std.specs.Prelude.{◌≡◌, IfOk, None, option_copied, option
 ghost use Rattle.item_tree.specs.Shown.{IsContained, IsShown, lent};
 ghost use Rattle.item_tree.specs.Walk.{of_id};
 ghost use Rattle.def_collector.specs.Declarations.{crate_name, node_name, node_visibility};
-ghost use Rattle.def_collector.specs.Seen.{declared_by};
+ghost use Rattle.def_collector.specs.DeclarationView.{declared_by};
 ghost use Rattle.def_collector.specs.Inner.{lent_declares, lent_name, lent_visibility};
 
 use hir_input::Name;

@@ -1,11 +1,9 @@
 //! The first item of a path of names.
-ghost use Rattle.std.specs.Prelude.{◌≡◌, ◌≢◌, ℕ, List, ◌∷◌, filter, IfSome, MatchOption};
-ghost use Rattle.item_tree.specs.Reach.{all_ids};
+ghost use Rattle.std.specs.Prelude.{◌≡◌, ◌≢◌, ℕ, List, ◌∷◌, IfSome, MatchOption};
 ghost use Rattle.item_tree.specs.Shown.{IsContained, lent};
-ghost use Rattle.item_tree.specs.Walk.{AreContained, IsWalkedOnce};
-ghost use Rattle.def_collector.specs.Declarations.{declarations};
-ghost use Rattle.def_collector.specs.Found.{first_of};
-ghost use Rattle.def_collector.specs.Seen.{is_declaring};
+ghost use Rattle.item_tree.specs.Walk.{AreContained};
+ghost use Rattle.def_collector.specs.Declarations.{declared_at};
+ghost use Rattle.def_collector.specs.Found.{first_named};
 ghost use Rattle.def_collector.specs.Inner.{found_among, found_from, is_named, lent_name};
 
 use crate::names::name_of;
@@ -14,10 +12,9 @@ use item_tree::{ItemTree, ModItemId, ModItemKind, ModKind};
 
 /// The first item, in the order in which they are written, that has the last of these names and stands in the inline modules
 /// of the others; `None` where there is none. Extern blocks are passed through. Takes no memory.
-#[tactic(auto, using(item_tree::proofs::Walking::ids_contained, crate::proofs::Finding::top_found, crate::proofs::Finding::found_contained))]
+#[tactic(auto, using(item_tree::proofs::Walking::ids_contained, crate::proofs::Finding::top_found))]
 pub fn find(tree: &ItemTree, names: &[Name]) -> Option<ModItemId>
-    ensures first { let ids = filter (is_declaring tree.now) (all_ids tree.now) in
-        result ≡ first_of names.now ids (declarations tree.now.forest) }
+    ensures first { result ≡ first_named names.now (declared_at tree.now) }
     ensures contained { IfSome result (IsContained tree.now) }
 {
     find_among(tree, tree.top_level_items(), names)
@@ -28,7 +25,6 @@ pub fn find(tree: &ItemTree, names: &[Name]) -> Option<ModItemId>
 #[tactic(auto, using(crate::proofs::Finding::found_here, crate::proofs::Finding::found_later))]
 fn find_among(tree: &ItemTree, ids: &[ModItemId], names: &[Name]) -> Option<ModItemId>
     requires contained { AreContained tree.now ids.now }
-    requires walk { IsWalkedOnce tree.now }
     ensures { result ≡ found_among tree.now names.now ids.now }
 {
     for id in ids {
@@ -44,7 +40,6 @@ fn find_among(tree: &ItemTree, ids: &[ModItemId], names: &[Name]) -> Option<ModI
 #[tactic(auto, using(crate::proofs::Finding::last_found, crate::proofs::Finding::leaf_missed, crate::proofs::Finding::inline_found, crate::proofs::Finding::inline_missed, crate::proofs::Finding::block_found, item_tree::proofs::Walking::parent_counts, item_tree::proofs::Walking::children_contained))]
 fn find_from(tree: &ItemTree, id: ModItemId, names: &[Name]) -> Option<ModItemId>
     requires contained { IsContained tree.now id }
-    requires walk { IsWalkedOnce tree.now }
     ensures { result ≡ found_from tree.now names.now id }
 {
     let item = tree.index(id);

@@ -9,5 +9,6 @@ pub mod Attr
 pub mod UseTreeView
 pub mod Words
 pub mod Syntax
+pub mod Nodes
 pub mod Bodies
 pub mod Code

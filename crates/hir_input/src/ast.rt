@@ -1,7 +1,10 @@
-//! The syntax that is handed in, as far as an item tree reads it.
+//! The syntax that a tree is made from, as far as an item tree reads it. The nodes of items have the names of
+//! rust-analyzer's `ast`; `Syntax`, `Stmt` and `Tail` have no counterpart there.
 //!
-//! Each node has the `hash` and the `number` of its id, whose kind comes from the node's case, its `attrs`, and
-//! the text of its `body`, which no item tree depends on.
+//! Each node has the `hash` and the `number` of its id, as rust-analyzer's `AstIdMap` gives them, the kind coming
+//! from the node's case; its `attrs`; and the text of its `body`, on which no item tree depends.
+
+mod constructors;
 
 use crate::attr::Meta;
 use crate::expand_to::ExpandTo;
@@ -12,6 +15,7 @@ use crate::name::Name;
 /// The syntax of a file or of a macro's result.
 #[derive(Debug, Drop)]
 pub enum Syntax {
+    /// A file, with its inner attributes and its items.
     SourceFile { attrs: Vec<Meta>, items: Vec<Item> },
     /// The result of a macro call in the place of items.
     MacroItems { items: Vec<Item> },
@@ -32,6 +36,7 @@ pub struct BlockExpr {
 /// A statement.
 #[derive(Debug, Drop)]
 pub enum Stmt {
+    /// An item in the place of a statement.
     Item(Item),
     /// A macro call in the place of a statement.
     MacroCall(MacroCall),
@@ -39,11 +44,14 @@ pub enum Stmt {
     Other,
 }
 
-/// The expression behind the last statement.
+/// The expression after the last statement.
 #[derive(Debug, Drop)]
 pub enum Tail {
+    /// No expression.
     Nothing,
+    /// A macro call.
     MacroCall(MacroCall),
+    /// Any other expression.
     Other,
 }
 
@@ -51,31 +59,52 @@ pub enum Tail {
 #[derive(Debug, Drop)]
 #[cycle(ast)]
 pub enum Item {
+    /// Assembly, as `global_asm!(..)`.
     AsmExpr(AsmExpr),
+    /// `const N: T = ..;`
     Const(Const),
+    /// `enum N { .. }`
     Enum(Enum),
+    /// `extern { .. }`
     ExternBlock(ExternBlock),
+    /// `extern crate n;`
     ExternCrate(ExternCrate),
+    /// `fn n(..) { .. }`
     Fn(Fn),
+    /// `impl .. { .. }`
     Impl(Impl),
+    /// `m!(..);`
     MacroCall(MacroCall),
+    /// `macro n(..) { .. }`
     MacroDef(MacroDef),
+    /// `macro_rules! n { .. }`
     MacroRules(MacroRules),
+    /// `mod n;` or `mod n { .. }`
     Module(Module),
+    /// `static N: T = ..;`
     Static(Static),
+    /// `struct N ..`
     Struct(Struct),
+    /// `trait N { .. }`
     Trait(Trait),
+    /// `type N = ..;`
     TypeAlias(TypeAlias),
+    /// `union N { .. }`
     Union(Union),
+    /// `use ..;`
     Use(Use),
 }
 
 /// An item of an extern block.
 #[derive(Debug, Drop)]
 pub enum ExternItem {
+    /// `fn n(..);`
     Fn(Fn),
+    /// `m!(..);`
     MacroCall(MacroCall),
+    /// `static N: T;`
     Static(Static),
+    /// `type N;`
     TypeAlias(TypeAlias),
 }
 
@@ -143,7 +172,7 @@ pub struct Fn {
     pub body: String,
 }
 
-/// An impl, of a trait or of the type alone.
+/// An impl, of a trait or inherent.
 #[derive(Debug, Drop)]
 pub struct Impl {
     pub hash: u16,
@@ -176,7 +205,7 @@ pub struct MacroDef {
     pub body: String,
 }
 
-/// A macro by example, as in `macro_rules! m {}`.
+/// A `macro_rules!` macro, as in `macro_rules! m {}`.
 #[derive(Debug, Drop)]
 pub struct MacroRules {
     pub hash: u16,
@@ -226,8 +255,11 @@ pub struct Struct {
 /// How the fields of a struct are written.
 #[derive(Debug, Drop)]
 pub enum StructKind {
+    /// `{ a: A, b: B }`
     Record,
+    /// `(A, B);`
     Tuple(Vec<TupleField>),
+    /// `;`
     Unit,
 }
 
@@ -299,16 +331,23 @@ pub struct Rename {
 /// A visibility as it is written.
 #[derive(Debug, Drop)]
 pub enum Visibility {
+    /// `pub`
     Pub,
+    /// `pub(crate)`
     PubCrate,
+    /// `pub(super)`
     PubSuper,
+    /// `pub(self)`
     PubSelf,
+    /// `pub(in path)`
     InPath(PathNode),
 }
 
-/// A path as it is written: read, or not readable.
+/// A path as it is written.
 #[derive(Debug, Drop, PartialEq, Eq)]
 pub enum PathNode {
+    /// One with a meaning as a module path.
     Readable(ModPath),
+    /// One without, as `a<b>::c`.
     Unreadable,
 }

@@ -10,7 +10,8 @@ use crate::span::Span;
 use std::alloc::AllocError;
 use std::marker::Model;
 
-/// A literal: its text as it is written, and the string that it stands for if it is one of a string.
+/// A literal: its text as it is written, its span, and the string that it means if it is a string literal.
+/// It stands for rust-analyzer's `tt::Literal`.
 ///
 /// Two literals are equal where their texts, their strings and their spans are.
 #[derive(Debug, Drop)]
@@ -55,7 +56,8 @@ impl Eq for Literal {
     ghost laws = { Prim.search (comparing, nat_list_eq_equiv, laws-law) depth 7 };
 }
 
-/// A token tree, by its text. Two token trees are equal where their texts are.
+/// A token tree, by its text. Two token trees are equal where their texts are. It stands for rust-analyzer's
+/// `tt::TopSubtree`.
 #[derive(Debug, Drop)]
 pub struct TokenTree {
     pub rendered: String,
@@ -90,7 +92,7 @@ impl Eq for TokenTree {
     ghost laws = { nat_list_eq_equiv };
 }
 
-/// What stands behind the path of an attribute.
+/// What follows the path of an attribute.
 ///
 /// Stands for rust-analyzer's `AttrInput`.
 #[derive(Debug, Drop, PartialEq, Eq)]
@@ -172,7 +174,7 @@ impl AttrId {
     }
 }
 
-/// What stands in the brackets of an attribute, as it is written. A value that is no literal is `None`.
+/// What is in the brackets of an attribute, as it is written. A value that is no literal is `None`.
 ///
 /// Stands for rust-analyzer's `ast::Meta`.
 #[derive(Debug, Drop, PartialEq, Eq)]

@@ -14,19 +14,26 @@ use std::marker::Model;
 /// Stands for rust-analyzer's `CfgAtom`.
 #[derive(Debug, Drop, PartialEq, Eq)]
 pub enum CfgAtom {
+    /// `name`
     Flag(Name),
+    /// `key = "value"`
     KeyValue { key: Name, value: String },
 }
 
-/// A condition on the options of a crate. `Invalid` is one that could not be read.
+/// A condition on the options of a crate.
 ///
 /// Stands for rust-analyzer's `CfgExpr`.
 #[derive(Debug, Drop, PartialEq, Eq)]
 pub enum CfgExpr {
+    /// One that could not be read; whether it is true is unknown.
     Invalid,
+    /// A flag, or a key with a value: true where it is set, otherwise false.
     Atom(CfgAtom),
+    /// `all(..)`: the value of the first member that is not true, or true if there is none.
     All(Vec<CfgExpr>),
+    /// `any(..)`: the value of the first member that is not false, or false if there is none.
     Any(Vec<CfgExpr>),
+    /// `not(..)`: true for false, false for true, unknown for unknown.
     Not(Box<CfgExpr>),
 }
 
@@ -167,7 +174,7 @@ impl Clone for CfgExpr {
 
 /// The options of a crate: the atoms that are set.
 ///
-/// Stands for rust-analyzer's `CfgOptions`.
+/// Stands for rust-analyzer's `CfgOptions`. `==` is that of the lists: order and repetition count.
 #[derive(Debug, Drop)]
 pub struct CfgOptions {
     atoms: Vec<CfgAtom>,
@@ -186,14 +193,15 @@ impl Model for CfgOptions {
 }
 
 impl CfgOptions {
-    /// The options under which these atoms are set.
+    /// The options under which these atoms are set. The flags `true` and `false` need not be: the one is always true,
+    /// the other never.
     pub fn new(atoms: Vec<CfgAtom>) -> CfgOptions
         ensures { result ≡ map atom_view atoms.items }
     {
         CfgOptions { atoms }
     }
 
-    /// Whether the condition is true under these options, or `None` where that is unknown.
+    /// Whether the condition is true under these options, or `None` where that is unknown, as of `CfgExpr::Invalid`.
     /// rust-analyzer's `CfgOptions::check`.
     pub fn check(&self, cfg: &CfgExpr) -> Option<bool>
         ensures { result ≡ truth self.now (cfg_view cfg.now) }

@@ -11,7 +11,7 @@ use std::fmt;
 use std::fmt::Display;
 use std::marker::Model;
 
-/// A name as it is written in an edition.
+/// A name as it is written in an edition. In place of the `impl Display` of rust-analyzer's `Name::display`.
 #[derive(Drop)]
 pub struct NameDisplay<'a> {
     name: &'a Name,
@@ -51,7 +51,7 @@ impl fmt::Display for NameDisplay<'_> {
     }
 }
 
-/// A path as it is written in an edition.
+/// A path as it is written in an edition. In place of the `impl Display` of rust-analyzer's `ModPath::display`.
 #[derive(Drop)]
 pub struct ModPathDisplay<'a> {
     path: &'a ModPath,

@@ -3,15 +3,20 @@ ghost use Rattle.std.specs.Prelude.{Some};
 
 use std::fmt;
 
-/// What a macro call expands to, which its place decides. Displayed as its word, which of a type is `Type`.
+/// What a macro call expands to, which its place decides. Displayed as its word.
 ///
 /// Stands for rust-analyzer's `ExpandTo`.
 #[derive(Clone, Copy, Debug, PartialEq, Eq)]
 pub enum ExpandTo {
+    /// Statements of a block.
     Statements,
+    /// Items of a file, a module or an extern block.
     Items,
+    /// A pattern.
     Pattern,
+    /// A type, displayed as `Type`. rust-analyzer's `Type`.
     Ty,
+    /// An expression.
     Expr,
 }
 

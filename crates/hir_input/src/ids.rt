@@ -6,23 +6,24 @@ ghost use Rattle.hir_input.specs.Id.{shown_hash};
 use crate::edition::EditionYear;
 use std::fmt;
 
-/// A crate, by its place in the list of crates.
+/// A crate, by its place in the list of crates, counted from 0. rust-analyzer's `Crate`.
 #[derive(Clone, Copy, Debug, PartialEq, Eq, Hash)]
 pub struct Crate(pub u32);
 
-/// A file, or the result of a macro.
+/// A file, or the result of a macro. rust-analyzer's `HirFileId`.
 #[derive(Clone, Copy, Debug, PartialEq, Eq, Hash)]
 pub struct HirFileId(pub u32);
 
-/// A block expression that has items.
+/// A block expression that has items. rust-analyzer's `BlockId`.
 #[derive(Clone, Copy, Debug, PartialEq, Eq, Hash)]
 pub struct BlockId(pub u32);
 
-/// Where the tokens of a macro call come from: the root of an edition, or an expansion. Displayed as `ROOT2024`, or as
-/// the expansion's number.
+/// Where the tokens of a macro call come from. rust-analyzer's `SyntaxContext`.
 #[derive(Clone, Copy, Debug, PartialEq, Eq)]
 pub enum SyntaxContext {
+    /// The source text, read in this edition. Displayed as `ROOT2024`.
     Root(EditionYear),
+    /// An expansion of this number, by which it is displayed.
     Expanded(u32),
 }
 
@@ -42,24 +43,41 @@ impl fmt::Display for SyntaxContext {
     }
 }
 
-/// The kind of a syntax node that an item is lowered from.
+/// The kind of a syntax node that an item is lowered from, displayed as its word. rust-analyzer keeps it in
+/// `ErasedFileAstId`.
 #[derive(Clone, Copy, Debug, PartialEq, Eq)]
 pub enum AstIdKind {
+    /// A constant.
     Const,
+    /// An enum.
     Enum,
+    /// An extern block.
     ExternBlock,
+    /// An extern crate.
     ExternCrate,
+    /// A function.
     Fn,
+    /// An impl.
     Impl,
+    /// A macro 2.0.
     MacroDef,
+    /// A macro call.
     MacroCall,
+    /// A `macro_rules!` macro.
     MacroRules,
+    /// A module.
     Module,
+    /// A static.
     Static,
+    /// A struct.
     Struct,
+    /// A trait.
     Trait,
+    /// A type alias.
     TypeAlias,
+    /// A union.
     Union,
+    /// A use.
     Use,
 }
 

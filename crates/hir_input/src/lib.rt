@@ -2,16 +2,16 @@
 #![tactic(auto)]
 
 pub mod ast;
-pub mod attr;
-pub mod cfg;
-pub mod display;
-pub mod edition;
-pub mod expand_to;
-pub mod ids;
+mod attr;
+mod cfg;
+mod display;
+mod edition;
+mod expand_to;
+mod ids;
 mod laws;
-pub mod mod_path;
-pub mod name;
-pub mod span;
+mod mod_path;
+mod name;
+mod span;
 mod use_trees;
 
 pub use attr::{Attr, AttrId, AttrInput, Literal, Meta, TokenTree};

@@ -9,19 +9,24 @@ use std::alloc::AllocError;
 use std::hash::{Hash, Hasher};
 use std::marker::Model;
 
-/// What a path starts from. A path that starts from `self` is of kind `Super(0)`.
+/// What a path starts from.
 ///
 /// Stands for rust-analyzer's `PathKind`.
 #[derive(Clone, Copy, Debug, PartialEq, Eq, Hash)]
 pub enum PathKind {
+    /// A name: `a::b`.
     Plain,
+    /// `super` so many times, or `self` for 0.
     Super(u32),
+    /// `crate`.
     Crate,
+    /// `::`.
     Abs,
+    /// `$crate`, of a macro that this crate defines.
     DollarCrate(Crate),
 }
 
-/// A path by its kind and the names behind it. A plain path has at least one name.
+/// A path by its kind and the names after it. A plain path has at least one name.
 ///
 /// Stands for rust-analyzer's `ModPath`. Two paths are equal, and hash alike, where their kinds and names are.
 #[derive(Debug, Drop)]
@@ -41,7 +46,8 @@ impl Model for ModPath {
 }
 
 impl ModPath {
-    /// The path of this kind with these names, or `None` for a plain path without names.
+    /// The path of this kind with these names, or `None` for a plain path without names. rust-analyzer's
+    /// `ModPath::from_segments`, which makes that path too.
     pub fn from_segments(kind: PathKind, segments: Vec<Name>) -> Option<ModPath>
         ensures { SomeIff result (HasWords kind segments.items)
             (record { kind = kind; names = segments.items }) }
@@ -52,14 +58,14 @@ impl ModPath {
         Some(ModPath { kind, segments })
     }
 
-    /// What the path starts from.
+    /// What the path starts from. rust-analyzer's field `ModPath::kind`.
     pub fn kind(&self) -> PathKind
         ensures { result ≡ self.now.kind }
     {
         self.kind
     }
 
-    /// The names, in order.
+    /// The names, in order. rust-analyzer's `ModPath::segments`.
     pub fn segments(&self) -> &[Name]
         ensures value { result.now ≡ self.now.names }
         ensures words { HasWords self.now.kind result.now }

@@ -44,7 +44,7 @@ impl Name {
         Some(Name { text })
     }
 
-    /// The text.
+    /// The text. rust-analyzer's `Name::as_str`.
     pub fn text(&self) -> &str
         ensures value { result.now ≡ self.now }
         ensures name { IsName self.now }

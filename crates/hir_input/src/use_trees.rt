@@ -38,8 +38,8 @@ fn find<'a>(tree: &'a UseTree, left: &mut u32) -> Option<&'a UseTree>
 }
 
 impl UseTree {
-    /// The node at a place. Each node is counted before those below it, so the tree itself stands at 0. Past the
-    /// last node there is nothing. It takes no memory.
+    /// The node at a place, or `None` past the last node. Each node is counted before those below it, so the tree
+    /// itself is at 0. It takes no memory. In place of rust-analyzer's arena of `ast::UseTree`.
     pub fn at(&self, place: u32) -> Option<&UseTree>
         ensures { let nodes = written_nodes (use_tree_view self.now) in
             option_map (λ t. use_tree_view t.now) result ≡ slice_get nodes place }

@@ -2,23 +2,17 @@
 use Rattle.std.specs.Prelude.{ℕ, ◌^◌, ◌==◌, List, [], codes, if◌then◌else◌, Option, Some, None, option_and_then}
 use Rattle.serde_json.specs.Data.{Data}
 use Rattle.serde_json.specs.Find.{as_object}
-use Rattle.hir_input.specs.declared.edition.Edition.{Edition}
 use Rattle.hir_input.specs.declared.edition.EditionYear.{EditionYear}
 use Rattle.hir_input.specs.declared.edition.EditionYear.TheVariants.{E2015, E2018, E2021, E2024}
 use Rattle.hir_input_json.specs.Forms.{field, optional, whole, name, list_at, ◌>>=◌}
 
--- an edition, by its year and its reserved words
-pub record EditionView : Type 0 where
-  pub year : EditionYear
-  pub reserved : List (List ℕ)
-
--- what an edition is seen as
-abbrev pub edition_view : Edition → EditionView
-edition_view e = record { year = e.year; reserved = e.reserved.items }
+-- what `edition_view` of `hir_input` gives: the year, and the texts of the reserved words
+abbrev pub EditionView : Type 0
+EditionView = EditionYear × List (List ℕ)
 
 -- the edition where none is named
 abbrev pub latest : EditionView
-latest = record { year = E2024; reserved = [] }
+latest = (E2024, [])
 
 -- the years that have an edition
 abbrev pub year_of : ℕ → Option EditionYear
@@ -38,7 +32,7 @@ edition d = do
   _ ← as_object d
   y ← optional E2024 year (field (codes "year") d)
   words ← list_at name (codes "reserved") d
-  Some (record { year = y; reserved = words })
+  Some (y, words)
 
 -- the edition of a request, the latest where it is absent
 abbrev pub edition_at : Data → Option EditionView

@@ -10,4 +10,4 @@ pub mod Items
 pub mod Syntaxes
 pub mod Editions
 pub mod Reads
-pub mod Seen
+pub mod Inner

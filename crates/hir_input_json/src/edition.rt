@@ -1,8 +1,9 @@
 //! Editions, read from their forms.
 ghost use Rattle.std.specs.Prelude.{◌≡◌, OnOk, codes};
 ghost use Rattle.serde_json.specs.View.{view};
+ghost use Rattle.hir_input.specs.Edition.{edition_view};
 ghost use Rattle.hir_input.specs.declared.edition.EditionYear.TheVariants.{E2024};
-ghost use Rattle.hir_input_json.specs.Editions.{edition as edition_form, edition_at as edition_at_form, edition_view, year as year_form};
+ghost use Rattle.hir_input_json.specs.Editions.{edition as edition_form, edition_at as edition_at_form, year as year_form};
 ghost use Rattle.hir_input_json.specs.Forms.{field as field_of, optional};
 ghost use Rattle.hir_input_json.specs.Held.{held, without};
 ghost use Rattle.hir_input_json.specs.Reads.{Reads};

@@ -12,6 +12,7 @@ pub enum Fault {
     /// The value is not of the form.
     #[error("wrong form")]
     WrongForm,
+    /// The allocator refused memory.
     #[error("out of memory")]
     OutOfMemory,
 }

@@ -5,7 +5,7 @@ ghost use Rattle.serde_json.specs.Written.{has_float as holds_float, items_have_
 
 use serde_json::{Map, Value};
 
-/// Whether a number that is held as a float stands anywhere in the value, also under keys that no form names.
+/// Whether a number that is held as a float occurs anywhere in the value, also under keys that no form names.
 #[inline(always)]
 #[cycle(floats)]
 pub fn has_float(value: &Value) -> bool

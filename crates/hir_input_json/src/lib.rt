@@ -9,7 +9,7 @@ pub mod atom;
 mod cfg;
 mod context;
 pub mod edition;
-pub mod fault;
+mod fault;
 pub mod float;
 mod item;
 mod literal;

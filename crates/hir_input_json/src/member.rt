@@ -1,10 +1,11 @@
 //! Members of an object by their keys, and the plain values that they hold.
-ghost use Rattle.std.specs.Prelude.{◌≡◌, ◌^◌, [], None, false, MatchResult, OnOk, option_map, string_bytes};
+ghost use Rattle.std.specs.Prelude.{◌≡◌, ◌^◌, [], None, false, IfErr, MatchResult, OnOk, option_map, string_bytes};
 ghost use Rattle.serde_json.specs.Find.{as_array, as_bool, as_object, as_str, get as get_in};
 ghost use Rattle.serde_json.specs.View.{view, items_view};
 ghost use Rattle.hir_input_json.specs.Forms.{field as field_of, optional, required, whole, id_at as id_form, items_at as items_form};
 ghost use Rattle.hir_input_json.specs.Held.{held, without};
 ghost use Rattle.hir_input_json.specs.Reads.{Reads};
+ghost use Rattle.hir_input_json.specs.declared.fault.Fault.TheVariants.{WrongForm};
 
 use crate::fault::Fault;
 use serde_json::{Map, Value};
@@ -12,9 +13,10 @@ use std::alloc::Global;
 
 /// The members of an object, by which its parts are read.
 ///
-/// `WrongForm` comes exactly where the value is no object.
+/// An error comes exactly where the value is no object.
 pub fn members_of(value: Value) -> Result<Map<String, Value>, Fault>
-    ensures { MatchResult result (λ members. view value ≡ held members) (λ _. as_object (view value) ≡ None) }
+    ensures { MatchResult result (λ members. view value ≡ held members)
+        (λ e. (e ≡ WrongForm) × (as_object (view value) ≡ None)) }
 {
     match value {
         Value::Object(members) => Ok(members),
@@ -86,11 +88,12 @@ pub fn taken(members: &mut Map<String, Value>, key: &str) -> Option<Value>
     }
 }
 
-/// The word that tells which case of a form this is.
+/// The word that says which case of a form this is.
 ///
-/// `WrongForm` comes only where the member is absent or no text.
+/// `WrongForm` comes only where the member is absent or no string.
 pub fn word_at<'v>(members: &'v Map<String, Value>, key: &str) -> Result<&'v str, Fault>
-    ensures { Reads (λ word. word.now) result (required as_str (field_of key.now (held members.now))) }
+    ensures reads { Reads (λ word. word.now) result (required as_str (field_of key.now (held members.now))) }
+    ensures refused { IfErr result (λ e. e ≡ WrongForm) }
 {
     field(members, key)
         .and_then(Value::as_str)
@@ -141,7 +144,8 @@ pub fn list_at(
 
 // A whole number of 32 bits.
 pub(crate) fn u32_of(value: &Value) -> Result<u32, Fault>
-    ensures { Reads (λ n. n) result (whole (2 ^ 32) (view value.now)) }
+    ensures reads { Reads (λ n. n) result (whole (2 ^ 32) (view value.now)) }
+    ensures refused { IfErr result (λ e. e ≡ WrongForm) }
 {
     let number = value.as_u64().ok_or(Fault::WrongForm)?;
     u32::try_from(number).ok().ok_or(Fault::WrongForm)
@@ -170,11 +174,12 @@ pub(crate) fn u32_at(members: &Map<String, Value>, key: &str) -> Result<u32, Fau
     }
 }
 
-/// A whole number of 64 bits, 0 where it is absent.
+/// An integer of 64 bits, 0 where it is absent.
 ///
 /// `WrongForm` comes only where the member is there and is no such number, as where it is below 0 or held as a float.
 pub fn u64_at(members: &Map<String, Value>, key: &str) -> Result<u64, Fault>
-    ensures { Reads (λ n. n) result (optional 0 (whole (2 ^ 64)) (field_of key.now (held members.now))) }
+    ensures reads { Reads (λ n. n) result (optional 0 (whole (2 ^ 64)) (field_of key.now (held members.now))) }
+    ensures refused { IfErr result (λ e. e ≡ WrongForm) }
 {
     match field(members, key) {
         Some(found) => found.as_u64().ok_or(Fault::WrongForm),
@@ -184,9 +189,10 @@ pub fn u64_at(members: &Map<String, Value>, key: &str) -> Result<u64, Fault>
 
 /// The number of a file, a block or a crate.
 ///
-/// `WrongForm` comes only where the member is absent or no whole number of 32 bits.
+/// `WrongForm` comes only where the member is absent or no integer of 32 bits.
 pub fn id_at(members: &Map<String, Value>, key: &str) -> Result<u32, Fault>
-    ensures { Reads (λ n. n) result (id_form key.now (held members.now)) }
+    ensures reads { Reads (λ n. n) result (id_form key.now (held members.now)) }
+    ensures refused { IfErr result (λ e. e ≡ WrongForm) }
 {
     let found = field(members, key).ok_or(Fault::WrongForm)?;
     u32_of(found)

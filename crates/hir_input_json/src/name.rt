@@ -21,7 +21,10 @@ pub(crate) fn name_from(text: String) -> Result<Name, Fault>
     Name::new(text).ok_or(Fault::WrongForm)
 }
 
-pub(crate) fn name_of(value: Value) -> Result<Name, Fault>
+/// A name of its text.
+///
+/// `WrongForm` comes only where the value is no string, or one that is empty or holds a line feed.
+pub fn name_of(value: Value) -> Result<Name, Fault>
     ensures { Reads (λ name. name) result (name_form (view value)) }
 {
     name_from(text_of(value)?)
@@ -50,7 +53,7 @@ pub(crate) fn names_of(alloc: Global, items: IntoIter<Value>) -> Result<Vec<Name
 
 /// Takes a list of names out, none where it is absent.
 ///
-/// `WrongForm` comes only where the member is no list of texts, or one of them is empty or holds a line feed.
+/// `WrongForm` comes only where the member is no list of strings, or one of them is empty or holds a line feed.
 pub fn names_at(
     alloc: Global,
     members: &mut Map<String, Value>,

@@ -99,7 +99,8 @@ fn tail_of(alloc: Global, value: Value) -> Result<Tail, Fault>
 
 // Takes the tail out, nothing where it is absent.
 pub(crate) fn tail_at(alloc: Global, members: &mut Map<String, Value>) -> Result<Tail, Fault>
-    ensures { Reads tail_view result (tail_at_form (held members.old)) }
+    ensures reads { Reads tail_view result (tail_at_form (held members.old)) }
+    ensures left { held members.new ≡ without (codes "tail") (held members.old) }
 {
     match taken(members, "tail") {
         Some(tail) => tail_of(alloc, tail),

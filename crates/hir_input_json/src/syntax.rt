@@ -1,8 +1,8 @@
 //! Syntaxes and blocks, read from their forms.
-ghost use Rattle.std.specs.Prelude.{◌≡◌};
+ghost use Rattle.std.specs.Prelude.{◌≡◌, OnOk, codes};
 ghost use Rattle.serde_json.specs.View.{view};
 ghost use Rattle.hir_input.specs.Syntax.{syntax_view, block_view};
-ghost use Rattle.hir_input_json.specs.Held.{held};
+ghost use Rattle.hir_input_json.specs.Held.{held, without};
 ghost use Rattle.hir_input_json.specs.Syntaxes.{source_form, macro_items_form, macro_stmts_form, syntax as syntax_form, block as block_form};
 ghost use Rattle.hir_input_json.specs.Reads.{Reads};
 
@@ -65,12 +65,14 @@ fn syntax_in(alloc: Global, members: &mut Map<String, Value>) -> Result<Syntax, 
     }
 }
 
-/// A block, whose members are those of an object that may hold others too.
+/// A block, whose members are those of an object that may hold others too. They are taken out and leave nulls.
 ///
 /// `WrongForm` comes only where the object has no reading (`Syntaxes.block`).
 #[tactic(auto, using(crate::proofs::Held::field_without))]
 pub fn block_in(alloc: Global, members: &mut Map<String, Value>) -> Result<BlockExpr, Fault>
-    ensures { Reads block_view result (block_form (held members.old)) }
+    ensures reads { Reads block_view result (block_form (held members.old)) }
+    ensures left { OnOk result (held members.new
+        ≡ without (codes "tail") (without (codes "stmts") (without (codes "attrs") (held members.old)))) }
 {
     let attrs = attrs_at(alloc, members)?;
     let stmts = stmts_at(alloc, members)?;

@@ -19,7 +19,7 @@ use Rattle.item_tree.specs.Tree.{Tree}
 use Rattle.item_tree.specs.Leaves.{WrittenLeaf, leaf_imports, imports_of, AreWritten, leaves}
 use Rattle.import_lister.specs.declared.Listed.{Listed}
 use Rattle.import_lister.specs.declared.written.WrittenImport.{WrittenImport}
-use Rattle.import_lister.specs.Listed.{import_of}
+use Rattle.import_lister.specs.Listed.{listed_import}
 use Rattle.import_lister.specs.Written.{leaf_written, written_imports, written_by}
 use Rattle.import_lister.specs.Inner.{node_of, IsAtLeaf, at_leaf, seen}
 
@@ -126,13 +126,13 @@ module _ (w : UseTreeView) (places : List ℕ) (x : Import) (h : IsAtLeaf w plac
 
 -- one more is found
 pub one_found : (f : Import → Import × Option UseTreeView) (found : List WrittenImport) (x : WrittenImport) (ls rest : List Listed) (all : List (Import × Option UseTreeView))
-    → ls ≡ x.import ∷ rest → seen x ≡ f (import_of x.import) → map seen found ++ map f (map import_of ls) ≡ all
-    → map seen (found ++ x ∷ []) ++ map f (map import_of rest) ≡ all
+    → ls ≡ x.import ∷ rest → seen x ≡ f (listed_import x.import) → map seen found ++ map f (map listed_import ls) ≡ all
+    → map seen (found ++ x ∷ []) ++ map f (map listed_import rest) ≡ all
 one_found f found x ls rest all e s h = rw (map-append seen found (x ∷ []), append_assoc, s) (rw e at h)
 
 -- ---- what is seen of a list is what is written, and what is imported
 
-pub imported : (xs : List WrittenImport) (ys : List Import) (f : Import → Option UseTreeView) → map seen xs ≡ map (λ y. (y, f y)) ys → map (λ (x : WrittenImport). import_of x.import) xs ≡ ys
+pub imported : (xs : List WrittenImport) (ys : List Import) (f : Import → Option UseTreeView) → map seen xs ≡ map (λ y. (y, f y)) ys → map (λ (x : WrittenImport). listed_import x.import) xs ≡ ys
 imported [] [] f e = refl
 imported [] (y ∷ ys) f e = absurd (cc)
 imported (x ∷ xs) [] f e = absurd (cc)

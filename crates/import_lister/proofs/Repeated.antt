@@ -11,7 +11,7 @@ use Rattle.import_lister.specs.declared.Listed.{Listed}
 use Rattle.import_lister.specs.declared.duplicate.Duplicate.{Duplicate}
 use Rattle.import_lister.specs.Duplicates.{Alike, AreAlikeAt, Repeats, AreDuplicates}
 use Rattle.import_lister.specs.Inner.{IsNew, AreFirst}
-use Rattle.import_lister.specs.Listed.{import_of}
+use Rattle.import_lister.specs.Listed.{listed_import}
 
 -- ---- imports that are alike
 
@@ -26,20 +26,20 @@ within xs i j h =
     slice_get_within xs j other.0 other.1
 
 module _ (ls : List Listed) (i j : ℕ) (x y : Listed) where
-  stand_alike : slice_get ls i ≡ Some x → slice_get ls j ≡ Some y → Alike (import_of x) (import_of y) → AreAlikeAt (map import_of ls) i j
-  stand_alike e f h = rw (slice_get-map import_of ls i, slice_get-map import_of ls j, e, f) h
+  stand_alike : slice_get ls i ≡ Some x → slice_get ls j ≡ Some y → Alike (listed_import x) (listed_import y) → AreAlikeAt (map listed_import ls) i j
+  stand_alike e f h = rw (slice_get-map listed_import ls i, slice_get-map listed_import ls j, e, f) h
 
-  alike_there : slice_get ls i ≡ Some x → slice_get ls j ≡ Some y → AreAlikeAt (map import_of ls) i j → Alike (import_of x) (import_of y)
-  alike_there e f h = rw (slice_get-map import_of ls i, slice_get-map import_of ls j, e, f) at h
+  alike_there : slice_get ls i ≡ Some x → slice_get ls j ≡ Some y → AreAlikeAt (map listed_import ls) i j → Alike (listed_import x) (listed_import y)
+  alike_there e f h = rw (slice_get-map listed_import ls i, slice_get-map listed_import ls j, e, f) at h
 
 -- both places of a duplicate are in the list
-pub repeats_within : (ls : List Listed) (i j : ℕ) → Repeats (map import_of ls) i j → j < length ls
-repeats_within ls i j r = omega (arith, within (map import_of ls) i j r.alike, length-map ls import_of)
+pub repeats_within : (ls : List Listed) (i j : ℕ) → Repeats (map listed_import ls) i j → j < length ls
+repeats_within ls i j r = omega (arith, within (map listed_import ls) i j r.alike, length-map ls listed_import)
 
 -- ---- the first of them before a place
 
 abbrev pub IsLike : Listed → Listed → Type 0
-IsLike y x = Alike (import_of x) (import_of y)
+IsLike y x = Alike (listed_import x) (listed_import y)
 
 abbrev pub IsOther : Listed → Listed → Type 0
 IsOther y x = IsLike y x → ⊥
@@ -51,13 +51,13 @@ module _ (ls : List Listed) (n : ℕ) (y : Listed) (h : n < length ls) (e : y �
   before : (i : ℕ) → i < n → slice_get ls i ≡ Some (get_or (take n ls) i y)
   before i k = slice_get-get_or ls i y (omega arith) ∙ ap Some (sym (get_or-take n ls i y k))
 
-  unlike : (i : ℕ) → i < n → IsOther y (get_or (take n ls) i y) → ¬ (AreAlikeAt (map import_of ls) i n)
+  unlike : (i : ℕ) → i < n → IsOther y (get_or (take n ls) i y) → ¬ (AreAlikeAt (map listed_import ls) i n)
   unlike i k u a = u (alike_there ls i n (get_or (take n ls) i y) y (before i k) at_place a)
 
   -- by the answer of a search among those before it
   pub first_before : (r : Option ℕ)
       → MatchOption r (AllWithin (IsOther y) (take n ls) 0 (length (take n ls))) (λ i. (i < length (take n ls)) × HoldsAt (IsLike y) (take n ls) i × AllWithin (IsOther y) (take n ls) 0 i)
-      → MatchOption r (IsNew (map import_of ls) n) (λ i. Repeats (map import_of ls) i n)
+      → MatchOption r (IsNew (map listed_import ls) n) (λ i. Repeats (map listed_import ls) i n)
   first_before None w = λ i k. unlike i k (w i y (omega arith) (omega (arith, length-take-le n ls (omega arith))))
   first_before (Some i) w =
       let k : i < n = omega (arith, w.0, length-take-le n ls (omega arith)) in
@@ -93,9 +93,9 @@ module _ (xs : List Import) (n : ℕ) (ds : List Duplicate) where
         below = All-push (λ (d : Duplicate). d.again < n + 1) ds d (All-weaker (λ (d : Duplicate). d.again < n) (λ (d : Duplicate). d.again < n + 1) (λ x h. omega arith) ds a.below) (omega arith);
       }
 
-pub all_first : (ls : List Listed) (n : ℕ) (ds : List Duplicate) → AreFirst (map import_of ls) n ds → n ≡ length ls → AreDuplicates (map import_of ls) ds
+pub all_first : (ls : List Listed) (n : ℕ) (ds : List Duplicate) → AreFirst (map listed_import ls) n ds → n ≡ length ls → AreDuplicates (map listed_import ls) ds
 all_first ls n ds a e = record {
   repeats = a.repeats;
-  complete = λ i j h q. let k = within (map import_of ls) i j q in a.complete j (omega (arith, length-map ls import_of)) i h q;
+  complete = λ i j h q. let k = within (map listed_import ls) i j q in a.complete j (omega (arith, length-map ls listed_import)) i h q;
   rising = a.rising;
 }

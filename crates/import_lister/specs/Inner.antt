@@ -6,7 +6,7 @@ use Rattle.item_tree.specs.Imports.{Import}
 use Rattle.import_lister.specs.declared.duplicate.Duplicate.{Duplicate}
 use Rattle.import_lister.specs.declared.written.WrittenImport.{WrittenImport}
 use Rattle.import_lister.specs.Duplicates.{AreAlikeAt, Repeats}
-use Rattle.import_lister.specs.Listed.{import_of}
+use Rattle.import_lister.specs.Listed.{listed_import}
 
 -- ---- imports with the nodes at their places
 
@@ -22,7 +22,7 @@ abbrev pub at_leaf : UseTreeView → List ℕ → Import → Import × Option Us
 at_leaf w places x = (x, node_of w places x)
 
 abbrev pub seen : WrittenImport → Import × Option UseTreeView
-seen w = (import_of w.import, Some (use_tree_view w.leaf.now))
+seen w = (listed_import w.import, Some (use_tree_view w.leaf.now))
 
 -- ---- imports that repeat an earlier one
 

@@ -4,5 +4,5 @@ use Rattle.item_tree.specs.Imports.{Import}
 use Rattle.import_lister.specs.declared.Listed.{Listed}
 
 -- the import that is listed
-abbrev pub import_of : Listed → Import
-import_of l = import l.index l.path l.kind l.alias
+abbrev pub listed_import : Listed → Import
+listed_import l = import l.index l.path l.kind l.alias

@@ -5,7 +5,7 @@ use Rattle.hir_input.specs.UseTreeView.{UseTreeView, bare_tree, use_tree_view}
 use Rattle.item_tree.specs.Imports.{Import}
 use Rattle.item_tree.specs.Leaves.{WrittenLeaf, leaves, leaf_imports}
 use Rattle.import_lister.specs.declared.written.WrittenImport.{WrittenImport}
-use Rattle.import_lister.specs.Listed.{import_of}
+use Rattle.import_lister.specs.Listed.{listed_import}
 
 -- what a written leaf imports, with the leaf
 abbrev pub leaf_written : WrittenLeaf → List (Import × UseTreeView)
@@ -16,4 +16,4 @@ abbrev pub written_imports : UseTreeView → List (Import × UseTreeView)
 written_imports w = flat_map leaf_written (leaves w)
 
 abbrev pub written_by : WrittenImport → Import × UseTreeView
-written_by w = (import_of w.import, use_tree_view w.leaf.now)
+written_by w = (listed_import w.import, use_tree_view w.leaf.now)

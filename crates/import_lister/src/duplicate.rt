@@ -2,7 +2,7 @@
 ghost use Rattle.std.specs.Prelude.{◌≡◌, ◌↔◌, ◌<◌, length, map, IsTrue, IfOk, MatchOption};
 ghost use Rattle.import_lister.specs.Duplicates.{Alike, AreDuplicates, Repeats};
 ghost use Rattle.import_lister.specs.Inner.{IsNew};
-ghost use Rattle.import_lister.specs.Listed.{import_of};
+ghost use Rattle.import_lister.specs.Listed.{listed_import};
 
 use crate::Listed;
 use std::alloc::{AllocError, Global};
@@ -21,7 +21,7 @@ pub struct Duplicate {
 ///
 /// The time may grow with the square of the number of imports. The only error is want of memory.
 pub fn duplicates(alloc: Global, imports: &[Listed]) -> Result<Vec<Duplicate>, AllocError>
-    ensures { IfOk result (λ list. AreDuplicates (map import_of imports.now) list.items) }
+    ensures { IfOk result (λ list. AreDuplicates (map listed_import imports.now) list.items) }
 {
     let mut list = Vec::new(alloc);
     for again in 0..imports.len() {
@@ -35,7 +35,7 @@ pub fn duplicates(alloc: Global, imports: &[Listed]) -> Result<Vec<Duplicate>, A
 // The first import that is alike with the one at a place, if there is one before it.
 fn first_alike(imports: &[Listed], place: usize) -> Option<usize>
     requires { place < length imports.now }
-    ensures { let xs = map import_of imports.now in MatchOption result (IsNew xs place) (λ first. Repeats xs first place) }
+    ensures { let xs = map listed_import imports.now in MatchOption result (IsNew xs place) (λ first. Repeats xs first place) }
 {
     let import = &imports[place];
     imports[..place]
@@ -45,7 +45,7 @@ fn first_alike(imports: &[Listed], place: usize) -> Option<usize>
 
 // Whether two imports are the same but for the index.
 fn are_alike(import: &Listed, other: &Listed) -> bool
-    ensures { IsTrue result ↔ Alike (import_of import.now) (import_of other.now) }
+    ensures { IsTrue result ↔ Alike (listed_import import.now) (listed_import other.now) }
 {
     import.path == other.path && import.kind == other.kind && import.alias == other.alias
 }

@@ -3,12 +3,13 @@
 #![tactic(auto)]
 
 mod duplicate;
+mod laws;
 mod written;
 
 ghost use Rattle.std.specs.Prelude.{◌≡◌, ◌+◌, ◌<◌, ◌^◌, ◌++◌, [], ◌∷◌, false, length, map, IfOk};
 ghost use Rattle.item_tree.specs.Imports.{imports};
 ghost use Rattle.item_tree.specs.Calls.{import};
-ghost use Rattle.import_lister.specs.Listed.{import_of};
+ghost use Rattle.import_lister.specs.Listed.{listed_import};
 
 pub use duplicate::{Duplicate, duplicates};
 use hir_input::ModPath;
@@ -41,13 +42,13 @@ pub fn count_imports(alloc: Global, item: &Use) -> Result<u32, AllocError>
 ///
 /// The only error is want of memory.
 pub fn list_imports(alloc: Global, item: &Use) -> Result<Vec<Listed>, AllocError>
-    ensures { IfOk result (λ list. map import_of list.items ≡ imports item.now.tree) }
+    ensures { IfOk result (λ list. map listed_import list.items ≡ imports item.now.tree) }
 {
     let mut list = Vec::new(alloc);
     let mut is_refused = false;
     let mut visit = |index: UseTreeIdx, path: ModPath, kind: ImportKind, alias: Option<ImportAlias>|
         ensures { is_refused.exit ≡ false
-            → (is_refused.entry ≡ false) × (map import_of list.exit.items ≡ map import_of list.entry.items ++ import index path kind alias ∷ []) }
+            → (is_refused.entry ≡ false) × (map listed_import list.exit.items ≡ map listed_import list.entry.items ++ import index path kind alias ∷ []) }
     {
         if !is_refused {
             let listed = Listed {

@@ -5,7 +5,7 @@ ghost use Rattle.hir_input.specs.UseTreeView.{use_tree_view};
 ghost use Rattle.item_tree.specs.Imports.{imports};
 ghost use Rattle.item_tree.specs.KeptUse.{kept_tree};
 ghost use Rattle.item_tree.specs.Size.{IsUseFault};
-ghost use Rattle.import_lister.specs.Listed.{import_of};
+ghost use Rattle.import_lister.specs.Listed.{listed_import};
 ghost use Rattle.import_lister.specs.Written.{written_by, written_imports};
 ghost use Rattle.import_lister.specs.Inner.{IsAtLeaf, at_leaf, seen};
 
@@ -34,7 +34,7 @@ pub fn written_imports<'a>(
     ensures leaves { let w = use_tree_view written.now in
         IfOk result (λ found. IfSome found (λ list. map written_by list.items ≡ written_imports w)) }
     ensures imports { let expanded = imports item.now.tree in
-        IfOk result (λ found. IfSome found (λ list. map (λ w. import_of w.import) list.items ≡ expanded)) }
+        IfOk result (λ found. IfSome found (λ list. map (λ w. listed_import w.import) list.items ≡ expanded)) }
     ensures fault { IfErr result (IsUseFault (use_tree_view written.now)) }
 {
     let Some((tree, places)) = lower_use_tree(alloc, written)? else {
@@ -55,9 +55,9 @@ fn at_leaves<'a>(
     places: &[u32],
     written: &'a ast::UseTree,
 ) -> Result<Vec<WrittenImport<'a>>, AllocError>
-    requires { AllByRecursion (IsAtLeaf (use_tree_view written.now) places.now) (map import_of imports.items) }
+    requires { AllByRecursion (IsAtLeaf (use_tree_view written.now) places.now) (map listed_import imports.items) }
     ensures { let w = use_tree_view written.now in
-        IfOk result (λ list. map seen list.items ≡ map (at_leaf w places.now) (map import_of imports.items)) }
+        IfOk result (λ list. map seen list.items ≡ map (at_leaf w places.now) (map listed_import imports.items)) }
 {
     let mut list = Vec::new(alloc);
     for import in imports {

@@ -24,7 +24,7 @@ use Rattle.item_tree.specs.Imports.{super_limit}
 use Rattle.item_tree.specs.KeptUse.{use_tree_limit}
 use Rattle.item_tree.specs.Size.{most_attrs, leaf_supers, forest_supers, item_written, items_written, Sizes, IsPassed, only_visibilities, most_written, sizes_of, Fits, IsTooLarge}
 use Rattle.item_tree.specs.Stored.{item_row, key_in, keys_in, items_in, places_in, column_in, tables_of, AreSound}
-use Rattle.item_tree.specs.Inner.Growth.{items_below, attrs_in, kept_in, all_kept_in, row_count, Adds, Lowers, sizes_with, Meets, sizes_meeting, sizes_pushing, Puts, Pushes}
+use Rattle.item_tree.specs.Inner.Growth.{items_below, attrs_in, kept_of, all_kept_in, row_count, Adds, Lowers, sizes_with, Meets, sizes_meeting, sizes_pushing, Puts, Pushes}
 use Rattle.item_tree.proofs.Arena.{V, Extends, length-Extends, Extends-meet_all, meet_all-append, arena_met, KnowsAll, KnowsAll-parts, KnowsAll-meet_all, leaf-stable, trunk-stable}
 use Rattle.item_tree.proofs.Column.{column-append, places-append}
 use Rattle.item_tree.proofs.Canon.{length-rows_of, unfold-layout}
@@ -246,10 +246,10 @@ module _ (ctx : Ctx) (m : ast_module.Module) where
   inside = items_written (items_below (module_view m))
 
   abbrev pub kept_module : Forest
-  kept_module = add (kept_in ctx (module_view m)) empty
+  kept_module = add (kept_of ctx (module_view m)) empty
 
   kept-module_from : (n : NamedView) (s : Bool) (o : Option (List ItemView)) →
-      kept_in ctx (module_from n s o) ≡ option_map (λ name. module_node s (head_of ctx.krate.now.cfg ctx.skipped.now n.node) name (read_visibility n.visibility) (all_kept_in ctx (items_below (module_from n s o)))) n.name
+      kept_of ctx (module_from n s o) ≡ option_map (λ name. module_node s (head_of ctx.krate.now.cfg ctx.skipped.now n.node) name (read_visibility n.visibility) (all_kept_in ctx (items_below (module_from n s o)))) n.name
   kept-module_from n s None = refl
   kept-module_from n s (Some is) = refl
 
@@ -264,9 +264,9 @@ module _ (ctx : Ctx) (m : ast_module.Module) where
       let v : module_view m ≡ module_from (named m) false items = module_view-fields m ∙ ap (λ b. module_from (named m) b items) h in
       ap item_written v ∙ written-module_from (named m) items n e ∙ ap (λ z. items_written (items_below z)) (sym v)
 
-  kept-module : (n : List ℕ) → m.name ≡ Some n → kept_in ctx (module_view m) ≡ Some (module_node m.semicolon head n (value m) below)
+  kept-module : (n : List ℕ) → m.name ≡ Some n → kept_of ctx (module_view m) ≡ Some (module_node m.semicolon head n (value m) below)
   kept-module n e =
-      subst (λ z. kept_in ctx z ≡ option_map (λ name. module_node m.semicolon head name (value m) (all_kept_in ctx (items_below z))) m.name) (sym (module_view-fields m)) (kept-module_from (named m) m.semicolon (option_map (λ v. map item_view v.items) m.items))
+      subst (λ z. kept_of ctx z ≡ option_map (λ name. module_node m.semicolon head name (value m) (all_kept_in ctx (items_below z))) m.name) (sym (module_view-fields m)) (kept-module_from (named m) m.semicolon (option_map (λ v. map item_view v.items) m.items))
       ∙ ap (option_map (λ name. module_node m.semicolon head name (value m) below)) e
 
   kept-inline : (n : List ℕ) → m.name ≡ Some n → m.semicolon ≡ false → kept_module ≡ more (parent head (inline n (value m)) below) empty
@@ -309,11 +309,11 @@ module _ (ctx : Ctx) where
   abbrev pub block_head : ast_block.ExternBlock → Head
   block_head n = record { hash = n.hash; number = n.number; attrs = attrs_in ctx n.attrs.items }
 
-  kept-block_from : (n : NodeView) (o : Option (List ItemView)) → kept_in ctx (extern_block_from n o) ≡ Some (parent (head_of ctx.krate.now.cfg ctx.skipped.now n) extern_block (all_kept_in ctx (items_below (extern_block_from n o))))
+  kept-block_from : (n : NodeView) (o : Option (List ItemView)) → kept_of ctx (extern_block_from n o) ≡ Some (parent (head_of ctx.krate.now.cfg ctx.skipped.now n) extern_block (all_kept_in ctx (items_below (extern_block_from n o))))
   kept-block_from n None = refl
   kept-block_from n (Some is) = refl
 
-  pub kept-block : (n : ast_block.ExternBlock) → kept_in ctx (extern_block_view n) ≡ Some (parent (block_head n) extern_block (all_kept_in ctx (items_below (extern_block_view n))))
+  pub kept-block : (n : ast_block.ExternBlock) → kept_of ctx (extern_block_view n) ≡ Some (parent (block_head n) extern_block (all_kept_in ctx (items_below (extern_block_view n))))
   kept-block n = kept-block_from (node_from n.hash n.number n.attrs.items n.body) (option_map (λ v. map extern_item_view v.items) n.items)
 
 written-block_from : (n : NodeView) (o : Option (Vec ExternItem Global)) → let i = extern_block_from n (option_map (λ v. map extern_item_view v.items) o) in item_written i ≡ items_written (items_below i)
@@ -334,11 +334,11 @@ module _ (ctx : Ctx) {X : Type 0} (seen : X → ItemView) where
   written_list xs = items_written (items_from (map seen xs))
 
   abbrev pub kept_one : X → Forest
-  kept_one x = add (kept_in ctx (seen x)) empty
+  kept_one x = add (kept_of ctx (seen x)) empty
 
   kept_list-append : (us vs : List X) → kept_list (us ++ vs) ≡ join (kept_list us) (kept_list vs)
   kept_list-append [] vs = refl
-  kept_list-append (u ∷ us) vs = ap (add (kept_in ctx (seen u))) (kept_list-append us vs) ∙ add-join (kept_in ctx (seen u)) (kept_list us) (kept_list vs)
+  kept_list-append (u ∷ us) vs = ap (add (kept_of ctx (seen u))) (kept_list-append us vs) ∙ add-join (kept_of ctx (seen u)) (kept_list us) (kept_list vs)
 
   written_list-append : (us vs : List X) → written_list (us ++ vs) ≡ max (written_list us) (written_list vs)
   written_list-append [] vs = omega arith

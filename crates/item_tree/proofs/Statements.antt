@@ -12,7 +12,7 @@ use Rattle.item_tree.specs.Node.{Forest, empty, add}
 use Rattle.item_tree.specs.Inner.Meeting.{meet_all}
 use Rattle.item_tree.specs.Layout.{forest_vis}
 use Rattle.item_tree.specs.Size.{item_written, items_written, IsPassed}
-use Rattle.item_tree.specs.Inner.Growth.{kept_in, all_kept_in, Lowers, sizes_with}
+use Rattle.item_tree.specs.Inner.Growth.{kept_of, all_kept_in, Lowers, sizes_with}
 use Rattle.item_tree.specs.Inner.Statements.{stmt_item, tail_item}
 use Rattle.item_tree.proofs.Arena.{length-Extends, Extends-meet_all}
 use Rattle.item_tree.proofs.Lowering.{join, add-join, count-join, most_attrs-join, forest_supers-join, met-join, passes, Lowers-count, Lowers-join}
@@ -22,7 +22,7 @@ module _ (ctx : Ctx) where
   of_stmts stmts = all_kept_in ctx (items_from (map stmt_item stmts))
 
   abbrev of_tail : Tail → Forest
-  of_tail end = add (kept_in ctx (tail_item end)) empty
+  of_tail end = add (kept_of ctx (tail_item end)) empty
 
   abbrev of_both : List Stmt → Tail → Forest
   of_both stmts end = all_kept_in ctx (stmt_items (stmts_view stmts) (tail_view end))
@@ -30,9 +30,9 @@ module _ (ctx : Ctx) where
   kept-stmts : (stmts : List Stmt) (end : Tail) → join (of_stmts stmts) (of_tail end) ≡ of_both stmts end
   kept-stmts [] (tail.MacroCall c) = refl
   kept-stmts [] _ = refl
-  kept-stmts (stmt.Item i ∷ stmts) end = sym (add-join (kept_in ctx (item_view i)) (of_stmts stmts) (of_tail end)) ∙ ap (add (kept_in ctx (item_view i))) (kept-stmts stmts end)
+  kept-stmts (stmt.Item i ∷ stmts) end = sym (add-join (kept_of ctx (item_view i)) (of_stmts stmts) (of_tail end)) ∙ ap (add (kept_of ctx (item_view i))) (kept-stmts stmts end)
   kept-stmts (stmt.MacroCall c ∷ stmts) end =
-      let call = kept_in ctx (stmt_item (stmt.MacroCall c)) in
+      let call = kept_of ctx (stmt_item (stmt.MacroCall c)) in
       sym (add-join call (of_stmts stmts) (of_tail end)) ∙ ap (add call) (kept-stmts stmts end)
   kept-stmts (stmt.Other ∷ stmts) end = kept-stmts stmts end
 

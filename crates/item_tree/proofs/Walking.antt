@@ -1,5 +1,5 @@
 -- For whoever walks a tree by its ids, in this crate or in another.
-use Rattle.std.proofs.Common.{◌≡◌, ℕ, zero, suc, ◌+◌, ◌<◌, List, [], ◌∷◌, length, map, sum, get_or, Option, Some, None, refl, ap, sym, ◌∙◌, arith}
+use Rattle.std.proofs.Common.{◌≡◌, ℕ, zero, suc, ◌+◌, ◌<◌, List, [], ◌∷◌, length, map, sum, get_or, Option, Some, None, refl, ap, sym, subst, ◌∙◌, arith}
 use Rattle.std.specs.Prelude.{is_some, IsSome}
 use Rattle.std.specs.Option.{option_map_or}
 use Rattle.std.specs.List.{sum_by, flat_map}
@@ -7,11 +7,12 @@ use Rattle.std.proofs.lemmas.List.Sums.{sum-map, sum_by-cons}
 use Rattle.std.proofs.lemmas.List.Folds.{flat_map-map}
 use Rattle.hir_input.specs.declared.ids.FileAstId.{FileAstId}
 use Rattle.item_tree.specs.declared.visibility.RawVisibility.{RawVisibility}
-use Rattle.item_tree.specs.Node.{Leaf, Trunk, Node, leaf, parent, Forest, empty, more, nodes, node_count, count, Unfolding}
+use Rattle.item_tree.specs.Node.{Leaf, Trunk, Node, leaf, parent, Forest, empty, more, nodes, node_count, count, Unfolding, nothing}
 use Rattle.item_tree.specs.Layout.{node_at, vis_at}
-use Rattle.item_tree.specs.Reach.{inner_ids, met_before, child_ids}
+use Rattle.item_tree.specs.Reach.{inner_ids, met_before, top_ids, child_ids}
 use Rattle.item_tree.specs.Shown.{IsContained, HasVisibility, StandFor, IsLeaf, IsParent}
-use Rattle.item_tree.specs.Walk.{of_id, AreContained, count_at}
+use Rattle.item_tree.specs.Walk.{of_id, AreContained, children, count_at, IsWalkedOnce}
+use Rattle.item_tree.proofs.Reached.{walked_once, top_ids-is, top-stands}
 use Rattle.item_tree.proofs.VisOnce.{vis_once}
 
 -- ---- what is said of ids is what is said of the nodes that they stand for
@@ -33,6 +34,11 @@ module _ {X : Type 0} (u : Unfolding) (d : X) (h : Node → X) where
 
   pub parent_of_id : (i : ℕ) (a : FileAstId) (t : Trunk ℕ) (is : List ℕ) (p : IsParent u i a t is) → of_id u d h i ≡ h (parent p.head p.item p.below)
   parent_of_id i a t is p = of_id_is i (parent p.head p.item p.below) p.found
+
+-- no id stands for a node of nothing
+pub of_id_nothing : {X : Type 0} (d : X) (h : Node → X) (i : ℕ) → of_id nothing d h i ≡ d
+unfolding node_at
+of_id_nothing d h i = refl
 
 pub flat_map_of_id : {X : Type 0} (u : Unfolding) (h : Node → List X) (is : List ℕ) (ns : List Node) → map (node_at u.forest) is ≡ map Some ns → flat_map (of_id u [] h) is ≡ flat_map h ns
 flat_map_of_id u h is ns e = sym (flat_map-map (λ xs. xs) (of_id u [] h) is) ∙ ap (flat_map (λ xs. xs)) (map_of_id u [] h is ns e) ∙ flat_map-map (λ xs. xs) h ns
@@ -64,6 +70,24 @@ children_contained {u} {i} {a} {t} {is} p = ids_contained u is p.below p.childre
 pub leaf_childless : {u : Unfolding} {i : ℕ} {a : FileAstId} {l : Leaf ℕ} → IsLeaf u i a l → child_ids u i ≡ []
 unfolding child_ids
 leaf_childless {u} {i} {a} {l} p = leaf_of_id u [] (λ n. inner_ids (met_before i n) n) i a l p
+
+-- ---- a walk from the top meets each id once
+
+pub each_walked_once : (u : Unfolding) → IsWalkedOnce u
+each_walked_once u = walked_once u
+
+-- the ids at the top stand for the nodes there
+pub tops_stand : (u : Unfolding) → StandFor u (top_ids u) u.forest
+tops_stand u = subst (λ is. StandFor u is u.forest) (sym (top_ids-is u)) (top-stands u)
+
+-- and those in a node for its children
+pub children_of : (u : Unfolding) (i : ℕ) (n : Node) → node_at u.forest i ≡ Some n → StandFor u (child_ids u i) (children n)
+children_of u i n e = subst (λ (o : Option Node). StandFor u (child_ids u i) (option_map_or children o empty)) e ((walked_once u).stand i (ap is_some e))
+
+-- no ids stand for no nodes
+pub no_ids : (u : Unfolding) (is : List ℕ) → StandFor u is empty → is ≡ []
+no_ids u [] e = refl
+no_ids u (i ∷ is) e = absurd (cc)
 
 -- ---- ids that stand for one visibility are one
 

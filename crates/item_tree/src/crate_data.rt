@@ -2,7 +2,7 @@
 
 use hir_input::{CfgOptions, HirFileId, Meta};
 
-/// A crate, as far as its trees depend on it.
+/// A crate, as far as its trees depend on it. In place of rust-analyzer's inputs of a `Crate`.
 #[derive(Debug, Drop)]
 pub struct CrateData {
     /// The file of the crate's root module.

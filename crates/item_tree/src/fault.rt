@@ -4,7 +4,7 @@ use item_tree_attrs::{AttrError, MergeRefused};
 use std::alloc::{AllocError, AllocFailed};
 use thiserror::Error;
 
-/// Why a syntax has no tree: a size is passed, or memory is wanting.
+/// Why a syntax has no tree: a size is passed, or memory ran out. rust-analyzer has no such errors.
 #[derive(Clone, Copy, Debug, PartialEq, Eq, Error)]
 pub enum LowerError {
     /// More than 2^31 - 1 items.
@@ -13,7 +13,7 @@ pub enum LowerError {
     /// More than 2^32 - 4 distinct visibilities in modules.
     #[error("too many visibilities")]
     TooManyVisibilities,
-    /// More than 2^32 - 1 use trees written in one of which something is kept.
+    /// More than 2^32 - 1 nodes written in one use tree, of which something is kept.
     #[error("too many use trees")]
     TooManyUseTrees,
     /// More than 2^32 - 1 attributes that an item or the top collects.
@@ -22,16 +22,18 @@ pub enum LowerError {
     /// More than 2^32 - 1 times `super` in the paths from the root of a use tree to one of its nodes.
     #[error("too many supers")]
     TooManySupers,
+    /// The allocator refused memory.
     #[error("out of memory")]
     OutOfMemory,
 }
 
-/// Why an edit is refused.
+/// Why an edit is refused. rust-analyzer has no such errors.
 #[derive(Clone, Copy, Debug, PartialEq, Eq, Error)]
 pub enum EditFault {
     /// The last number of an edit is taken.
     #[error("too many edits")]
     TooManyEdits,
+    /// A tree that the edit asks for cannot be made.
     #[error("{0}")]
     Lower(LowerError),
 }

@@ -16,7 +16,7 @@ use hir_input::{AstIdKind, ExpandTo, FileAstId, ModPath, Name, SyntaxContext};
 use std::cmp::Ordering;
 use std::marker::Model;
 
-/// The id of an item in its tree.
+/// The id of an item in its tree. rust-analyzer's `ModItemId`.
 ///
 /// The order of ids is total and agrees with `==`; which of two ids is less is not promised.
 #[derive(Clone, Copy, Debug, PartialEq, Eq, Hash)]
@@ -112,16 +112,19 @@ pub trait ItemTreeNode {
     ghost KIND: { AstIdKind };
 }
 
-/// How the fields of a struct are written.
+/// How the fields of a struct are written. rust-analyzer's `FieldsShape`.
 #[derive(Clone, Copy, Debug, PartialEq, Eq)]
 pub enum FieldsShape {
+    /// `{ a: A, b: B }`
     Record,
+    /// `(A, B)`
     Tuple,
+    /// No fields are written.
     Unit,
 }
 
 impl FieldsShape {
-    /// Whether a struct of this shape has a constructor among the values. rust-analyzer's
+    /// Whether a struct of this shape has a constructor in the value namespace. rust-analyzer's
     /// `FieldsShape::has_value_ns_ctor`.
     pub fn has_value_ns_ctor(self) -> bool
         ensures { IsTrue result ↔ (self ≢ Record) }
@@ -133,36 +136,38 @@ impl FieldsShape {
     }
 }
 
-/// The constructor of a struct among the values: none, one of this visibility, or one that is visible where all of these
-/// are. rust-analyzer's `StructValueNsCtor`.
+/// The constructor of a struct in the value namespace. rust-analyzer's `StructValueNsCtor`.
 #[derive(Debug, Drop, PartialEq, Eq)]
 pub enum StructValueNsCtor {
+    /// None: the struct has named fields.
     NoValueNsCtor,
+    /// One of this visibility.
     ValueNsCtorWithVis(RawVisibilityId),
+    /// One that is visible where all of these are, which are visibilities of modules, by first appearance.
     ValueNsCtorWithMinVis(Vec<RawVisibilityId>),
 }
 
-/// A constant, which may have no name.
+/// A constant, which may have no name. rust-analyzer's `Const`.
 #[derive(Clone, Debug, Drop, PartialEq, Eq)]
 pub struct Const {
     pub name: Option<Name>,
     pub visibility: RawVisibilityId,
 }
 
-/// An enum.
+/// An enum. rust-analyzer's `Enum`.
 #[derive(Clone, Debug, Drop, PartialEq, Eq)]
 pub struct Enum {
     pub name: Name,
     pub visibility: RawVisibilityId,
 }
 
-/// An extern block.
+/// An extern block. rust-analyzer's `ExternBlock`.
 #[derive(Debug, Drop, PartialEq, Eq)]
 pub struct ExternBlock {
     pub children: Vec<ModItemId>,
 }
 
-/// An extern crate, which may be renamed.
+/// An extern crate, which may be renamed. rust-analyzer's `ExternCrate`.
 #[derive(Clone, Debug, Drop, PartialEq, Eq)]
 pub struct ExternCrate {
     pub name: Name,
@@ -170,27 +175,27 @@ pub struct ExternCrate {
     pub alias: Option<ImportAlias>,
 }
 
-/// A function.
+/// A function. rust-analyzer's `Function`.
 #[derive(Clone, Debug, Drop, PartialEq, Eq)]
 pub struct Function {
     pub name: Name,
     pub visibility: RawVisibilityId,
 }
 
-/// An impl, of a trait or of the type alone.
+/// An impl, of a trait or inherent. rust-analyzer's `Impl`.
 #[derive(Clone, Copy, Debug, PartialEq, Eq)]
 pub struct Impl {
     pub is_trait_impl: bool,
 }
 
-/// A macro 2.0.
+/// A macro 2.0. rust-analyzer's `Macro2`.
 #[derive(Clone, Debug, Drop, PartialEq, Eq)]
 pub struct Macro2 {
     pub name: Name,
     pub visibility: RawVisibilityId,
 }
 
-/// A macro call.
+/// A macro call. rust-analyzer's `MacroCall`.
 #[derive(Clone, Debug, Drop, PartialEq, Eq)]
 pub struct MacroCall {
     pub path: ModPath,
@@ -198,13 +203,13 @@ pub struct MacroCall {
     pub ctxt: SyntaxContext,
 }
 
-/// A macro by example.
+/// A `macro_rules!` macro. rust-analyzer's `MacroRules`.
 #[derive(Clone, Debug, Drop, PartialEq, Eq)]
 pub struct MacroRules {
     pub name: Name,
 }
 
-/// A module.
+/// A module. rust-analyzer's `Mod`.
 #[derive(Debug, Drop, PartialEq, Eq)]
 pub struct Mod {
     pub name: Name,
@@ -212,21 +217,23 @@ pub struct Mod {
     pub kind: ModKind,
 }
 
-/// Whether the items of a module stand in it or in another file.
+/// Where the items of a module are. rust-analyzer's `ModKind`.
 #[derive(Debug, Drop, PartialEq, Eq)]
 pub enum ModKind {
+    /// In the module: `mod n { .. }`.
     Inline { items: Vec<ModItemId> },
+    /// In another file: `mod n;`.
     Outline,
 }
 
-/// A static.
+/// A static. rust-analyzer's `Static`.
 #[derive(Clone, Debug, Drop, PartialEq, Eq)]
 pub struct Static {
     pub name: Name,
     pub visibility: RawVisibilityId,
 }
 
-/// A struct.
+/// A struct. rust-analyzer's `Struct`.
 #[derive(Debug, Drop, PartialEq, Eq)]
 pub struct Struct {
     pub name: Name,
@@ -235,29 +242,29 @@ pub struct Struct {
     pub value_ns_ctor: StructValueNsCtor,
 }
 
-/// A trait.
+/// A trait. rust-analyzer's `Trait`.
 #[derive(Clone, Debug, Drop, PartialEq, Eq)]
 pub struct Trait {
     pub name: Name,
     pub visibility: RawVisibilityId,
 }
 
-/// A type alias.
+/// A type alias. rust-analyzer's `TypeAlias`.
 #[derive(Clone, Debug, Drop, PartialEq, Eq)]
 pub struct TypeAlias {
     pub name: Name,
     pub visibility: RawVisibilityId,
 }
 
-/// A union.
+/// A union. rust-analyzer's `Union`.
 #[derive(Clone, Debug, Drop, PartialEq, Eq)]
 pub struct Union {
     pub name: Name,
     pub visibility: RawVisibilityId,
 }
 
-/// A use. The number of its use trees, and that of the times that `super` stands in the paths from the root to one of
-/// them, are less than 2^32.
+/// A use. rust-analyzer's `Use`. It has less than 2^32 use trees, and less than 2^32 times `super` in the paths
+/// from the root to one of them.
 #[derive(Debug, Drop)]
 pub struct Use {
     visibility: RawVisibilityId,
@@ -287,14 +294,14 @@ impl Use {
         Use { visibility, tree }
     }
 
-    /// The id of its visibility.
+    /// The id of its visibility. rust-analyzer's field `Use::visibility`.
     pub fn visibility(&self) -> RawVisibilityId
         ensures { result ≡ self.now.visibility }
     {
         self.visibility
     }
 
-    /// Lends its use tree.
+    /// Lends its use tree. rust-analyzer's field `Use::use_tree`.
     pub fn use_tree(&self) -> &UseTree
         ensures value { tree_of result.now ≡ self.now.tree }
         ensures fits { UseFits self.now.tree }
@@ -444,24 +451,40 @@ pub(crate) enum ModItem {
     Use(Use),
 }
 
-/// An item that a tree lends, with its id.
+/// An item that a tree lends, with the id of its syntax node. rust-analyzer's `ModItemKind`.
 #[derive(Clone, Copy, Debug)]
 pub enum ModItemKind<'a> {
+    /// A constant.
     Const(FileAstId, &'a Const),
+    /// An enum.
     Enum(FileAstId, &'a Enum),
+    /// An extern block.
     ExternBlock(FileAstId, &'a ExternBlock),
+    /// An extern crate.
     ExternCrate(FileAstId, &'a ExternCrate),
+    /// A function.
     Function(FileAstId, &'a Function),
+    /// An impl.
     Impl(FileAstId, &'a Impl),
+    /// A macro 2.0.
     Macro2(FileAstId, &'a Macro2),
+    /// A macro call.
     MacroCall(FileAstId, &'a MacroCall),
+    /// A `macro_rules!` macro.
     MacroRules(FileAstId, &'a MacroRules),
+    /// A module.
     Mod(FileAstId, &'a Mod),
+    /// A static.
     Static(FileAstId, &'a Static),
+    /// A struct.
     Struct(FileAstId, &'a Struct),
+    /// A trait.
     Trait(FileAstId, &'a Trait),
+    /// A type alias.
     TypeAlias(FileAstId, &'a TypeAlias),
+    /// A union.
     Union(FileAstId, &'a Union),
+    /// A use.
     Use(FileAstId, &'a Use),
 }
 

@@ -1,6 +1,7 @@
 //! What holds of every type here: `==` decides whether two values are one, values that are equal are hashed alike,
 //! and a copy is its source. Each derive is held to it by a clause; the functions do nothing.
 ghost use Rattle.std.specs.Prelude.{◌≡◌};
+ghost use Rattle.hir_input.specs.declared.ids.AstIdKind.TheVariants as kinds;
 ghost use Rattle.hir_input.specs.Equality.{HashesAlike, IsCopied, IsCopiedOf};
 ghost use Rattle.item_tree.specs.Items.{IsByValue, IsByValueOf, block_value, inline_ids, mod_value, struct_value};
 ghost use Rattle.item_tree.specs.Shown.{ctor_ids};
@@ -9,13 +10,14 @@ ghost use Rattle.item_tree.specs.Tree.{tree_of, tree_of_kind};
 
 use crate::fault::{EditFault, LowerError};
 use crate::items::{
-    Const, Enum, ExternBlock, ExternCrate, FieldsShape, Function, Impl, Macro2, MacroCall,
-    MacroRules, Mod, ModItemId, ModItemKind, ModKind, Static, Struct, StructValueNsCtor, Trait,
-    TypeAlias, Union, Use,
+    Const, Enum, ExternBlock, ExternCrate, FieldsShape, Function, Impl, ItemTreeNode, Macro2,
+    MacroCall, MacroRules, Mod, ModItemId, ModItemKind, ModKind, Static, Struct, StructValueNsCtor,
+    Trait, TypeAlias, Union, Use,
 };
 use crate::tree::ItemTreeDataStats;
 use crate::use_tree::{ImportAlias, ImportKind, UseTree, UseTreeIdx, UseTreeKind};
 use crate::visibility::{RawVisibility, RawVisibilityId, VisibilityExplicitness};
+use hir_input::AstIdKind;
 use std::hash::Hash;
 
 // `==` of what owns no memory is true exactly where the two are one, and a copy is its source.
@@ -74,3 +76,30 @@ fn copies()
 fn defaults()
     ensures { (stats : ItemTreeDataStats) → ⟦<ItemTreeDataStats as Default>⟧.is_default stats → stats ≡ no_stats }
 {}
+
+// The kind of each item type is that of the syntax that its items are lowered from.
+fn node_kinds()
+    ensures constants { ⟦<Const as ItemTreeNode>⟧.KIND ≡ kinds.Const }
+    ensures enums { ⟦<Enum as ItemTreeNode>⟧.KIND ≡ kinds.Enum }
+    ensures extern_blocks { ⟦<ExternBlock as ItemTreeNode>⟧.KIND ≡ kinds.ExternBlock }
+    ensures extern_crates { ⟦<ExternCrate as ItemTreeNode>⟧.KIND ≡ kinds.ExternCrate }
+    ensures functions { ⟦<Function as ItemTreeNode>⟧.KIND ≡ kinds.Fn }
+    ensures impls { ⟦<Impl as ItemTreeNode>⟧.KIND ≡ kinds.Impl }
+    ensures macro_defs { ⟦<Macro2 as ItemTreeNode>⟧.KIND ≡ kinds.MacroDef }
+    ensures macro_calls { ⟦<MacroCall as ItemTreeNode>⟧.KIND ≡ kinds.MacroCall }
+    ensures macro_rules { ⟦<MacroRules as ItemTreeNode>⟧.KIND ≡ kinds.MacroRules }
+    ensures modules { ⟦<Mod as ItemTreeNode>⟧.KIND ≡ kinds.Module }
+    ensures statics { ⟦<Static as ItemTreeNode>⟧.KIND ≡ kinds.Static }
+    ensures structs { ⟦<Struct as ItemTreeNode>⟧.KIND ≡ kinds.Struct }
+    ensures traits { ⟦<Trait as ItemTreeNode>⟧.KIND ≡ kinds.Trait }
+    ensures type_aliases { ⟦<TypeAlias as ItemTreeNode>⟧.KIND ≡ kinds.TypeAlias }
+    ensures unions { ⟦<Union as ItemTreeNode>⟧.KIND ≡ kinds.Union }
+    ensures uses { ⟦<Use as ItemTreeNode>⟧.KIND ≡ kinds.Use }
+{}
+
+// `KIND` is the kind that these clauses name.
+fn node_kind<T: ItemTreeNode>() -> AstIdKind
+    ensures { result ≡ T.KIND }
+{
+    T::KIND
+}

@@ -1,17 +1,17 @@
 //! The item tree of a file: its items in flat tables under small ids.
 #![tactic(auto)]
 
-pub mod crate_data;
-pub mod fault;
-pub mod items;
+mod crate_data;
+mod fault;
+mod items;
 mod laws;
 mod line;
-pub mod lower;
-pub mod pretty;
-pub(crate) mod rows;
-pub mod tree;
-pub mod use_tree;
-pub mod visibility;
+mod lower;
+mod pretty;
+mod rows;
+mod tree;
+mod use_tree;
+mod visibility;
 mod visibility_set;
 
 pub use crate_data::CrateData;

@@ -25,12 +25,14 @@ use crate::items::{Impl, Mod, ModItem, ModItemId, ModKind, Use};
 use crate::lower::constructor::lower_struct;
 use crate::lower::extern_block::lower_extern_block;
 use crate::lower::macros::{lower_macro_call, lower_macro_rules};
-use crate::lower::named::{NamedNode, lower_const, lower_extern_crate, lower_named, named};
+use crate::lower::named::{
+    NamedKind, NamedNode, lower_const, lower_extern_crate, lower_named, named,
+};
 use crate::lower::stmts::lower_stmts;
 use crate::rows::{AstKey, Rows, ast_key, push_attrs};
 use crate::tree::ItemTree;
 use crate::visibility::{RawVisibilityId, visibility_from_ast};
-use hir_input::{AstIdKind, Meta, Name, ast};
+use hir_input::{Meta, Name, ast};
 use item_tree_attrs::AttrsOrCfg;
 use std::alloc::Global;
 pub use use_tree::lower_use_tree;
@@ -54,8 +56,8 @@ enum Body<'a> {
 }
 
 /// The tree of a syntax in a crate: exactly its kept items, with the attributes that their metas collect under the
-/// crate's options, without those of the skipped names. `is_root` tells whether the syntax is that of the crate's
-/// root file, whose top attributes stand behind the crate's own. A macro's result has no top attributes.
+/// crate's options, without those of the skipped names. `is_root` says whether the syntax is that of the crate's
+/// root file, whose top attributes come after the crate's own. A macro's result has no top attributes.
 ///
 /// Stands for rust-analyzer's `file_item_tree_query`.
 ///

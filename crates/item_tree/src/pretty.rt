@@ -349,10 +349,10 @@ impl ItemTree {
     }
 
     /// The page of the tree in an edition: the top attributes, and for each item its attributes, a line with its id
-    /// and a line with its header, the items in it four spaces deeper. A blank line stands between the top attributes
+    /// and a line with its header, the items in it four spaces deeper. There is a blank line between the top attributes
     /// and the items, and between the items of a list. The page of the empty tree is one line feed.
     ///
-    /// Stands for rust-analyzer's `ItemTree::pretty_print`. The only error is want of memory.
+    /// Stands for rust-analyzer's `ItemTree::pretty_print`. The only error is out of memory.
     #[tactic(auto, using(crate::proofs::Walking::ids_contained, crate::proofs::Walking::ids_count))]
     pub fn pretty_print(&self, alloc: Global, edition: &Edition) -> Result<String, AllocError>
         ensures { IfOk result (λ text. string_bytes text ≡ page edition.now.reserved.items self.now) }

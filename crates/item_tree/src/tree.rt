@@ -47,7 +47,7 @@ impl Model for ItemTree {
     ghost invariant = { λ t. AreSound t.top_level.items t.top_place t.rows };
 }
 
-/// How many items of a few kinds a tree has, at every depth.
+/// How many items of a few kinds a tree has, at every depth. rust-analyzer's `ItemTreeDataStats`.
 #[derive(Clone, Copy, Debug, Default, PartialEq, Eq)]
 pub struct ItemTreeDataStats {
     pub traits: usize,
@@ -58,7 +58,7 @@ pub struct ItemTreeDataStats {
 }
 
 impl ItemTree {
-    /// The empty tree. Takes no memory.
+    /// The empty tree. Takes no memory. In place of rust-analyzer's `ItemTree::default`.
     #[tactic(auto, unfolding(crate::specs::Layout::arena_of))]
     pub fn empty(alloc: Global) -> ItemTree
         ensures { result ≡ nothing }
@@ -119,7 +119,8 @@ impl ItemTree {
         self.rows.attrs_at(self.rows.places[id.row()])
     }
 
-    /// Whether the id is that of an item of the tree.
+    /// Whether the id is that of an item of the tree, which `index` and `ast_id` require. rust-analyzer has no such
+    /// test.
     pub fn contains(&self, id: ModItemId) -> bool
         ensures { IsTrue result ↔ IsContained self.now id }
     {
@@ -129,7 +130,8 @@ impl ItemTree {
         }
     }
 
-    /// Whether the id is that of a visibility of the tree.
+    /// Whether the id is that of a visibility of the tree, which `tree[id]` requires. rust-analyzer has no such
+    /// test.
     #[tactic(auto, unfolding(crate::specs::Layout::vis_at))]
     pub fn has_visibility(&self, id: RawVisibilityId) -> bool
         ensures { IsTrue result ↔ HasVisibility self.now id }
@@ -138,7 +140,7 @@ impl ItemTree {
         number >= PUB_CRATE || (number as usize) < self.rows.arena.as_slice().len()
     }
 
-    /// Lends the item of an id. rust-analyzer's `ItemTree::index`.
+    /// Lends the item of an id. rust-analyzer's `ItemTree::index`. The caller shows `contains(id)`.
     pub fn index(&self, id: ModItemId) -> ModItemKind<'_>
         requires { IsContained self.now id }
         ensures { IsShown self.now id result }
@@ -169,7 +171,8 @@ fn count_kind(tags: &[AstIdKind], kind: AstIdKind) -> usize
 }
 
 impl ModItemId {
-    /// The id of the syntax node that the item is lowered from. rust-analyzer's `ModItemId::ast_id`.
+    /// The id of the syntax node that the item is lowered from. rust-analyzer's `ModItemId::ast_id`. The caller shows
+    /// `tree.contains(id)`.
     pub fn ast_id(self, tree: &ItemTree) -> FileAstId
         requires { IsContained tree.now self }
         ensures { option_map node_ast (node_at tree.now.forest self) ≡ Some result }
@@ -184,7 +187,7 @@ impl ModItemId {
     }
 }
 
-/// Lends the visibility of an id.
+/// Lends the visibility of an id. rust-analyzer's `Index<RawVisibilityId>`. The caller shows `has_visibility(id)`.
 impl Index<RawVisibilityId> for ItemTree {
     ghost use Rattle.std.specs.Prelude.{◌≡◌, Some};
     ghost use Rattle.item_tree.specs.Layout.{vis_at};

@@ -11,43 +11,52 @@ mod text;
 use hir_input::{ModPath, Name};
 pub use text::ImportAliasDisplay;
 
-/// What an import is renamed to.
+/// What an import is renamed to. rust-analyzer's `ImportAlias`.
 #[derive(Debug, Drop)]
 pub enum ImportAlias {
+    /// `as _`
     Underscore,
+    /// `as name`
     Alias(Name),
 }
 
-/// How an import imports: a name, all names of a path, or a name in the namespace of types alone.
+/// How an import imports. rust-analyzer's `ImportKind`.
 #[derive(Clone, Copy, Debug, PartialEq, Eq)]
 pub enum ImportKind {
+    /// A name.
     Plain,
+    /// All names of a path.
     Glob,
+    /// A name in the type namespace only, by `self` in a list.
     TypeOnly,
 }
 
 /// The place of a node in its use tree, where each node is counted before those below it, the root as 0.
+/// rust-analyzer's `Idx<ast::UseTree>`.
 #[derive(Clone, Copy, Debug, PartialEq, Eq)]
 pub struct UseTreeIdx(pub u32);
 
-/// A use tree without what cannot be imported. rust-analyzer's `UseTree`.
+/// What is kept of a written use tree, from which its imports come. rust-analyzer's `UseTree`.
 #[derive(Debug, Drop)]
 #[cycle(use_tree)]
 pub struct UseTree {
     kind: UseTreeKind,
 }
 
-/// The cases of a use tree: a path, all names of a path, or several use trees below a prefix.
+/// The cases of a use tree. rust-analyzer's `UseTreeKind`.
 #[derive(Debug, Drop)]
 #[cycle(use_tree)]
 pub enum UseTreeKind {
+    /// `path` or `path as alias`
     Single {
         path: ModPath,
         alias: Option<ImportAlias>,
     },
+    /// `path::*`, or `*` without a path
     Glob {
         path: Option<ModPath>,
     },
+    /// `prefix::{..}`, or `{..}` without a prefix
     Prefixed {
         prefix: Option<ModPath>,
         list: Vec<UseTree>,

@@ -10,10 +10,13 @@ use std::alloc::{AllocError, Global};
 use std::fmt;
 use std::marker::Model;
 
-/// Whether a private visibility was written.
+/// Whether a visibility that may be implied was written: that of the module itself, or of a module by its path.
+/// rust-analyzer's `VisibilityExplicitness`.
 #[derive(Clone, Copy, Debug, PartialEq, Eq, Hash)]
 pub enum VisibilityExplicitness {
+    /// It was written.
     Explicit,
+    /// It was not.
     Implicit,
 }
 
@@ -26,14 +29,18 @@ impl VisibilityExplicitness {
     }
 }
 
-/// A visibility that is not resolved: in a module by its path, in the module itself, in the crate, or public.
+/// A visibility that is not resolved.
 ///
 /// Stands for rust-analyzer's `RawVisibility`.
 #[derive(Debug, Drop, PartialEq, Eq, Hash)]
 pub enum RawVisibility {
+    /// `pub(in path)` or `pub(super)`: in the module of this path.
     Module(ModPath, VisibilityExplicitness),
+    /// Private, or `pub(self)`: in the module around it.
     PubSelf(VisibilityExplicitness),
+    /// `pub(crate)`
     PubCrate,
+    /// `pub`
     Public,
 }
 
@@ -60,7 +67,7 @@ pub(crate) const PRIVATE_EXPLICIT: u32 = u32::MAX - 2;
 
 pub(crate) const PUB_CRATE: u32 = u32::MAX - 3;
 
-/// The id of a visibility in an item tree, by which the tree lends its value.
+/// The id of a visibility in an item tree, by which the tree lends its value. rust-analyzer's `RawVisibilityId`.
 #[derive(Clone, Copy, PartialEq, Eq)]
 pub struct RawVisibilityId {
     id: u32,
@@ -131,7 +138,7 @@ impl fmt::Debug for RawVisibilityId {
 
 /// Reads a written visibility. Nothing written, and a path that is not readable, are private and implicit.
 ///
-/// rust-analyzer's `visibility_from_ast`. The only error is want of memory for a path.
+/// rust-analyzer's `visibility_from_ast`. The only error is out of memory, for a path.
 pub fn visibility_from_ast(
     alloc: Global,
     visibility: Option<&Visibility>,

@@ -17,11 +17,13 @@ use std::alloc::{AllocError, AllocFailed, Global};
 use std::marker::Model;
 use thiserror::Error;
 
-/// Why attributes are refused.
+/// Why attributes are refused. rust-analyzer has no such errors.
 #[derive(Clone, Copy, Debug, PartialEq, Eq, Error)]
 pub enum AttrError {
+    /// More than 2^32 - 1 attributes of one owner.
     #[error("too many attributes")]
     TooMany,
+    /// The allocator refused memory.
     #[error("out of memory")]
     OutOfMemory,
 }
@@ -48,7 +50,7 @@ impl<T: Drop> From<AllocFailed<T>> for AttrError {
     }
 }
 
-/// The attributes of an owner, in order: u32::MAX at most.
+/// The attributes of an owner, in order: u32::MAX at most. rust-analyzer's `AttrsOwned`.
 #[derive(Debug, Drop)]
 pub struct AttrsOwned {
     pub(crate) attrs: Vec<Attr>,

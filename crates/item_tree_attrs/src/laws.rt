@@ -1,7 +1,9 @@
 //! What holds of every type here: `==` decides whether two values are one, and a copy is its source. Each derive is
 //! held to it by a clause; the functions do nothing.
+ghost use Rattle.std.specs.Prelude.{◌≡◌, []};
 ghost use Rattle.hir_input.specs.Equality.{DecidesEq, DecidesEqOf, IsCopied};
 ghost use Rattle.item_tree_attrs.specs.Collected.{collected};
+ghost use Rattle.item_tree_attrs.specs.Query.{listed};
 
 use crate::collect::{AttrError, AttrsOrCfg, AttrsOwned};
 use crate::query::{AttrQuery, Attrs, KeyedAttrs};
@@ -21,3 +23,10 @@ fn copies()
     ensures queries { IsCopied ⟦<AttrQuery<'static> as Clone>⟧.is_clone }
     ensures keyed { IsCopied ⟦<KeyedAttrs<'static> as Clone>⟧.is_clone }
 {}
+
+// `EMPTY` has no attributes.
+fn empty() -> Attrs<'static>
+    ensures { listed result ≡ [] }
+{
+    Attrs::EMPTY
+}

@@ -1,10 +1,10 @@
 //! The attributes of one owner: collected from its metas under the options of a crate, joined, and asked.
 #![tactic(auto)]
 
-pub mod collect;
+mod collect;
 mod laws;
-pub mod merge;
-pub mod query;
+mod merge;
+mod query;
 
 pub use collect::{AttrError, AttrsOrCfg, AttrsOwned};
 pub use merge::MergeRefused;

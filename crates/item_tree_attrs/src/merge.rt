@@ -8,7 +8,7 @@ use crate::collect::{AttrError, AttrsOrCfg, AttrsOwned};
 use std::mem;
 use thiserror::Error;
 
-/// A merge that was refused, with both sides as they were.
+/// A merge that was refused, with both sides as they were. rust-analyzer's `merge` cannot fail.
 #[derive(Debug, Drop, Error)]
 #[error("{cause}")]
 pub struct MergeRefused {
@@ -23,7 +23,7 @@ impl AttrsOrCfg {
     /// rust-analyzer's `AttrsOrCfg::merge`.
     ///
     /// `TooMany` is the answer exactly where this side is enabled and the two have more than u32::MAX attributes
-    /// together; any other refusal is want of memory, from the allocator that this side keeps.
+    /// together; any other refusal is `OutOfMemory`, of the allocator that this side keeps.
     pub fn merge(self, right: AttrsOrCfg) -> Result<AttrsOrCfg, MergeRefused>
         ensures value { let joined = join (collected self) (collected right) in
             IfOk result (λ both. collected both ≡ joined) }

@@ -38,10 +38,10 @@ impl<'a> Attrs<'a> {
     ghost use Rattle.item_tree_attrs.specs.Key.{has_key};
     ghost use Rattle.item_tree_attrs.specs.Query.{asked, listed, place_after};
 
-    /// No attributes.
+    /// No attributes. rust-analyzer's `Attrs::EMPTY`.
     pub const EMPTY: Attrs<'static> = Attrs { attrs: None };
 
-    /// The attributes, in order.
+    /// The attributes, in order. In place of rust-analyzer's `Deref` of `Attrs`.
     pub fn as_slice(self) -> &'a [Attr]
         ensures value { result.now ≡ listed self.entry }
         ensures few { length (listed self.entry) < 2 ^ 32 }
@@ -67,8 +67,8 @@ impl<'a> Attrs<'a> {
         self.iter_from(0)
     }
 
-    /// The attributes behind the one of this id, or all of them, with the ids that `iter` gives them.
-    /// rust-analyzer's `Attrs::iter_after`.
+    /// The attributes after the one of this id, or all of them for `None`, with the ids that `iter` gives them.
+    /// rust-analyzer's `Attrs::iter_after`. The caller shows that the id is that of one of the attributes.
     pub fn iter_after(self, after: Option<AttrId>) -> AttrIter<'a>
         requires { ForSome after (λ id. id < length (listed self)) }
         ensures value { result ≡ drop (place_after after) (enumerate_from 0 (listed self.entry)) }
@@ -111,7 +111,7 @@ impl<'a> Attrs<'a> {
     }
 }
 
-/// Attributes with their ids.
+/// Attributes with their ids. In place of the iterator of rust-analyzer's `Attrs::iter`.
 #[derive(Drop)]
 pub struct AttrIter<'a> {
     attrs: &'a [Attr],
@@ -208,7 +208,7 @@ impl<'a> AttrQuery<'a> {
     }
 }
 
-/// The attributes of a query.
+/// The attributes of a query. In place of the iterator of rust-analyzer's `AttrQuery::attrs`.
 #[derive(Drop)]
 pub struct KeyedAttrs<'a> {
     attrs: &'a [Attr],
@@ -271,7 +271,7 @@ fn is_keyed(attr: &Attr, key: &str) -> bool
     }
 }
 
-/// The token trees of a query's attributes.
+/// The token trees of a query's attributes. In place of the iterator of rust-analyzer's `AttrQuery::tt_values`.
 #[derive(Drop)]
 pub struct TtValues<'a> {
     attrs: KeyedAttrs<'a>,

@@ -5,7 +5,7 @@ use hir_input::ast::{
     MacroRules, Module, Rename, Static, Struct, StructKind, Syntax, Trait, TupleField, TypeAlias,
     Union, Use, UseTree, Visibility,
 };
-use hir_input::{EditionYear, ExpandTo, Meta, PathKind, SyntaxContext};
+use hir_input::{EditionYear, Meta, PathKind, SyntaxContext};
 use std::alloc::{AllocError, Global};
 
 /// A file without attributes, of one item.
@@ -26,11 +26,9 @@ pub fn function(
     let name = name(alloc, "f")?;
     Ok(Item::Fn(Fn {
         hash,
-        number: 0,
         attrs,
-        name,
         visibility,
-        body: String::new(alloc),
+        ..Fn::new(alloc, name)
     }))
 }
 
@@ -43,11 +41,7 @@ pub fn one_function(alloc: Global, attrs: Vec<Meta>) -> Result<Syntax, AllocErro
 pub fn use_of(alloc: Global, hash: u16, tree: UseTree) -> Item {
     Item::Use(Use {
         hash,
-        number: 0,
-        attrs: Vec::new(alloc),
-        visibility: None,
-        use_tree: Some(tree),
-        body: String::new(alloc),
+        ..Use::new(alloc, tree)
     })
 }
 
@@ -60,16 +54,14 @@ pub fn module(
     items: Option<Vec<Item>>,
 ) -> Result<Module, AllocError> {
     let name = name(alloc, text)?;
-    let semicolon = items.is_none();
+    let module = match items {
+        Some(items) => Module::new(alloc, name, items),
+        None => Module::outline(alloc, name),
+    };
     Ok(Module {
         hash,
-        number: 0,
-        attrs: Vec::new(alloc),
-        name,
         visibility,
-        semicolon,
-        items,
-        body: String::new(alloc),
+        ..module
     })
 }
 
@@ -78,12 +70,8 @@ pub fn tuple_struct(alloc: Global, hash: u16, fields: Vec<TupleField>) -> Result
     let name = name(alloc, "S")?;
     Ok(Item::Struct(Struct {
         hash,
-        number: 0,
-        attrs: Vec::new(alloc),
-        name,
         visibility: Some(Visibility::Pub),
-        kind: StructKind::Tuple(fields),
-        body: String::new(alloc),
+        ..Struct::new(alloc, name, StructKind::Tuple(fields))
     }))
 }
 
@@ -91,10 +79,7 @@ pub fn tuple_struct(alloc: Global, hash: u16, fields: Vec<TupleField>) -> Result
 pub fn impl_item(alloc: Global, hash: u16) -> Item {
     Item::Impl(Impl {
         hash,
-        number: 0,
-        attrs: Vec::new(alloc),
-        is_trait_impl: false,
-        body: String::new(alloc),
+        ..Impl::new(alloc)
     })
 }
 
@@ -103,11 +88,8 @@ pub fn trait_item(alloc: Global, hash: u16) -> Result<Item, AllocError> {
     let name = name(alloc, "T")?;
     Ok(Item::Trait(Trait {
         hash,
-        number: 0,
-        attrs: Vec::new(alloc),
-        name,
         visibility: Some(Visibility::PubCrate),
-        body: String::new(alloc),
+        ..Trait::new(alloc, name)
     }))
 }
 
@@ -116,24 +98,17 @@ pub fn macro_rules(alloc: Global, hash: u16) -> Result<Item, AllocError> {
     let name = name(alloc, "m")?;
     Ok(Item::MacroRules(MacroRules {
         hash,
-        number: 0,
-        attrs: Vec::new(alloc),
-        name,
-        body: String::new(alloc),
+        ..MacroRules::new(alloc, name)
     }))
 }
 
 /// `m!();`
 pub fn macro_call(alloc: Global, hash: u16) -> Result<MacroCall, AllocError> {
     let path = path_node(alloc, PathKind::Plain, "m")?;
+    let ctxt = SyntaxContext::Root(EditionYear::E2024);
     Ok(MacroCall {
         hash,
-        number: 0,
-        attrs: Vec::new(alloc),
-        path,
-        expand_to: ExpandTo::Items,
-        ctxt: SyntaxContext::Root(EditionYear::E2024),
-        body: String::new(alloc),
+        ..MacroCall::new(alloc, path, ctxt)
     })
 }
 
@@ -141,10 +116,7 @@ pub fn macro_call(alloc: Global, hash: u16) -> Result<MacroCall, AllocError> {
 pub fn extern_block(alloc: Global, hash: u16, items: Vec<ExternItem>) -> Item {
     Item::ExternBlock(ExternBlock {
         hash,
-        number: 0,
-        attrs: Vec::new(alloc),
-        items: Some(items),
-        body: String::new(alloc),
+        ..ExternBlock::new(alloc, items)
     })
 }
 
@@ -153,11 +125,7 @@ pub fn union_item(alloc: Global, hash: u16) -> Result<Item, AllocError> {
     let name = name(alloc, "U")?;
     Ok(Item::Union(Union {
         hash,
-        number: 0,
-        attrs: Vec::new(alloc),
-        name,
-        visibility: None,
-        body: String::new(alloc),
+        ..Union::new(alloc, name)
     }))
 }
 
@@ -166,11 +134,7 @@ pub fn enum_item(alloc: Global, hash: u16) -> Result<Item, AllocError> {
     let name = name(alloc, "E")?;
     Ok(Item::Enum(Enum {
         hash,
-        number: 0,
-        attrs: Vec::new(alloc),
-        name,
-        visibility: None,
-        body: String::new(alloc),
+        ..Enum::new(alloc, name)
     }))
 }
 
@@ -179,11 +143,7 @@ pub fn type_alias(alloc: Global, hash: u16) -> Result<Item, AllocError> {
     let name = name(alloc, "A")?;
     Ok(Item::TypeAlias(TypeAlias {
         hash,
-        number: 0,
-        attrs: Vec::new(alloc),
-        name,
-        visibility: None,
-        body: String::new(alloc),
+        ..TypeAlias::new(alloc, name)
     }))
 }
 
@@ -192,11 +152,7 @@ pub fn static_item(alloc: Global, hash: u16) -> Result<Item, AllocError> {
     let name = name(alloc, "X")?;
     Ok(Item::Static(Static {
         hash,
-        number: 0,
-        attrs: Vec::new(alloc),
-        name,
-        visibility: None,
-        body: String::new(alloc),
+        ..Static::new(alloc, name)
     }))
 }
 
@@ -205,11 +161,7 @@ pub fn constant(alloc: Global, hash: u16) -> Result<Item, AllocError> {
     let name = name(alloc, "C")?;
     Ok(Item::Const(Const {
         hash,
-        number: 0,
-        attrs: Vec::new(alloc),
-        name,
-        visibility: None,
-        body: String::new(alloc),
+        ..Const::new(alloc, name)
     }))
 }
 
@@ -218,11 +170,7 @@ pub fn macro_def(alloc: Global, hash: u16) -> Result<Item, AllocError> {
     let name = name(alloc, "d")?;
     Ok(Item::MacroDef(MacroDef {
         hash,
-        number: 0,
-        attrs: Vec::new(alloc),
-        name,
-        visibility: None,
-        body: String::new(alloc),
+        ..MacroDef::new(alloc, name)
     }))
 }
 
@@ -231,11 +179,7 @@ pub fn extern_crate(alloc: Global, hash: u16) -> Result<Item, AllocError> {
     let name = name(alloc, "e")?;
     Ok(Item::ExternCrate(ExternCrate {
         hash,
-        number: 0,
-        attrs: Vec::new(alloc),
-        name,
-        visibility: None,
         rename: Some(Rename { name: None }),
-        body: String::new(alloc),
+        ..ExternCrate::new(alloc, name)
     }))
 }

@@ -14,17 +14,17 @@ use Rattle.item_tree.proofs.Walking.{flat_map_of_id, map_of_id}
 use Rattle.def_collector.specs.Declarations.{node_name}
 use Rattle.outline.specs.Lines.{line, deeper, node_lines, forest_lines}
 use Rattle.outline.specs.Objects.{object_form, node_object, forest_objects}
-use Rattle.outline.specs.Inner.{lines_at, object_at}
+use Rattle.outline.specs.Inner.{outline_lines_at, object_at}
 
 forest_is : (indent : List ℕ) (f : Forest) → flat_map (node_lines indent) (nodes f) ≡ forest_lines indent f
 forest_is indent empty = refl
 forest_is indent (more n f) = ap (λ lines. node_lines indent n ++ lines) (forest_is indent f)
 
 -- the lines of ids that stand for a forest
-pub ids_lines : (u : Unfolding) (indent : List ℕ) (is : List ℕ) (f : Forest) → StandFor u is f → flat_map (lines_at u indent) is ≡ forest_lines indent f
+pub ids_lines : (u : Unfolding) (indent : List ℕ) (is : List ℕ) (f : Forest) → StandFor u is f → flat_map (outline_lines_at u indent) is ≡ forest_lines indent f
 ids_lines u indent is f e = flat_map_of_id u (node_lines indent) is (nodes f) e ∙ forest_is indent f
 
-pub top_lines : (u : Unfolding) (is : List ℕ) → StandFor u is u.forest → flat_map (lines_at u []) is ≡ forest_lines [] u.forest
+pub top_lines : (u : Unfolding) (is : List ℕ) → StandFor u is u.forest → flat_map (outline_lines_at u []) is ≡ forest_lines [] u.forest
 top_lines u is e = ids_lines u [] is u.forest e
 
 -- of an item: its line, and those of its children
@@ -33,21 +33,21 @@ node_is indent (leaf h l) = sym (append-nil (line indent (node_ast (leaf h l)) (
 node_is indent (parent h t f) = refl
 
 one_lines : (u : Unfolding) (indent : List ℕ) (is : List ℕ) (o : Option Node) (a : FileAstId) → option_map node_ast o ≡ Some a → StandFor u is (option_map_or children o empty)
-    → option_map_or (node_lines indent) o [] ≡ line indent a (option_map_or node_name o None) ++ flat_map (lines_at u (deeper indent)) is
+    → option_map_or (node_lines indent) o [] ≡ line indent a (option_map_or node_name o None) ++ flat_map (outline_lines_at u (deeper indent)) is
 one_lines u indent is None a e s = absurd (cc)
 one_lines u indent is (Some n) a e s =
     let e : node_ast n ≡ a = cc in
     node_is indent n ∙ ap (λ b. line indent b (node_name n) ++ forest_lines (deeper indent) (children n)) e ∙ ap (λ lines. line indent a (node_name n) ++ lines) (sym (ids_lines u (deeper indent) is (children n) s))
 
 id_lines : (u : Unfolding) (indent : List ℕ) (i : ℕ) (is : List ℕ) (a : FileAstId) → option_map node_ast (node_at u.forest i) ≡ Some a → StandFor u is (children_at u i)
-    → lines_at u indent i ≡ line indent a (of_id u None node_name i) ++ flat_map (lines_at u (deeper indent)) is
+    → outline_lines_at u indent i ≡ line indent a (of_id u None node_name i) ++ flat_map (outline_lines_at u (deeper indent)) is
 id_lines u indent i is a e s = one_lines u indent is (node_at u.forest i) a e s
 
 -- the line of an item, and then those of its children, are its lines
 pub line_adds : (u : Unfolding) (indent below : List ℕ) (i : ℕ) (is : List ℕ) (a : FileAstId) (before mid after : List ℕ) → option_map node_ast (node_at u.forest i) ≡ Some a → StandFor u is (children_at u i) → below ≡ deeper indent
-    → mid ≡ before ++ line indent a (of_id u None node_name i) → after ≡ mid ++ flat_map (lines_at u below) is → after ≡ before ++ lines_at u indent i
+    → mid ≡ before ++ line indent a (of_id u None node_name i) → after ≡ mid ++ flat_map (outline_lines_at u below) is → after ≡ before ++ outline_lines_at u indent i
 line_adds u indent below i is a before mid after e s b f g =
-    rw (g, f, b) (append_assoc before (line indent a (of_id u None node_name i)) (flat_map (lines_at u (deeper indent)) is) ∙ ap (λ (ls : List ℕ). before ++ ls) (sym (id_lines u indent i is a e s)))
+    rw (g, f, b) (append_assoc before (line indent a (of_id u None node_name i)) (flat_map (outline_lines_at u (deeper indent)) is) ∙ ap (λ (ls : List ℕ). before ++ ls) (sym (id_lines u indent i is a e s)))
 
 -- ---- objects
 

@@ -1,4 +1,4 @@
--- For the crate's own functions: outlines by the ids of items.
+-- Words that private contracts alone cite: outlines by the ids of items.
 use Rattle.std.specs.Prelude.{ℕ, List, []}
 use Rattle.serde_json.specs.Data.{Data, null}
 use Rattle.item_tree.specs.Node.{Unfolding}
@@ -7,8 +7,8 @@ use Rattle.outline.specs.Lines.{node_lines}
 use Rattle.outline.specs.Objects.{node_object}
 
 -- the lines of the item of an id, and of all that stand in it
-abbrev pub lines_at : Unfolding → List ℕ → ℕ → List ℕ
-lines_at u indent i = of_id u [] (node_lines indent) i
+abbrev pub outline_lines_at : Unfolding → List ℕ → ℕ → List ℕ
+outline_lines_at u indent i = of_id u [] (node_lines indent) i
 
 -- its object
 abbrev pub object_at : Unfolding → ℕ → Data

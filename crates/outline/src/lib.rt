@@ -5,4 +5,4 @@ mod json;
 mod text;
 
 pub use json::outline_json;
-pub use text::outline_text;
+pub use text::{outline_text, push_outline};

@@ -4,7 +4,7 @@ ghost use Rattle.std.specs.List.{flat_map};
 ghost use Rattle.item_tree.specs.Shown.{IsContained};
 ghost use Rattle.item_tree.specs.Walk.{AreContained};
 ghost use Rattle.outline.specs.Lines.{line, forest_lines};
-ghost use Rattle.outline.specs.Inner.{lines_at};
+ghost use Rattle.outline.specs.Inner.{outline_lines_at};
 
 use def_collector::name_at;
 use hir_input::{FileAstId, Name};
@@ -16,13 +16,22 @@ use tree_walk::children;
 /// which begins with the word of its kind, and its name, if it has one.
 ///
 /// The only error is want of memory.
-#[tactic(auto, using(item_tree::proofs::Walking::ids_contained, crate::proofs::Outlines::top_lines))]
 pub fn outline_text(alloc: Global, tree: &ItemTree) -> Result<String, AllocError>
     ensures { IfOk result (λ text. string_bytes text ≡ forest_lines [] tree.now.forest) }
 {
     let mut text = String::new(alloc);
-    push_all(alloc, tree, tree.top_level_items(), "", &mut text)?;
+    push_outline(alloc, tree, &mut text)?;
     Ok(text)
+}
+
+/// Adds these lines to a text.
+///
+/// The only error is want of memory.
+#[tactic(auto, using(item_tree::proofs::Walking::ids_contained, crate::proofs::Outlines::top_lines))]
+pub fn push_outline(alloc: Global, tree: &ItemTree, text: &mut String) -> Result<(), AllocError>
+    ensures { OnOk result (string_bytes text.new ≡ string_bytes text.old ++ forest_lines [] tree.now.forest) }
+{
+    push_all(alloc, tree, tree.top_level_items(), "", text)
 }
 
 // The lines of items, and of all that stand in them.
@@ -35,7 +44,7 @@ fn push_all(
     text: &mut String,
 ) -> Result<(), AllocError>
     requires { AreContained tree.now ids.now }
-    ensures { OnOk result (string_bytes text.new ≡ string_bytes text.old ++ flat_map (lines_at tree.now indent.now) ids.now) }
+    ensures { OnOk result (string_bytes text.new ≡ string_bytes text.old ++ flat_map (outline_lines_at tree.now indent.now) ids.now) }
 {
     for id in ids {
         push_one(alloc, tree, *id, indent, text)?;
@@ -53,7 +62,7 @@ fn push_one(
     text: &mut String,
 ) -> Result<(), AllocError>
     requires { IsContained tree.now id }
-    ensures { OnOk result (string_bytes text.new ≡ string_bytes text.old ++ lines_at tree.now indent.now id) }
+    ensures { OnOk result (string_bytes text.new ≡ string_bytes text.old ++ outline_lines_at tree.now indent.now id) }
 {
     push_line(indent, id.ast_id(tree), name_at(tree, id), text)?;
     let mut below = String::from_str(alloc, indent)?;

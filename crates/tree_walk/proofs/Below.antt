@@ -1,8 +1,7 @@
 -- The nodes of the ids that a walk meets.
-use Rattle.std.proofs.Common.{◌≡◌, ℕ, List, [], ◌∷◌, Some, map, refl, ap, sym, ◌∙◌, subst}
+use Rattle.std.proofs.Common.{◌≡◌, ℕ, List, [], ◌∷◌, Some, map, refl, ap, sym, ◌∙◌}
 use Rattle.std.proofs.lemmas.List.{map-append}
 use Rattle.std.specs.Prelude.{is_some}
-use Rattle.std.specs.Option.{option_map_or}
 use Rattle.std.specs.List.{flat_map}
 use Rattle.hir_input.specs.declared.ids.AstIdKind.TheVariants.{Fn}
 use Rattle.hir_input.specs.declared.ids.FileAstId.{FileAstId}
@@ -10,27 +9,20 @@ use Rattle.item_tree.specs.Node.{Node, leaf, parent, Forest, empty, more, nodes,
 use Rattle.item_tree.specs.Layout.{node_at}
 use Rattle.item_tree.specs.Reach.{child_ids, ids_from}
 use Rattle.item_tree.specs.Shown.{StandFor}
-use Rattle.item_tree.specs.Walk.{of_id, children, IsWalkedOnce}
-use Rattle.item_tree.proofs.Walking.{map_of_id}
+use Rattle.item_tree.specs.Walk.{of_id}
+use Rattle.item_tree.proofs.Walking.{map_of_id, each_walked_once, children_of, no_ids}
 use Rattle.tree_walk.specs.Preorder.{node_preorder, preorder}
 
-no_ids : (u : Unfolding) (is : List ℕ) → StandFor u is empty → is ≡ []
-no_ids u [] e = refl
-no_ids u (i ∷ is) e = absurd (cc)
-
 -- the ids from that of a node on down stand for the nodes in order
-module _ (u : Unfolding) (w : IsWalkedOnce u) where
-  children_of : (i : ℕ) (n : Node) → node_at u.forest i ≡ Some n → StandFor u (child_ids u i) (children n)
-  children_of i n e = subst (λ o. StandFor u (child_ids u i) (option_map_or children o empty)) e (w.stand i (ap is_some e))
-
+module _ (u : Unfolding) where
   mutual
     ids_of_node : (n : Node) (i : ℕ) → node_at u.forest i ≡ Some n → map (node_at u.forest) (ids_from u i) ≡ map Some (node_preorder n)
     ids_of_node (leaf h l) i e =
-        let none : child_ids u i ≡ [] = no_ids u (child_ids u i) (children_of i (leaf h l) e) in
-        ap (map (node_at u.forest)) (w.below i (ap is_some e)) ∙ rw (e, none) refl
+        let none : child_ids u i ≡ [] = no_ids u (child_ids u i) (children_of u i (leaf h l) e) in
+        ap (map (node_at u.forest)) ((each_walked_once u).below i (ap is_some e)) ∙ rw (e, none) refl
     ids_of_node (parent h t f) i e =
-        let below : map (node_at u.forest) (flat_map (ids_from u) (child_ids u i)) ≡ map Some (preorder f) = ids_of_forest f (child_ids u i) (children_of i (parent h t f) e) in
-        ap (map (node_at u.forest)) (w.below i (ap is_some e)) ∙ rw (e, below) refl
+        let below : map (node_at u.forest) (flat_map (ids_from u) (child_ids u i)) ≡ map Some (preorder f) = ids_of_forest f (child_ids u i) (children_of u i (parent h t f) e) in
+        ap (map (node_at u.forest)) ((each_walked_once u).below i (ap is_some e)) ∙ rw (e, below) refl
 
     ids_of_forest : (f : Forest) (is : List ℕ) → map (node_at u.forest) is ≡ map Some (nodes f) → map (node_at u.forest) (flat_map (ids_from u) is) ≡ map Some (preorder f)
     ids_of_forest empty [] e = refl
@@ -41,8 +33,8 @@ module _ (u : Unfolding) (w : IsWalkedOnce u) where
         let others : map (node_at u.forest) is ≡ map Some (nodes f) = cc in
         map-append (node_at u.forest) (ids_from u i) (flat_map (ids_from u) is) ∙ rw (ids_of_node n i first, ids_of_forest f is others) (sym (map-append Some (node_preorder n) (preorder f)))
 
-pub preorder_ids : (u : Unfolding) (is : List ℕ) → IsWalkedOnce u → StandFor u is u.forest → map (node_at u.forest) (flat_map (ids_from u) is) ≡ map Some (preorder u.forest)
-preorder_ids u is w e = ids_of_forest u w u.forest is e
+pub preorder_ids : (u : Unfolding) (is : List ℕ) → StandFor u is u.forest → map (node_at u.forest) (flat_map (ids_from u) is) ≡ map Some (preorder u.forest)
+preorder_ids u is e = ids_of_forest u u.forest is e
 
 abbrev pub no_ast_id : FileAstId
 no_ast_id = record { kind = Fn; hash = 0; number = 0 }

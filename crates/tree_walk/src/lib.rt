@@ -1,7 +1,8 @@
-//! Walks over an item tree by its public calls alone: an example to copy from.
+//! Walks over an item tree by its public calls alone: the items that stand in an item, and all items of a tree, each before
+//! those that stand in it.
 #![tactic(auto)]
 
-ghost use Rattle.std.specs.Prelude.{◌≡◌, ◌≢◌, ℕ, false, ◌↔◌, ◌+◌, ◌<◌, ◌^◌, ◌++◌, ◌⊎◌, IsTrue, IfOk, IfErr, IfSome, OnOk, Some, map};
+ghost use Rattle.std.specs.Prelude.{◌≡◌, ◌≢◌, ℕ, false, ◌↔◌, ◌+◌, ◌<◌, ◌^◌, ◌++◌, ◌⊎◌, IsTrue, IsSome, IfOk, IfErr, IfSome, OnOk, Some, map};
 ghost use Rattle.std.specs.List.{sum_by, flat_map, AllPairs, Contains};
 ghost use Rattle.hir_input.specs.Syntax.{syntax_view};
 ghost use Rattle.item_tree.specs.CrateView.{crate_view};
@@ -135,14 +136,15 @@ pub fn is_same_visibility(tree: &ItemTree, left: RawVisibilityId, right: RawVisi
     left == right
 }
 
-/// What two trees lend for an id, where they are equal: then they lend the same.
+/// What two trees lend for an id, exactly where they are equal: then they lend the same.
 pub fn both_items<'a>(
     left: &'a ItemTree,
     right: &'a ItemTree,
     id: ModItemId,
 ) -> Option<(ModItemKind<'a>, ModItemKind<'a>)>
     requires { IsContained left.now id }
-    ensures { IfSome result (λ both. lent both.0 ≡ lent both.1) }
+    ensures equal { IsSome result ↔ (left.now ≡ right.now) }
+    ensures alike { IfSome result (λ both. lent both.0 ≡ lent both.1) }
 {
     if *left == *right {
         return Some((left.index(id), right.index(id)));

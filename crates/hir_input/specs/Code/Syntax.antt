@@ -3,8 +3,6 @@ use Rattle.std.specs.Prelude.{◌≡◌, ℕ, List, Bool, Option, refl}
 use Rattle.std.specs.Coded.{Coded, code_by, coded×, coded_list, coded_option, coded_bool, coded_ℕ}
 use Rattle.std.proofs.Common.{ap, arith}
 use base.Stored.{Gv, gnil, gnum, gcons}
-use Rattle.hir_input.specs.declared.ids.AstIdKind.{AstIdKind}
-use Rattle.hir_input.specs.declared.ids.AstIdKind.TheVariants as kind
 use Rattle.hir_input.specs.declared.ids.SyntaxContext.{SyntaxContext}
 use Rattle.hir_input.specs.declared.expand_to.ExpandTo.{ExpandTo}
 use Rattle.hir_input.specs.declared.ast.PathNode.{PathNode}
@@ -63,21 +61,19 @@ call_code =
     (λ p. record { node = p.0; path = p.1.0; expand_to = p.1.1.0; ctxt = p.1.1.1 })
     (λ _. refl)
 
-abbrev pub plain_kind : AstIdKind → PlainKind
-plain_kind kind.Union = union_kind
-plain_kind kind.Enum = enum_kind
-plain_kind kind.Static = static_kind
-plain_kind kind.Trait = trait_kind
-plain_kind kind.TypeAlias = type_alias_kind
-plain_kind kind.MacroDef = macro_def_kind
-plain_kind _ = fn_kind
-
-pub plain_kind-ast_kind : (k : PlainKind) → plain_kind (ast_kind k) ≡ k
-plain_kind-ast_kind fn_kind = refl
-plain_kind-ast_kind _ = refl
+-- the kind of their ids tells two kinds apart
+pub ast_kind_inj : (j k : PlainKind) → ast_kind j ≡ ast_kind k → j ≡ k
+ast_kind_inj fn_kind fn_kind h = refl
+ast_kind_inj union_kind union_kind h = refl
+ast_kind_inj enum_kind enum_kind h = refl
+ast_kind_inj static_kind static_kind h = refl
+ast_kind_inj trait_kind trait_kind h = refl
+ast_kind_inj type_alias_kind type_alias_kind h = refl
+ast_kind_inj macro_def_kind macro_def_kind h = refl
+ast_kind_inj _ _ h = cc
 
 abbrev pub plain_kind_code : Coded PlainKind
-plain_kind_code = code_by AstIdKind ast_id_kind.the_row.coded ast_kind plain_kind plain_kind-ast_kind
+plain_kind_code = record { code = λ k. ast_id_kind.the_row.coded.code (ast_kind k); inj = λ j k h. ast_kind_inj j k (ast_id_kind.the_row.coded.inj (ast_kind j) (ast_kind k) h) }
 
 abbrev pub fields_to : FieldsView → Gv
 fields_to record_fields = gnum 0

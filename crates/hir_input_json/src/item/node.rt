@@ -3,7 +3,7 @@ ghost use Rattle.std.specs.Prelude.{◌≡◌, OnOk, codes};
 ghost use Rattle.hir_input_json.specs.Held.{held, without};
 ghost use Rattle.hir_input_json.specs.Items.{node as node_form, named as named_form};
 ghost use Rattle.hir_input_json.specs.Reads.{Reads};
-ghost use Rattle.hir_input_json.specs.Seen.{node_view, named_view};
+ghost use Rattle.hir_input_json.specs.Inner.{node_view, named_view};
 
 use crate::fault::Fault;
 use crate::member::{text_at, u16_at, u32_at};

@@ -4,12 +4,14 @@ use Rattle.std.specs.declared.vec.Vec.{Vec}
 use Rattle.std.specs.declared.alloc.Global.{Global}
 use Rattle.hir_input.specs.declared.attr.Meta.{Meta}
 use Rattle.hir_input.specs.Attr.{meta_view}
-use Rattle.hir_input.specs.Syntax.{NamedView, ItemView, ItemViews, no_items, listed_module, listed_extern_block}
+use Rattle.hir_input.specs.Syntax.{NamedView, ItemView, ItemViews, no_items, listed_module, listed_extern_block, PlainKind, enum_kind, fn_kind, macro_def_kind, static_kind, trait_kind, type_alias_kind, union_kind}
 use Rattle.item_tree_attrs.specs.declared.collect.AttrsOrCfg.{AttrsOrCfg}
 use Rattle.item_tree_attrs.specs.Collected.{Collected, collected, collected_from, attr_limit}
 use Rattle.item_tree.specs.declared.visibility.RawVisibility.{RawVisibility}
 use Rattle.item_tree.specs.declared.items.StructValueNsCtor.{StructValueNsCtor}
 use Rattle.item_tree.specs.declared.lower.Ctx.{Ctx}
+use Rattle.item_tree.specs.declared.lower.named.NamedKind.{NamedKind}
+use Rattle.item_tree.specs.declared.lower.named.NamedKind.TheVariants as named
 use Rattle.item_tree.specs.declared.lower.named.NamedNode.{NamedNode}
 use Rattle.item_tree.specs.declared.rows.Rows.{Rows}
 use Rattle.item_tree.specs.declared.fault.LowerError.{LowerError}
@@ -24,6 +26,16 @@ use Rattle.item_tree.specs.KeptUse.{use_tree_limit}
 use Rattle.item_tree.specs.Size.{item_limit, visibility_limit, most_attrs, forest_supers, item_written, items_written, Sizes, IsPassed, no_sizes, only_visibilities}
 use Rattle.item_tree.specs.Shown.{ctor_ids}
 use Rattle.item_tree.specs.Stored.{keys_in, items_in, places_in, column_in}
+
+-- the kind of item that it is
+abbrev pub named_kind : NamedKind → PlainKind
+named_kind named.Enum = enum_kind
+named_kind named.Fn = fn_kind
+named_kind named.MacroDef = macro_def_kind
+named_kind named.Static = static_kind
+named_kind named.Trait = trait_kind
+named_kind named.TypeAlias = type_alias_kind
+named_kind named.Union = union_kind
 
 -- a node with a name and a visibility, but for its body
 abbrev pub seen_node : NamedNode → NamedView
@@ -43,8 +55,8 @@ module _ (ctx : Ctx) where
   abbrev pub top_attrs_in : Bool → List Meta → Collected
   top_attrs_in is_root metas = top_attrs_of is_root (crate_view ctx.krate.now) ctx.skipped.now (map meta_view metas)
 
-  abbrev pub kept_in : ItemView → Option Node
-  kept_in i = kept ctx.krate.now.cfg ctx.skipped.now i
+  abbrev pub kept_of : ItemView → Option Node
+  kept_of i = kept ctx.krate.now.cfg ctx.skipped.now i
 
   abbrev pub all_kept_in : ItemViews → Forest
   all_kept_in is = kept_all ctx.krate.now.cfg ctx.skipped.now is
@@ -105,7 +117,7 @@ sizes_with old w f = record {
 -- the item is lowered, or refused for a size that it passes
 abbrev pub IsLowered : Ctx → Rows → Rows → ItemView → Result (Option ℕ) LowerError → Type 0
 IsLowered ctx old new i r =
-    let f = add (kept_in ctx i) empty in
+    let f = add (kept_of ctx i) empty in
     MatchResult r (λ id. Lowers old new (item_written i) f (to_list id)) (IsPassed (sizes_with old (item_written i) f))
 
 -- the same of several

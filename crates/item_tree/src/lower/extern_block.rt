@@ -6,10 +6,10 @@ ghost use Rattle.item_tree.specs.Inner.Growth.{IsWithinLimits, IsLowered, AreLow
 use crate::fault::LowerError;
 use crate::items::{ExternBlock, ModItem, ModItemId};
 use crate::lower::macros::lower_macro_call;
-use crate::lower::named::{NamedNode, lower_named, named};
+use crate::lower::named::{NamedKind, NamedNode, lower_named, named};
 use crate::lower::{Ctx, push_row};
 use crate::rows::{Rows, ast_key};
-use hir_input::{AstIdKind, ast};
+use hir_input::ast;
 use std::alloc::Global;
 
 // An extern block without a list has no items.

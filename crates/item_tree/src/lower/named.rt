@@ -1,10 +1,9 @@
 //! Lowering of items that have a name and a visibility.
 ghost use Rattle.std.specs.Prelude.{◌≡◌};
-ghost use Rattle.hir_input.specs.Code.Syntax.{plain_kind};
 ghost use Rattle.hir_input.specs.Syntax.{plain_item, const_item, const_view, extern_crate, extern_crate_view};
 ghost use Rattle.item_tree.specs.Layout.{leaf_row};
 ghost use Rattle.item_tree.specs.Node.{plain};
-ghost use Rattle.item_tree.specs.Inner.Growth.{IsWithinLimits, IsLowered, seen_node};
+ghost use Rattle.item_tree.specs.Inner.Growth.{IsWithinLimits, IsLowered, named_kind, seen_node};
 ghost use Rattle.item_tree.specs.Stored.{item_row};
 
 use crate::fault::LowerError;
@@ -15,13 +14,25 @@ use crate::lower::use_tree::lower_alias;
 use crate::lower::{Ctx, lower_visibility, push_row};
 use crate::rows::{AstKey, Rows, ast_key};
 use crate::visibility::RawVisibilityId;
-use hir_input::{AstIdKind, Meta, Name, ast};
+use hir_input::{Meta, Name, ast};
 use std::alloc::Global;
+
+/// The kinds of items that differ in nothing but the kind.
+#[derive(Clone, Copy)]
+pub(super) enum NamedKind {
+    Enum,
+    Fn,
+    MacroDef,
+    Static,
+    Trait,
+    TypeAlias,
+    Union,
+}
 
 /// What lowering reads of a node that may have a name and a visibility.
 #[derive(Clone, Copy)]
 pub(super) struct NamedNode<'a> {
-    pub(super) kind: AstIdKind,
+    pub(super) kind: NamedKind,
     pub(super) key: AstKey,
     pub(super) attrs: &'a Vec<Meta>,
     pub(super) name: &'a Option<Name>,
@@ -32,7 +43,7 @@ pub(super) struct NamedNode<'a> {
 macro_rules! named {
     ($kind:ident, $node:expr) => {
         NamedNode {
-            kind: AstIdKind::$kind,
+            kind: NamedKind::$kind,
             key: ast_key!($node),
             attrs: &$node.attrs,
             name: &$node.name,
@@ -43,18 +54,18 @@ macro_rules! named {
 
 pub(super) use named;
 
-// An item that differs from others in nothing but the kind: a function, unless the kind is that of another.
-fn plain_item(kind: AstIdKind, name: Name, visibility: RawVisibilityId) -> ModItem
-    ensures { item_row result ≡ leaf_row (plain (plain_kind kind) name visibility) }
+// An item that differs from others in nothing but the kind.
+fn plain_item(kind: NamedKind, name: Name, visibility: RawVisibilityId) -> ModItem
+    ensures { item_row result ≡ leaf_row (plain (named_kind kind) name visibility) }
 {
     match kind {
-        AstIdKind::Enum => ModItem::Enum(Enum { name, visibility }),
-        AstIdKind::MacroDef => ModItem::Macro2(Macro2 { name, visibility }),
-        AstIdKind::Static => ModItem::Static(Static { name, visibility }),
-        AstIdKind::Trait => ModItem::Trait(Trait { name, visibility }),
-        AstIdKind::TypeAlias => ModItem::TypeAlias(TypeAlias { name, visibility }),
-        AstIdKind::Union => ModItem::Union(Union { name, visibility }),
-        _ => ModItem::Function(Function { name, visibility }),
+        NamedKind::Enum => ModItem::Enum(Enum { name, visibility }),
+        NamedKind::Fn => ModItem::Function(Function { name, visibility }),
+        NamedKind::MacroDef => ModItem::Macro2(Macro2 { name, visibility }),
+        NamedKind::Static => ModItem::Static(Static { name, visibility }),
+        NamedKind::Trait => ModItem::Trait(Trait { name, visibility }),
+        NamedKind::TypeAlias => ModItem::TypeAlias(TypeAlias { name, visibility }),
+        NamedKind::Union => ModItem::Union(Union { name, visibility }),
     }
 }
 
@@ -65,7 +76,7 @@ pub(super) fn lower_named(
 ) -> Result<Option<ModItemId>, LowerError>
     requires { IsWithinLimits rows.old }
     ensures { IsLowered ctx.entry rows.old rows.new
-        (plain_item (plain_kind node.entry.kind) (seen_node node.entry)) result }
+        (plain_item (named_kind node.entry.kind) (seen_node node.entry)) result }
 {
     let Some(name) = node.name else {
         return Ok(None);

@@ -18,9 +18,10 @@ impl Use {
     /// the use tree, each counted before those below it. Where the words of a path cannot follow those above it, as
     /// in `a::{super::b}`, nothing is imported, and `f` is not called.
     ///
-    /// The only error is want of memory: then the calls made are a beginning of those that would have been made.
+    /// The only error is out of memory: then the calls made are a beginning of those that would have been made.
     ///
-    /// rust-analyzer's `Use::expand`.
+    /// rust-analyzer's `Use::expand`. The caller shows that `f` may be called at each import, in each state that the
+    /// calls before can leave; a closure without a `requires` may.
     pub fn expand<F: FnMut(UseTreeIdx, ModPath, ImportKind, Option<ImportAlias>)>(
         &self,
         alloc: Global,

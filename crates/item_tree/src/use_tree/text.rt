@@ -12,7 +12,7 @@ use std::fmt;
 use std::fmt::Display;
 use std::marker::Model;
 
-/// An alias as it is written in an edition.
+/// An alias as it is written in an edition. In place of the `impl Display` of rust-analyzer's `ImportAlias::display`.
 #[derive(Drop)]
 pub struct ImportAliasDisplay<'a> {
     alias: &'a ImportAlias,

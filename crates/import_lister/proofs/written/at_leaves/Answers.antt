@@ -1,7 +1,7 @@
 use Rattle.std.proofs.Common.{◌≡◌, Some, sym, ◌∙◌}
 use Rattle.hir_input.specs.UseTreeView.{use_tree_view}
 use Rattle.import_lister.specs.Inner.{at_leaf, node_of}
-use Rattle.import_lister.specs.Listed.{import_of}
+use Rattle.import_lister.specs.Listed.{listed_import}
 use Rattle.import_lister.proofs.Leaves.{node_there, one_found}
 use Rattle.import_lister.proofs.written.at_leaves.Goals as goal
 
@@ -9,7 +9,7 @@ pub loop-import-preserved : goal.loop-import-preserved
 loop-import-preserved c =
     let w = use_tree_view c.args.written.now in
     let places = c.args.places.now in
-    let x = import_of c.in-Some.import in
+    let x = listed_import c.in-Some.import in
     let left = c.in-Some.ensures.steps.0 in
     let rest = rw left at c.loop-import.invariant.rest in
     let node : Some (use_tree_view c.unwrap-leaf.result.now) ≡ node_of w places x = rw c.unwrap-leaf.ensures at c.at.ensures ∙ sym (node_there w places x rest.0 0) in

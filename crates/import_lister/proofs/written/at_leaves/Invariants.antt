@@ -1,13 +1,13 @@
 use Rattle.std.proofs.Common.{◌≡◌, ◌++◌, map}
 use Rattle.std.specs.List.{AllByRecursion}
 use Rattle.hir_input.specs.UseTreeView.{use_tree_view}
-use Rattle.import_lister.specs.Listed.{import_of}
+use Rattle.import_lister.specs.Listed.{listed_import}
 use Rattle.import_lister.specs.Inner.{IsAtLeaf, at_leaf, seen}
 use Rattle.import_lister.proofs.written.at_leaves.Given as goal
 
 abbrev pub invariant-loop-import : goal.invariant-loop-import
 invariant-loop-import l =
-    let w = use_tree_view l.written in let rest = map import_of l.import-iterator.rest.items in record {
-      found : map seen l.list.items ++ map (at_leaf w l.places) rest ≡ map (at_leaf w l.places) (map import_of l.fn.imports.items);
+    let w = use_tree_view l.written in let rest = map listed_import l.import-iterator.rest.items in record {
+      found : map seen l.list.items ++ map (at_leaf w l.places) rest ≡ map (at_leaf w l.places) (map listed_import l.fn.imports.items);
       rest : AllByRecursion (IsAtLeaf w l.places) rest;
     }

@@ -1,7 +1,7 @@
 -- What is collected, as plain data.
 use Rattle.std.specs.Prelude.{ℕ, Bool, false, List, map, Option, Some, is_some, option_copied}
 use Rattle.hir_input.specs.declared.ids.AstIdKind.{AstIdKind}
-use Rattle.import_lister.specs.Listed.{import_of}
+use Rattle.import_lister.specs.Listed.{listed_import}
 use Rattle.item_tree.specs.declared.visibility.RawVisibility.{RawVisibility}
 use Rattle.item_tree.specs.Layout.{node_at}
 use Rattle.item_tree.specs.Node.{Node, node_kind, Unfolding}
@@ -9,10 +9,10 @@ use Rattle.item_tree.specs.Walk.{of_id}
 use Rattle.def_collector.specs.declared.names.Declares.{Declares}
 use Rattle.def_collector.specs.declared.names.Declares.TheVariants.{Name, Imports}
 use Rattle.def_collector.specs.declared.collector.Declaration as code
-use Rattle.def_collector.specs.Declarations.{Declared, name_of, imports_of, node_declares, node_visibility, Declaration}
+use Rattle.def_collector.specs.Declarations.{Declared, declared_name, declared_imports, node_declares, node_visibility, Declaration}
 
 -- a declaration with what is said of its item
-pub record Seen : Type 0 where
+pub record DeclarationView : Type 0 where
   pub path : List (List ℕ)
   pub node : Option Node
   pub kind : AstIdKind
@@ -20,19 +20,26 @@ pub record Seen : Type 0 where
   pub declared : Declared
 
 -- by the definition
-abbrev pub defined : Declaration → Seen
-defined d = record { path = d.path; node = Some d.node; kind = node_kind d.node; visibility = node_visibility d.node; declared = d.declared }
+abbrev pub view_of : Declaration → DeclarationView
+view_of d = record { path = d.path; node = Some d.node; kind = node_kind d.node; visibility = node_visibility d.node; declared = d.declared }
 
 -- by the code, with the node that the id stands for
 abbrev pub declared_by : Declares → Declared
-declared_by (Name name) = name_of name.now
-declared_by (Imports imports) = imports_of (map import_of imports.items)
+declared_by (Name name) = declared_name name.now
+declared_by (Imports imports) = declared_imports (map listed_import imports.items)
 
-abbrev pub seen : Unfolding → code.Declaration → Seen
-seen u d = record { path = map (λ name. name.now) d.path.items; node = node_at u.forest d.id; kind = d.kind; visibility = option_copied d.visibility; declared = declared_by d.declares }
+abbrev pub declaration_view : Unfolding → code.Declaration → DeclarationView
+declaration_view u d = record { path = map (λ name. name.now) d.path.items; node = node_at u.forest d.id; kind = d.kind; visibility = option_copied d.visibility; declared = declared_by d.declares }
 
 abbrev pub id_of : code.Declaration → ℕ
 id_of d = d.id
+
+-- both, with the id
+abbrev pub defined : ℕ × Declaration → ℕ × DeclarationView
+defined d = (d.0, view_of d.1)
+
+abbrev pub collected : Unfolding → code.Declaration → ℕ × DeclarationView
+collected u d = (d.id, declaration_view u d)
 
 -- whether the item of an id declares something
 abbrev pub is_declaring : Unfolding → ℕ → Bool

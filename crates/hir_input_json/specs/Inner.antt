@@ -1,4 +1,4 @@
--- What the crate's own types are seen as, for its own functions.
+-- Words that private contracts alone cite: what the crate's own types are seen as.
 use Rattle.std.specs.Prelude.{map, string_bytes}
 use Rattle.hir_input.specs.Attr.{meta_view}
 use Rattle.hir_input.specs.Syntax.{NodeView, NamedView}
