@@ -1,9 +1,10 @@
 -- What stands on an index: it is the one of its table, and stays behind a table under edits.
-use Rattle.std.proofs.Common.{◌≡◌, inl, inr, ℕ, ◌≤◌, List, [], ◌∷◌, Option, Some, None, Result, Ok, Err, OnOk, OnErr, refl, sym, ap, subst, ◌∙◌, arith}
+use Rattle.std.proofs.Common.{◌≡◌, ℕ, ◌≤◌, List, [], ◌∷◌, Option, Some, None, Result, Ok, Err, OnOk, OnErr, sym, ap, subst, ◌∙◌, arith, Contains}
+use Rattle.std.specs.BTreeSet.{BTreeSet, contains}
+use Rattle.std.proofs.lemmas.Bool.Decides.{same_from_decides}
 use Rattle.std.proofs.lemmas.List.Elements.{All-contains}
-use Rattle.std.specs.Cmp.{tied_itself}
-use Rattle.std.specs.declared.cmp.Ordering.TheVariants.{Less, Equal}
-use Rattle.item_tree_db.proofs.Listed.{In, InOrder, contained}
+use Rattle.std.proofs.lemmas.Map.Lookups.{btree_set_from_contains}
+use Rattle.std.proofs.lemmas.Map.Views.{btree_set_contains_iff}
 use Rattle.item_tree.specs.Node.{Unfolding}
 use Rattle.item_tree.specs.Walk.{of_id}
 use Rattle.item_tree_db.specs.State.{State, IsKnown, unfolding_at, change_number}
@@ -14,7 +15,7 @@ use Rattle.def_collector.specs.Declarations.{node_name}
 use Rattle.decl_index.specs.declared.entry.Entry.{Entry}
 use Rattle.decl_index.specs.EntryOrder.{entry_cmp, entry_cmp_total}
 use Rattle.decl_index.specs.Entries.{IsDeclared, IsListing, IndexView, IsIndexOf, IsBehind}
-use Rattle.decl_index.proofs.Lists.{in_contained, in_order}
+use Rattle.decl_index.proofs.Order.{exact_entries}
 
 -- the index of a table is behind it
 pub behind_index : (s : State) (index : IndexView) → s.start ≤ s.number → IsIndexOf s index → IsBehind index s
@@ -49,35 +50,13 @@ behind_edit s u edit (Err refused) ok err footing index h = subst (IsBehind inde
 
 -- ---- a table has one index
 
-abbrev Rises : Entry → Entry → Type 0
-Rises a b = entry_cmp a b ≡ Less
-
-irreflexive : (a b : Entry) → a ≡ b → Rises a b → ⊥
-irreflexive a b e h = let tied : entry_cmp a b ≡ Equal = ap (entry_cmp a) (sym e) ∙ tied_itself entry_cmp_total a in absurd (cc)
-
-same_heads : (x y : Entry) (xs ys : List Entry) → InOrder Rises (x ∷ xs) → InOrder Rises (y ∷ ys) → In x (y ∷ ys) → In y (x ∷ xs) → x ≡ y
-same_heads x y xs ys a b (inl e) j = sym e
-same_heads x y xs ys a b (inr i) (inl e) = e
-same_heads x y xs ys a b (inr i) (inr j) = absurd (irreflexive x x refl (entry_cmp_total.trans x y x (a.0 y j) (b.0 x i)))
-
--- an element behind the first is behind the other first
-rest : (x y e : Entry) (xs ys : List Entry) → x ≡ y → InOrder Rises (x ∷ xs) → In e (y ∷ ys) → In e xs → In e ys
-rest x y e xs ys same a (inl q) i = absurd (irreflexive x e (same ∙ q) (a.0 e i))
-rest x y e xs ys same a (inr j) i = j
-
--- of two lists in the same strict order with the same elements, each is the other
-same_lists : (xs ys : List Entry) → InOrder Rises xs → InOrder Rises ys → ((e : Entry) → In e xs → In e ys) → ((e : Entry) → In e ys → In e xs) → xs ≡ ys
-same_lists [] [] a b f g = refl
-same_lists [] (y ∷ ys) a b f g = absurd (g y (inl refl))
-same_lists (x ∷ xs) [] a b f g = absurd (f x (inl refl))
-same_lists (x ∷ xs) (y ∷ ys) a b f g =
-    let same = same_heads x y xs ys a b (f x (inl refl)) (g y (inl refl)) in
-    λ j. same j ∷ same_lists xs ys a.1 b.1 (λ e i. rest x y e xs ys same a (f e (inr i)) i) (λ e i. rest y x e ys xs (sym same) b (g e (inr i)) i) j
+abbrev keys : List Entry → BTreeSet Entry
+keys entries = record { keys = entries }
 
 pub one_index : (s : State) (a b : IndexView) → IsIndexOf s a → IsIndexOf s b → a ≡ b
 one_index s a b h k =
-    let xs = a.1 in
-    let ys = b.1 in
-    let one : (c d : List Entry) → IsListing s c → IsListing s d → (e : Entry) → In e c → In e d = λ c d l m e i. in_contained e d (m.whole e (All-contains (IsDeclared s) c e l.declared (contained e c i))) in
-    let entries = same_lists xs ys (in_order Rises xs h.listing.in_order) (in_order Rises ys k.listing.in_order) (one xs ys h.listing k.listing) (one ys xs k.listing h.listing) in
+    let has = λ (xs : List Entry) (q : Entry). btree_set_contains_iff entry_cmp_total exact_entries (keys xs) q in
+    let other = λ (c d : List Entry) (l : IsListing s c) (m : IsListing s d) (q : Entry) (i : Contains c q). m.whole q (All-contains (IsDeclared s) c q l.declared i) in
+    let alike = λ (q : Entry). same_from_decides (contains entry_cmp (keys a.1) q) (contains entry_cmp (keys b.1) q) (has a.1 q) (λ t. other b.1 a.1 k.listing h.listing q ((has b.1 q).0 t), λ i. (has b.1 q).1 (other a.1 b.1 h.listing k.listing q i)) in
+    let entries = btree_set_from_contains entry_cmp_total (keys a.1) (keys b.1) h.listing.in_order k.listing.in_order alike exact_entries in
     λ j. ((h.number ∙ sym k.number) j, entries j)

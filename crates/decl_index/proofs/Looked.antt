@@ -1,97 +1,94 @@
 -- The entries of one name stand side by side.
-use Rattle.std.proofs.Common.{◌≡◌, ◌⊎◌, inl, inr, ℕ, zero, suc, ◌+◌, ◌≤◌, Bool, true, false, List, [], ◌∷◌, length, take, drop, filter, refl, sym, ap, ◌∙◌, arith, AllPairs, slice_index_or, eq-or-lt_of_le}
+use Rattle.std.proofs.Common.{◌≡◌, ℕ, zero, suc, ◌+◌, Bool, true, false, List, [], ◌∷◌, take, drop, filter, refl, sym, ap, subst, ◌∙◌, arith, ltb, slice_index_or}
 use Rattle.std.specs.Cmp.Lexicographic.{nat_list_cmp_total, texts_ties}
-use Rattle.std.specs.List.{AllWithin}
-use Rattle.std.specs.List.Sorted.{IsPartitionedBy, IsPartitionPoint}
-use Rattle.std.specs.Ordering.{is_eq, is_lt, ordering_then}
+use Rattle.std.specs.List.Sorted.{IsNonDecreasingBy, IsPartitionedBy, IsPartitionPoint, IsStrictlySortedBy}
+use Rattle.std.specs.Ordering.{is_eq, is_le, is_lt, nat_cmp, ordering_index, ordering_reverse, ordering_then}
 use Rattle.std.specs.declared.cmp.Ordering.{Ordering}
 use Rattle.std.specs.declared.cmp.Ordering.TheVariants.{Less, Equal, Greater}
-use Rattle.std.proofs.lemmas.List.{get_or-drop, length-drop}
-use Rattle.std.proofs.lemmas.Slice.Eq.{bytes_eq-Decides}
+use Rattle.std.proofs.lemmas.List.Elements.{filter_agree}
+use Rattle.std.proofs.lemmas.List.Sorted.{IsNonDecreasingBy-drop, IsPartitionedBy-ltb, searchable_from_sorted}
+use Rattle.std.proofs.lemmas.Map.Keys.{Less-from_sorted}
+use Rattle.item_tree.specs.IdOrder.{id_cmp}
+use Rattle.item_tree_db.specs.PlaceOrder.{place_cmp}
 use Rattle.decl_index.specs.declared.entry.Entry.{Entry}
 use Rattle.decl_index.specs.EntryOrder.{name_cmp, entry_cmp}
 use Rattle.decl_index.specs.Lookup.{has_name}
-use Rattle.decl_index.proofs.Order.{equal_names}
 
--- ---- filters
+-- ---- elements in the order of a test
 
-module _ {A : Type 0} (p : A → Bool) where
-  behind : (xs : List A) (k : ℕ) → k ≤ length xs → AllWithin (λ x. p x ≡ false) xs 0 k → filter p xs ≡ filter p (drop k xs)
-  behind [] k l h = let none : k ≡ 0 = omega arith in rw none refl
-  behind (x ∷ xs) zero l h = refl
-  behind (x ∷ xs) (suc k) l h = let not_x : p x ≡ false = h zero x (omega arith) (omega arith) in rw not_x (behind xs k (omega arith) (λ i d a b. h (suc i) d (omega arith) (omega arith)))
+module _ {A : Type 0} (o : A → Ordering) where
+  -- up to a place they are below
+  abbrev pub IsUpTo : (Ordering → Bool) → List A → ℕ → Type 0
+  IsUpTo p = IsPartitionPoint (λ x. p (o x) ≡ true) (λ x. p (o x) ≡ false)
 
-  none : (xs : List A) → AllWithin (λ x. p x ≡ false) xs 0 (length xs) → filter p xs ≡ []
-  none [] h = refl
-  none (x ∷ xs) h = let not_x : p x ≡ false = h zero x (omega arith) (omega arith) in rw not_x (none xs (λ i d a b. h (suc i) d (omega arith) (omega arith)))
+  -- the same of those behind the first
+  rest : (p : Ordering → Bool) (x : A) (xs : List A) (m : ℕ) → IsUpTo p (x ∷ xs) (suc m) → IsUpTo p xs m
+  rest p x xs m h = (λ i d a b. h.0 (suc i) d (omega arith) (omega arith), λ i d a b. h.1 (suc i) d (omega arith) (omega arith))
 
-  front : (xs : List A) (k : ℕ) → IsPartitionPoint (λ x. p x ≡ true) (λ x. p x ≡ false) xs k → filter p xs ≡ take k xs
-  front [] zero h = refl
-  front [] (suc k) h = refl
-  front (x ∷ xs) zero h = none (x ∷ xs) h.1
-  front (x ∷ xs) (suc k) h =
-      let is_x : p x ≡ true = h.0 zero x (omega arith) (omega arith) in
-      rw is_x (ap (λ (ys : List A). x ∷ ys) (front xs k (λ i d a b. h.0 (suc i) d (omega arith) (omega arith), λ i d a b. h.1 (suc i) d (omega arith) (omega arith))))
+  below : (p : Ordering) → is_lt p ≡ true → is_eq p ≡ false
+  below Less h = refl
+  below Equal h = cc
+  below Greater h = refl
 
--- ---- entries before those of a name
+  above : (p : Ordering) → is_le p ≡ false → is_eq p ≡ false
+  above Less h = refl
+  above Equal h = cc
+  above Greater h = refl
 
-is_less : (o : Ordering) → is_lt o ≡ true → o ≡ Less
-is_less Less h = refl
-is_less Equal h = cc
-is_less Greater h = cc
+  equal : (p : Ordering) → is_lt p ≡ false → is_le p ≡ true → is_eq p ≡ true
+  equal Less h k = cc
+  equal Equal h k = refl
+  equal Greater h k = cc
 
-first_of : (o p q r : Ordering) → ordering_then (ordering_then (ordering_then o p) q) r ≡ Less → (o ≡ Less) ⊎ (o ≡ Equal)
-first_of Less p q r h = inl refl
-first_of Equal p q r h = inr refl
-first_of Greater p q r h = absurd (cc)
+  front : (xs : List A) (m : ℕ) → IsUpTo is_lt xs 0 → IsUpTo is_le xs m → take m xs ≡ filter (λ x. is_eq (o x)) xs
+  front [] zero p q = refl
+  front [] (suc m) p q = refl
+  front (x ∷ xs) zero p q =
+      let not_x : is_eq (o x) ≡ false = above (o x) (q.1 zero x (omega arith) (omega arith)) in
+      rw not_x (front xs zero (λ i d a b. absurd (omega arith), λ i d a b. p.1 (suc i) d (omega arith) (omega arith)) (λ i d a b. absurd (omega arith), λ i d a b. q.1 (suc i) d (omega arith) (omega arith)))
+  front (x ∷ xs) (suc m) p q =
+      let is_x : is_eq (o x) ≡ true = equal (o x) (p.1 zero x (omega arith) (omega arith)) (q.0 zero x (omega arith) (omega arith)) in
+      rw is_x (ap (λ (ys : List A). x ∷ ys) (front xs m (λ i d a b. absurd (omega arith), λ i d a b. p.1 (suc i) d (omega arith) (omega arith)) (rest is_le x xs m q)))
 
--- the names of an entry and of a later one
-in_names : (a b : Entry) → entry_cmp a b ≡ Less → (name_cmp a.name b.name ≡ Less) ⊎ (a.name ≡ b.name)
-in_names a b h = elim (first_of (name_cmp a.name b.name) _ _ _ h) as (λ _. (name_cmp a.name b.name ≡ Less) ⊎ (a.name ≡ b.name)) [ inl l ↦ inl l | inr e ↦ inr (equal_names a.name b.name e) ]
+  pub equals : (xs : List A) (k m : ℕ) → IsUpTo is_lt xs k → IsUpTo is_le (drop k xs) m → take m (drop k xs) ≡ filter (λ x. is_eq (o x)) xs
+  equals xs zero m p q = front xs m p q
+  equals [] (suc k) zero p q = refl
+  equals [] (suc k) (suc m) p q = refl
+  equals (x ∷ xs) (suc k) m p q = let not_x : is_eq (o x) ≡ false = below (o x) (p.0 zero x (omega arith) (omega arith)) in rw not_x (equals xs k m (rest is_lt x xs k p) q)
 
-module _ (name : List ℕ) where
-  abbrev pub is_before : Entry → Bool
-  is_before e = is_lt (name_cmp e.name name)
+-- ---- entries by their names
 
-  still_before : (a b : Entry) → entry_cmp a b ≡ Less → is_before b ≡ true → is_before a ≡ true
-  still_before a b h t = elim (in_names a b h) as (λ _. is_before a ≡ true) [
-    | inl l ↦ ap is_lt (nat_list_cmp_total.trans a.name b.name name l (is_less _ t))
-    | inr e ↦ ap (λ (n : List ℕ). is_lt (name_cmp n name)) e ∙ t
-  ]
+is_before : (p : Ordering) → ltb (ordering_index p) 1 ≡ is_lt p
+is_before Less = refl
+is_before Equal = refl
+is_before Greater = refl
 
-  still_named : (a b : Entry) → entry_cmp a b ≡ Less → is_before a ≡ false → has_name name b ≡ true → has_name name a ≡ true
-  still_named a b h f t =
-      let is : b.name ≡ name = (bytes_eq-Decides b.name name).0 t in
-      elim (in_names a b h) as (λ _. has_name name a ≡ true) [
-        | inl l ↦ let before : is_before a ≡ true = ap (λ (n : List ℕ). is_lt (name_cmp a.name n)) (sym is) ∙ ap is_lt l in absurd (cc)
-        | inr e ↦ (bytes_eq-Decides a.name name).1 (e ∙ is)
-      ]
+is_not_behind : (p : Ordering) → ltb (ordering_index p) 2 ≡ is_le p
+is_not_behind Less = refl
+is_not_behind Equal = refl
+is_not_behind Greater = refl
 
-  not_named : (e : Entry) → is_before e ≡ true → has_name name e ≡ false
-  not_named e t = texts_ties e.name name ∙ ap is_eq (is_less _ t)
+names_first : (p q r s : Ordering) → ordering_then (ordering_then (ordering_then p q) r) s ≡ Less → is_lt (ordering_reverse p) ≡ false
+names_first Less q r s h = refl
+names_first Equal q r s h = refl
+names_first Greater q r s h = cc
 
-  module _ (xs : List Entry) (rises : AllPairs (λ a b. entry_cmp a b ≡ Less) xs) where
-    pub befores : IsPartitionedBy is_before xs
-    befores i j d p q t = elim (eq-or-lt_of_le p) as (λ _. is_before (slice_index_or xs i d) ≡ true) [
-      | inl e ↦ ap (λ (k : ℕ). is_before (slice_index_or xs k d)) e ∙ t
-      | inr l ↦ still_before (slice_index_or xs i d) (slice_index_or xs j d) (rises i j d l q) t
-    ]
+names_rise : (a b : Entry) → entry_cmp a b ≡ Less → is_lt (name_cmp b.name a.name) ≡ false
+names_rise a b h = ap is_lt (nat_list_cmp_total.antisymm b.name a.name) ∙ names_first (name_cmp a.name b.name) (place_cmp a.place b.place) (nat_cmp a.krate.0 b.krate.0) (id_cmp a.id b.id) h
 
-    module _ (k : ℕ) (point : IsPartitionPoint (λ e. is_before e ≡ true) (λ e. is_before e ≡ false) xs k) where
-      at : (i : ℕ) (d : Entry) → slice_index_or (drop k xs) i d ≡ slice_index_or xs (k + i) d
-      at i d = get_or-drop k xs i d
+module _ (name : List ℕ) (xs : List Entry) (rises : IsStrictlySortedBy entry_cmp xs) where
+  abbrev pub test : Entry → Ordering
+  test e = name_cmp e.name name
 
-      pub named : IsPartitionedBy (has_name name) (drop k xs)
-      named i j d p q t =
-          let long = length-drop k xs in
-          elim (eq-or-lt_of_le p) as (λ _. has_name name (slice_index_or (drop k xs) i d) ≡ true) [
-            | inl e ↦ ap (λ (m : ℕ). has_name name (slice_index_or (drop k xs) m d)) e ∙ t
-            | inr l ↦
-                let other : has_name name (slice_index_or xs (k + j) d) ≡ true = ap (has_name name) (sym (at j d)) ∙ t in
-                ap (has_name name) (at i d) ∙ still_named (slice_index_or xs (k + i) d) (slice_index_or xs (k + j) d) (rises (k + i) (k + j) d (omega arith) (omega arith)) (point.1 (k + i) d (omega arith) (omega arith)) other
-          ]
+  in_order : IsNonDecreasingBy (λ e. ordering_index (test e)) xs
+  in_order = searchable_from_sorted nat_list_cmp_total (λ (e : Entry). e.name) xs name (λ k d a b.
+      names_rise (slice_index_or xs k d) (slice_index_or xs (k + 1) d) (Less-from_sorted entry_cmp xs k (k + 1) d rises (omega arith) b))
 
-      pub looked_up : (m : ℕ) → k ≤ length xs → IsPartitionPoint (λ e. has_name name e ≡ true) (λ e. has_name name e ≡ false) (drop k xs) m → take m (drop k xs) ≡ filter (has_name name) xs
-      looked_up m l names =
-          sym (front (has_name name) (drop k xs) m names)
-          ∙ sym (behind (has_name name) xs k l (λ i d a b. not_named (slice_index_or xs i d) (point.0 i d a b)))
+  pub befores : IsPartitionedBy (λ e. is_lt (test e)) xs
+  befores = subst (λ (p : Entry → Bool). IsPartitionedBy p xs) (λ j e. is_before (test e) j) (IsPartitionedBy-ltb (λ e. ordering_index (test e)) xs 1 in_order)
+
+  pub not_behind : (k : ℕ) → IsPartitionedBy (λ e. is_le (test e)) (drop k xs)
+  not_behind k = subst (λ (p : Entry → Bool). IsPartitionedBy p (drop k xs)) (λ j e. is_not_behind (test e) j) (IsPartitionedBy-ltb (λ e. ordering_index (test e)) (drop k xs) 2 (IsNonDecreasingBy-drop (λ e. ordering_index (test e)) k xs in_order))
+
+  pub looked_up : (k m : ℕ) → IsUpTo test is_lt xs k → IsUpTo test is_le (drop k xs) m → take m (drop k xs) ≡ filter (has_name name) xs
+  looked_up k m p q = equals test xs k m p q ∙ filter_agree (λ e. is_eq (test e)) (has_name name) (λ e. sym (texts_ties e.name name)) xs

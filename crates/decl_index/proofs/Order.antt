@@ -1,38 +1,30 @@
 -- Entries that are equal by their order are one.
-use Rattle.std.proofs.Common.{◌≡◌, ℕ, List, true, refl, ap, ◌∙◌, arith, nat_eq}
-use Rattle.std.specs.Cmp.Lexicographic.{texts_ties}
-use Rattle.std.specs.Ordering.{is_eq, nat_cmp, ordering_then}
-use Rattle.std.specs.declared.cmp.Ordering.{Ordering}
-use Rattle.std.specs.declared.cmp.Ordering.TheVariants.{Less, Equal, Greater}
+use Rattle.std.proofs.Common.{◌≡◌, true, ap, sym, ◌∙◌, arith, nat_eq}
+use Rattle.std.specs.Bool.{Decides}
+use Rattle.std.specs.Cmp.{tied_itself}
+use Rattle.std.specs.Ordering.{eq_by_cmp, is_eq, nat_cmp, ordering_then}
 use Rattle.std.proofs.lemmas.Bool.Decides.{nat_tests}
-use Rattle.std.proofs.lemmas.Slice.Eq.{bytes_eq-Decides}
+use Rattle.std.proofs.lemmas.Map.Lookups.{CmpEqualImpliesEq, exact_bytes, exact_pairs, exact_unsigned}
+use Rattle.std.proofs.lemmas.Map.Views.{tells_apart}
 use Rattle.item_tree.specs.IdOrder.{id_cmp, id_cmp_ties}
 use Rattle.item_tree_db.specs.PlaceOrder.{place_cmp}
 use Rattle.item_tree_db.proofs.Places.{equal_of}
 use Rattle.decl_index.specs.declared.entry.Entry.{Entry}
-use Rattle.decl_index.specs.EntryOrder.{name_cmp, entry_cmp}
+use Rattle.decl_index.specs.EntryOrder.{name_cmp, entry_cmp, entry_cmp_total}
 
-both_equal : (o p : Ordering) → ordering_then o p ≡ Equal → (o ≡ Equal) × (p ≡ Equal)
-both_equal Less p h = cc
-both_equal Equal p h = (refl, h)
-both_equal Greater p h = cc
+exact_places : CmpEqualImpliesEq place_cmp
+exact_places p q h = equal_of p q (ap is_eq h)
 
-equal_numbers : (i j : ℕ) → nat_cmp i j ≡ Equal → i ≡ j
-equal_numbers i j h = grind (arith, nat_tests)
+exact_ids : CmpEqualImpliesEq id_cmp
+exact_ids i j h = let same : nat_eq i j ≡ true = id_cmp_ties i j ∙ ap is_eq h in grind (arith, nat_tests)
 
-equal_ids : (i j : ℕ) → id_cmp i j ≡ Equal → i ≡ j
-equal_ids i j h = let same : nat_eq i j ≡ true = id_cmp_ties i j ∙ ap is_eq h in grind (arith, nat_tests)
+pub exact_entries : CmpEqualImpliesEq entry_cmp
+exact_entries a b h =
+    let named = exact_pairs name_cmp place_cmp exact_bytes exact_places in
+    let known = exact_pairs (λ x y. ordering_then (name_cmp x.0 y.0) (place_cmp x.1 y.1)) nat_cmp named exact_unsigned in
+    let all = exact_pairs (λ x y. ordering_then (ordering_then (name_cmp x.0.0 y.0.0) (place_cmp x.0.1 y.0.1)) (nat_cmp x.1 y.1)) id_cmp known exact_ids in
+    let e = all (((a.name, a.place), a.krate.0), a.id) (((b.name, b.place), b.krate.0), b.id) h in
+    λ j. record { name = (e j).0.0.0; place = (e j).0.0.1; krate = record { 0 = (e j).0.1 }; id = (e j).1 }
 
-pub equal_names : (a b : List ℕ) → name_cmp a b ≡ Equal → a ≡ b
-equal_names a b h = (bytes_eq-Decides a b).0 (texts_ties a b ∙ ap is_eq h)
-
-pub equal_entries : (a b : Entry) → entry_cmp a b ≡ Equal → a ≡ b
-equal_entries a b h =
-    let ids = both_equal _ (id_cmp a.id b.id) h in
-    let crates = both_equal _ (nat_cmp a.krate.0 b.krate.0) ids.0 in
-    let places = both_equal _ (place_cmp a.place b.place) crates.0 in
-    let name = equal_names a.name b.name places.0 in
-    let place = equal_of a.place b.place (ap is_eq places.1) in
-    let krate = equal_numbers a.krate.0 b.krate.0 crates.1 in
-    let id = equal_ids a.id b.id ids.1 in
-    λ j. record { name = name j; place = place j; krate = record { 0 = krate j }; id = id j }
+pub same_entries : (a b : Entry) → Decides (eq_by_cmp entry_cmp a b) (a ≡ b)
+same_entries a b = (tells_apart exact_entries a b, λ e. ap (eq_by_cmp entry_cmp a) (sym e) ∙ ap is_eq (tied_itself entry_cmp_total a))

@@ -1,41 +1,37 @@
 -- What a refresh leaves is the index of the table.
-use Rattle.std.proofs.Common.{◌≡◌, ◌≢◌, ◌⊎◌, inl, inr, ℕ, ◌<◌, ◌≤◌, true, false, cond, not, nat_lt, List, [], ◌++◌, length, filter, Option, Some, None, refl, sym, ap, subst, ◌∙◌, arith, AllPairs, slice_index_or}
+use Rattle.std.proofs.Common.{◌≡◌, ◌≢◌, ◌⊎◌, inl, inr, ℕ, ◌<◌, ◌≤◌, true, false, cond, not, nat_lt, List, ◌++◌, length, filter, Option, Some, None, refl, sym, ap, subst, ◌∙◌, arith, All, Contains, slice_index_or}
 use Rattle.std.specs.Option.{unwrap_or}
-use Rattle.std.specs.Cmp.{tied_itself, nat_cmp_total}
-use Rattle.std.specs.List.Sorted.{IsPermutation, IsSorted}
-use Rattle.std.specs.Ordering.{nat_cmp, ordering_then}
-use Rattle.std.specs.declared.cmp.Ordering.{Ordering}
+use Rattle.std.specs.Cmp.{IsTotalOrder, tied_itself, nat_cmp_total, on_total, then_total}
+use Rattle.std.specs.List.Sorted.{IsPermutation, IsSorted, IsStrictlySortedBy}
 use Rattle.std.specs.declared.cmp.Ordering.TheVariants.{Less, Equal}
 use Rattle.std.proofs.lemmas.Bool.{cases_lt}
 use Rattle.std.proofs.lemmas.Bool.Decides.{nat_tests}
-use Rattle.std.proofs.lemmas.List.Elements.{All-contains}
+use Rattle.std.proofs.lemmas.List.Elements.{All-append, All-contains_itself, All-weaker, Contains-append_left, Contains-append_right}
+use Rattle.std.proofs.lemmas.List.Kept.{IsStrictlySortedBy-filter}
 use Rattle.std.proofs.lemmas.List.Sorted.{All-permutation, Contains-permutation}
+use Rattle.std.proofs.lemmas.Map.Keys.{IsDistinct-from_sorted}
+use Rattle.std.proofs.lemmas.Map.Made.{AllPairs-from_IsDistinct}
 use Rattle.std.proofs.lemmas.Option.{none-some}
 use Rattle.hir_input.specs.declared.ids.Crate.{Crate}
-use Rattle.item_tree.specs.Layout.{node_at}
-use Rattle.item_tree.specs.Node.{Unfolding, nothing}
+use Rattle.item_tree.specs.Node.{Unfolding}
 use Rattle.item_tree.specs.Walk.{of_id}
+use Rattle.item_tree.proofs.Walking.{of_id_nothing}
 use Rattle.item_tree_db.specs.declared.place.Place.{Place}
-use Rattle.item_tree_db.specs.PlaceOrder.{place_cmp}
-use Rattle.item_tree_db.specs.State.{State, IsKnown, change_number}
-use Rattle.item_tree_db.specs.Since.{Change, change_cmp, IsGrounded, IsLate}
-use Rattle.item_tree_db.proofs.Listed.{In, in_left, in_right, in_either, in_filter, filter_in, contained, all_in, order_append, order_filter}
-use Rattle.item_tree_db.proofs.Places.{equal_cmp}
+use Rattle.item_tree_db.specs.PlaceOrder.{place_cmp_total}
+use Rattle.item_tree_db.specs.State.{State, change_number}
+use Rattle.item_tree_db.specs.Since.{Change, change_cmp, IsGrounded, IsSince, IsLate}
 use Rattle.def_collector.specs.Declarations.{node_name}
 use Rattle.decl_index.specs.declared.entry.Entry.{Entry}
 use Rattle.decl_index.specs.EntryOrder.{entry_cmp, entry_cmp_total}
 use Rattle.decl_index.specs.Entries.{IsDeclared, IsListing, IsBehind, entries_at, entries_of}
-use Rattle.decl_index.specs.Inner.{is_current, IsRead, AreRead}
-use Rattle.decl_index.proofs.Lists.{Once, in_contained, in_order, in_flat_map, flat_map_in, once_flat_map, strict}
-use Rattle.decl_index.proofs.Order.{equal_entries}
+use Rattle.decl_index.specs.Inner.{is_current, AreRead}
+use Rattle.decl_index.proofs.Lists.{Once, filter_all, filter_contains, flat_map_all, flat_map_contains, once_append, once_flat_map, strict}
+use Rattle.decl_index.proofs.Order.{same_entries}
+use Rattle.decl_index.proofs.Trees.{tree_of, all_in_tree, all_declared, each_once, declared_there}
 
 -- the number of the last edit that changed an entry's tree
 abbrev number_of : State → Entry → ℕ
 number_of s e = change_number s e.place e.krate.0
-
-no_names : (i : ℕ) (name : List ℕ) → of_id nothing None node_name i ≡ Some name → ⊥
-unfolding node_at
-no_names i name h = none-some name h
 
 passed : (a b c d : ℕ) → a < b → d ≤ c → cond (nat_lt a b) (not (nat_lt c d)) false ≡ true
 passed a b c d p q = grind (arith, nat_tests)
@@ -43,124 +39,81 @@ passed a b c d p q = grind (arith, nat_tests)
 passes : (a b c d : ℕ) → cond (nat_lt a b) (not (nat_lt c d)) false ≡ true → (a < b) × (d ≤ c)
 passes a b c d h = (grind (arith, nat_tests), grind (arith, nat_tests))
 
-same_tree : (p q : Place) (i j : ℕ) → p ≡ q → i ≡ j → ordering_then (place_cmp p q) (nat_cmp i j) ≡ Equal
-same_tree p q i j e f = (λ k. ordering_then (place_cmp p (sym e k)) (nat_cmp i (sym f k))) ∙ (λ k. ordering_then (equal_cmp p k) (tied_itself nat_cmp_total i k))
-
-less_equal : (o : Ordering) → o ≡ Less → o ≡ Equal → ⊥
-less_equal o p q = cc
+-- ---- trees that did not change
 
 module _ (s : State) (old : List Entry) where
-  -- ---- trees that did not change
+  sound : (number : Option ℕ) → IsBehind (number, old) s → (e : Entry) → Contains old e → is_current s (unwrap_or number 0) e ≡ true → IsDeclared s e
+  sound None h e c t = absurd (omega (arith, c.1, ap length h))
+  sound (Some n) h e c t = let p = passes e.krate.0 (length s.crates) n (number_of s e) t in (h.unchanged e p.0 p.1).0 c
 
-  sound_kept : (number : Option ℕ) → IsBehind (number, old) s → (e : Entry) → In e old → IsKnown s e.krate → number_of s e ≤ unwrap_or number 0 → IsDeclared s e
-  sound_kept None h e i k low = absurd (subst (λ (xs : List Entry). In e xs) h i)
-  sound_kept (Some n) h e i k low = (h.unchanged e k low).0 (contained e old i)
+  whole : (number : Option ℕ) → IsBehind (number, old) s → IsGrounded s → (e : Entry) → IsDeclared s e → (number_of s e ≤ unwrap_or number 0) ⊎ (number_of s e ≤ s.start) → Contains old e × (number_of s e ≤ unwrap_or number 0)
+  whole None h g e d low =
+      absurd (none-some e.name (sym (of_id_nothing None node_name e.id) ∙ ap (λ (u : Unfolding). of_id u None node_name e.id) (sym (g.empty e.place e.krate.0 d.known (elim low as (λ _. number_of s e ≤ s.start) [ inl p ↦ omega arith | inr p ↦ p ]))) ∙ d.named))
+  whole (Some n) h g e d low =
+      let below : number_of s e ≤ n = elim low as (λ _. number_of s e ≤ n) [ inl p ↦ p | inr p ↦ omega (arith, h.started) ] in
+      ((h.unchanged e d.known below).1 d, below)
 
-  whole_kept : (number : Option ℕ) → IsBehind (number, old) s → IsGrounded s → (e : Entry) → IsDeclared s e → (number_of s e ≤ unwrap_or number 0) ⊎ (number_of s e ≤ s.start) → In e old × (number_of s e ≤ unwrap_or number 0)
-  whole_kept None h g e d low =
-      let first : number_of s e ≤ s.start = elim low as (λ _. number_of s e ≤ s.start) [ inl p ↦ omega arith | inr p ↦ p ] in
-      absurd (no_names e.id e.name (ap (λ (u : Unfolding). of_id u None node_name e.id) (sym (g.empty e.place e.krate.0 d.known first)) ∙ d.named))
-  whole_kept (Some n) h g e d low =
-      let started = h.started in
-      let below : number_of s e ≤ n = elim low as (λ _. number_of s e ≤ n) [ inl p ↦ p | inr p ↦ omega arith ] in
-      (in_contained e old ((h.unchanged e d.known below).1 d), below)
+-- ---- trees that changed
 
-  module _ (number : Option ℕ) (behind : IsBehind (number, old) s) (rises : AllPairs (λ a b. entry_cmp a b ≡ Less) old) (fresh : List Entry) (read : AreRead s (unwrap_or number 0) [] fresh) where
-    abbrev n : ℕ
-    n = unwrap_or number 0
+abbrev tree_by : Change → Place × Crate
+tree_by c = (c.0, c.1)
 
+change_cmp_total : IsTotalOrder change_cmp
+change_cmp_total = then_total (on_total (λ c. c.0) place_cmp_total) (on_total (λ c. c.1.0) nat_cmp_total)
+
+apart : (b c : Change) → change_cmp b c ≡ Less → tree_by b ≢ tree_by c
+apart b c h e = let t : change_cmp b c ≡ Equal = (λ j. change_cmp b ((sym e j).0, (sym e j).1, c.2)) ∙ tied_itself change_cmp_total b in absurd (cc)
+
+module _ (s : State) (n : ℕ) (changes : List Change) (since : IsSince s n changes) where
+  abbrev entries_in : Change → List Entry
+  entries_in c = entries_at s c.0 c.1
+
+  news_declared : All (IsDeclared s) (entries_of s changes)
+  news_declared = flat_map_all entries_in (IsDeclared s) changes (All-weaker (IsLate s n) (λ c. All (IsDeclared s) (entries_in c)) (λ c l. all_declared s c.0 c.1 l.known) changes since.late)
+
+  news_once : Once (entries_of s changes)
+  news_once = once_flat_map entries_in tree_by tree_of (λ c. each_once s c.0 c.1) (λ c. all_in_tree s c.0 c.1) changes (λ i j d p q. apart (slice_index_or changes i d) (slice_index_or changes j d) (since.in_order i j d p q))
+
+  news_late : All (λ e. n < number_of s e) (entries_of s changes)
+  news_late = flat_map_all entries_in (λ e. n < number_of s e) changes (All-weaker (IsLate s n) (λ c. All (λ e. n < number_of s e) (entries_in c)) (λ c l.
+      All-weaker (λ e. tree_of e ≡ tree_by c) (λ e. n < number_of s e) (λ e t. subst (λ (t : Place × Crate). n < change_number s t.0 t.1.0) (sym t) (rw (← l.number) l.above)) (entries_in c) (all_in_tree s c.0 c.1)) changes since.late)
+
+  news_whole : (e : Entry) → IsDeclared s e → n < number_of s e → s.start < number_of s e → Contains (entries_of s changes) e
+  news_whole e d p q =
+      let change : Change = (e.place, e.krate, number_of s e) in
+      flat_map_contains entries_in changes change e (since.whole change (record { known = d.known; number = refl; above = p; above_start = q })) (declared_there s e d)
+
+  -- ---- both
+
+  module _ (old : List Entry) where
     abbrev kept : List Entry
     kept = filter (is_current s n) old
 
-    abbrev news : List Entry
-    news = entries_of s read.changes
+    kept_low : All (λ e. number_of s e ≤ n) kept
+    kept_low = filter_all (Contains old) (λ e. number_of s e ≤ n) (is_current s n) (λ e c t. (passes e.krate.0 (length s.crates) n (number_of s e) t).1) old (All-contains_itself old)
 
-    abbrev entries_by : Change → List Entry
-    entries_by c = entries_at s c.0 c.1
+    all_once : IsStrictlySortedBy entry_cmp old → Once (kept ++ entries_of s changes)
+    all_once rises =
+        once_append kept (entries_of s changes) (AllPairs-from_IsDistinct same_entries kept (IsDistinct-from_sorted entry_cmp kept (IsStrictlySortedBy-filter entry_cmp (is_current s n) old rises))) news_once
+        (λ i d p j a q e. let same = ap (number_of s) e in let low = kept_low i d p in let late = news_late j a q in absurd (omega arith))
 
-    late_of : (c : Change) → In c read.changes → IsLate s n c
-    late_of c i = All-contains (IsLate s n) read.changes c read.since.late (contained c read.changes i)
-
-    read_of : (c : Change) → In c read.changes → IsRead s c.0 c.1
-    read_of c i = All-contains (λ c. IsRead s c.0 c.1) read.changes c read.each (contained c read.changes i)
-
-    inside_of : (c : Change) → In c read.changes → (e : Entry) → In e (entries_by c) → (e.place ≡ c.0) × (e.krate ≡ c.1)
-    inside_of c i e j = All-contains (λ e. (e.place ≡ c.0) × (e.krate ≡ c.1)) (entries_by c) e (read_of c i).inside (contained e (entries_by c) j)
-
-    -- ---- the entries are those that the table declares
-
-    all_declared : (e : Entry) → In e (kept ++ news) → IsDeclared s e
-    all_declared e h = elim (in_either e kept news h) as (λ _. IsDeclared s e) [
-      | inl i ↦
-          let was = in_filter (is_current s n) e old i in
-          let parts = passes e.krate.0 (length s.crates) n (number_of s e) was.1 in
-          sound_kept number behind e was.0 parts.0 parts.1
-      | inr i ↦
-          let r = in_flat_map entries_by e read.changes i in
-          let tree = inside_of r.0 r.1 e r.2 in
-          ((read_of r.0 r.1).declared e tree.0 tree.1).0 (contained e (entries_by r.0) r.2)
-    ]
-
-    abbrev change_of : Entry → Change
-    change_of e = (e.place, e.krate, number_of s e)
-
-    whole_old : (e : Entry) → IsDeclared s e → (number_of s e ≤ n) ⊎ (number_of s e ≤ s.start) → In e (kept ++ news)
-    whole_old e d low =
-        let was = whole_kept number behind read.grounded e d low in
-        in_left e kept news (filter_in (is_current s n) e old was.0 (passed e.krate.0 (length s.crates) n (number_of s e) d.known was.1))
-
-    whole_new : (e : Entry) → IsDeclared s e → n < number_of s e → s.start < number_of s e → In e (kept ++ news)
-    whole_new e d p q =
-        let late : IsLate s n (change_of e) = record { known = d.known; number = refl; above = p; above_start = q } in
-        let here : In (change_of e) read.changes = in_contained (change_of e) read.changes (read.since.whole (change_of e) late) in
-        let inside : In e (entries_by (change_of e)) = in_contained e (entries_by (change_of e)) (((read_of (change_of e) here).declared e refl refl).1 d) in
-        in_right e kept news (flat_map_in entries_by e (change_of e) read.changes here inside)
-
-    all_whole : (e : Entry) → IsDeclared s e → In e (kept ++ news)
-    all_whole e d = elim (cases_lt n (number_of s e)) as (λ _. In e (kept ++ news)) [
-      | inl p ↦ elim (cases_lt s.start (number_of s e)) as (λ _. In e (kept ++ news)) [ inl q ↦ whole_new e d p q | inr q ↦ whole_old e d (inr q) ]
-      | inr p ↦ whole_old e d (inl p)
-    ]
-
-    -- ---- each once
-
-    once_old : Once old
-    once_old = in_order (λ a b. a ≢ b) old (λ i j d p q e.
-        let a = slice_index_or old i d in
-        less_equal (entry_cmp a (slice_index_or old j d)) (rises i j d p q) (ap (entry_cmp a) (sym e) ∙ tied_itself entry_cmp_total a))
-
-    apart : (b c : Change) → In b read.changes → In c read.changes → change_cmp b c ≡ Less → (e : Entry) → In e (entries_by b) → In e (entries_by c) → ⊥
-    apart b c i j less e p q =
-        let one = inside_of b i e p in
-        let other = inside_of c j e q in
-        less_equal _ less (same_tree b.0 c.0 b.1.0 c.1.0 (sym one.0 ∙ other.0) (ap (λ (k : Crate). k.0) (sym one.1 ∙ other.1)))
-
-    once_new : Once news
-    once_new = once_flat_map entries_by (λ b c. change_cmp b c ≡ Less) read.changes (in_order (λ b c. change_cmp b c ≡ Less) read.changes read.since.in_order) (λ c i. in_order (λ a b. a ≢ b) (entries_by c) (read_of c i).once) apart
-
-    once_both : (a b : Entry) → In a kept → In b news → a ≢ b
-    once_both a b i j e =
-        let was = in_filter (is_current s n) a old i in
-        let low = (passes a.krate.0 (length s.crates) n (number_of s a) was.1).1 in
-        let r = in_flat_map entries_by b read.changes j in
-        let tree = inside_of r.0 r.1 b r.2 in
-        let late = late_of r.0 r.1 in
-        let same : number_of s a ≡ change_number s r.0.0 r.0.1.0 = ap (number_of s) e ∙ (λ k. change_number s (tree.0 k) (tree.1 k).0) in
-        let number = late.number in
-        let above = late.above in
-        absurd (omega arith)
-
-    pub listing : (new : List Entry) → IsPermutation (kept ++ fresh) new → IsSorted entry_cmp new → IsListing s new
-    listing new moved sorted =
-        let all = kept ++ news in
-        let here : IsPermutation all new = subst (λ (xs : List Entry). IsPermutation (kept ++ xs) new) read.items moved in
-        record {
-          declared = All-permutation (IsDeclared s) all new here (all_in (IsDeclared s) all all_declared);
-          whole = λ e d. Contains-permutation all new e here (contained e all (all_whole e d));
-          in_order = strict entry_cmp entry_cmp_total equal_entries all new (order_append (λ a b. a ≢ b) kept news (order_filter (λ a b. a ≢ b) (is_current s n) old once_old) once_new once_both) here sorted;
-        }
-
-pub refreshed : (s : State) (number : Option ℕ) (old : List Entry) (n : ℕ) (none fresh new : List Entry) → n ≡ unwrap_or number 0 → none ≡ [] → IsBehind (number, old) s → AllPairs (λ a b. entry_cmp a b ≡ Less) old → AreRead s n none fresh → IsPermutation (filter (is_current s n) old ++ fresh) new → IsSorted entry_cmp new → IsListing s new
-refreshed s number old n none fresh new since nothing_yet behind rises read moved sorted =
-    let read_now : AreRead s (unwrap_or number 0) [] fresh = subst (λ (m : ℕ). AreRead s m [] fresh) since (subst (λ (xs : List Entry). AreRead s n xs fresh) nothing_yet read) in
-    listing s old number behind rises fresh read_now new (subst (λ (m : ℕ). IsPermutation (filter (is_current s m) old ++ fresh) new) since moved) sorted
+pub refreshed : (s : State) (number : Option ℕ) (old : List Entry) (n : ℕ) (fresh new : List Entry) → n ≡ unwrap_or number 0 → IsBehind (number, old) s → IsStrictlySortedBy entry_cmp old → AreRead s n fresh → IsPermutation (filter (is_current s n) old ++ fresh) new → IsSorted entry_cmp new → IsListing s new
+refreshed s number old n fresh new from behind rises read moved sorted =
+    let news = entries_of s read.changes in
+    let left = kept s n read.changes read.since old in
+    let all = left ++ news in
+    let here : IsPermutation all new = subst (λ (xs : List Entry). IsPermutation (left ++ xs) new) read.items moved in
+    let is_sound = λ (e : Entry) (c : Contains old e) (t : is_current s n e ≡ true). sound s old number behind e c (subst (λ (m : ℕ). is_current s m e ≡ true) from t) in
+    let is_whole = λ (e : Entry) (d : IsDeclared s e) (low : (number_of s e ≤ n) ⊎ (number_of s e ≤ s.start)).
+    let was = whole s old number behind read.grounded e d (subst (λ (m : ℕ). (number_of s e ≤ m) ⊎ (number_of s e ≤ s.start)) from low) in
+    Contains-append_left left news e (filter_contains (is_current s n) old e was.0 (passed e.krate.0 (length s.crates) n (number_of s e) d.known (omega (arith, from, was.1)))) in
+    let all_whole = λ (e : Entry) (d : IsDeclared s e).
+    elim (cases_lt n (number_of s e)) as (λ _. Contains all e) [
+      | inl p ↦ elim (cases_lt s.start (number_of s e)) as (λ _. Contains all e) [ inl q ↦ Contains-append_right left news e (news_whole s n read.changes read.since e d p q) | inr q ↦ is_whole e d (inr q) ]
+      | inr p ↦ is_whole e d (inl p)
+    ] in
+    record {
+      declared = All-permutation (IsDeclared s) all new here (All-append (IsDeclared s) left news (filter_all (Contains old) (IsDeclared s) (is_current s n) is_sound old (All-contains_itself old)) (news_declared s n read.changes read.since));
+      whole = λ e d. Contains-permutation all new e here (all_whole e d);
+      in_order = strict entry_cmp entry_cmp_total same_entries all new (all_once s n read.changes read.since old rises) here sorted;
+    }

@@ -1,7 +1,8 @@
 -- Which names a table declares, and where.
-use Rattle.std.specs.Prelude.{◌≡◌, ◌↔◌, ℕ, ◌≤◌, List, [], Option, Some, None, option_map, All, length}
-use Rattle.std.specs.List.{AllPairs, Contains, filter_map, flat_map}
-use Rattle.std.specs.declared.cmp.Ordering.TheVariants.{Less}
+use Rattle.std.specs.Prelude.{◌≡◌, ◌↔◌, ℕ, ◌≤◌, List, [], ◌∷◌, Option, Some, None, All, length}
+use Rattle.std.specs.List.{Contains, flat_map}
+use Rattle.std.specs.List.Sorted.{IsStrictlySortedBy}
+use Rattle.std.specs.Option.{option_map_or}
 use Rattle.hir_input.specs.declared.ids.Crate.{Crate}
 use Rattle.item_tree.specs.Node.{Unfolding}
 use Rattle.item_tree.specs.Reach.{all_ids}
@@ -26,7 +27,7 @@ pub record IsDeclared (s : State) (e : Entry) : Type 0 where
 pub record IsListing (s : State) (entries : List Entry) : Type 0 where
   pub declared : All (IsDeclared s) entries
   pub whole : (e : Entry) → IsDeclared s e → Contains entries e
-  pub in_order : AllPairs (λ a b. entry_cmp a b ≡ Less) entries
+  pub in_order : IsStrictlySortedBy entry_cmp entries
 
 -- ---- an index
 
@@ -50,26 +51,24 @@ abbrev pub IsBehind : IndexView → State → Type 0
 IsBehind (None, entries) s = entries ≡ []
 IsBehind (Some n, entries) s = AreAsOf n entries s
 
--- ---- what a refresh reads
+-- ---- how many entries the changed trees have
 
--- the entries of a crate's tree of a place, in the order in which the items are written
+-- the item of an id, if it has this name
 abbrev pub entry_of : Place → Crate → ℕ → List ℕ → Entry
 entry_of place krate i name = record { name = name; place = place; krate = krate; id = i }
 
--- of an id of a tree that unfolds to u, if its item has a name
-abbrev pub entry_at : Unfolding → Place → Crate → ℕ → Option Entry
-entry_at u place krate i = option_map (entry_of place krate i) (of_id u None node_name i)
+-- of an id of a tree that unfolds to u: one, if its item has a name
+abbrev pub entries_by : Unfolding → Place → Crate → ℕ → List Entry
+entries_by u place krate i = option_map_or (λ name. entry_of place krate i name ∷ []) (of_id u None node_name i) []
 
-abbrev pub entries_in : Unfolding → Place → Crate → List Entry
-entries_in u place krate = filter_map (entry_at u place krate) (all_ids u)
-
+-- of a crate's tree of a place, in the order in which the items are written
 abbrev pub entries_at : State → Place → Crate → List Entry
-entries_at s place krate = entries_in (unfolding_at s place krate.0) place krate
+entries_at s place krate = let u = unfolding_at s place krate.0 in flat_map (entries_by u place krate) (all_ids u)
 
--- those of trees that changed
+-- of trees that changed
 abbrev pub entries_of : State → List Change → List Entry
 entries_of s changes = flat_map (λ c. entries_at s c.0 c.1) changes
 
--- so many items are those of the trees that changed since a number, and of no others
-abbrev pub HasRead : State → ℕ → ℕ → Type 0
-HasRead s n read = (changes : List Change) × IsSince s n changes × (read ≡ length (entries_of s changes))
+-- the trees that changed since a number have so many entries, items with a name
+abbrev pub HasChanged : State → ℕ → ℕ → Type 0
+HasChanged s n count = (changes : List Change) × IsSince s n changes × (count ≡ length (entries_of s changes))

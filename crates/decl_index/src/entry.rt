@@ -1,4 +1,8 @@
 //! Entries of an index.
+ghost use Rattle.std.specs.Prelude.{◌≡◌};
+ghost use Rattle.hir_input.specs.Equality.{DecidesEq};
+ghost use Rattle.decl_index.specs.EntryOrder.{entry_cmp};
+
 use hir_input::{Crate, Name};
 use item_tree::ModItemId;
 use item_tree_db::Place;
@@ -49,3 +53,10 @@ impl Ord for Entry {
             .then(self.id.cmp(&other.id))
     }
 }
+
+// `==` decides whether two entries are one, and their order is that of its definition: the derive and the impl are held to it
+// by these clauses; the function does nothing.
+fn laws()
+    ensures equal { DecidesEq ⟦<Entry as PartialEq>⟧.eq }
+    ensures ordered { (a b : Entry) → ⟦<Entry as Ord>⟧.cmp a b ≡ entry_cmp a b }
+{}

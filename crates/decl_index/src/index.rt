@@ -1,16 +1,20 @@
 //! The index.
-ghost use Rattle.std.specs.Prelude.{◌≡◌, ◌++◌, None, Some, [], filter, length, IfOk, OnOk, OnErr};
-ghost use Rattle.std.specs.List.Sorted.{IsPermutation, IsSorted};
+ghost use Rattle.std.specs.Prelude.{◌≡◌, ◌++◌, None, Some, [], filter, IfOk, OnOk, OnErr};
+ghost use Rattle.std.specs.List.{flat_map};
+ghost use Rattle.std.specs.List.Sorted.{IsPermutation, IsSorted, IsStrictlySortedBy};
 ghost use Rattle.std.specs.Option.{unwrap_or};
+ghost use Rattle.item_tree.specs.Shown.{IsContained};
+ghost use Rattle.item_tree.specs.Walk.{AreContained};
 ghost use Rattle.item_tree_db.specs.State.{IsKnown};
 ghost use Rattle.decl_index.specs.EntryOrder.{entry_cmp};
-ghost use Rattle.decl_index.specs.Entries.{entries_at, HasRead, IsBehind, IsIndexOf};
-ghost use Rattle.decl_index.specs.Inner.{is_current, AreRead, IsRead};
+ghost use Rattle.decl_index.specs.Entries.{entries_at, entries_by, HasChanged, IsBehind, IsIndexOf};
+ghost use Rattle.decl_index.specs.Inner.{is_current, AreRead};
 ghost use Rattle.decl_index.specs.Lookup.{has_name};
 
 use crate::entry::Entry;
 use def_collector::name_at;
 use hir_input::{Crate, Name};
+use item_tree::{ItemTree, ModItemId};
 use item_tree_db::{Place, Sources};
 use std::alloc::{AllocError, Global};
 use std::marker::Model;
@@ -24,9 +28,7 @@ pub struct DeclIndex {
 }
 
 impl Model for DeclIndex {
-    ghost use Rattle.std.specs.Prelude.{◌≡◌};
-    ghost use Rattle.std.specs.List.{AllPairs};
-    ghost use Rattle.std.specs.declared.cmp.Ordering.TheVariants.{Less};
+    ghost use Rattle.std.specs.List.Sorted.{IsStrictlySortedBy};
     ghost use Rattle.decl_index.specs.EntryOrder.{entry_cmp};
     ghost use Rattle.decl_index.specs.Entries.{IndexView};
 
@@ -34,7 +36,7 @@ impl Model for DeclIndex {
 
     ghost view = { λ x. (x.number, x.entries.items) };
 
-    ghost invariant = { λ x. AllPairs (λ a b. entry_cmp a b ≡ Less) x.entries.items };
+    ghost invariant = { λ x. IsStrictlySortedBy entry_cmp x.entries.items };
 }
 
 impl DeclIndex {
@@ -66,15 +68,11 @@ impl DeclIndex {
     pub fn lookup(&self, name: &Name) -> &[Entry]
         ensures { result.now ≡ filter (has_name name.now) self.now.1 }
     {
-        let from = self
-            .entries
-            .partition_point(|entry| entry.name.text() < name.text());
-        let rest = &self.entries[from..];
-        &rest[..rest.partition_point(|entry| entry.name == *name)]
+        named(&self.entries, name)
     }
 
-    /// Makes this the index of the table as it stands, and gives how many items were read: those of the trees that changed
-    /// since the last refresh, and of no others.
+    /// Makes this the index of the table as it stands, and gives how many entries the trees have that changed since the last
+    /// refresh: items with a name. It reads no other tree, which no clause says.
     ///
     /// The table is the one that the index was refreshed from before, if it ever was, after any edits. The only error is want of
     /// memory: then the index stays as it was, and can be refreshed again.
@@ -82,32 +80,37 @@ impl DeclIndex {
         requires { IsBehind self.old sources.now }
         ensures index { OnOk result (IsIndexOf sources.now self.new) }
         ensures behind { IsBehind self.new sources.now }
-        ensures read { IfOk result (HasRead sources.now (unwrap_or self.old.0 0)) }
+        ensures changed { IfOk result (HasChanged sources.now (unwrap_or self.old.0 0)) }
         ensures err { OnErr result (self.new ≡ self.old) }
     {
         let since = self.number.unwrap_or(0);
-        let mut fresh = Vec::new(alloc);
-        read_since(alloc, sources, since, &mut fresh)?;
-        let read = fresh.len();
+        let mut fresh = read_since(alloc, sources, since)?;
+        let count = fresh.len();
         replace(&mut self.entries, sources, since, &mut fresh)?;
         self.number = Some(sources.number());
-        Ok(read)
+        Ok(count)
     }
 }
 
-// Adds the entries of all trees that changed since a number.
-fn read_since(
-    alloc: Global,
-    sources: &Sources,
-    since: u64,
-    fresh: &mut Vec<Entry>,
-) -> Result<(), AllocError>
-    ensures { OnOk result (AreRead sources.now since fresh.old.items fresh.new.items) }
+// Of entries in their order, those that have a name: they stand side by side.
+fn named<'a>(entries: &'a [Entry], name: &Name) -> &'a [Entry]
+    requires { IsStrictlySortedBy entry_cmp entries.now }
+    ensures { result.now ≡ filter (has_name name.now) entries.now }
 {
+    let from = entries.partition_point(|entry| entry.name.text() < name.text());
+    let rest = &entries[from..];
+    &rest[..rest.partition_point(|entry| entry.name.text() <= name.text())]
+}
+
+// The entries of all trees that changed since a number.
+fn read_since(alloc: Global, sources: &Sources, since: u64) -> Result<Vec<Entry>, AllocError>
+    ensures { IfOk result (λ fresh. AreRead sources.now since fresh.items) }
+{
+    let mut fresh = Vec::new(alloc);
     for (place, krate, _) in sources.changed_since(since) {
-        read_tree(alloc, sources, place, krate, fresh)?;
+        read_tree(alloc, sources, place, krate, &mut fresh)?;
     }
-    Ok(())
+    Ok(fresh)
 }
 
 // Adds the entries of a tree.
@@ -119,21 +122,51 @@ fn read_tree(
     fresh: &mut Vec<Entry>,
 ) -> Result<(), AllocError>
     requires { IsKnown sources.now krate }
-    ensures items { OnOk result (fresh.new.items ≡ fresh.old.items ++ entries_at sources.now place krate) }
-    ensures read { OnOk result (IsRead sources.now place krate) }
+    ensures { OnOk result (fresh.new.items ≡ fresh.old.items ++ entries_at sources.now place krate) }
 {
     let tree = sources.tree(place, krate);
-    for id in preorder(alloc, tree)? {
-        if let Some(name) = name_at(tree, id) {
-            let name = name.clone()?;
-            fresh.push(Entry {
-                name,
-                place,
-                krate,
-                id,
-            })?;
-        }
+    let ids = preorder(alloc, tree)?;
+    read_items(tree, place, krate, &ids, fresh)
+}
+
+// Adds the entries of items of a tree.
+fn read_items(
+    tree: &ItemTree,
+    place: Place,
+    krate: Crate,
+    ids: &[ModItemId],
+    fresh: &mut Vec<Entry>,
+) -> Result<(), AllocError>
+    requires { AreContained tree.now ids.now }
+    ensures { OnOk result (fresh.new.items ≡ fresh.old.items ++ flat_map (entries_by tree.now place krate) ids.now) }
+{
+    for id in ids {
+        read_item(tree, place, krate, *id, fresh)?;
     }
+    Ok(())
+}
+
+// Adds the entry of an item, if it has a name.
+fn read_item(
+    tree: &ItemTree,
+    place: Place,
+    krate: Crate,
+    id: ModItemId,
+    fresh: &mut Vec<Entry>,
+) -> Result<(), AllocError>
+    requires { IsContained tree.now id }
+    ensures { OnOk result (fresh.new.items ≡ fresh.old.items ++ entries_by tree.now place krate id) }
+{
+    let Some(name) = name_at(tree, id) else {
+        return Ok(());
+    };
+    let name = name.clone()?;
+    fresh.push(Entry {
+        name,
+        place,
+        krate,
+        id,
+    })?;
     Ok(())
 }
 

@@ -1,5 +1,5 @@
 -- Body texts move nothing.
-use Rattle.std.proofs.Common.{◌≡◌, ℕ, suc, Bool, List, [], ◌∷◌, take, Some, None, Option, slice_get, IfSome, All, refl, sym, ap, ◌∙◌, arith, inl, inr}
+use Rattle.std.proofs.Common.{◌≡◌, ℕ, suc, List, [], ◌∷◌, take, Some, None, Option, slice_get, IfSome, All, refl, sym, ap, ◌∙◌, arith, inl, inr}
 use Rattle.std.specs.Option.{option_or, option_map, unwrap_or}
 use Rattle.std.proofs.lemmas.List.Elements.{All-take}
 use Rattle.std.proofs.lemmas.Option.{same_Some, none-some}
@@ -13,9 +13,7 @@ use Rattle.item_tree_db.specs.declared.place.Place.{Place}
 use Rattle.item_tree_db.specs.State.{State, is_root_of, present, unfolding_of, unfolding_at, change_number}
 use Rattle.item_tree_db.specs.Edits.{EditView}
 use Rattle.item_tree_db.specs.History.{last_some, sets, gives, under, crate_after, present_after, unfolding_after, IsAfter, ChangesBodiesOnly, IgnoresBodies}
-
-kept_alike : (is_root : Bool) (krate : CrateView) (skipped : List (List ℕ)) (a b : SyntaxView) → without_bodies a ≡ without_bodies b → kept_syntax is_root krate skipped a ≡ kept_syntax is_root krate skipped b
-kept_alike is_root krate skipped a b e = sym (kept_without_bodies is_root krate skipped a) ∙ ap (kept_syntax is_root krate skipped) e ∙ kept_without_bodies is_root krate skipped b
+use Rattle.item_tree_db.proofs.Histories.{change_number_is}
 
 -- two syntaxes that differ in body texts alone unfold alike
 unfolding_alike : (skipped : List (List ℕ)) (place : Place) (krate : Option CrateView) (a b : Option SyntaxView) → option_map without_bodies a ≡ option_map without_bodies b → unfolding_of skipped place krate a ≡ unfolding_of skipped place krate b
@@ -23,7 +21,9 @@ unfolding_alike skipped place krate None None e = refl
 unfolding_alike skipped place krate None (Some b) e = absurd (none-some (without_bodies b) e)
 unfolding_alike skipped place krate (Some a) None e = absurd (none-some (without_bodies a) (sym e))
 unfolding_alike skipped place None (Some a) (Some b) e = refl
-unfolding_alike skipped place (Some krate) (Some a) (Some b) e = kept_alike (is_root_of krate place) krate skipped a b (same_Some (without_bodies a) (without_bodies b) e)
+unfolding_alike skipped place (Some krate) (Some a) (Some b) e =
+    let root = is_root_of krate place in
+    sym (kept_without_bodies root krate skipped a) ∙ ap (kept_syntax root krate skipped) (same_Some (without_bodies a) (without_bodies b) e) ∙ kept_without_bodies root krate skipped b
 
 -- what every element that has any keeps, the last one keeps
 or_kept : {A B : Type 0} (f : A → B) (a b : Option A) (base : A) → f (unwrap_or a base) ≡ f base → IfSome b (λ y. f y ≡ f base) → f (unwrap_or (option_or a b) base) ≡ f base
@@ -56,4 +56,4 @@ still s edits place i n h =
 
 pub ignores_bodies : (s u : State) (edits : List EditView) → IsAfter s edits u → IgnoresBodies s edits u
 ignores_bodies s u edits after place i p h =
-    elim (after.last_changes place i p) as (λ _. change_number u place i ≡ change_number s place i) [ inl unmoved ↦ unmoved.number | inr last ↦ absurd (last.1.moved (still s edits place i last.0 h ∙ sym (still s edits place i (suc last.0) h))) ]
+    elim (change_number_is s edits place i u after p) as (λ _. change_number u place i ≡ change_number s place i) [ inl unmoved ↦ unmoved.number | inr last ↦ absurd (last.1.moved (still s edits place i last.0 h ∙ sym (still s edits place i (suc last.0) h))) ]

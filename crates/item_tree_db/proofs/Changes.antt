@@ -1,94 +1,95 @@
 -- What a walk over a shelf gives is what changed.
-use Rattle.std.proofs.Common.{◌≡◌, inl, inr, ℕ, zero, suc, ◌+◌, ◌<◌, max, Bool, true, false, cond, nat_lt, List, [], ◌∷◌, length, Some, None, Option, IfSome, slice_get, refl, sym, ap, subst, ◌∙◌, arith}
-use Rattle.std.specs.Option.{option_and_then, unwrap_or}
-use Rattle.std.specs.Ordering.{eq_by_cmp, nat_cmp, ordering_then}
+use Rattle.std.proofs.Common.{◌≡◌, inl, inr, ℕ, zero, suc, ◌+◌, ◌<◌, ◌≤◌, max, Bool, true, false, cond, nat_lt, List, [], ◌∷◌, ◌++◌, length, map, filter, Some, None, Option, IfSome, slice_get, refl, sym, ap, subst, ◌∙◌, arith, All, AllPairs, Contains}
+use Rattle.std.specs.Option.{option_and_then, option_map, unwrap_or}
+use Rattle.std.specs.Ordering.{nat_cmp, ordering_then}
 use Rattle.std.specs.declared.cmp.Ordering.{Ordering}
 use Rattle.std.specs.declared.cmp.Ordering.TheVariants.{Less}
-use Rattle.std.specs.FinMap.Entries.{below_all}
+use Rattle.std.specs.List.{AllByRecursion, flat_map}
+use Rattle.std.specs.Map.{keys_of}
 use Rattle.std.proofs.lemmas.Bool.Decides.{nat_tests}
-use Rattle.std.proofs.lemmas.Option.{same_Some, none-some, slice_get_within}
-use Rattle.item_tree.specs.CrateView.{CrateView}
+use Rattle.std.proofs.lemmas.Cmp.{eq_by_cmp_equiv}
+use Rattle.std.proofs.lemmas.List.{length-map}
+use Rattle.std.proofs.lemmas.List.Elements.{All-nil, All-cons, All-append, All-weaker, All-filter, All-contains, All-contains_itself, Contains-append_left, Contains-append_right, Contains-append_cases, filter_passes}
+use Rattle.std.proofs.lemmas.List.Kept.{AllPairs-cons, AllPairs-filter}
+use Rattle.std.proofs.lemmas.Map.Keys.{sorted_head, sorted_tail, IsDistinct-from_sorted}
+use Rattle.std.proofs.lemmas.Map.Views.{Contains-from_lookup, lookup-from_Contains}
+use Rattle.std.proofs.lemmas.Option.{IfSome_then, same_Some, none-some, slice_get_within}
 use Rattle.item_tree_db.specs.declared.place.Place.{Place}
 use Rattle.item_tree_db.specs.declared.rows.Row.{Row}
-use Rattle.item_tree_db.specs.declared.source.Source.{Source}
-use Rattle.item_tree_db.specs.PlaceOrder.{place_cmp}
-use Rattle.item_tree_db.specs.Settled.{empty_row}
+use Rattle.item_tree_db.specs.PlaceOrder.{place_cmp, place_cmp_total}
 use Rattle.item_tree_db.specs.Since.{Change, change_cmp, IsLate, IsSince}
-use Rattle.item_tree_db.specs.Slots.{Placed, HasRows, IsRising}
-use Rattle.item_tree_db.specs.State.{find}
-use Rattle.item_tree_db.specs.Table.{Table, places_view, state_of, row_found}
-use Rattle.item_tree_db.specs.Walk.{changes_from, all_changes, late}
-use Rattle.item_tree_db.proofs.Counts.{rows_of_found}
-use Rattle.item_tree_db.proofs.Listed.{In, InOrder, in_left, in_right, in_either, in_filter, filter_in, contained, all_in, order_append, order_filter, all_pairs}
-use Rattle.item_tree_db.proofs.Mapped.{first, second}
-use Rattle.item_tree_db.proofs.Places.{IsBelow, below_of, equal_of, equal_cmp, itself, unequal}
-use Rattle.item_tree_db.proofs.Steps.{change_number_is}
-use Rattle.item_tree_db.proofs.Views.{row_view}
+use Rattle.item_tree_db.specs.Inner.Shelf.{Shelved, Places, placed_at, IsInOrder}
+use Rattle.item_tree_db.specs.State.{Held, crate_limit, change_number}
+use Rattle.item_tree_db.specs.Inner.Table.{Table, held_of, state_of, IsSound}
+use Rattle.item_tree_db.specs.Inner.Walk.{changes_from, all_changes, late}
+use Rattle.item_tree_db.proofs.Places.{IsBelow, equal_of, equal_cmp}
+use Rattle.item_tree_db.proofs.Steps.{found}
+
+-- ---- elements of what is made of a list
+
+module _ {A B : Type 0} (f : A → List B) where
+  in_piece : (xs : List A) (y : B) → Contains (flat_map f xs) y → (x : A) × Contains xs x × Contains (f x) y
+  in_piece [] y h = absurd (omega (arith, h.1))
+  in_piece (x ∷ xs) y h = elim (Contains-append_cases (f x) (flat_map f xs) y h) as (λ _. (z : A) × Contains (x ∷ xs) z × Contains (f z) y) [
+    | inl here ↦ (x, (0, omega arith, refl), here)
+    | inr there ↦ let r = in_piece xs y there in (r.0, Contains-append_right (x ∷ []) xs r.0 r.1, r.2)
+  ]
+
+  piece_in : (xs : List A) (x : A) (y : B) → Contains xs x → Contains (f x) y → Contains (flat_map f xs) y
+  piece_in [] x y h g = absurd (omega (arith, h.1))
+  piece_in (z ∷ xs) x y (zero, p, e) g = Contains-append_left (f z) (flat_map f xs) y (subst (λ (w : A). Contains (f w) y) (sym e) g)
+  piece_in (z ∷ xs) x y (suc k, p, e) g = Contains-append_right (f z) (flat_map f xs) y (piece_in xs x y (k, omega arith, e) g)
+
+filter_in : {A : Type 0} (p : A → Bool) (x : A) (xs : List A) → Contains xs x → p x ≡ true → Contains (filter p xs) x
+filter_in p x [] h t = absurd (omega (arith, h.1))
+filter_in p x (y ∷ xs) (zero, q, e) t = subst (λ (b : Bool). Contains (cond b (y ∷ filter p xs) (filter p xs)) x) (sym (ap p e ∙ t)) (0, omega arith, e)
+filter_in p x (y ∷ xs) (suc k, q, e) t = let h = filter_in p x xs (k, omega arith, e) t in
+    elim (p y) as (λ b. Contains (cond b (y ∷ filter p xs) (filter p xs)) x) [ true ↦ Contains-append_right (y ∷ []) (filter p xs) x h | false ↦ h ]
+
+-- ---- one place
 
 -- what a change tells of the rows of its place
 record IsOf (k : Place) (i : ℕ) (rows : List Row) (e : Change) : Type 0 where
   pub place : e.0 ≡ k
   pub j : ℕ
   pub krate : e.1.0 ≡ i + j
-  pub row : Row
-  pub has : slice_get rows j ≡ Some row
-  pub number : row.changed ≡ e.2
+  pub number : slice_get (map (λ (row : Row). row.changed) rows) j ≡ Some e.2
 
-told : (k : Place) (i : ℕ) (rows : List Row) (e : Change) → In e (changes_from k i rows) → IsOf k i rows e
-told k i [] e h = absurd h
-told k i (r ∷ rows) e (inl q) = subst (λ (x : Change). IsOf k i (r ∷ rows) x) q (record { place = refl; j = 0; krate = omega arith; row = r; has = refl; number = refl })
-told k i (r ∷ rows) e (inr h) = let t = told k (i + 1) rows e h in record { place = t.place; j = suc t.j; krate = let q = t.krate in omega arith; row = t.row; has = t.has; number = t.number }
+told : (k : Place) (i : ℕ) (rows : List Row) → All (IsOf k i rows) (changes_from k i rows)
+told k i [] = All-nil (IsOf k i [])
+told k i (r ∷ rows) = All-cons (IsOf k i (r ∷ rows)) (k, record { 0 = i }, r.changed) (changes_from k (i + 1) rows)
+    (record { place = refl; j = 0; krate = omega arith; number = refl })
+    (All-weaker (IsOf k (i + 1) rows) (IsOf k i (r ∷ rows)) (λ e t. record { place = t.place; j = suc t.j; krate = let q = t.krate in omega arith; number = t.number }) (changes_from k (i + 1) rows) (told k (i + 1) rows))
 
-tells : (k : Place) (i : ℕ) (rows : List Row) (j : ℕ) (row : Row) → slice_get rows j ≡ Some row → In (k, record { 0 = i + j }, row.changed) (changes_from k i rows)
-tells k i [] j row h = absurd (none-some row h)
-tells k i (r ∷ rows) zero row h = let here : i ≡ i + zero = omega arith in inl (λ m. (k, record { 0 = here m }, (same_Some r row h m).changed))
-tells k i (r ∷ rows) (suc j) row h = let here : (i + 1) + j ≡ i + suc j = omega arith in inr (subst (λ (m : ℕ). In (k, record { 0 = m }, row.changed) (changes_from k (i + 1) rows)) here (tells k (i + 1) rows j row h))
+tells : (k : Place) (i : ℕ) (rows : List Row) (j n : ℕ) → slice_get (map (λ (row : Row). row.changed) rows) j ≡ Some n → Contains (changes_from k i rows) (k, record { 0 = i + j }, n)
+tells k i [] j n h = absurd (none-some n h)
+tells k i (r ∷ rows) zero n h = let here : i ≡ i + zero = omega arith in (0, omega arith, λ m. (k, record { 0 = here m }, same_Some r.changed n h m))
+tells k i (r ∷ rows) (suc j) n h =
+    let here : (i + 1) + j ≡ i + suc j = omega arith in
+    Contains-append_right ((k, record { 0 = i }, r.changed) ∷ []) (changes_from k (i + 1) rows) (k, record { 0 = i + suc j }, n)
+    (subst (λ (m : ℕ). Contains (changes_from k (i + 1) rows) (k, record { 0 = m }, n)) here (tells k (i + 1) rows j n h))
 
-module _ {S : Type 0} where
-  key_above : (k q : Place) (l : List (Place × Placed S)) (v : Placed S) → below_all place_cmp k l ≡ true → find l q ≡ Some v → IsBelow k q
-  key_above k q [] v b h = absurd (none-some v h)
-  key_above k q (e ∷ l) v b h = elim (eq_by_cmp place_cmp q e.0) as (λ t. eq_by_cmp place_cmp q e.0 ≡ t → cond t (Some e.1) (find l q) ≡ Some v → IsBelow k q) [
-    | true ↦ λ t g. subst (λ (p : Place). IsBelow k p) (sym (equal_of q e.0 t)) (below_of k e.0 (first _ _ b))
-    | false ↦ λ t g. key_above k q l v (second _ _ b) g
-  ] refl h
+-- ---- all places
 
-  -- what a change tells of its place
-  record IsIn (l : List (Place × Placed S)) (e : Change) : Type 0 where
-    pub placed : Placed S
-    pub found : find l e.0 ≡ Some placed
-    pub row : Row
-    pub has : slice_get placed.rows e.1.0 ≡ Some row
-    pub number : row.changed ≡ e.2
+-- what a place has has this number in crate i
+abbrev HasNumber : Option Shelved → ℕ → ℕ → Type 0
+HasNumber o i n = (v : Shelved) × (o ≡ Some v) × (slice_get (held_of v).changed i ≡ Some n)
 
-  found_in : (l : List (Place × Placed S)) → IsRising l → (e : Change) → In e (all_changes l) → IsIn l e
-  found_in [] s e h = absurd h
-  found_in (slot ∷ l) s e h = elim (in_either e (changes_from slot.0 0 slot.1.rows) (all_changes l) h) as (λ _. IsIn (slot ∷ l) e) [
-    | inl a ↦ let t = told slot.0 0 slot.1.rows e a in record {
-      placed = slot.1;
-      found = ap (λ (q : Place). find (slot ∷ l) q) t.place ∙ ap (λ (b : Bool). cond b (Some slot.1) (find l slot.0)) (itself slot.0);
-      row = t.row;
-      has = let here : e.1.0 ≡ t.j = let q = t.krate in omega arith in ap (slice_get slot.1.rows) here ∙ t.has;
-      number = t.number;
-    }
-    | inr b ↦ let f = found_in l (second _ _ s) e b in record {
-      placed = f.placed;
-      found = ap (λ (t : Bool). cond t (Some slot.1) (find l e.0)) (unequal e.0 slot.0 (key_above slot.0 e.0 l f.placed (first _ _ s) f.found)) ∙ f.found;
-      row = f.row;
-      has = f.has;
-      number = f.number;
-    }
-  ]
+abbrev changes_of : Place × Shelved → List Change
+changes_of slot = changes_from slot.0 0 slot.1.rows
 
-  find_in : (l : List (Place × Placed S)) (k : Place) (i : ℕ) (placed : Placed S) (row : Row) → find l k ≡ Some placed → slice_get placed.rows i ≡ Some row → In (k, record { 0 = i }, row.changed) (all_changes l)
-  find_in [] k i placed row h g = absurd (none-some placed h)
-  find_in (slot ∷ l) k i placed row h g =
-      elim (eq_by_cmp place_cmp k slot.0) as (λ b. eq_by_cmp place_cmp k slot.0 ≡ b → cond b (Some slot.1) (find l k) ≡ Some placed → In (k, record { 0 = i }, row.changed) (all_changes (slot ∷ l))) [
-        | true ↦ λ t f.
-            let here : (slot.0, record { 0 = 0 + i }, row.changed) ≡ (k, record { 0 = i }, row.changed) = let none : 0 + i ≡ i = omega arith in λ m. (sym (equal_of k slot.0 t) m, record { 0 = none m }, row.changed) in
-            let mine : slice_get slot.1.rows i ≡ Some row = ap (λ (p : Placed S). slice_get p.rows i) (same_Some slot.1 placed f) ∙ g in
-            in_left _ (changes_from slot.0 0 slot.1.rows) (all_changes l) (subst (λ (x : Change). In x (changes_from slot.0 0 slot.1.rows)) here (tells slot.0 0 slot.1.rows i row mine))
-        | false ↦ λ t f. in_right _ (changes_from slot.0 0 slot.1.rows) (all_changes l) (find_in l k i placed row f g)
-      ] refl h
+found_in : (l : Places) → IsInOrder l → (e : Change) → Contains (all_changes l) e → HasNumber (placed_at l e.0) e.1.0 e.2
+found_in l s e h =
+    let r = in_piece changes_of l e h in
+    let t = All-contains (IsOf r.0.0 0 r.0.1.rows) (changes_of r.0) e (told r.0.0 0 r.0.1.rows) r.2 in
+    let here : e.1.0 ≡ t.j = let q = t.krate in omega arith in
+    let found = lookup-from_Contains (eq_by_cmp_equiv place_cmp_total) r.0.0 r.0.1 l (IsDistinct-from_sorted place_cmp (keys_of l) s) r.1 in
+    (r.0.1, ap (placed_at l) t.place ∙ found, ap (slice_get (held_of r.0.1).changed) here ∙ t.number)
+
+find_in : (l : Places) (k : Place) (i n : ℕ) → HasNumber (placed_at l k) i n → Contains (all_changes l) (k, record { 0 = i }, n)
+find_in l k i n (placed, h, g) =
+    let here : 0 + i ≡ i = omega arith in
+    piece_in changes_of l (k, placed) _ (Contains-from_lookup equal_of k placed l h) (subst (λ (m : ℕ). Contains (changes_from k 0 placed.rows) (k, record { 0 = m }, n)) here (tells k 0 placed.rows i n g))
 
 -- changes of one place are in the order of their crates
 behind : (d e : Change) → d.0 ≡ e.0 → d.1.0 < e.1.0 → change_cmp d e ≡ Less
@@ -104,15 +105,23 @@ beyond d e p = ap (λ (o : Ordering). ordering_then o (nat_cmp d.1.0 e.1.0)) p
 abbrev Before : Change → Change → Type 0
 Before d e = change_cmp d e ≡ Less
 
-order_changes : (k : Place) (i : ℕ) (rows : List Row) → InOrder Before (changes_from k i rows)
-order_changes k i [] = tt
-order_changes k i (r ∷ rows) = (λ e h. let t = told k (i + 1) rows e h in behind (k, record { 0 = i }, r.changed) e (sym t.place) (let q = t.krate in omega arith), order_changes k (i + 1) rows)
+order_onto : (k : Place) (i : ℕ) (rows : List Row) (rest : List Change) → All (λ e. IsBelow k e.0) rest → AllPairs Before rest → AllPairs Before (changes_from k i rows ++ rest)
+order_onto k i [] rest far h = h
+order_onto k i (r ∷ rows) rest far h =
+    let c : Change = (k, record { 0 = i }, r.changed) in
+    let mine = changes_from k (i + 1) rows in
+    AllPairs-cons Before c (mine ++ rest) (All-append (Before c) mine rest
+    (All-weaker (IsOf k (i + 1) rows) (Before c) (λ e t. behind c e (sym t.place) (let q = t.krate in omega arith)) mine (told k (i + 1) rows))
+    (All-weaker (λ e. IsBelow k e.0) (Before c) (λ e p. beyond c e p) rest far)) (order_onto k (i + 1) rows rest far h)
 
-order_all : {S : Type 0} (l : List (Place × Placed S)) → IsRising l → InOrder Before (all_changes l)
-order_all [] s = tt
-order_all (slot ∷ l) s = order_append Before (changes_from slot.0 0 slot.1.rows) (all_changes l) (order_changes slot.0 0 slot.1.rows) (order_all l (second _ _ s)) (λ d e i j.
-    let f = found_in l (second _ _ s) e j in
-    beyond d e (subst (λ (p : Place). IsBelow p e.0) (sym (told slot.0 0 slot.1.rows d i).place) (key_above slot.0 e.0 l f.placed (first _ _ s) f.found)))
+all_above : (k : Place) (l : Places) → AllByRecursion (IsBelow k) (keys_of l) → All (λ e. IsBelow k e.0) (all_changes l)
+all_above k [] h = All-nil (λ (e : Change). IsBelow k e.0)
+all_above k (slot ∷ l) h = All-append (λ (e : Change). IsBelow k e.0) (changes_of slot) (all_changes l)
+    (All-weaker (IsOf slot.0 0 slot.1.rows) (λ e. IsBelow k e.0) (λ e t. subst (IsBelow k) (sym t.place) h.0) (changes_of slot) (told slot.0 0 slot.1.rows)) (all_above k l h.1)
+
+order_all : (l : Places) → IsInOrder l → AllPairs Before (all_changes l)
+order_all [] s = λ i j d p q. absurd (omega arith)
+order_all (slot ∷ l) s = order_onto slot.0 0 slot.1.rows (all_changes l) (all_above slot.0 l (sorted_head place_cmp slot.0 (keys_of l) s)) (order_all l (sorted_tail place_cmp slot.0 (keys_of l) s))
 
 -- ---- against what callers see
 
@@ -122,62 +131,49 @@ above_both n start c h = let p : max n start < c = grind (arith, nat_tests) in (
 both_above : (n start c : ℕ) → n < c → start < c → nat_lt (max n start) c ≡ true
 both_above n start c p q = let r : max n start < c = omega arith in grind (arith, nat_tests)
 
-abbrev number_in : {S : Type 0} → ℕ → ℕ → Option (Placed S) → ℕ
-number_in start i o = (unwrap_or (option_and_then (λ placed. slice_get placed.rows i) o) (empty_row start)).changed
+abbrev number_in : ℕ → ℕ → Option Shelved → ℕ
+number_in start i o = unwrap_or (option_and_then (λ (held : Held). slice_get held.changed i) (option_map held_of o)) start
 
 -- a number that is not the start is one of a row
-record IsRow {S : Type 0} (start i : ℕ) (o : Option (Placed S)) : Type 0 where
-  pub placed : Placed S
-  pub found : o ≡ Some placed
-  pub row : Row
-  pub has : slice_get placed.rows i ≡ Some row
-  pub number : row.changed ≡ number_in start i o
+row_of : (start i n : ℕ) (o : Option Shelved) → n ≡ number_in start i o → start < n → HasNumber o i n
+row_of start i n None e p = absurd (omega arith)
+row_of start i n (Some v) e p = elim (slice_get (held_of v).changed i) as (λ r. slice_get (held_of v).changed i ≡ r → n ≡ unwrap_or r start → HasNumber (Some v) i n) [
+  | None ↦ λ g q. absurd (omega arith)
+  | Some m ↦ λ g q. (v, refl, g ∙ ap (λ (x : ℕ). Some x) (sym q))
+] refl e
 
-row_of : {S : Type 0} (start i : ℕ) (o : Option (Placed S)) → start < number_in start i o → IsRow start i o
-row_of start i None p = absurd (omega arith)
-row_of start i (Some v) p = elim (slice_get v.rows i) as (λ r. slice_get v.rows i ≡ r → start < (unwrap_or r (empty_row start)).changed → IsRow start i (Some v)) [
-  | None ↦ λ e q. absurd (omega arith)
-  | Some row ↦ λ e q. record { placed = v; found = refl; row = row; has = e; number = ap (λ (r : Option Row). (unwrap_or r (empty_row start)).changed) (sym e) }
-] refl p
+module _ (t : Table) (sound : IsSound t) (s : IsInOrder t.places) (n : ℕ) where
+  abbrev passes : Change → Bool
+  passes c = nat_lt (max n t.start) c.2
 
-module _ (crates : List CrateView) (skipped : List (List ℕ)) (start number : ℕ) (l : List (Place × Placed Source)) where
-  abbrev table : Table
-  table = record { crates = crates; skipped = skipped; start = start; number = number; places = places_view l }
+  abbrev all : List Change
+  all = all_changes t.places
 
-  number_is : (place : Place) (i : ℕ) → (unwrap_or (row_found table place i) (empty_row start)).changed ≡ number_in start i (find l place)
-  number_is place i = ap (λ (r : Option Row). (unwrap_or r (empty_row start)).changed) (sym (row_view crates skipped start number l place i))
+  number_is : (place : Place) (i : ℕ) → change_number (state_of t) place i ≡ number_in t.start i (placed_at t.places place)
+  number_is place i = ap (λ (o : Option Held). unwrap_or (option_and_then (λ held. slice_get held.changed i) o) t.start) (found t.places place)
 
-  is_late : HasRows (length crates) l → IsRising l → (n : ℕ) (e : Change) → In e (late (max n start) (all_changes l)) → IsLate (state_of table) n e
-  is_late h s n e i =
-      let r = in_filter (λ (x : Change). nat_lt (max n start) x.2) e (all_changes l) i in
-      let f = found_in l s e r.0 in
-      let many : length f.placed.rows ≡ length crates = subst (λ (o : Option (Placed Source)). IfSome o (λ p. length p.rows ≡ length crates)) f.found (rows_of_found (length crates) l e.0 h) in
-      let above = above_both n start e.2 r.1 in
+  is_late : (e : Change) → Contains all e → passes e ≡ true → IsLate (state_of t) n e
+  is_late e h r =
+      let f = found_in t.places s e h in
+      let many : length f.0.rows ≡ length t.crates = subst (λ (o : Option Shelved). IfSome o (λ p. length p.rows ≡ length t.crates)) f.1 (sound.rows e.0) in
+      let within = slice_get_within (held_of f.0).changed e.1.0 e.2 f.2 in
+      let above = above_both n t.start e.2 r in
       record {
-        known = rw many at (slice_get_within f.placed.rows e.1.0 f.row f.has);
-        number =
-            sym f.number
-            ∙ ap (λ (o : Option Row). (unwrap_or o (empty_row start)).changed) (sym f.has)
-            ∙ ap (number_in start e.1.0) (sym f.found)
-            ∙ sym (number_is e.0 e.1.0)
-            ∙ sym (change_number_is table e.0 e.1.0);
+        known = subst (λ (m : ℕ). e.1.0 < m) (length-map f.0.rows _ ∙ many) within;
+        number = sym (number_is e.0 e.1.0 ∙ ap (number_in t.start e.1.0) f.1 ∙ ap (λ (o : Option ℕ). unwrap_or o t.start) f.2);
         above = above.0;
         above_start = above.1;
       }
 
-  all_late : (n : ℕ) (c : Change) → IsLate (state_of table) n c → In c (late (max n start) (all_changes l))
-  all_late n (place, krate, number) h =
-      let is : number ≡ number_in start krate.0 (find l place) = h.number ∙ change_number_is table place krate.0 ∙ number_is place krate.0 in
-      let r = row_of start krate.0 (find l place) (subst (λ (m : ℕ). start < m) is h.above_start) in
-      let c : Change = (place, krate, number) in
-      let here : In c (all_changes l) = subst (λ (m : ℕ). In (place, krate, m) (all_changes l)) (r.number ∙ sym is) (find_in l place krate.0 r.placed r.row r.found r.has) in
-      filter_in (λ (x : Change). nat_lt (max n start) x.2) c (all_changes l) here (both_above n start number h.above h.above_start)
+  all_late : (c : Change) → IsLate (state_of t) n c → Contains all c
+  all_late (place, krate, number) h = find_in t.places place krate.0 number (row_of t.start krate.0 number (placed_at t.places place) (h.number ∙ number_is place krate.0) h.above_start)
 
-  pub since_is : HasRows (length crates) l → IsRising l → (n : ℕ) → IsSince (state_of table) n (late (max n start) (all_changes l))
-  since_is h s n =
-      let changes = late (max n start) (all_changes l) in
-      record {
-        late = all_in (IsLate (state_of table) n) changes (is_late h s n);
-        whole = λ c late. contained c changes (all_late n c late);
-        in_order = all_pairs Before changes (order_filter Before (λ (x : Change). nat_lt (max n start) x.2) (all_changes l) (order_all l s));
-      }
+  pub since_is : IsSince (state_of t) n (late (max n t.start) all)
+  since_is = record {
+    late = λ k d w. is_late _ (All-filter passes (Contains all) all (All-contains_itself all) k d w) (filter_passes passes all k d w);
+    whole = λ c h. filter_in passes c all (all_late c h) (both_above n t.start c.2 h.above h.above_start);
+    in_order = AllPairs-filter Before passes all (order_all t.places s);
+  }
+
+pub few_rows : (t : Table) → IsSound t → length t.crates ≤ crate_limit → (place : Place) → IfSome (placed_at t.places place) (λ placed. length placed.rows ≤ crate_limit)
+few_rows t sound few place = IfSome_then (placed_at t.places place) (sound.rows place) (λ placed many. omega (arith, many, few))

@@ -1,12 +1,11 @@
--- A list of edits, against the whole history.
-use Rattle.std.proofs.Common.{◌≡◌, ◌≢◌, ◌⊎◌, inl, inr, ℕ, zero, suc, ◌+◌, ◌<◌, ◌≤◌, Bool, true, false, not, List, [], ◌∷◌, length, take, cond, Some, None, Option, IfSome, slice_get, refl, sym, ap, subst, ◌∙◌, arith, true≢false, eq-or-lt_of_le, le_of_suc-le-suc}
+-- Histories: the change number without a test, one more edit, and what an index rests on.
+use Rattle.std.proofs.Common.{◌≡◌, ◌≢◌, inl, inr, ℕ, zero, suc, ◌+◌, ◌<◌, ◌≤◌, Bool, true, false, not, List, [], ◌∷◌, ◌++◌, length, take, cond, Some, None, Option, IfSome, slice_get, refl, sym, ap, subst, ◌∙◌, arith, true≢false}
 use Rattle.std.specs.Option.{option_or, option_map, unwrap_or}
-use Rattle.std.proofs.lemmas.Option.{same_Some, none-some}
-use Rattle.std.proofs.lemmas.List.{take_all}
+use Rattle.std.proofs.lemmas.Bool.{not-false, not-true, cases_lt}
+use Rattle.std.proofs.lemmas.List.{take_all, take-append-le, length-append}
 use Rattle.hir_input.specs.Cfg.{AtomView}
 use Rattle.hir_input.specs.Syntax.{SyntaxView}
 use Rattle.item_tree.specs.CrateView.{CrateView}
-use Rattle.item_tree.specs.Node.{Unfolding}
 use Rattle.item_tree.specs.Code.Node.{unfolding_code}
 use Rattle.item_tree.specs.Same.{same, equal_of_same, same_of_equal}
 use Rattle.item_tree_db.specs.declared.place.Place.{Place}
@@ -14,179 +13,175 @@ use Rattle.item_tree_db.specs.State.{State, present, unfolding_of, unfolding_at,
 use Rattle.item_tree_db.specs.Edits.{EditView, set, remove, set_cfg}
 use Rattle.item_tree_db.specs.Refusal.{TreeFits, FitsAfter, FirstFit}
 use Rattle.item_tree_db.specs.History.{sets, gives, under, crate_after, last_some, last_below, present_after, unfolding_after, moves, changed_after, IsChangeNumber, IsAfter, IsFooting}
-use Rattle.item_tree_db.specs.Since.{IsGrounded}
-use Rattle.item_tree_db.specs.Table.{Table, after, after_all, state_of, IsSound}
-use Rattle.item_tree_db.proofs.Runs.{same_count, same_skipped, same_skipped_all}
-use Rattle.item_tree_db.proofs.Steps.{present_step, crate_step, change_number_is, change_step, sound_step, start_step, number_step}
 
-or_else : {A : Type 0} (a b : Option A) (d : A) → unwrap_or a (unwrap_or b d) ≡ unwrap_or (option_or a b) d
+-- ---- the last edit that moved it, without the tests
+
+-- what the last number below n that passes tells, if there is one
+abbrev IsLast : (ℕ → Bool) → ℕ → Option ℕ → Type 0
+IsLast p n None = (k : ℕ) → k < n → p k ≡ false
+IsLast p n (Some m) = (m < n) × (p m ≡ true) × ((k : ℕ) → m < k → k < n → p k ≡ false)
+
+one_no : (p : ℕ → Bool) (k n : ℕ) → k < suc n → p n ≡ false → (k < n → p k ≡ false) → p k ≡ false
+one_no p k n b t below = elim (cases_lt k n) as (λ _. p k ≡ false) [ inl q ↦ below q | inr q ↦ let e : k ≡ n = omega arith in ap p e ∙ t ]
+
+last_no : (p : ℕ → Bool) (n : ℕ) (o : Option ℕ) → p n ≡ false → IsLast p n o → IsLast p (suc n) o
+last_no p n None t h = λ k b. one_no p k n b t (h k)
+last_no p n (Some m) t h = (omega (arith, h.0), h.1, λ k a b. one_no p k n b t (h.2 k a))
+
+last_is : (p : ℕ → Bool) (n : ℕ) → IsLast p n (last_below p n)
+last_is p zero = λ k h. absurd (omega arith)
+last_is p (suc n) = elim (p n) as (λ b. p n ≡ b → IsLast p (suc n) (cond b (Some n) (last_below p n))) [
+  | true ↦ λ t. (omega arith, t, λ k a b. absurd (omega arith))
+  | false ↦ λ t. last_no p n (last_below p n) t (last_is p n)
+] refl
+
+module _ (s : State) (es : List EditView) (place : Place) (i : ℕ) where
+  unmoved : (m : ℕ) → moves s es place i m ≡ false → unfolding_after s (take m es) place i ≡ unfolding_after s (take (suc m) es) place i
+  unmoved m h = equal_of_same unfolding_code (unfolding_after s (take m es) place i) (unfolding_after s (take (suc m) es) place i) (not-false _ h)
+
+  moved : (m : ℕ) → moves s es place i m ≡ true → unfolding_after s (take m es) place i ≢ unfolding_after s (take (suc m) es) place i
+  moved m h e = true≢false (sym (same_of_equal unfolding_code (unfolding_after s (take m es) place i) (unfolding_after s (take (suc m) es) place i) e) ∙ not-true _ h)
+
+  change_number_by : IsChangeNumber s es place i (changed_after s es place i)
+  change_number_by = elim (last_below (moves s es place i) (length es)) as (λ o. IsLast (moves s es place i) (length es) o → IsChangeNumber s es place i (unwrap_or (option_map (λ n. s.number + n + 1) o) (change_number s place i))) [
+    | None ↦ λ h. inl (record { number = refl; still = λ m b. unmoved m (h m b) })
+    | Some n ↦ λ h. inr (n, record { in_list = h.0; number = refl; moved = moved n h.1; still = λ m a b. unmoved m (h.2 m a b) })
+  ] (last_is (moves s es place i) (length es))
+
+  -- the law: a change number of a table to which edits led, without a test
+  pub change_number_is : (u : State) → IsAfter s es u → i < length s.crates → IsChangeNumber s es place i (change_number u place i)
+  change_number_is u after p = subst (λ (c : ℕ). IsChangeNumber s es place i c) (sym (after.changes place i p)) change_number_by
+
+-- ---- one more edit
+
+or_assoc : {A : Type 0} (a b c : Option A) → option_or (option_or a b) c ≡ option_or a (option_or b c)
+or_assoc None b c = refl
+or_assoc (Some x) b c = refl
+
+or_none : {A : Type 0} (a : Option A) → a ≡ option_or a None
+or_none None = refl
+or_none (Some x) = refl
+
+pub last_append : {A B : Type 0} (f : A → Option B) (xs ys : List A) → last_some f (xs ++ ys) ≡ option_or (last_some f ys) (last_some f xs)
+last_append f [] ys = or_none (last_some f ys)
+last_append f (x ∷ xs) ys = ap (λ o. option_or o (f x)) (last_append f xs ys) ∙ or_assoc (last_some f ys) (last_some f xs) (f x)
+
+pub or_else : {A : Type 0} (a b : Option A) (d : A) → unwrap_or (option_or a b) d ≡ unwrap_or a (unwrap_or b d)
 or_else None b d = refl
 or_else (Some x) b d = refl
 
--- the last number that passes, with one more in front
-last_front : (p : ℕ → Bool) (n : ℕ) → last_below p (suc n) ≡ option_or (option_map suc (last_below (λ k. p (suc k)) n)) (cond (p zero) (Some zero) None)
-last_front p zero = refl
-last_front p (suc n) = elim (p (suc n)) as (λ b. cond b (Some (suc n)) (last_below p (suc n)) ≡ option_or (option_map suc (cond b (Some n) (last_below (λ k. p (suc k)) n))) (cond (p zero) (Some zero) None)) [ true ↦ refl | false ↦ last_front p n ]
-
--- ---- the history from after the first edit on is the history from before it
-
-front_present : (t : Table) (e : EditView) (es : List EditView) (place : Place) → present_after (state_of (after t e)) es place ≡ present_after (state_of t) (e ∷ es) place
-front_present t e es place = ap (unwrap_or (last_some (sets place) es)) (present_step t e place) ∙ or_else (last_some (sets place) es) (sets place e) (present (state_of t) place)
-
 -- options given, and given again
-under_both : (a b : Option (List AtomView)) (krate : Option CrateView) → under a (under b krate) ≡ under (option_or a b) krate
+under_both : (a b : Option (List AtomView)) (krate : Option CrateView) → under (option_or a b) krate ≡ under a (under b krate)
 under_both None b krate = refl
 under_both (Some o) None krate = refl
 under_both (Some o) (Some p) None = refl
 under_both (Some o) (Some p) (Some krate) = refl
 
-front_crate : (t : Table) (e : EditView) (es : List EditView) (i : ℕ) → crate_after (state_of (after t e)) es i ≡ crate_after (state_of t) (e ∷ es) i
-front_crate t e es i = ap (under (last_some (gives i) es)) (crate_step t e i) ∙ under_both (last_some (gives i) es) (gives i e) (slice_get t.crates i)
+same_below : (p q : ℕ → Bool) (n : ℕ) → ((k : ℕ) → k < n → p k ≡ q k) → last_below p n ≡ last_below q n
+same_below p q zero h = refl
+same_below p q (suc n) h = (λ j. cond (h n (omega arith) j) (Some n) (same_below p q n (λ k b. h k (omega arith)) j))
 
-front_unfolding : (t : Table) (e : EditView) (es : List EditView) (place : Place) (i : ℕ) → unfolding_after (state_of (after t e)) es place i ≡ unfolding_after (state_of t) (e ∷ es) place i
-front_unfolding t e es place i j = unfolding_of (same_skipped t e j) place (front_crate t e es i j) (front_present t e es place j)
+take_past : {A : Type 0} (xs ys : List A) (n : ℕ) → take (length xs + n) (xs ++ ys) ≡ xs ++ take n ys
+take_past [] ys n = let e : 0 + n ≡ n = omega arith in ap (λ k. take k ys) e
+take_past (x ∷ xs) ys n = let e : suc (length xs) + n ≡ suc (length xs + n) = omega arith in ap (λ k. take k (x ∷ (xs ++ ys))) e ∙ ap (λ r. x ∷ r) (take_past xs ys n)
 
-front_moves : (t : Table) (e : EditView) (es : List EditView) (place : Place) (i : ℕ) → moves (state_of (after t e)) es place i ≡ (λ k. moves (state_of t) (e ∷ es) place i (suc k))
-front_moves t e es place i j k = not (same unfolding_code (front_unfolding t e (take k es) place i j) (front_unfolding t e (take (suc k) es) place i j))
+-- the last below a sum: of those past the first m, or else of these
+below_at : (b : Bool) (m k : ℕ) (later first whole : Option ℕ) → whole ≡ option_or (option_map (λ n. m + n) later) first
+    → cond b (Some (m + k)) whole ≡ option_or (option_map (λ n. m + n) (cond b (Some k) later)) first
+below_at true m k later first whole h = refl
+below_at false m k later first whole h = h
+
+below_sum : (p : ℕ → Bool) (m k : ℕ) → last_below p (m + k) ≡ option_or (option_map (λ n. m + n) (last_below (λ n. p (m + n)) k)) (last_below p m)
+below_sum p m zero = let e : m + zero ≡ m = omega arith in ap (last_below p) e
+below_sum p m (suc k) =
+    let e : m + suc k ≡ suc (m + k) = omega arith in
+    ap (last_below p) e ∙ below_at (p (m + k)) m k (last_below (λ n. p (m + n)) k) (last_below p m) (last_below p (m + k)) (below_sum p m k)
 
 -- the number of the last edit that moved it
-numbers : (m m' : ℕ) (o : Option ℕ) (b : Bool) (now then : ℕ) → m' ≡ m + 1 → then ≡ cond b now (m + 1)
-    → unwrap_or (option_map (λ n. m' + n + 1) o) then ≡ unwrap_or (option_map (λ n. m + n + 1) (option_or (option_map suc o) (cond (not b) (Some zero) None))) now
-numbers m m' None true now then e h = h
-numbers m m' None false now then e h = let q : m + 1 ≡ m + 0 + 1 = omega arith in h ∙ q
-numbers m m' (Some n) b now then e h = omega arith
+numbers : (s u m now then : ℕ) (later first : Option ℕ) → u ≡ s + m → then ≡ unwrap_or (option_map (λ n. s + n + 1) first) now
+    → unwrap_or (option_map (λ n. u + n + 1) later) then ≡ unwrap_or (option_map (λ n. s + n + 1) (option_or (option_map (λ n. m + n) later) first)) now
+numbers s u m now then (Some n) first e h = omega arith
+numbers s u m now then None first e h = h
 
-front_changed : (t : Table) (e : EditView) (es : List EditView) (place : Place) (i : ℕ) → IsSound t → i < length t.crates → changed_after (state_of (after t e)) es place i ≡ changed_after (state_of t) (e ∷ es) place i
-front_changed t e es place i h p =
-    let s = state_of t in
-    let all = moves s (e ∷ es) place i in
-    let same_now : Bool = same unfolding_code (unfolding_at s place i) (unfolding_after s (e ∷ []) place i) in
-    let step : change_number (state_of (after t e)) place i ≡ cond same_now (change_number s place i) (t.number + 1) =
-    change_step t e place i h p ∙ ap (λ (x : Unfolding). cond (same unfolding_code (unfolding_at s place i) x) (change_number s place i) (t.number + 1)) (front_unfolding t e [] place i) in
-    ap (λ (m : ℕ → Bool). unwrap_or (option_map (λ n. (after t e).number + n + 1) (last_below m (length es))) (change_number (state_of (after t e)) place i)) (front_moves t e es place i)
-    ∙ numbers t.number (after t e).number (last_below (λ k. all (suc k)) (length es)) same_now (change_number s place i) (change_number (state_of (after t e)) place i) (number_step t e) step
-    ∙ ap (λ (o : Option ℕ). unwrap_or (option_map (λ n. t.number + n + 1) o) (change_number s place i)) (sym (last_front all (length es)))
+module _ (s u v : State) (es fs : List EditView) (front : IsAfter s es u) (last : IsAfter u fs v) where
+  abbrev all : List EditView
+  all = es ++ fs
 
--- ---- the last edit that moved it, without the tests
+  join_present : (gs : List EditView) (place : Place) → present_after u gs place ≡ present_after s (es ++ gs) place
+  join_present gs place = ap (unwrap_or (last_some (sets place) gs)) (front.syntaxes place) ∙ sym (or_else (last_some (sets place) gs) (last_some (sets place) es) (present s place)) ∙ ap (λ o. unwrap_or o (present s place)) (sym (last_append (sets place) es gs))
 
-none_of : (b : Bool) (n : ℕ) (o : Option ℕ) → cond b (Some n) o ≡ None → (b ≡ false) × (o ≡ None)
-none_of true n o h = cc
-none_of false n o h = (refl, h)
+  join_crate : (gs : List EditView) (i : ℕ) → crate_after u gs i ≡ crate_after s (es ++ gs) i
+  join_crate gs i = ap (under (last_some (gives i) gs)) (front.crates i) ∙ sym (under_both (last_some (gives i) gs) (last_some (gives i) es) (slice_get s.crates i)) ∙ ap (λ o. under o (slice_get s.crates i)) (sym (last_append (gives i) es gs))
 
-eq_or_below : (k n : ℕ) → k < suc n → (k ≡ n) ⊎ (k < n)
-eq_or_below k n h = elim (eq-or-lt_of_le (le_of_suc-le-suc h)) as (λ _. (k ≡ n) ⊎ (k < n)) [ inl e ↦ inl e | inr l ↦ inr l ]
+  join_unfolding : (gs : List EditView) (place : Place) (i : ℕ) → unfolding_after u gs place i ≡ unfolding_after s (es ++ gs) place i
+  join_unfolding gs place i j = unfolding_of (front.skipped j) place (join_crate gs i j) (join_present gs place j)
 
-not_true : (b : Bool) → not b ≡ false → b ≡ true
-not_true true h = refl
-not_true false h = cc
+  unfolding_past : (place : Place) (i n : ℕ) → unfolding_after u (take n fs) place i ≡ unfolding_after s (take (length es + n) all) place i
+  unfolding_past place i n = join_unfolding (take n fs) place i ∙ ap (λ (xs : List EditView). unfolding_after s xs place i) (sym (take_past es fs n))
 
-not_false : (b : Bool) → not b ≡ true → b ≡ true → ⊥
-not_false true h g = true≢false (sym h)
-not_false false h g = true≢false (sym g)
+  moves_past : (place : Place) (i n : ℕ) → moves u fs place i n ≡ moves s all place i (length es + n)
+  moves_past place i n =
+      let e : length es + suc n ≡ suc (length es + n) = omega arith in
+      λ j. not (same unfolding_code (unfolding_past place i n j) ((unfolding_past place i (suc n) ∙ ap (λ (k : ℕ). unfolding_after s (take k all) place i) e) j))
 
-pub record IsLast (p : ℕ → Bool) (n m : ℕ) : Type 0 where
-  pub below : m < n
-  pub passes : p m ≡ true
-  pub later : (k : ℕ) → m < k → k < n → p k ≡ false
+  moves_first : (place : Place) (i k : ℕ) → k < length es → moves s es place i k ≡ moves s all place i k
+  moves_first place i k p = λ j. not (same unfolding_code (unfolding_after s (sym (take-append-le k es fs (omega arith)) j) place i) (unfolding_after s (sym (take-append-le (suc k) es fs (omega arith)) j) place i))
 
-last_is : (p : ℕ → Bool) (n m : ℕ) → last_below p n ≡ Some m → IsLast p n m
-last_is p zero m e = absurd (none-some m e)
-last_is p (suc n) m e = elim (p n) as (λ b. p n ≡ b → cond b (Some n) (last_below p n) ≡ Some m → IsLast p (suc n) m) [
-  | true ↦ λ t g. let same : n ≡ m = same_Some n m g in subst (λ (k : ℕ). IsLast p (suc n) k) same (record { below = omega arith; passes = t; later = λ k a b. absurd (omega arith) })
-  | false ↦ λ t g. let r = last_is p n m g in record {
-    below = let q = r.below in omega arith;
-    passes = r.passes;
-    later = λ k a b. elim (eq_or_below k n b) as (λ _. p k ≡ false) [ inl q ↦ ap p q ∙ t | inr q ↦ r.later k a q ];
+  join_changed : (place : Place) (i : ℕ) → i < length s.crates → change_number v place i ≡ changed_after s all place i
+  join_changed place i p =
+      let m = length es in
+      let k = length fs in
+      let now = change_number s place i in
+      let told = λ (o : Option ℕ). unwrap_or (option_map (λ n. s.number + n + 1) o) now in
+      last.changes place i (rw front.count p)
+      ∙ numbers s.number u.number m now (change_number u place i) (last_below (moves u fs place i) k) (last_below (moves s es place i) m) front.number (front.changes place i p)
+      ∙ (λ j. told (option_or (option_map (λ n. m + n) (same_below (moves u fs place i) (λ n. moves s all place i (m + n)) k (λ n b. moves_past place i n) j)) (same_below (moves s es place i) (moves s all place i) m (moves_first place i) j)))
+      ∙ ap told (sym (below_sum (moves s all place i) m k) ∙ ap (last_below (moves s all place i)) (sym (length-append es fs)))
+
+  -- edits made in two goes
+  pub after_join : IsAfter s all v
+  after_join = record {
+    number = let a = front.number in let b = last.number in let c = length-append es fs in omega arith;
+    start = last.start ∙ front.start;
+    count = last.count ∙ front.count;
+    crates = λ i. last.crates i ∙ join_crate fs i;
+    skipped = last.skipped ∙ front.skipped;
+    syntaxes = λ place. last.syntaxes place ∙ join_present fs place;
+    unfoldings = λ place i p. last.unfoldings place i (rw front.count p) ∙ join_unfolding fs place i;
+    changes = join_changed;
   }
-] refl e
 
-none_is : (p : ℕ → Bool) (n : ℕ) → last_below p n ≡ None → (k : ℕ) → k < n → p k ≡ false
-none_is p zero e k h = absurd (omega arith)
-none_is p (suc n) e k h =
-    let parts = none_of (p n) n (last_below p n) e in
-    elim (eq_or_below k n h) as (λ _. p k ≡ false) [ inl q ↦ ap p q ∙ parts.0 | inr q ↦ none_is p n parts.1 k q ]
+-- one edit more
+pub after_more : (s u v : State) (es : List EditView) (e : EditView) → IsAfter s es u → IsAfter u (e ∷ []) v → IsAfter s (es ++ e ∷ []) v
+after_more s u v es e front last = after_join s u v es (e ∷ []) front last
 
-unmoved : (s : State) (es : List EditView) (place : Place) (i m : ℕ) → moves s es place i m ≡ false → unfolding_after s (take m es) place i ≡ unfolding_after s (take (suc m) es) place i
-unmoved s es place i m h = equal_of_same unfolding_code (unfolding_after s (take m es) place i) (unfolding_after s (take (suc m) es) place i) (not_true _ h)
-
-moved : (s : State) (es : List EditView) (place : Place) (i m : ℕ) → moves s es place i m ≡ true → unfolding_after s (take m es) place i ≢ unfolding_after s (take (suc m) es) place i
-moved s es place i m h e = not_false _ h (same_of_equal unfolding_code (unfolding_after s (take m es) place i) (unfolding_after s (take (suc m) es) place i) e)
-
-change_number_by : (s : State) (es : List EditView) (place : Place) (i : ℕ) → IsChangeNumber s es place i (changed_after s es place i)
-change_number_by s es place i = elim (last_below (moves s es place i) (length es)) as (λ o. last_below (moves s es place i) (length es) ≡ o → IsChangeNumber s es place i (unwrap_or (option_map (λ n. s.number + n + 1) o) (change_number s place i))) [
-  | None ↦ λ e. inl (record { number = refl; still = λ m h. unmoved s es place i m (none_is (moves s es place i) (length es) e m h) })
-  | Some n ↦ λ e. let r = last_is (moves s es place i) (length es) n e in inr (
-    n,
-    record {
-      in_list = r.below;
-      number = refl;
-      moved = moved s es place i n r.passes;
-      still = λ m a b. unmoved s es place i m (r.later m a b);
-    },
-  )
-] refl
-
--- ---- the table after all edits is the one that the history tells of
-
-pub history : (t : Table) (es : List EditView) → IsSound t → IsSound (after_all t es) × IsAfter (state_of t) es (state_of (after_all t es))
-history t [] h = (
-  h,
-  record {
-    number = omega arith;
-    start = refl;
-    count = refl;
-    crates = λ i. refl;
-    skipped = refl;
-    syntaxes = λ place. refl;
-    unfoldings = λ place i p. refl;
-    changes = λ place i p. refl;
-    last_changes = λ place i p. change_number_by (state_of t) [] place i;
-  },
-)
-history t (e ∷ es) h =
-    let many = same_count t e in
-    let rest = history (after t e) es (sound_step t e h) in
-    let r = rest.1 in (
-      rest.0,
-      record {
-        number = let a = r.number in let b = number_step t e in omega arith;
-        start = r.start ∙ start_step t e;
-        count = r.count ∙ many;
-        crates = λ i. r.crates i ∙ front_crate t e es i;
-        skipped = r.skipped ∙ same_skipped t e;
-        syntaxes = λ place. r.syntaxes place ∙ front_present t e es place;
-        unfoldings = λ place i p. r.unfoldings place i (rw many p) ∙ front_unfolding t e es place i;
-        changes = λ place i p. r.changes place i (rw many p) ∙ front_changed t e es place i h p;
-        last_changes = λ place i p. subst (λ (c : ℕ). IsChangeNumber (state_of t) (e ∷ es) place i c) (sym (r.changes place i (rw many p) ∙ front_changed t e es place i h p)) (change_number_by (state_of t) (e ∷ es) place i);
-      },
-    )
+-- no edit
+pub after_none : (s : State) → IsAfter s [] s
+after_none s = record {
+  number = omega arith;
+  start = refl;
+  count = refl;
+  crates = λ i. refl;
+  skipped = refl;
+  syntaxes = λ place. refl;
+  unfoldings = λ place i p. refl;
+  changes = λ place i p. refl;
+}
 
 -- ---- what each edit of a list fits
 
-run_present : (t : Table) (es : List EditView) (place : Place) → present (state_of (after_all t es)) place ≡ present_after (state_of t) es place
-run_present t [] place = refl
-run_present t (e ∷ es) place = run_present (after t e) es place ∙ front_present t e es place
-
-run_crate : (t : Table) (es : List EditView) (i : ℕ) → slice_get (after_all t es).crates i ≡ crate_after (state_of t) es i
-run_crate t [] i = refl
-run_crate t (e ∷ es) i = run_crate (after t e) es i ∙ front_crate t e es i
-
-fits_front : (t : Table) (es : List EditView) (e : EditView) → FitsAfter (state_of (after_all t es)) [] e → FitsAfter (state_of t) es e
-fits_front t es (set place syntax) h = λ i. subst (λ (names : List (List ℕ)). TreeFits names place (crate_after (state_of t) es i) (Some syntax)) (same_skipped_all t es) (subst (λ (krate : Option CrateView). TreeFits (after_all t es).skipped place krate (Some syntax)) (run_crate t es i) (h i))
-fits_front t es (remove place) h = tt
-fits_front t es (set_cfg i o) h = λ place.
-    let krate = under (Some o) (crate_after (state_of t) es i) in
-    subst (λ (names : List (List ℕ)). TreeFits names place krate (present_after (state_of t) es place)) (same_skipped_all t es)
-    (subst (λ (syntax : Option SyntaxView). TreeFits (after_all t es).skipped place krate syntax) (run_present t es place)
-    (subst (λ (k : Option CrateView). TreeFits (after_all t es).skipped place (under (Some o) k) (present (state_of (after_all t es)) place)) (run_crate t es i) (h place)))
+fits_front : (s u : State) (es : List EditView) (e : EditView) → IsAfter s es u → FitsAfter u [] e → FitsAfter s es e
+fits_front s u es (set place syntax) after h = λ i. subst (λ (z : List (List ℕ) × Option CrateView). TreeFits z.0 place z.1 (Some syntax)) (λ j. (after.skipped j, after.crates i j)) (h i)
+fits_front s u es (remove place) after h = tt
+fits_front s u es (set_cfg i o) after h = λ place. subst (λ (z : List (List ℕ) × Option CrateView × Option SyntaxView). TreeFits z.0 place (under (Some o) z.1) z.2) (λ j. (after.skipped j, after.crates i j, after.syntaxes place j)) (h place)
 
 -- one more edit
-pub fits_more : (t u : Table) (es : List EditView) (n : ℕ) (e : EditView) → FirstFit (state_of t) es n → u ≡ after_all t (take n es) → slice_get es n ≡ Some e → FitsAfter (state_of u) [] e → FirstFit (state_of t) es (n + 1)
-fits_more t u es n e fit is at fits m p = elim (eq_or_below m n (omega (arith, p))) as (λ _. IfSome (slice_get es m) (FitsAfter (state_of t) (take m es))) [
-  | inl q ↦
-      let now = fits_front t (take n es) e (subst (λ (v : Table). FitsAfter (state_of v) [] e) is fits) in
-      subst (λ (k : ℕ). IfSome (slice_get es k) (FitsAfter (state_of t) (take k es))) (sym q) (subst (λ (o : Option EditView). IfSome o (FitsAfter (state_of t) (take n es))) (sym at) now)
-  | inr q ↦ fit m q
+pub fits_more : (s u : State) (es : List EditView) (n : ℕ) (e : EditView) → FirstFit s es n → IsAfter s (take n es) u → slice_get es n ≡ Some e → FitsAfter u [] e → FirstFit s es (n + 1)
+fits_more s u es n e fit is at fits m p = elim (cases_lt m n) as (λ _. IfSome (slice_get es m) (FitsAfter s (take m es))) [
+  | inl q ↦ fit m q
+  | inr q ↦
+      let here : n ≡ m = omega (arith, p, q) in
+      subst (λ (k : ℕ). IfSome (slice_get es k) (FitsAfter s (take k es))) here (subst (λ (o : Option EditView). IfSome o (FitsAfter s (take n es))) (sym at) (fits_front s u (take n es) e is fits))
 ]
 
 -- ---- what an index rests on
@@ -201,7 +196,7 @@ record IsKept (s u : State) (place : Place) (i : ℕ) : Type 0 where
   pub tree : unfolding_at u place i ≡ unfolding_at s place i
 
 kept_low : (s u : State) (es : List EditView) (place : Place) (i : ℕ) → IsAfter s es u → i < length s.crates → change_number u place i ≤ s.number → IsKept s u place i
-kept_low s u es place i after p low = elim (after.last_changes place i p) as (λ _. IsKept s u place i) [
+kept_low s u es place i after p low = elim (change_number_is s es place i u after p) as (λ _. IsKept s u place i) [
   | inl same ↦ record {
     number = same.number;
     tree = after.unfoldings place i p ∙ ap (λ (xs : List EditView). unfolding_after s xs place i) (sym (take_all (length es) es (omega arith))) ∙ still_all s es place i (length es) (omega arith) same.still;
@@ -209,18 +204,9 @@ kept_low s u es place i after p low = elim (after.last_changes place i p) as (λ
   | inr last ↦ let e = last.1.number in absurd (omega arith)
 ]
 
-bound_is : (t : Table) → IsSound t → (place : Place) (i : ℕ) → i < length t.crates → change_number (state_of t) place i ≤ t.number
-bound_is t h place i p = rw (change_number_is t place i) (h.bounded place i p)
-
-pub grounded : (t : Table) → IsSound t → IsGrounded (state_of t)
-grounded t h = record { started = h.started; empty = λ place i p low. sym (h.trees place i p) ∙ h.grounded place i p (rw (← change_number_is t place i) low) }
-
-pub footing : (t u : Table) (es : List EditView) → IsSound u → IsAfter (state_of t) es (state_of u) → IsFooting (state_of t) (state_of u)
-footing t u es h after = record {
-  bounded = λ place i p. bound_is u h place i (rw after.count p);
-  numbers = λ place i p low. (kept_low (state_of t) (state_of u) es place i after p low).number;
-  trees = λ place i p low. (kept_low (state_of t) (state_of u) es place i after p low).tree;
+pub footing : (s u : State) (es : List EditView) → ((place : Place) (i : ℕ) → i < length u.crates → change_number u place i ≤ u.number) → IsAfter s es u → IsFooting s u
+footing s u es bounded after = record {
+  bounded = λ place i p. bounded place i (rw after.count p);
+  numbers = λ place i p low. (kept_low s u es place i after p low).number;
+  trees = λ place i p low. (kept_low s u es place i after p low).tree;
 }
-
-pub footing_itself : (t : Table) → IsSound t → IsFooting (state_of t) (state_of t)
-footing_itself t h = record { bounded = bound_is t h; numbers = λ place i p low. refl; trees = λ place i p low. refl }

@@ -1,9 +1,8 @@
 -- The order of places.
-use Rattle.std.proofs.Common.{◌≡◌, true, false, refl, ap, ◌∙◌, arith}
+use Rattle.std.proofs.Common.{◌≡◌, ◌≢◌, true, false, refl, sym, ap, ◌∙◌, arith, true≢false}
 use Rattle.std.specs.Cmp.{tied_itself}
-use Rattle.std.specs.Ordering.{eq_by_cmp, is_eq, is_lt, ordering_reverse}
-use Rattle.std.specs.declared.cmp.Ordering.{Ordering}
-use Rattle.std.specs.declared.cmp.Ordering.TheVariants.{Less, Equal, Greater}
+use Rattle.std.specs.Ordering.{eq_by_cmp, is_eq}
+use Rattle.std.specs.declared.cmp.Ordering.TheVariants.{Less, Equal}
 use Rattle.std.proofs.lemmas.Bool.Decides.{nat_tests}
 use Rattle.item_tree_db.specs.declared.place.Place.{Place}
 use Rattle.item_tree_db.specs.declared.place.Place.TheVariants.{File, Block}
@@ -11,14 +10,6 @@ use Rattle.item_tree_db.specs.PlaceOrder.{place_cmp, place_cmp_total, same_place
 
 abbrev pub IsBelow : Place → Place → Type 0
 IsBelow p q = place_cmp p q ≡ Less
-
-less_of : (o : Ordering) → is_lt o ≡ true → o ≡ Less
-less_of Less h = refl
-less_of Equal h = cc
-less_of Greater h = cc
-
-pub below_of : (p q : Place) → is_lt (place_cmp p q) ≡ true → IsBelow p q
-below_of p q h = less_of (place_cmp p q) h
 
 pub equal_of : (p q : Place) → eq_by_cmp place_cmp p q ≡ true → p ≡ q
 equal_of (File a) (File b) h = let e : a.0 ≡ b.0 = grind (arith, nat_tests) in λ j. File (record { 0 = e j })
@@ -32,12 +23,6 @@ equal_cmp p = tied_itself place_cmp_total p
 pub itself : (p : Place) → eq_by_cmp place_cmp p p ≡ true
 itself p = ap is_eq (equal_cmp p)
 
-pub greater_cmp : (p q : Place) → IsBelow q p → place_cmp p q ≡ Greater
-greater_cmp p q h = place_cmp_total.antisymm p q ∙ ap ordering_reverse h
-
-pub unequal : (p q : Place) → IsBelow q p → eq_by_cmp place_cmp p q ≡ false
-unequal p q h = ap is_eq (greater_cmp p q h)
-
 -- the order's own test for equal places, and theirs
 pub tests : (p q : Place) → eq_by_cmp place_cmp p q ≡ same_place q p
 tests (File a) (File b) = grind (arith, nat_tests)
@@ -47,3 +32,9 @@ tests (Block a) (Block b) = grind (arith, nat_tests)
 
 pub same_is : (p q : Place) → same_place q p ≡ true → p ≡ q
 same_is p q h = equal_of p q (tests p q ∙ h)
+
+pub same_here : (p : Place) → same_place p p ≡ true
+same_here p = sym (tests p p) ∙ itself p
+
+pub other_of : (p q : Place) → same_place p q ≡ false → q ≢ p
+other_of p q h e = true≢false (sym (same_here q) ∙ ap (λ (r : Place). same_place r q) e ∙ h)

@@ -1,76 +1,47 @@
 -- Lists of edits, made one after another.
-use Rattle.std.proofs.Common.{◌≡◌, ℕ, zero, suc, ◌+◌, List, [], ◌∷◌, length, map, take, drop, slice_get, Some, refl, ap, subst, ◌∙◌, add-one}
+use Rattle.std.proofs.Common.{◌≡◌, ℕ, ◌+◌, ◌-◌, ◌<◌, List, [], ◌∷◌, ◌++◌, length, map, take, drop, get_or, slice_get, Some, refl, sym, ap, subst, ◌∙◌, arith}
 use Rattle.std.specs.List.{AllByRecursion}
-use Rattle.item_tree_db.specs.declared.edit.Edit.{Edit}
-use Rattle.item_tree_db.specs.State.{given}
-use Rattle.item_tree_db.specs.Edits.{EditView, edit_view, set, remove, set_cfg}
+use Rattle.std.proofs.lemmas.List.{length-map, length-drop, get_or-drop, get_or-map, drop-drop, take-map, take_all, map_more}
+use Rattle.std.proofs.lemmas.List.Elements.{All-from_recursion}
+use Rattle.std.proofs.lemmas.Option.{slice_get_read}
+use Rattle.item_tree_db.specs.State.{State}
+use Rattle.item_tree_db.specs.Edits.{EditView, set, remove, set_cfg}
+use Rattle.item_tree_db.specs.History.{IsAfter}
 use Rattle.item_tree_db.specs.Refusal.{NamesKnown}
-use Rattle.item_tree_db.specs.Table.{Table, after, after_all, state_of}
-use Rattle.item_tree_db.proofs.Recasts.{length-change_at}
 
-abbrev pub views : List Edit → List EditView
-views = map edit_view
-
-pub record Popped (n : ℕ) (xs : List Edit) (x : Edit) (ys : List Edit) : Type 0 where
-  pub done : (t : Table) → after_all t (take (n + 1) (views xs)) ≡ after (after_all t (take n (views xs))) (edit_view x)
+-- x stands at n, with ys behind it
+pub record Popped {A B : Type 0} (f : A → B) (n : ℕ) (xs : List A) (x : A) (ys : List A) : Type 0 where
+  pub within : n < length xs
+  pub is : get_or xs n x ≡ x
+  pub done : take (n + 1) (map f xs) ≡ take n (map f xs) ++ f x ∷ []
   pub at : slice_get xs n ≡ Some x
   pub rest : drop (n + 1) xs ≡ ys
 
-done_suc : (n : ℕ) (xs : List Edit) (x : Edit) (ys : List Edit) → drop n xs ≡ x ∷ ys → (t : Table) → after_all t (take (suc n) (views xs)) ≡ after (after_all t (take n (views xs))) (edit_view x)
-done_suc zero [] x ys e t = cc
-done_suc (suc n) [] x ys e t = cc
-done_suc zero (z ∷ xs) x ys e t = let h : z ≡ x = cc in ap (λ (w : Edit). after t (edit_view w)) h
-done_suc (suc n) (z ∷ xs) x ys e t = done_suc n xs x ys e (after t (edit_view z))
+module _ {A B : Type 0} (f : A → B) where
+  pub popped : (n : ℕ) (xs : List A) (x : A) (ys : List A) → drop n xs ≡ x ∷ ys → Popped f n xs x ys
+  popped n xs x ys e =
+      let long : length xs - n ≡ length (x ∷ ys) = sym (length-drop n xs) ∙ ap length e in
+      let here : n + 0 ≡ n = omega arith in
+      let within : n < length xs = omega arith in
+      let is : get_or xs n x ≡ x = ap (λ (m : ℕ). get_or xs m x) (sym here) ∙ sym (get_or-drop n xs 0 x) ∙ ap (λ (l : List A). get_or l 0 x) e in
+      record {
+        within = within;
+        is = is;
+        done = take-map f (n + 1) xs ∙ map_more f xs n x within ∙ (λ j. sym (take-map f n xs) j ++ f (is j) ∷ []);
+        at = slice_get_read xs (length xs) n x refl within (sym is);
+        rest = sym (drop-drop 1 n xs) ∙ ap (drop 1) e;
+      }
 
-at_place : (n : ℕ) (xs : List Edit) (x : Edit) (ys : List Edit) → drop n xs ≡ x ∷ ys → slice_get xs n ≡ Some x
-at_place zero [] x ys e = cc
-at_place (suc n) [] x ys e = cc
-at_place zero (z ∷ xs) x ys e = let h : z ≡ x = cc in ap (λ (w : Edit). Some w) h
-at_place (suc n) (z ∷ xs) x ys e = at_place n xs x ys e
+  -- no edit is left
+  pub take_whole : (n : ℕ) (xs : List A) → drop n xs ≡ [] → take n (map f xs) ≡ map f xs
+  take_whole n xs e = let long : length xs - n ≡ 0 = sym (length-drop n xs) ∙ ap length e in take_all n (map f xs) (rw (length-map xs f) (omega arith))
 
-rest_suc : (n : ℕ) (xs : List Edit) (x : Edit) (ys : List Edit) → drop n xs ≡ x ∷ ys → drop (suc n) xs ≡ ys
-rest_suc zero [] x ys e = cc
-rest_suc (suc n) [] x ys e = cc
-rest_suc zero (z ∷ xs) x ys e = cc
-rest_suc (suc n) (z ∷ xs) x ys e = rest_suc n xs x ys e
+  -- what holds of all
+  pub holds_at : (P : B → Type 0) (n : ℕ) (xs : List A) (x : A) (ys : List A) → drop n xs ≡ x ∷ ys → AllByRecursion P (map f xs) → P (f x)
+  holds_at P n xs x ys e h = let p = popped n xs x ys e in subst P (get_or-map f xs n x (f x) p.within ∙ ap f p.is) (All-from_recursion P (map f xs) h n (f x) (rw (length-map xs f) p.within))
 
-pub popped : (n : ℕ) (xs : List Edit) (x : Edit) (ys : List Edit) → drop n xs ≡ x ∷ ys → Popped n xs x ys
-popped n xs x ys e = record {
-  done = λ t. rw add-one (done_suc n xs x ys e t);
-  at = at_place n xs x ys e;
-  rest = rw add-one (rest_suc n xs x ys e);
-}
-
--- the number of crates and the skipped names stay
-pub same_count : (t : Table) (e : EditView) → length (after t e).crates ≡ length t.crates
-same_count t (set place syntax) = refl
-same_count t (remove place) = refl
-same_count t (set_cfg k options) = length-change_at (given options) k t.crates
-
-pub same_count_all : (t : Table) (es : List EditView) → length (after_all t es).crates ≡ length t.crates
-same_count_all t [] = refl
-same_count_all t (e ∷ es) = same_count_all (after t e) es ∙ same_count t e
-
-pub same_skipped : (t : Table) (e : EditView) → (after t e).skipped ≡ t.skipped
-same_skipped t (set place syntax) = refl
-same_skipped t (remove place) = refl
-same_skipped t (set_cfg k options) = refl
-
-pub same_skipped_all : (t : Table) (es : List EditView) → (after_all t es).skipped ≡ t.skipped
-same_skipped_all t [] = refl
-same_skipped_all t (e ∷ es) = same_skipped_all (after t e) es ∙ same_skipped t e
-
--- so an edit names a crate that is known still
-known_still : (t u : Table) (e : EditView) → length u.crates ≡ length t.crates → NamesKnown (state_of t) e → NamesKnown (state_of u) e
-known_still t u (set place syntax) same h = tt
-known_still t u (remove place) same h = tt
-known_still t u (set_cfg k options) same h = rw same h
-
-known_at : (t : Table) (n : ℕ) (xs : List Edit) (x : Edit) (ys : List Edit) → drop n xs ≡ x ∷ ys → AllByRecursion (NamesKnown (state_of t)) (views xs) → NamesKnown (state_of t) (edit_view x)
-known_at t zero [] x ys e h = cc
-known_at t (suc n) [] x ys e h = cc
-known_at t zero (z ∷ xs) x ys e h = let q : z ≡ x = cc in subst (λ (w : Edit). NamesKnown (state_of t) (edit_view w)) q h.0
-known_at t (suc n) (z ∷ xs) x ys e h = known_at t n xs x ys e h.1
-
-pub known_now : (t u : Table) (n : ℕ) (xs : List Edit) (x : Edit) (ys : List Edit) → drop n xs ≡ x ∷ ys → u ≡ after_all t (take n (views xs)) → AllByRecursion (NamesKnown (state_of t)) (views xs) → NamesKnown (state_of u) (edit_view x)
-known_now t u n xs x ys e is h = known_still t u (edit_view x) (ap (λ (v : Table). length v.crates) is ∙ same_count_all t (take n (views xs))) (known_at t n xs x ys e h)
+-- an edit names a crate that is known still
+pub known_still : (s u : State) (es : List EditView) (e : EditView) → IsAfter s es u → NamesKnown s e → NamesKnown u e
+known_still s u es (set place syntax) after h = tt
+known_still s u es (remove place) after h = tt
+known_still s u es (set_cfg k options) after h = rw after.count h

@@ -1,299 +1,296 @@
--- One edit, against the whole history.
-use Rattle.std.proofs.Common.{◌≡◌, ◌≢◌, ℕ, zero, suc, ◌+◌, ◌<◌, ◌≤◌, true, false, List, [], ◌∷◌, length, map, cond, Some, None, Option, IfSome, slice_get, refl, sym, ap, subst, ◌∙◌, arith, nat_eq, get_or}
+-- One edit, by place and crate.
+use Rattle.std.proofs.Common.{◌≡◌, ◌≢◌, inl, inr, ℕ, zero, ◌+◌, ◌<◌, ◌≤◌, Bool, true, false, not, List, [], ◌∷◌, length, map, cond, Some, None, Option, IfSome, slice_get, refl, sym, ap, subst, ◌∙◌, arith, nat_eq, get_or}
 use Rattle.std.specs.Option.{option_and_then, option_map, unwrap_or}
-use Rattle.std.specs.Prelude.{replicate}
-use Rattle.std.specs.FinMap.Entries.{find-put}
+use Rattle.std.specs.BTreeMap.{is_at}
 use Rattle.std.proofs.lemmas.Bool.Decides.{nat_tests}
 use Rattle.std.proofs.lemmas.List.{length-map}
 use Rattle.std.proofs.lemmas.Option.{slice_get-map}
 use Rattle.hir_input.specs.Cfg.{AtomView}
 use Rattle.hir_input.specs.Syntax.{SyntaxView}
-use Rattle.item_tree.specs.CrateView.{CrateView}
+use Rattle.hir_input.specs.declared.ids.Crate.{Crate}
+use Rattle.item_tree.specs.declared.crate_data.CrateData.{CrateData}
+use Rattle.item_tree.specs.declared.fault.EditFault.TheVariants.{Lower}
+use Rattle.item_tree.specs.declared.fault.LowerError.{LowerError}
+use Rattle.item_tree.specs.CrateView.{CrateView, crate_view}
 use Rattle.item_tree.specs.Node.{Unfolding, nothing}
 use Rattle.item_tree.specs.Code.Node.{unfolding_code}
 use Rattle.item_tree.specs.Same.{same, same_itself, equal_of_same}
-use Rattle.item_tree_db.specs.declared.rows.Row.{Row}
+use Rattle.item_tree_db.specs.declared.edit.Edit.TheVariants.{SetCfg}
 use Rattle.item_tree_db.specs.declared.place.Place.{Place}
-use Rattle.item_tree_db.specs.PlaceOrder.{place_cmp, place_cmp_total, same_place}
-use Rattle.item_tree_db.specs.State.{Held, find, given, present, unfolding_of, unfolding_at, change_number}
-use Rattle.item_tree_db.specs.Edits.{EditView, set, remove, set_cfg}
-use Rattle.item_tree_db.specs.Settled.{settled, settled_row, cleared, empty_row, brought, fresh_row}
-use Rattle.item_tree_db.specs.Slots.{Placed, HasRows, put, set_to, removed, placed_or_nothing, change_at, recast}
-use Rattle.item_tree_db.specs.Table.{Table, Places, set_in, recast_in, with_options, after, syntax_at, row_at, held_of, state_of, IsSound}
-use Rattle.item_tree_db.specs.History.{sets, gives, under}
-use Rattle.item_tree_db.proofs.Counts.{rows_of_found, length-placed, has_set, has_removed}
-use Rattle.item_tree_db.proofs.Places.{tests, same_is}
-use Rattle.item_tree_db.proofs.Views.{find_over, find_keyed}
-use Rattle.item_tree_db.proofs.Runs.{same_count, same_skipped}
-use Rattle.item_tree_db.proofs.Recasts.{get_here, get_other, map_within, has_recast}
+use Rattle.item_tree_db.specs.declared.rows.Row.{Row}
+use Rattle.item_tree_db.specs.declared.source.Source.{Source}
+use Rattle.item_tree_db.specs.declared.source.Source.TheVariants.{File, Block}
+use Rattle.item_tree_db.specs.PlaceOrder.{place_cmp, same_place}
+use Rattle.item_tree_db.specs.State.{Held, State, find, given, present, unfolding_of, unfolding_at, change_number}
+use Rattle.item_tree_db.specs.Edits.{EditView, edit_view, set, remove, set_cfg}
+use Rattle.item_tree_db.specs.History.{sets, gives, under, present_after, unfolding_after, changed_after, IsAfter, IsFooting}
+use Rattle.item_tree_db.specs.Refusal.{TreeFits, TreePasses, FitsAfter, UnlessMemory, IsRefusal}
+use Rattle.item_tree_db.specs.Inner.Settled.{settled_row, empty_row, fresh_row, brought}
+use Rattle.item_tree_db.specs.Inner.Shelf.{Shelved, Places, placed_at, syntax_in, row_in, HasPut, set_to, removed, change_at, recast, recast_each, fresh_of, IsInOrder}
+use Rattle.item_tree_db.specs.Inner.Sizes.{PlacesFit, PlacesPass}
+use Rattle.item_tree_db.specs.Since.{IsGrounded}
+use Rattle.item_tree_db.specs.Inner.Source.{source_place, source_syntax, edit_of}
+use Rattle.item_tree_db.specs.Inner.Table.{Table, table_from, held_of, state_of, syntax_at, row_at, lowered_at, next_number, next_table, IsSound, IsLed, IsStep, IsRowOf}
+use Rattle.item_tree_db.proofs.Places.{same_is, other_of, same_here}
+use Rattle.item_tree_db.proofs.Histories.{footing}
+use Rattle.item_tree_db.proofs.Crates.{fresh_get}
+use Rattle.item_tree_db.proofs.Shelves.{fresh_each, recast_is, length-change_at, get_here, get_other, map_within, get_cleared, row_set, length-set}
 
-equal : (q k : ℕ) → nat_eq k q ≡ true → q ≡ k
-equal q k h = grind (arith, nat_tests)
+-- ---- what callers see
 
--- ---- look-ups in what callers see
+pub found : (l : Places) (q : Place) → find (map (λ e. (e.0, held_of e.1)) l) q ≡ option_map held_of (placed_at l q)
+found [] q = refl
+found (e ∷ l) q = elim (is_at (place_cmp q) e.0) as (λ b. cond b (Some (held_of e.1)) (find (map (λ e. (e.0, held_of e.1)) l) q) ≡ option_map held_of (cond b (Some e.1) (placed_at l q))) [ true ↦ refl | false ↦ found l q ]
 
-held_is : (t : Table) (place : Place) → find (state_of t).places place ≡ option_map held_of (find t.places place)
-held_is t place = find_over held_of t.places place
+held_syntax : (o : Option Shelved) → option_and_then (λ held. held.syntax) (option_map held_of o) ≡ syntax_in o
+held_syntax None = refl
+held_syntax (Some p) = refl
 
-syntax_of : (o : Option (Placed SyntaxView)) → option_and_then (λ held. held.syntax) (option_map held_of o) ≡ option_and_then (λ placed. placed.syntax) o
-syntax_of None = refl
-syntax_of (Some e) = refl
+held_changed : (start i : ℕ) (o : Option Shelved) → unwrap_or (option_and_then (λ held. slice_get held.changed i) (option_map held_of o)) start ≡ (row_in start o i).changed
+held_changed start i None = refl
+held_changed start i (Some p) =
+    ap (λ (o : Option ℕ). unwrap_or o start) (slice_get-map (λ (row : Row). row.changed) p.rows i)
+    ∙ elim (slice_get p.rows i) as (λ o. unwrap_or (option_map (λ (row : Row). row.changed) o) start ≡ (unwrap_or o (empty_row start)).changed) [ None ↦ refl | Some row ↦ refl ]
 
-pub present_is : (t : Table) (place : Place) → present (state_of t) place ≡ syntax_at t place
-present_is t place = ap (option_and_then (λ (held : Held). held.syntax)) (held_is t place) ∙ syntax_of (find t.places place)
+module _ (t : Table) (place : Place) where
+  pub present_is : present (state_of t) place ≡ syntax_at t place
+  present_is = ap (option_and_then (λ (held : Held). held.syntax)) (found t.places place) ∙ held_syntax (placed_at t.places place)
 
-get_changed : (start : ℕ) (o : Option Row) → unwrap_or (option_map (λ (row : Row). row.changed) o) start ≡ (unwrap_or o (empty_row start)).changed
-get_changed start None = refl
-get_changed start (Some row) = refl
+  pub unfolding_is : (i : ℕ) → unfolding_at (state_of t) place i ≡ lowered_at t place i
+  unfolding_is i = ap (unfolding_of t.skipped place (slice_get t.crates i)) present_is
 
-abbrev row_found : ℕ → ℕ → Option (Placed SyntaxView) → Row
-row_found start i o = unwrap_or (option_and_then (λ placed. slice_get placed.rows i) o) (empty_row start)
+  pub change_is : (i : ℕ) → change_number (state_of t) place i ≡ (row_at t place i).changed
+  change_is i = ap (λ (o : Option Held). unwrap_or (option_and_then (λ held. slice_get held.changed i) o) t.start) (found t.places place) ∙ held_changed t.start i (placed_at t.places place)
 
-changed_of : (start i : ℕ) (o : Option (Placed SyntaxView)) → unwrap_or (option_and_then (λ held. slice_get held.changed i) (option_map held_of o)) start ≡ (row_found start i o).changed
-changed_of start i None = refl
-changed_of start i (Some e) = ap (λ (o : Option ℕ). unwrap_or o start) (slice_get-map (λ (row : Row). row.changed) e.rows i) ∙ get_changed start (slice_get e.rows i)
+  row_is : IsSound t → (i : ℕ) → i < length t.crates → IsRowOf (state_of t) place i (row_at t place i)
+  row_is h i p = record { tree = h.trees place i p ∙ sym (unfolding_is i); changed = sym (change_is i) }
 
-pub change_number_is : (t : Table) (place : Place) (i : ℕ) → change_number (state_of t) place i ≡ (row_at t place i).changed
-change_number_is t place i = ap (λ (o : Option Held). unwrap_or (option_and_then (λ held. slice_get held.changed i) o) t.start) (held_is t place) ∙ changed_of t.start i (find t.places place)
+  -- what the shelf has of a crate
+  pub row_seen : IsSound t → (s : State) → state_of t ≡ s → (i : ℕ) → i < length s.crates → (row : Option Row) → row ≡ option_and_then (λ p. slice_get p.rows i) (placed_at t.places place) → IsRowOf s place i (unwrap_or row (empty_row s.start))
+  row_seen h s is i p row e =
+      subst (λ (z : State). i < length z.crates → IsRowOf z place i (unwrap_or row (empty_row z.start))) is
+      (λ q. subst (λ (o : Option Row). IsRowOf (state_of t) place i (unwrap_or o (empty_row t.start))) (sym e) (row_is h i q)) p
 
--- ---- rows
+-- ---- a settled row
 
--- the row that the next edit brings where it leaves this syntax
-abbrev next_row : Table → Place → ℕ → Option SyntaxView → Row
-next_row t place i syntax = fresh_row (t.number + 1) t.skipped place (slice_get t.crates i) syntax
-
--- a row whose tree is the new one already
+-- its tree is the new one already
 same_kept : (n : ℕ) (r : Row) (x : Unfolding) → r.tree ≡ x → r ≡ settled_row n r (record { tree = x; changed = n })
 same_kept n r x e =
     sym (ap (λ b. cond b r (record { tree = r.tree; changed = n })) (same_itself unfolding_code r.tree))
     ∙ ap (λ (y : Unfolding). settled_row n r (record { tree = y; changed = n })) e
 
-get_empty : (start count i : ℕ) → unwrap_or (slice_get (replicate count (empty_row start)) i) (empty_row start) ≡ empty_row start
-get_empty start zero i = refl
-get_empty start (suc count) zero = refl
-get_empty start (suc count) (suc i) = get_empty start count i
+settled_changed : (n : ℕ) (r : Row) (x : Unfolding) → (settled_row n r (record { tree = x; changed = n })).changed ≡ cond (same unfolding_code r.tree x) r.changed n
+settled_changed n r x = elim (same unfolding_code r.tree x) as (λ b. (cond b r (record { tree = x; changed = n })).changed ≡ cond b r.changed n) [ true ↦ refl | false ↦ refl ]
 
--- a place that was never set has the empty row
-placed_row : (start count i : ℕ) (o : Option (Placed SyntaxView)) → unwrap_or (slice_get (placed_or_nothing start count o).rows i) (empty_row start) ≡ row_found start i o
-placed_row start count i None = get_empty start count i
-placed_row start count i (Some e) = refl
+-- what holds of the old one where its tree is the new one already, and of the new one, holds of it
+settled_by : (P : Row → Type 0) (n : ℕ) (r : Row) (x : Unfolding) → (r.tree ≡ x → P r) → P (record { tree = x; changed = n }) → P (settled_row n r (record { tree = x; changed = n }))
+settled_by P n r x old new = elim (same unfolding_code r.tree x) as (λ b. same unfolding_code r.tree x ≡ b → P (cond b r (record { tree = x; changed = n }))) [
+  | true ↦ λ h. old (equal_of_same unfolding_code r.tree x h)
+  | false ↦ λ h. new
+] refl
 
-get_settled : (n : ℕ) (d : Row) (rows news : List Row) (i : ℕ) → i < length rows → i < length news → unwrap_or (slice_get (settled n rows news) i) d ≡ settled_row n (unwrap_or (slice_get rows i) d) (get_or news i d)
-get_settled n d [] news i p q = absurd (omega arith)
-get_settled n d (x ∷ rows) [] i p q = absurd (omega arith)
-get_settled n d (x ∷ rows) (y ∷ news) zero p q = refl
-get_settled n d (x ∷ rows) (y ∷ news) (suc i) p q = get_settled n d rows news i (omega arith) (omega arith)
+-- ---- edits of one place
 
-get_news : (n : ℕ) (skipped : List (List ℕ)) (place : Place) (s : SyntaxView) (crates : List CrateView) (i : ℕ) (d : Row) → i < length crates
-    → get_or (map (brought n skipped place s) crates) i d ≡ record { tree = unfolding_of skipped place (slice_get crates i) (Some s); changed = n }
-get_news n skipped place s [] i d p = absurd (omega arith)
-get_news n skipped place s (x ∷ crates) zero d p = refl
-get_news n skipped place s (x ∷ crates) (suc i) d p = get_news n skipped place s crates i d (omega arith)
+module _ (t : Table) (sound : IsSound t) (k : Place) (e : EditView) where
+  -- another place keeps what it has
+  kept : (q : Place) → sets q e ≡ None → IsLed t t.crates e q (placed_at t.places q) (placed_at t.places q)
+  kept q none = record {
+    own = sound.own q;
+    long = sound.rows q;
+    syntax = ap (λ o. unwrap_or o (syntax_at t q)) (sym none);
+    rows = λ i p. same_kept (next_number t) (row_at t q i) (lowered_at t q i) (sound.trees q i p);
+  }
 
-get_cleared : (n : ℕ) (d : Row) (rows : List Row) (i : ℕ) → i < length rows → unwrap_or (slice_get (cleared n rows) i) d ≡ settled_row n (unwrap_or (slice_get rows i) d) (empty_row n)
-get_cleared n d [] i p = absurd (omega arith)
-get_cleared n d (x ∷ rows) zero p = refl
-get_cleared n d (x ∷ rows) (suc i) p = get_cleared n d rows i (omega arith)
+  one_place : (w : Option Shelved) (new : Places) → ((q : Place) → same_place k q ≡ false → sets q e ≡ None) → ((i : ℕ) → gives i e ≡ None) → HasPut k w t.places new → IsLed t t.crates e k (placed_at t.places k) w → IsStep t e t.crates new
+  one_place w new others none put here = record {
+    count = refl;
+    under_it = λ i. ap (λ g. under g (slice_get t.crates i)) (sym (none i));
+    led = λ q. elim (same_place k q) as (λ b. same_place k q ≡ b → IsLed t t.crates e q (placed_at t.places q) (placed_at new q)) [
+      | true ↦ λ h. subst (λ (p : Place). IsLed t t.crates e p (placed_at t.places p) (placed_at new p)) (sym (same_is q k h)) (subst (IsLed t t.crates e k (placed_at t.places k)) (sym put.here) here)
+      | false ↦ λ h. subst (IsLed t t.crates e q (placed_at t.places q)) (sym (put.others q (other_of k q h))) (kept q (others q h))
+    ] refl;
+  }
 
--- a look-up after a write
-found : (l : Places) (k : Place) (v : Placed SyntaxView) (q : Place) → find (put l k v) q ≡ cond (same_place k q) (Some v) (find l q)
-found l k v q = find-put place_cmp place_cmp_total q k v l ∙ ap (λ b. cond b (Some v) (find l q)) (tests q k)
+removed_led : (t : Table) (k : Place) (old : Option Shelved) → IfSome old (λ p. length p.rows ≡ length t.crates) → IsLed t t.crates (remove k) k old (option_map (removed (next_number t)) old)
+removed_led t k None h = record {
+  own = tt;
+  long = tt;
+  syntax = ap (λ b. unwrap_or (cond b (Some None) None) None) (sym (same_here k));
+  rows = λ i p. same_kept (next_number t) (empty_row t.start) nothing refl;
+}
+removed_led t k (Some placed) h = record {
+  own = tt;
+  long = length-map placed.rows _ ∙ h;
+  syntax = ap (λ b. unwrap_or (cond b (Some None) None) (syntax_in (Some placed))) (sym (same_here k));
+  rows = λ i p. get_cleared (next_number t) (empty_row t.start) placed.rows i (rw h p);
+}
 
-abbrev syntax_found : Option (Placed SyntaxView) → Option SyntaxView
-syntax_found o = option_and_then (λ placed. placed.syntax) o
+-- ---- other options of a crate
 
--- the number of the next edit
-abbrev next : Table → ℕ
-next t = t.number + 1
-
--- ---- an edit that sets a place
-
-module _ (t : Table) (k : Place) (s : SyntaxView) where
-  abbrev news : List Row
-  news = map (brought (next t) t.skipped k s) t.crates
-
-  abbrev before : Placed SyntaxView
-  before = placed_or_nothing t.start (length news) (find t.places k)
-
-  set_syntax : (q : Place) → syntax_found (find (set_in t k s) q) ≡ unwrap_or (cond (same_place k q) (Some (Some s)) None) (syntax_found (find t.places q))
-  set_syntax q =
-      ap syntax_found (found t.places k _ q)
-      ∙ elim (same_place k q) as (λ b. syntax_found (cond b (Some (set_to (next t) s news before)) (find t.places q)) ≡ unwrap_or (cond b (Some (Some s)) None) (syntax_found (find t.places q))) [ true ↦ refl | false ↦ refl ]
-
-  set_row : (q : Place) (i : ℕ) → i < length t.crates → HasRows (length t.crates) t.places → (row_found t.start i (find t.places q)).tree ≡ unfolding_of t.skipped q (slice_get t.crates i) (syntax_found (find t.places q))
-      → row_found t.start i (find (set_in t k s) q) ≡ settled_row (next t) (row_found t.start i (find t.places q)) (next_row t q i (unwrap_or (cond (same_place k q) (Some (Some s)) None) (syntax_found (find t.places q))))
-  set_row q i p h tree =
-      let many : length news ≡ length t.crates = length-map t.crates (brought (next t) t.skipped k s) in
-      let v = set_to (next t) s news before in
-      let long : length before.rows ≡ length news = length-placed t.start (length news) (find t.places k) (rw many (rows_of_found _ t.places k h)) in
-      let new : unwrap_or (slice_get v.rows i) (empty_row t.start) ≡ settled_row (next t) (row_found t.start i (find t.places k)) (next_row t k i (Some s)) =
-      get_settled (next t) (empty_row t.start) before.rows news i (rw (long, many) p) (rw many p)
-      ∙ (λ j. settled_row (next t) (placed_row t.start (length news) i (find t.places k) j) (get_news (next t) t.skipped k s t.crates i (empty_row t.start) p j)) in
-      ap (row_found t.start i) (found t.places k v q)
-      ∙ elim (same_place k q) as (λ b. same_place k q ≡ b → row_found t.start i (cond b (Some v) (find t.places q)) ≡ settled_row (next t) (row_found t.start i (find t.places q)) (next_row t q i (unwrap_or (cond b (Some (Some s)) None) (syntax_found (find t.places q))))) [
-        | true ↦ λ e. new ∙ ap (λ (m : Place). settled_row (next t) (row_found t.start i (find t.places m)) (next_row t m i (Some s))) (sym (same_is q k e))
-        | false ↦ λ e. same_kept (next t) (row_found t.start i (find t.places q)) _ tree
-      ] refl
-
--- ---- an edit that removes one
-
-module _ (t : Table) (k q : Place) where
-  removed_syntax : (o : Option (Placed SyntaxView)) → find t.places k ≡ o → syntax_found (find (removed (next t) t.places k o) q) ≡ unwrap_or (cond (same_place k q) (Some None) None) (syntax_found (find t.places q))
-  removed_syntax None e =
-      elim (same_place k q) as (λ b. same_place k q ≡ b → syntax_found (find t.places q) ≡ unwrap_or (cond b (Some None) None) (syntax_found (find t.places q))) [
-        | true ↦ λ h. ap (λ (m : Place). syntax_found (find t.places m)) (same_is q k h) ∙ ap syntax_found e
-        | false ↦ λ h. refl
-      ] refl
-  removed_syntax (Some placed) e =
-      ap syntax_found (found t.places k _ q)
-      ∙ elim (same_place k q) as (λ b. syntax_found (cond b (Some (record { syntax = None; rows = cleared (next t) placed.rows })) (find t.places q)) ≡ unwrap_or (cond b (Some None) None) (syntax_found (find t.places q))) [ true ↦ refl | false ↦ refl ]
-
-  removed_row : (i : ℕ) (o : Option (Placed SyntaxView)) → find t.places k ≡ o → IfSome o (λ e. length e.rows ≡ length t.crates) → i < length t.crates → (row_found t.start i (find t.places q)).tree ≡ unfolding_of t.skipped q (slice_get t.crates i) (syntax_found (find t.places q))
-      → row_found t.start i (find (removed (next t) t.places k o) q) ≡ settled_row (next t) (row_found t.start i (find t.places q)) (next_row t q i (unwrap_or (cond (same_place k q) (Some None) None) (syntax_found (find t.places q))))
-  removed_row i None e long p tree =
-      same_kept (next t) (row_found t.start i (find t.places q)) _ (tree ∙ ap (unfolding_of t.skipped q (slice_get t.crates i)) (removed_syntax None e))
-  removed_row i (Some placed) e long p tree =
-      let v : Placed SyntaxView = record { syntax = None; rows = cleared (next t) placed.rows } in
-      ap (row_found t.start i) (found t.places k v q)
-      ∙ elim (same_place k q) as (λ b. same_place k q ≡ b → row_found t.start i (cond b (Some v) (find t.places q)) ≡ settled_row (next t) (row_found t.start i (find t.places q)) (next_row t q i (unwrap_or (cond b (Some None) None) (syntax_found (find t.places q))))) [
-        | true ↦ λ h. get_cleared (next t) (empty_row t.start) placed.rows i (rw long p) ∙ ap (λ (o : Option (Placed SyntaxView)). settled_row (next t) (row_found t.start i o) (empty_row (next t))) (sym e ∙ ap (λ (m : Place). find t.places m) (sym (same_is q k h)))
-        | false ↦ λ h. same_kept (next t) (row_found t.start i (find t.places q)) _ tree
-      ] refl
-
--- ---- an edit that gives a crate options
-
-recast_syntax_by : (n i : ℕ) (r : Placed SyntaxView → Row) (o : Option (Placed SyntaxView)) → syntax_found (option_map (λ placed. recast n i (r placed) placed) o) ≡ syntax_found o
-recast_syntax_by n i r None = refl
-recast_syntax_by n i r (Some placed) = refl
-
-recast_syntax : (n : ℕ) (skipped : List (List ℕ)) (i : ℕ) (krate : Option CrateView) (l : Places) (q : Place) → syntax_found (find (recast_in n skipped i krate l) q) ≡ syntax_found (find l q)
-recast_syntax n skipped i krate l q =
-    ap syntax_found (find_keyed (λ k placed. recast n i (fresh_row n skipped k krate placed.syntax) placed) l q)
-    ∙ recast_syntax_by n i (λ placed. fresh_row n skipped q krate placed.syntax) (find l q)
+equal : (k i : ℕ) → nat_eq k i ≡ true → k ≡ i
+equal k i h = grind (arith, nat_tests)
 
 not_equal : (k i : ℕ) → nat_eq k i ≡ false → k ≢ i
 not_equal k i h = grind (arith, nat_tests)
 
-recast_row_by : (n start count : ℕ) (skipped : List (List ℕ)) (place : Place) (k i : ℕ) (given_crate own : Option CrateView) (o : Option (Placed SyntaxView)) → IfSome o (λ placed. length placed.rows ≡ count) → i < count → (row_found start i o).tree ≡ unfolding_of skipped place own (syntax_found o)
-    → row_found start i (option_map (λ placed. recast n k (fresh_row n skipped place given_crate placed.syntax) placed) o) ≡ settled_row n (row_found start i o) (fresh_row n skipped place (cond (nat_eq k i) given_crate own) (syntax_found o))
-recast_row_by n start count skipped place k i given_crate own None long p tree = same_kept n (empty_row start) _ refl
-recast_row_by n start count skipped place k i given_crate own (Some placed) long p tree =
-    let d = empty_row start in
-    let f : Row → Row = λ row. settled_row n row (fresh_row n skipped place given_crate placed.syntax) in
-    elim (nat_eq k i) as (λ b. nat_eq k i ≡ b → unwrap_or (slice_get (change_at k f placed.rows) i) d ≡ settled_row n (unwrap_or (slice_get placed.rows i) d) (fresh_row n skipped place (cond b given_crate own) placed.syntax)) [
-      | true ↦ λ h.
-          ap (λ (m : ℕ). unwrap_or (slice_get (change_at m f placed.rows) i) d) (sym (equal i k h))
-          ∙ ap (λ (o : Option Row). unwrap_or o d) (get_here f i placed.rows)
-          ∙ map_within f d placed.rows i (rw long p)
-      | false ↦ λ h. ap (λ (o : Option Row). unwrap_or o d) (get_other f k i placed.rows (not_equal k i h)) ∙ same_kept n _ _ tree
-    ] refl
+module _ (t : Table) (k : ℕ) (o : List AtomView) where
+  abbrev crates_now : List CrateView
+  crates_now = change_at k (given o) t.crates
 
--- the crates
-given_at : (o : List AtomView) (crates : List CrateView) (k i : ℕ) → slice_get (change_at k (given o) crates) i ≡ under (cond (nat_eq k i) (Some o) None) (slice_get crates i)
-given_at o crates k i = elim (nat_eq k i) as (λ b. nat_eq k i ≡ b → slice_get (change_at k (given o) crates) i ≡ under (cond b (Some o) None) (slice_get crates i)) [
-  | true ↦ λ h. ap (λ (m : ℕ). slice_get (change_at m (given o) crates) i) (sym (equal i k h)) ∙ get_here (given o) i crates
-  | false ↦ λ h. get_other (given o) k i crates (not_equal k i h)
-] refl
+  given_at : (i : ℕ) → slice_get crates_now i ≡ under (cond (nat_eq k i) (Some o) None) (slice_get t.crates i)
+  given_at i = elim (nat_eq k i) as (λ b. nat_eq k i ≡ b → slice_get crates_now i ≡ under (cond b (Some o) None) (slice_get t.crates i)) [
+    | true ↦ λ h. ap (slice_get crates_now) (sym (equal k i h)) ∙ get_here (given o) k t.crates ∙ ap (λ (m : ℕ). option_map (given o) (slice_get t.crates m)) (equal k i h)
+    | false ↦ λ h. get_other (given o) k i t.crates (not_equal k i h)
+  ] refl
 
-given_or_own : (o : List AtomView) (crates : List CrateView) (k i : ℕ) → cond (nat_eq k i) (slice_get (change_at k (given o) crates) k) (slice_get crates i) ≡ slice_get (change_at k (given o) crates) i
-given_or_own o crates k i = elim (nat_eq k i) as (λ b. nat_eq k i ≡ b → cond b (slice_get (change_at k (given o) crates) k) (slice_get crates i) ≡ slice_get (change_at k (given o) crates) i) [
-  | true ↦ λ h. ap (λ (m : ℕ). slice_get (change_at k (given o) crates) m) (sym (equal i k h))
-  | false ↦ λ h. sym (get_other (given o) k i crates (not_equal k i h))
-] refl
+  -- what a place has then
+  abbrev recast_at : Place → Shelved → Shelved
+  recast_at q placed = recast (next_number t) k (fresh_of (next_number t) t.skipped (slice_get crates_now k) q placed) placed
 
-cfg_row : (t : Table) (k : ℕ) (o : List AtomView) (q : Place) (i : ℕ) → i < length t.crates → HasRows (length t.crates) t.places → (row_found t.start i (find t.places q)).tree ≡ unfolding_of t.skipped q (slice_get t.crates i) (syntax_found (find t.places q))
-    → row_found t.start i (find (after t (set_cfg k o)).places q) ≡ settled_row (t.number + 1) (row_found t.start i (find t.places q)) (fresh_row (t.number + 1) t.skipped q (slice_get (with_options t k o).crates i) (syntax_found (find t.places q)))
-cfg_row t k o q i p h tree =
-    let n = t.number + 1 in
-    let krate = slice_get (with_options t k o).crates k in
-    ap (row_found t.start i) (find_keyed (λ m placed. recast n k (fresh_row n t.skipped m krate placed.syntax) placed) t.places q)
-    ∙ recast_row_by n t.start (length t.crates) t.skipped q k i krate (slice_get t.crates i) (find t.places q) (rows_of_found _ t.places q h) p tree
-    ∙ ap (λ (c : Option CrateView). settled_row n (row_found t.start i (find t.places q)) (fresh_row n t.skipped q c (syntax_found (find t.places q)))) (given_or_own o t.crates k i)
+  cfg_row : (q : Place) (p : Shelved) → length p.rows ≡ length t.crates → (i : ℕ) → i < length t.crates
+      → (row_in t.start (Some p) i).tree ≡ unfolding_of t.skipped q (slice_get t.crates i) (syntax_in (Some p))
+      → row_in t.start (Some (recast_at q p)) i ≡ settled_row (next_number t) (row_in t.start (Some p) i) (fresh_row (next_number t) t.skipped q (slice_get crates_now i) (syntax_in (Some p)))
+  cfg_row q p long i within tree =
+      let n = next_number t in
+      let d = empty_row t.start in
+      let f : Row → Row = λ row. settled_row n row (fresh_of n t.skipped (slice_get crates_now k) q p) in
+      elim (nat_eq k i) as (λ b. nat_eq k i ≡ b → row_in t.start (Some (recast_at q p)) i ≡ settled_row n (row_in t.start (Some p) i) (fresh_row n t.skipped q (slice_get crates_now i) (syntax_in (Some p)))) [
+        | true ↦ λ h. subst (λ (m : ℕ). m < length p.rows → row_in t.start (Some (recast_at q p)) m ≡ settled_row n (row_in t.start (Some p) m) (fresh_row n t.skipped q (slice_get crates_now m) (syntax_in (Some p)))) (equal k i h)
+            (λ w. ap (λ (r : Option Row). unwrap_or r d) (get_here f k p.rows) ∙ map_within f d p.rows k w) (rw long within)
+        | false ↦ λ h. let e = not_equal k i h in
+            ap (λ (r : Option Row). unwrap_or r d) (get_other f k i p.rows e)
+            ∙ same_kept n (row_in t.start (Some p) i) _ (tree ∙ ap (λ c. unfolding_of t.skipped q c (syntax_in (Some p))) (sym (get_other (given o) k i t.crates e)))
+      ] refl
 
-pub crate_step : (t : Table) (e : EditView) (i : ℕ) → slice_get (after t e).crates i ≡ under (gives i e) (slice_get t.crates i)
-crate_step t (set place s) i = refl
-crate_step t (remove place) i = refl
-crate_step t (set_cfg k o) i = given_at o t.crates k i
+  cfg_led : (q : Place) (old : Option Shelved) → IfSome (option_and_then (λ p. p.source) old) (λ s. source_place s ≡ q) → IfSome old (λ p. length p.rows ≡ length t.crates)
+      → ((i : ℕ) → i < length t.crates → (row_in t.start old i).tree ≡ unfolding_of t.skipped q (slice_get t.crates i) (syntax_in old)) → IsLed t crates_now (set_cfg k o) q old (option_map (recast_at q) old)
+  cfg_led q None own long trees = record { own = tt; long = tt; syntax = refl; rows = λ i p. same_kept (next_number t) (empty_row t.start) nothing refl }
+  cfg_led q (Some p) own long trees = record { own = own; long = length-change_at _ k p.rows ∙ long; syntax = refl; rows = λ i w. cfg_row q p long i w (trees i w) }
 
--- ---- an edit
+-- ---- what a step leaves
 
-syntax_step : (t : Table) (e : EditView) (place : Place) → syntax_at (after t e) place ≡ unwrap_or (sets place e) (syntax_at t place)
-syntax_step t (set at s) place = set_syntax t at s place
-syntax_step t (remove at) place = removed_syntax t at place (find t.places at) refl
-syntax_step t (set_cfg k o) place = recast_syntax (t.number + 1) t.skipped k (slice_get (with_options t k o).crates k) t.places place
+first_number : (m : ℕ) (b : Bool) (now : ℕ) → cond b now (m + 1) ≡ unwrap_or (option_map (λ n. m + n + 1) (cond (not b) (Some zero) None)) now
+first_number m true now = refl
+first_number m false now = omega arith
 
-pub present_step : (t : Table) (e : EditView) (place : Place) → present (state_of (after t e)) place ≡ unwrap_or (sets place e) (present (state_of t) place)
-present_step t e place = present_is (after t e) place ∙ syntax_step t e place ∙ ap (unwrap_or (sets place e)) (sym (present_is t place))
+-- the table is sound, and what the edit makes of what callers saw as s
+pub record IsMade (s : State) (e : EditView) (u : Table) : Type 0 where
+  pub sound : IsSound u
+  pub after : IsAfter s (e ∷ []) (state_of u)
 
--- the row is settled with the tree that the syntax fixes after the edit
-row_step_by : (t : Table) (e : EditView) (place : Place) (i : ℕ) → IsSound t → i < length t.crates → (row_at t place i).tree ≡ unfolding_of t.skipped place (slice_get t.crates i) (syntax_at t place)
-    → row_at (after t e) place i ≡ settled_row (t.number + 1) (row_at t place i) (fresh_row (t.number + 1) t.skipped place (slice_get (after t e).crates i) (unwrap_or (sets place e) (syntax_at t place)))
-row_step_by t (set at s) place i h p tree = set_row t at s place i p h.rows tree
-row_step_by t (remove at) place i h p tree = removed_row t at place i (find t.places at) refl (rows_of_found _ t.places at h.rows) p tree
-row_step_by t (set_cfg k o) place i h p tree = cfg_row t k o place i p h.rows tree
+module _ (t : Table) (e : EditView) (crates : List CrateView) (new : Places) (sound : IsSound t) (step : IsStep t e crates new) where
+  abbrev u : Table
+  u = next_table t crates new
 
-pub row_step : (t : Table) (e : EditView) (place : Place) (i : ℕ) → IsSound t → i < length t.crates
-    → row_at (after t e) place i ≡ settled_row (t.number + 1) (row_at t place i) (record { tree = unfolding_at (state_of (after t e)) place i; changed = t.number + 1 })
-row_step t e place i h p =
-    row_step_by t e place i h p (h.trees place i p ∙ ap (unfolding_of t.skipped place (slice_get t.crates i)) (present_is t place))
-    ∙ (λ j. settled_row (t.number + 1) (row_at t place i) (record { tree = unfolding_of (sym (same_skipped t e) j) place (slice_get (after t e).crates i) (sym (present_is (after t e) place ∙ syntax_step t e place) j); changed = t.number + 1 }))
+  row_now : (place : Place) (i : ℕ) → i < length t.crates → row_at u place i ≡ settled_row (t.number + 1) (row_at t place i) (record { tree = lowered_at u place i; changed = t.number + 1 })
+  row_now place i p = (step.led place).rows i p
 
--- the two parts of a settled row
-settled_tree : (n : ℕ) (r : Row) (x : Unfolding) → (settled_row n r (record { tree = x; changed = n })).tree ≡ x
-settled_tree n r x = elim (same unfolding_code r.tree x) as (λ b. same unfolding_code r.tree x ≡ b → (cond b r (record { tree = x; changed = n })).tree ≡ x) [
-  | true ↦ λ h. equal_of_same unfolding_code r.tree x h
-  | false ↦ λ h. refl
-] refl
+  row_by : (P : Row → Type 0) (place : Place) (i : ℕ) → i < length crates → ((row_at t place i).tree ≡ lowered_at u place i → P (row_at t place i)) → P (record { tree = lowered_at u place i; changed = t.number + 1 }) → P (row_at u place i)
+  row_by P place i p old new = subst P (sym (row_now place i (rw (← step.count) p))) (settled_by P (t.number + 1) (row_at t place i) (lowered_at u place i) old new)
 
-settled_changed : (n : ℕ) (r : Row) (x : Unfolding) → (settled_row n r (record { tree = x; changed = n })).changed ≡ cond (same unfolding_code r.tree x) r.changed n
-settled_changed n r x = elim (same unfolding_code r.tree x) as (λ b. (cond b r (record { tree = x; changed = n })).changed ≡ cond b r.changed n) [ true ↦ refl | false ↦ refl ]
+  step_sound : IsSound u
+  step_sound = record {
+    own = λ place. (step.led place).own;
+    rows = λ place. rw step.count (step.led place).long;
+    started = let c = sound.started in omega arith;
+    trees = λ place i p. row_by (λ r. r.tree ≡ lowered_at u place i) place i p (λ e. e) refl;
+    bounded = λ place i p. let b = sound.bounded place i (rw (← step.count) p) in row_by (λ r. r.changed ≤ t.number + 1) place i p (λ e. omega arith) (omega arith);
+    grounded = λ place i p. let s = sound.started in row_by (λ r. r.changed ≤ t.start → r.tree ≡ nothing) place i p (λ e. sound.grounded place i (rw (← step.count) p)) (λ low. absurd (omega arith));
+  }
 
-settled_bound : (m : ℕ) (r : Row) (x : Unfolding) → r.changed ≤ m → (settled_row (m + 1) r (record { tree = x; changed = m + 1 })).changed ≤ m + 1
-settled_bound m r x h = elim (same unfolding_code r.tree x) as (λ b. (cond b r (record { tree = x; changed = m + 1 })).changed ≤ m + 1) [ true ↦ omega arith | false ↦ omega arith ]
+  syntax_after : (place : Place) → present (state_of u) place ≡ present_after (state_of t) (e ∷ []) place
+  syntax_after place = present_is u place ∙ (step.led place).syntax ∙ ap (unwrap_or (sets place e)) (sym (present_is t place))
 
--- a number that is not above the start is an old one
-settled_low : (m start : ℕ) (r : Row) (x : Unfolding) → start ≤ m → (r.changed ≤ start → r.tree ≡ nothing) → (settled_row (m + 1) r (record { tree = x; changed = m + 1 })).changed ≤ start → (settled_row (m + 1) r (record { tree = x; changed = m + 1 })).tree ≡ nothing
-settled_low m start r x s h = elim (same unfolding_code r.tree x) as (λ b. (cond b r (record { tree = x; changed = m + 1 })).changed ≤ start → (cond b r (record { tree = x; changed = m + 1 })).tree ≡ nothing) [ true ↦ h | false ↦ λ low. absurd (omega arith) ]
+  tree_after : (place : Place) (i : ℕ) → unfolding_at (state_of u) place i ≡ unfolding_after (state_of t) (e ∷ []) place i
+  tree_after place i j = unfolding_of t.skipped place (step.under_it i j) (syntax_after place j)
 
-pub change_step : (t : Table) (e : EditView) (place : Place) (i : ℕ) → IsSound t → i < length t.crates
-    → change_number (state_of (after t e)) place i ≡ cond (same unfolding_code (unfolding_at (state_of t) place i) (unfolding_at (state_of (after t e)) place i)) (change_number (state_of t) place i) (t.number + 1)
-change_step t e place i h p =
-    change_number_is (after t e) place i
-    ∙ ap (λ (r : Row). r.changed) (row_step t e place i h p)
-    ∙ settled_changed (t.number + 1) (row_at t place i) (unfolding_at (state_of (after t e)) place i)
-    ∙ (λ j. cond (same unfolding_code (h.trees place i p j) (unfolding_at (state_of (after t e)) place i)) (sym (change_number_is t place i) j) (t.number + 1))
+  number_after : (place : Place) (i : ℕ) → i < length t.crates → change_number (state_of u) place i ≡ changed_after (state_of t) (e ∷ []) place i
+  number_after place i p =
+      let r = row_is t place sound i p in
+      change_is u place i
+      ∙ ap (λ (r : Row). r.changed) (row_now place i p)
+      ∙ settled_changed (t.number + 1) (row_at t place i) (lowered_at u place i)
+      ∙ (λ j. cond (same unfolding_code (r.tree j) ((sym (unfolding_is u place i) ∙ tree_after place i) j)) (r.changed j) (t.number + 1))
+      ∙ first_number t.number (same unfolding_code (unfolding_at (state_of t) place i) (unfolding_after (state_of t) (e ∷ []) place i)) (change_number (state_of t) place i)
 
--- the table stays sound
-has_after : (t : Table) (e : EditView) → IsSound t → HasRows (length t.crates) (after t e).places
-has_after t (set at s) h =
-    let f = brought (t.number + 1) t.skipped at s in
-    has_set (length t.crates) (t.number + 1) t.start t.places at s (map f t.crates) h.rows (length-map t.crates f)
-has_after t (remove at) h = has_removed (length t.crates) (t.number + 1) t.places at h.rows
-has_after t (set_cfg k o) h = has_recast (t.number + 1) k (λ slot. fresh_row (t.number + 1) t.skipped slot.0 (slice_get (with_options t k o).crates k) slot.1.syntax) (length t.crates) t.places h.rows
+  pub made : (s : State) → state_of t ≡ s → IsMade s e u
+  made s is = subst (λ (z : State). IsMade z e u) is (record {
+    sound = step_sound;
+    after = record {
+      number = refl;
+      start = refl;
+      count = step.count;
+      crates = step.under_it;
+      skipped = refl;
+      syntaxes = syntax_after;
+      unfoldings = λ place i p. tree_after place i;
+      changes = number_after;
+    };
+  })
 
-pub start_step : (t : Table) (e : EditView) → (after t e).start ≡ t.start
-start_step t (set at s) = refl
-start_step t (remove at) = refl
-start_step t (set_cfg k o) = refl
+pub grounded : (t : Table) → IsSound t → IsGrounded (state_of t)
+grounded t h = record { started = h.started; empty = λ place i p low. unfolding_is t place i ∙ sym (h.trees place i p) ∙ h.grounded place i p (rw (← change_is t place i) low) }
 
-pub number_step : (t : Table) (e : EditView) → (after t e).number ≡ t.number + 1
-number_step t (set at s) = refl
-number_step t (remove at) = refl
-number_step t (set_cfg k o) = refl
+-- a table to which edits led
+pub footing_of : (t : Table) → IsSound t → (s u : State) (es : List EditView) → state_of t ≡ u → IsAfter s es u → IsFooting s u
+footing_of t h s u es is after = footing s u es (subst (λ (z : State). (place : Place) (i : ℕ) → i < length z.crates → change_number z place i ≤ z.number) is (λ place i p. rw (change_is t place i) (h.bounded place i p))) after
 
-pub sound_step : (t : Table) (e : EditView) → IsSound t → IsSound (after t e)
-sound_step t e h =
-    let many = same_count t e in
-    record {
-      rows = subst (λ (m : ℕ). HasRows m (after t e).places) (sym many) (has_after t e h);
-      started = let a = start_step t e in let b = number_step t e in let c = h.started in omega arith;
-      trees = λ place i p. ap (λ (r : Row). r.tree) (row_step t e place i h (rw (← many) p)) ∙ settled_tree (t.number + 1) (row_at t place i) _;
-      bounded = λ place i p.
-          let q : i < length t.crates = rw (← many) p in
-          rw (row_step t e place i h q, number_step t e) (settled_bound t.number (row_at t place i) _ (h.bounded place i q));
-      grounded = λ place i p low.
-          let q : i < length t.crates = rw (← many) p in
-          let is = row_step t e place i h q in
-          let low_then = subst (λ (r : Row). r.changed ≤ t.start) is (subst (λ (m : ℕ). (row_at (after t e) place i).changed ≤ m) (start_step t e) low) in
-          ap (λ (r : Row). r.tree) is ∙ settled_low t.number t.start (row_at t place i) _ h.started (h.grounded place i q) low_then;
-    }
+-- ---- what each edit makes of the table
+
+set_is : (s : Source) → set (source_place s) (source_syntax s) ≡ edit_view (edit_of s)
+set_is (File file syntax) = refl
+set_is (Block block syntax) = refl
+
+module _ (crates : List CrateData) (skipped : List (List ℕ)) (start number : ℕ) (places new : Places) (s : State) (sound : IsSound (table_from crates skipped start number places)) (is : state_of (table_from crates skipped start number places) ≡ s) where
+  abbrev t : Table
+  t = table_from crates skipped start number places
+
+  pub set_made : (source : Source) (fresh : List Row) → fresh ≡ map (λ krate. brought (number + 1) skipped (source_place source) (source_syntax source) (crate_view krate)) crates
+      → HasPut (source_place source) (Some (set_to start (number + 1) source fresh (placed_at places (source_place source)))) places new → IsMade s (edit_view (edit_of source)) (next_table t t.crates new)
+  set_made source fresh e put =
+      let k = source_place source in
+      let view = source_syntax source in
+      let old = placed_at places k in
+      let many : length fresh ≡ length t.crates = ap length e ∙ length-map crates _ ∙ sym (length-map crates crate_view) in
+      let brings : (i : ℕ) → i < length t.crates → get_or fresh i (empty_row start) ≡ fresh_row (number + 1) skipped k (slice_get t.crates i) (Some view) = λ i p. ap (λ (rows : List Row). get_or rows i (empty_row start)) e ∙ fresh_get (number + 1) skipped k view (empty_row start) crates i p in
+      let step = one_place t sound k (set k view) _ new (λ q h. ap (λ b. cond b (Some (Some view)) None) h) (λ i. refl) put (record {
+        own = refl;
+        long = length-set start (number + 1) fresh source old (rw many (sound.rows k)) ∙ many;
+        syntax = ap (λ b. unwrap_or (cond b (Some (Some view)) None) (syntax_in old)) (sym (same_here k));
+        rows = λ i p. row_set start (number + 1) fresh source old i (rw many (sound.rows k)) (rw many p) ∙ ap (settled_row (number + 1) (row_at t k i)) (brings i p);
+      }) in
+      subst (λ (e : EditView). IsMade s e (next_table t t.crates new)) (set_is source) (made t (set k view) t.crates new sound step s is)
+
+  pub removed_made : (k : Place) → HasPut k (option_map (removed (number + 1)) (placed_at places k)) places new → IsMade s (remove k) (next_table t t.crates new)
+  removed_made k put =
+      let step = one_place t sound k (remove k) _ new (λ q h. ap (λ b. cond b (Some None) None) h) (λ i. refl) put (removed_led t k (placed_at places k) (sound.rows k)) in
+      made t (remove k) t.crates new sound step s is
+
+  -- options are given to a crate, which is this one then
+  module _ (k : Crate) (o : List AtomView) (krate : CrateView) (at : slice_get (change_at k.0 (given o) (map crate_view crates)) k.0 ≡ Some krate) where
+    pub cfg_made : (after : List CrateData) → map crate_view after ≡ change_at k.0 (given o) (map crate_view crates) → (fresh : List (Place × Row)) → fresh ≡ fresh_each (fresh_of (number + 1) skipped (Some krate)) places
+        → IsInOrder places → ((q : Place) → placed_at new q ≡ recast_each (number + 1) k.0 fresh q (placed_at places q)) → IsMade s (set_cfg k.0 o) (table_from after skipped start (number + 1) new)
+    cfg_made after same fresh e order each =
+        let n = number + 1 in
+        let now = change_at k.0 (given o) t.crates in
+        let fresh_now : Option CrateView → List (Place × Row) = λ c. fresh_each (fresh_of n skipped c) places in
+        let placed = λ (q : Place). each q ∙ ap (λ (l : List (Place × Row)). recast_each n k.0 l q (placed_at places q)) (e ∙ ap fresh_now (sym at)) ∙ recast_is n k.0 (fresh_of n skipped (slice_get now k.0)) places order q in
+        let step : IsStep t (set_cfg k.0 o) now new = record {
+          count = length-change_at (given o) k.0 t.crates;
+          under_it = given_at t k.0 o;
+          led = λ q. subst (IsLed t now (set_cfg k.0 o) q (placed_at places q)) (sym (placed q)) (cfg_led t k.0 o q (placed_at places q) (sound.own q) (sound.rows q) (sound.trees q));
+        } in
+        subst (λ (l : List CrateView). IsMade s (set_cfg k.0 o) (next_table t l new)) (sym same) (made t (set_cfg k.0 o) now new sound step s is)
+
+    -- it is lowered under them
+    lowers : (P : Option CrateView → Option SyntaxView → Type 0) (place : Place) → P (Some krate) (syntax_in (placed_at places place)) → P (under (Some o) (slice_get (map crate_view crates) k.0)) (present (state_of t) place)
+    lowers P place h = subst (λ (z : Option CrateView × Option SyntaxView). P z.0 z.1) (λ j. ((sym at ∙ get_here (given o) k.0 (map crate_view crates)) j, sym (present_is t place) j)) h
+
+    pub cfg_fits : PlacesFit skipped (Some krate) places → FitsAfter s [] (set_cfg k.0 o)
+    cfg_fits h = subst (λ (z : State). FitsAfter z [] (set_cfg k.0 o)) is (λ place. lowers (TreeFits skipped place) place (h place))
+
+    pub cfg_refused : (error : LowerError) → UnlessMemory (PlacesPass skipped (Some krate) places) error → IsRefusal s (record { edit = SetCfg k o; cause = Lower error })
+    cfg_refused error h = subst (λ (z : State). IsRefusal z (record { edit = SetCfg k o; cause = Lower error })) is (elim h as (λ _. IsRefusal (state_of t) (record { edit = SetCfg k o; cause = Lower error })) [
+      | inl e ↦ inl e
+      | inr p ↦ inr (p.0, lowers (λ c x. TreePasses skipped p.0 c x error) p.0 p.1)
+    ])

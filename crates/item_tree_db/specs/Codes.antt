@@ -5,14 +5,9 @@ use Rattle.hir_input.specs.Syntax.{SyntaxView}
 use Rattle.hir_input.specs.Code.Syntax.{syntax_code}
 use Rattle.item_tree.specs.CrateView.{CrateView}
 use Rattle.item_tree.specs.Code.Crate.{crate_code}
-use Rattle.item_tree.specs.Node.{Unfolding}
-use Rattle.item_tree.specs.Code.Node.{unfolding_code}
 use Rattle.item_tree_db.specs.contracts.place.Place as place
 use Rattle.item_tree_db.specs.declared.place.Place.{Place}
-use Rattle.item_tree_db.specs.declared.rows.Row.{Row}
 use Rattle.item_tree_db.specs.State.{Held, State}
-use Rattle.item_tree_db.specs.Slots.{Placed}
-use Rattle.item_tree_db.specs.Table.{Places, Table}
 
 abbrev pub names_code : Coded (List (List ℕ))
 names_code = coded_list (coded_list coded_ℕ)
@@ -30,29 +25,5 @@ state_code =
     code_by (List CrateView × (List (List ℕ) × (ℕ × (ℕ × List (Place × Held)))))
     (coded× (coded_list crate_code) (coded× names_code (coded× coded_ℕ (coded× coded_ℕ (coded_list (coded× place.the_row.coded held_code))))))
     (λ s. (s.crates, (s.skipped, (s.start, (s.number, s.places)))))
-    (λ p. record { crates = p.0; skipped = p.1.0; start = p.1.1.0; number = p.1.1.1.0; places = p.1.1.1.1 })
-    (λ _. refl)
-
--- ---- within the crate
-
-abbrev pub row_code : Coded Row
-row_code = code_by (Unfolding × ℕ) (coded× unfolding_code coded_ℕ) (λ r. (r.tree, r.changed)) (λ p. record { tree = p.0; changed = p.1 }) (λ _. refl)
-
-abbrev pub placed_code : {S : Type 0} → Coded S → Coded (Placed S)
-placed_code {S} c =
-    code_by (Option S × List Row)
-    (coded× (coded_option c) (coded_list row_code))
-    (λ e. (e.syntax, e.rows))
-    (λ p. record { syntax = p.0; rows = p.1 })
-    (λ _. refl)
-
-abbrev pub slots_code : {S : Type 0} → Coded S → Coded (List (Place × Placed S))
-slots_code c = coded_list (coded× place.the_row.coded (placed_code c))
-
-abbrev pub table_code : Coded Table
-table_code =
-    code_by (List CrateView × (List (List ℕ) × (ℕ × (ℕ × Places))))
-    (coded× (coded_list crate_code) (coded× names_code (coded× coded_ℕ (coded× coded_ℕ (slots_code syntax_code)))))
-    (λ t. (t.crates, (t.skipped, (t.start, (t.number, t.places)))))
     (λ p. record { crates = p.0; skipped = p.1.0; start = p.1.1.0; number = p.1.1.1.0; places = p.1.1.1.1 })
     (λ _. refl)

@@ -91,7 +91,6 @@ pub record IsAfter (s : State) (edits : List EditView) (u : State) : Type 0 wher
   pub syntaxes : (place : Place) → present u place ≡ present_after s edits place
   pub unfoldings : (place : Place) (i : ℕ) → i < length s.crates → unfolding_at u place i ≡ unfolding_after s edits place i
   pub changes : (place : Place) (i : ℕ) → i < length s.crates → change_number u place i ≡ changed_after s edits place i
-  pub last_changes : (place : Place) (i : ℕ) → i < length s.crates → IsChangeNumber s edits place i (change_number u place i)
 
 -- what an index of the trees rests on: no change number is above the number, and a tree whose number is not above the one before has it from there, and is the same
 pub record IsFooting (s u : State) : Type 0 where

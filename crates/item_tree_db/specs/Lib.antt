@@ -5,10 +5,5 @@ pub mod TreeIds
 pub mod History
 pub mod Refusal
 pub mod Since
-pub mod Source
-pub mod Settled
-pub mod Slots
-pub mod Walk
-pub mod Table
-pub mod Lowering
 pub mod Codes
+pub mod Inner

@@ -13,9 +13,9 @@ abbrev pub kind_of : Place → ℕ
 kind_of (File file) = 0
 kind_of (Block block) = 1
 
-abbrev pub number_of : Place → ℕ
-number_of (File file) = file.0
-number_of (Block block) = block.0
+abbrev pub own_number : Place → ℕ
+own_number (File file) = file.0
+own_number (Block block) = block.0
 
 -- the same kind of place, with the same number
 abbrev pub same_place : Place → Place → Bool
@@ -26,10 +26,10 @@ same_place (Block a) (Block b) = a.0 == b.0
 
 -- files come before blocks, and each by their numbers
 abbrev pub place_cmp : Place → Place → Ordering
-place_cmp = then_cmp (on kind_of nat_cmp) (on number_of nat_cmp)
+place_cmp = then_cmp (on kind_of nat_cmp) (on own_number nat_cmp)
 
 pub place_cmp_total : IsTotalOrder place_cmp
-place_cmp_total = then_total (on_total kind_of nat_cmp_total) (on_total number_of nat_cmp_total)
+place_cmp_total = then_total (on_total kind_of nat_cmp_total) (on_total own_number nat_cmp_total)
 
 pub place_cmp_ties : (a b : Place) → place.ghosts.eq a b ≡ eq_by_cmp place_cmp a b
 place_cmp_ties (File a) (File b) = grind (arith, nat_tests)

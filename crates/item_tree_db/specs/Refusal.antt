@@ -1,5 +1,5 @@
 -- Why an edit is refused.
-use Rattle.std.specs.Prelude.{◌≡◌, ℕ, ◌<◌, ◌-◌, ◌^◌, List, [], length, take, Option, None, Some, IfSome, slice_get}
+use Rattle.std.specs.Prelude.{◌≡◌, ◌⊎◌, ℕ, ◌<◌, ◌-◌, ◌^◌, List, [], length, take, Option, None, Some, IfSome, slice_get}
 use Rattle.hir_input.specs.Syntax.{SyntaxView}
 use Rattle.item_tree.specs.declared.fault.LowerError.{LowerError}
 use Rattle.item_tree.specs.declared.fault.LowerError.TheVariants.{OutOfMemory}
@@ -51,12 +51,15 @@ PassesAfter s before (set_cfg i options) error = (place : Place) × TreePasses s
 abbrev pub FirstFit : State → List EditView → ℕ → Type 0
 FirstFit s edits n = (m : ℕ) → m < n → IfSome (slice_get edits m) (FitsAfter s (take m edits))
 
+-- memory is wanting, or this holds of the error
+abbrev pub UnlessMemory : (LowerError → Type 0) → LowerError → Type 0
+UnlessMemory P error = (error ≡ OutOfMemory) ⊎ P error
+
 -- the table s may refuse the edit for this cause: a size that it passes, or want of memory; a removal for no other than its number
 abbrev pub IsCause : State → EditView → EditFault → Type 0
 IsCause s edit TooManyEdits = s.number ≡ last_number
 IsCause s (remove place) (Lower error) = ⊥
-IsCause s edit (Lower OutOfMemory) = Unit {0}
-IsCause s edit (Lower error) = PassesAfter s [] edit error
+IsCause s edit (Lower error) = UnlessMemory (PassesAfter s [] edit) error
 
 abbrev pub IsRefusal : State → EditRefused → Type 0
 IsRefusal s refused = IsCause s (edit_view refused.edit) refused.cause

@@ -1,5 +1,5 @@
 -- What callers see of a table: no trees, since the present syntaxes fix them.
-use Rattle.std.specs.Prelude.{ℕ, ◌^◌, ◌<◌, ◌==◌, Bool, false, List, [], length, take, Option, None, Some, slice_get}
+use Rattle.std.specs.Prelude.{ℕ, ◌<◌, ◌==◌, Bool, false, List, [], length, take, Option, None, Some, slice_get}
 use Rattle.std.specs.Option.{option_and_then, option_map, unwrap_or}
 use Rattle.std.specs.FinMap as map
 use Rattle.hir_input.specs.Cfg.{AtomView}
@@ -8,6 +8,7 @@ use Rattle.hir_input.specs.Syntax.{SyntaxView}
 use Rattle.item_tree.specs.CrateView.{CrateView}
 use Rattle.item_tree.specs.Node.{Unfolding, nothing}
 use Rattle.item_tree.specs.Kept.{kept_syntax}
+use Rattle.item_tree_db.specs.declared.sources.TheConstants.{CRATE_LIMIT}
 use Rattle.item_tree_db.specs.declared.place.Place.{Place}
 use Rattle.item_tree_db.specs.declared.place.Place.TheVariants.{File, Block}
 use Rattle.item_tree_db.specs.PlaceOrder.{place_cmp}
@@ -33,7 +34,7 @@ pub record State : Type 0 where
 
 -- how many crates have a number
 abbrev pub crate_limit : ℕ
-crate_limit = 2 ^ 32
+crate_limit = CRATE_LIMIT
 
 -- nothing set
 abbrev pub new_table : List CrateView → List (List ℕ) → ℕ → State

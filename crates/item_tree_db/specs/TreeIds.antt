@@ -10,6 +10,6 @@ abbrev pub TreeIdView : Type 0
 TreeIdView = HirFileId × Option BlockId
 
 -- the place that has the tree
-abbrev pub place_of : TreeIdView → Place
-place_of (file, None) = File file
-place_of (file, Some block) = Block block
+abbrev pub tree_place : TreeIdView → Place
+tree_place (file, None) = File file
+tree_place (file, Some block) = Block block

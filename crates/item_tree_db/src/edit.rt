@@ -4,7 +4,7 @@ use hir_input::{BlockId, CfgOptions, Crate, HirFileId};
 use item_tree::EditFault;
 use thiserror::Error;
 
-/// A change of a table.
+/// A change of a table. In place of the setters of rust-analyzer's database.
 #[derive(Debug, Drop)]
 pub enum Edit {
     /// The file has this syntax from now on.
@@ -19,7 +19,7 @@ pub enum Edit {
     SetCfg { krate: Crate, options: CfgOptions },
 }
 
-/// A refused edit, handed back, and why it was refused.
+/// A refused edit, handed back, and why it was refused. rust-analyzer has no such error.
 #[derive(Debug, Drop, Error)]
 #[error("edit refused: {cause}")]
 pub struct EditRefused {
@@ -27,7 +27,7 @@ pub struct EditRefused {
     pub cause: EditFault,
 }
 
-/// The first refused edit of a list, and its place in the list, counted from 0.
+/// The first refused edit of a list, and its place in the list, counted from 0. rust-analyzer has no such error.
 #[derive(Debug, Drop, Error)]
 #[error("edit {place} refused: {}", .refused.cause)]
 pub struct AllRefused {

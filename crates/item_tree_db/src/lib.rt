@@ -1,16 +1,15 @@
 //! A table of item trees: for each place that was set its syntax and, in each crate, its tree, kept under edits.
 #![tactic(auto)]
 
-pub mod edit;
+mod edit;
 mod laws;
-pub mod place;
+mod place;
 mod rows;
 mod shelf;
-pub mod since;
+mod since;
 mod source;
-pub mod sources;
-mod store;
-pub mod tree_id;
+mod sources;
+mod tree_id;
 
 pub use edit::{AllRefused, Edit, EditRefused};
 pub use place::Place;

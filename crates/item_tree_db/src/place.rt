@@ -2,12 +2,14 @@
 use hir_input::{BlockId, HirFileId};
 use std::cmp::Ordering;
 
-/// What has a syntax, and a tree in each crate: a file, or a block expression that has items.
+/// What has a syntax, and a tree in each crate. rust-analyzer has no such type.
 ///
 /// Files come before blocks, and each in the order of their numbers.
 #[derive(Clone, Copy, Debug, PartialEq, Eq)]
 pub enum Place {
+    /// A file, or the result of a macro.
     File(HirFileId),
+    /// A block expression that has items.
     Block(BlockId),
 }
 

@@ -1,12 +1,13 @@
 //! The trees of one place, one for each crate, with their change numbers.
-ghost use Rattle.std.specs.Prelude.{◌≡◌, All, IfErr, IfOk, OnOk, length, map, option_copied};
+ghost use Rattle.std.specs.Prelude.{◌≡◌, IfErr, IfOk, OnOk, length, map, Some, option_map, option_copied};
 ghost use Rattle.item_tree.specs.CrateView.{crate_view};
-ghost use Rattle.item_tree.specs.Size.{FitsWith, IsTooLarge};
-ghost use Rattle.item_tree_db.specs.Lowering.{SyntaxPasses, SourceFits, SourcePasses};
-ghost use Rattle.item_tree_db.specs.Settled.{settled, settled_row, empty_row, cleared, fresh_at, brought_to};
-ghost use Rattle.item_tree_db.specs.Source.{source_place, source_view};
-ghost use Rattle.item_tree_db.specs.State.{kept_at};
+ghost use Rattle.item_tree_db.specs.Refusal.{TreeFits, TreePasses, UnlessMemory};
+ghost use Rattle.item_tree_db.specs.Inner.Sizes.{CratesFit, CratesPass};
+ghost use Rattle.item_tree_db.specs.Inner.Settled.{settled, settled_row, empty_row, cleared, fresh_row, brought};
+ghost use Rattle.item_tree_db.specs.Inner.Source.{source_place, source_syntax};
+ghost use Rattle.item_tree_db.specs.State.{is_root_of, kept_at};
 
+use crate::place::Place;
 use crate::source::Source;
 use hir_input::Name;
 use item_tree::{CrateData, ItemTree, LowerError, lower_block, lower_syntax};
@@ -67,61 +68,62 @@ pub fn settle_first(rows: &mut [Row], alloc: Global, start: u64, number: u64)
     }
 }
 
+// Whether a place is a crate's root file.
+fn is_root(krate: &CrateData, place: Place) -> bool
+    ensures { result ≡ is_root_of (crate_view krate.now) place }
+{
+    match place {
+        Place::File(file) => file.0 == krate.root.0,
+        Place::Block(_) => false,
+    }
+}
+
 // What is set at a place, lowered for a crate under its own options.
 fn lower_source(
     alloc: Global,
     krate: &CrateData,
     skipped: &[Name],
+    place: Place,
     source: &Source,
 ) -> Result<ItemTree, LowerError>
-    ensures tree { let kept = kept_at skipped.now (source_place source.now) (source_view source.now) (crate_view krate.now) in
+    ensures tree { let kept = kept_at skipped.now place (source_syntax source.now) (crate_view krate.now) in
         IfOk result (λ tree. tree ≡ kept) }
-    ensures fits { IfOk result (FitsWith (source_view source.now)) }
-    ensures refused { let kept = kept_at skipped.now (source_place source.now) (source_view source.now) (crate_view krate.now) in
-        IfErr result (IsTooLarge (source_view source.now) kept) }
+    ensures fits { OnOk result (TreeFits skipped.now place (Some (crate_view krate.now)) (Some (source_syntax source.now))) }
+    ensures refused { let krate = Some (crate_view krate.now) in
+        IfErr result (TreePasses skipped.now place krate (Some (source_syntax source.now))) }
 {
     match source {
-        Source::File { file, syntax } => {
-            lower_syntax(alloc, syntax, file.0 == krate.root.0, krate, skipped)
+        Source::File { syntax, .. } => {
+            lower_syntax(alloc, syntax, is_root(krate, place), krate, skipped)
         }
         Source::Block { syntax, .. } => lower_block(alloc, syntax, krate, skipped),
     }
 }
 
-fn lower_row(
-    alloc: Global,
-    krate: &CrateData,
-    skipped: &[Name],
-    source: &Source,
-    number: u64,
-) -> Result<Row, LowerError>
-    ensures row { IfOk result (λ row. row ≡ brought_to number skipped.now source.now krate.now) }
-    ensures fits { IfOk result (λ row. FitsWith (source_view source.now) row.tree) }
-    ensures refused { let fresh = brought_to number skipped.now source.now krate.now in
-        IfErr result (IsTooLarge (source_view source.now) fresh.tree) }
-{
-    let tree = lower_source(alloc, krate, skipped, source)?;
-    Ok(Row {
-        tree,
-        changed: number,
-    })
-}
-
 /// What is set at a place, if anything is, lowered for one crate: the empty tree where nothing is.
-pub fn lower_present(
+pub fn lower_row(
     alloc: Global,
     krate: &CrateData,
     skipped: &[Name],
+    place: Place,
     source: Option<&Source>,
     number: u64,
 ) -> Result<Row, LowerError>
-    ensures row { let fresh = fresh_at number skipped.now (crate_view krate.now) (option_copied source.entry) in
-        IfOk result (λ row. row ≡ fresh) }
-    ensures fits { OnOk result (SourceFits skipped.now (crate_view krate.now) (option_copied source.entry)) }
-    ensures refused { IfErr result (SourcePasses skipped.now (crate_view krate.now) (option_copied source.entry)) }
+    ensures row { let syntax = option_map source_syntax (option_copied source.entry) in
+        IfOk result (λ row. row ≡ fresh_row number skipped.now place (Some (crate_view krate.now)) syntax) }
+    ensures fits { let syntax = option_map source_syntax (option_copied source.entry) in
+        OnOk result (TreeFits skipped.now place (Some (crate_view krate.now)) syntax) }
+    ensures refused { let syntax = option_map source_syntax (option_copied source.entry) in
+        IfErr result (TreePasses skipped.now place (Some (crate_view krate.now)) syntax) }
 {
     match source {
-        Some(source) => lower_row(alloc, krate, skipped, source, number),
+        Some(source) => {
+            let tree = lower_source(alloc, krate, skipped, place, source)?;
+            Ok(Row {
+                tree,
+                changed: number,
+            })
+        }
         None => Ok(Row {
             tree: ItemTree::empty(alloc),
             changed: number,
@@ -137,14 +139,17 @@ pub fn lower_all(
     source: &Source,
     number: u64,
 ) -> Result<Vec<Row>, LowerError>
-    ensures rows { IfOk result (λ rows. rows.items ≡ map (brought_to number skipped.now source.now) crates.now) }
-    ensures fits { IfOk result (λ rows. All (λ row. FitsWith (source_view source.now) row.tree) rows.items) }
-    ensures refused { let passes = SyntaxPasses (map crate_view crates.now) skipped.now (source_place source.now) in
-        IfErr result (passes (source_view source.now)) }
+    ensures rows { let fresh = brought number skipped.now (source_place source.now) (source_syntax source.now) in
+        IfOk result (λ rows. rows.items ≡ map (λ krate. fresh (crate_view krate)) crates.now) }
+    ensures fits { let crates = map crate_view crates.now in
+        OnOk result (CratesFit crates skipped.now (source_place source.now) (source_syntax source.now)) }
+    ensures refused { let crates = map crate_view crates.now in
+        IfErr result (UnlessMemory (CratesPass crates skipped.now (source_place source.now) (source_syntax source.now))) }
 {
+    let place = source.place();
     let mut rows = Vec::with_capacity(alloc, crates.len())?;
     for krate in crates {
-        let row = lower_row(alloc, krate, skipped, source, number)?;
+        let row = lower_row(alloc, krate, skipped, place, Some(source), number)?;
         rows.push(row)?;
     }
     Ok(rows)

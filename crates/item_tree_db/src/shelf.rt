@@ -1,15 +1,17 @@
 //! The entries of places, in their order.
-ghost use Rattle.std.specs.Prelude.{◌≡◌, [], length, map, Some, None, option_copied, IfOk, IfErr, IfSome, OnOk, OnErr};
-ghost use Rattle.std.specs.List.{AllByRecursion};
+ghost use Rattle.std.specs.Prelude.{◌≡◌, ◌≤◌, [], length, map, slice_get, Some, option_map, option_and_then, option_copied, IfOk, IfErr, IfSome, OnOk, OnErr};
 ghost use Rattle.item_tree.specs.CrateView.{crate_view};
-ghost use Rattle.item_tree_db.specs.State.{find};
-ghost use Rattle.item_tree_db.specs.Settled.{settled, cleared};
-ghost use Rattle.item_tree_db.specs.Slots.{AreOwn, IsRising, set_at, removed, row_in, recast, recast_found, recast_all};
-ghost use Rattle.item_tree_db.specs.Lowering.{fresh_of, SlotFits, SlotsPass};
-ghost use Rattle.item_tree_db.specs.Walk.{HasFew, all_changes, late};
+ghost use Rattle.item_tree_db.specs.declared.place.Place.{Place};
+ghost use Rattle.item_tree_db.specs.Inner.Settled.{settled};
+ghost use Rattle.item_tree_db.specs.Inner.Shelf.{placed_at, source_in, HasPut, set_to, removed, recast, recast_each, fresh_of, IsInOrder};
+ghost use Rattle.item_tree_db.specs.Inner.Sizes.{PlacesFit, PlacesPass};
+ghost use Rattle.item_tree_db.specs.Refusal.{UnlessMemory};
+ghost use Rattle.item_tree_db.specs.Inner.Source.{source_place};
+ghost use Rattle.item_tree_db.specs.State.{crate_limit};
+ghost use Rattle.item_tree_db.specs.Inner.Walk.{all_changes, late};
 
 use crate::place::Place;
-use crate::rows::{Row, clear, lower_present, settle, settle_first, settle_row};
+use crate::rows::{Row, clear, lower_row, settle, settle_first, settle_row};
 use crate::since::ChangedSince;
 use crate::source::Source;
 use hir_input::Name;
@@ -18,38 +20,44 @@ use std::alloc::Global;
 use std::collections::BTreeMap;
 use std::marker::Model;
 
-/// What a place has: its present syntax, and a tree and a change number for each crate.
+/// What a place has: what is set at it, and a tree and a change number for each crate.
 #[derive(Drop)]
-pub struct Entry<S> {
-    syntax: Option<S>,
+pub struct Entry {
+    source: Option<Source>,
     rows: Vec<Row>,
 }
 
-impl<S> Model for Entry<S> {
-    ghost use Rattle.item_tree_db.specs.Slots.{Placed};
-    ghost use Rattle.item_tree_db.specs.Codes.{placed_code};
+impl Model for Entry {
+    ghost use Rattle.item_tree_db.specs.Inner.Shelf.{Shelved};
+    ghost use Rattle.item_tree_db.specs.Inner.Codes.{placed_code};
 
-    ghost Value = { Placed S };
+    ghost Value = { Shelved };
 
-    ghost coded = { placed_code S.code };
+    ghost coded = { placed_code };
 
-    ghost view = { λ a. record { syntax = a.syntax; rows = a.rows.items } };
+    ghost view = { λ a. record { source = a.source; rows = a.rows.items } };
 }
 
-impl<S> Entry<S> {
-    fn new(syntax: S, rows: Vec<Row>) -> Self
-        ensures { result ≡ record { syntax = Some syntax; rows = rows.items } }
+impl Entry {
+    fn new(source: Source, rows: Vec<Row>) -> Entry
+        ensures { result ≡ record { source = Some source; rows = rows.items } }
     {
         Entry {
-            syntax: Some(syntax),
+            source: Some(source),
             rows,
         }
     }
 
-    pub fn syntax(&self) -> Option<&S>
-        ensures { option_copied result ≡ self.now.syntax }
+    pub fn source(&self) -> Option<&Source>
+        ensures { option_copied result ≡ self.now.source }
     {
-        self.syntax.as_ref()
+        self.source.as_ref()
+    }
+
+    pub fn row(&self, index: usize) -> Option<&Row>
+        ensures { option_copied result ≡ slice_get self.now.rows index }
+    {
+        self.rows.get(index)
     }
 
     pub fn rows(&self) -> &[Row]
@@ -57,14 +65,12 @@ impl<S> Entry<S> {
     {
         &self.rows
     }
-}
 
-impl<S: Drop> Entry<S> {
-    fn set(&mut self, syntax: S, fresh: Vec<Row>, number: u64)
+    fn set(&mut self, source: Source, fresh: Vec<Row>, number: u64)
         requires { length fresh.items ≡ length self.old.rows }
-        ensures { self.new ≡ record { syntax = Some syntax; rows = settled number self.old.rows fresh.items } }
+        ensures { self.new ≡ record { source = Some source; rows = settled number self.old.rows fresh.items } }
     {
-        self.syntax = Some(syntax);
+        self.source = Some(source);
         settle(&mut self.rows, fresh, number);
     }
 
@@ -76,142 +82,131 @@ impl<S: Drop> Entry<S> {
         }
     }
 
-    fn into_syntax(self) -> Option<S>
-        ensures { result ≡ self.syntax }
+    fn into_source(self) -> Option<Source>
+        ensures { result ≡ self.source }
     {
-        self.syntax
+        self.source
     }
 
     fn remove(&mut self, alloc: Global, number: u64)
-        ensures { self.new ≡ record { syntax = None; rows = cleared number self.old.rows } }
+        ensures { self.new ≡ removed number self.old }
     {
-        self.syntax = None;
+        self.source = None;
         clear(&mut self.rows, alloc, number);
     }
 }
 
 /// Entries by place.
 #[derive(Drop)]
-pub struct Shelf<S> {
-    slots: BTreeMap<Place, Entry<S>>,
+pub struct Shelf {
+    entries: BTreeMap<Place, Entry>,
 }
 
-impl<S> Model for Shelf<S> {
-    ghost use Rattle.std.specs.Prelude.{List};
-    ghost use Rattle.item_tree_db.specs.declared.place.Place.{Place};
-    ghost use Rattle.item_tree_db.specs.Slots.{Placed, IsRising};
-    ghost use Rattle.item_tree_db.specs.Codes.{slots_code};
+impl Model for Shelf {
+    ghost use Rattle.item_tree_db.specs.Inner.Shelf.{Places};
+    ghost use Rattle.item_tree_db.specs.Inner.Codes.{places_code};
 
-    ghost Value = { List (Place × Placed S) };
+    ghost Value = { Places };
 
-    ghost coded = { slots_code S.code };
+    ghost coded = { places_code };
 
-    ghost view = { λ a. a.slots.entries };
-
-    ghost invariant = { λ a. IsRising a.slots.entries };
+    ghost view = { λ a. a.entries.entries };
 }
 
-impl<S> Shelf<S> {
-    pub fn new(alloc: Global) -> Self
+impl Shelf {
+    pub fn new(alloc: Global) -> Shelf
         ensures { result ≡ [] }
     {
         Shelf {
-            slots: BTreeMap::new(alloc),
+            entries: BTreeMap::new(alloc),
         }
     }
 
-    #[tactic(auto, using(crate::proofs::Mapped::found))]
-    pub fn get(&self, place: Place) -> Option<&Entry<S>>
-        ensures { option_copied result ≡ find self.now place }
+    /// What is set at a place.
+    pub fn source(&self, place: Place) -> Option<&Source>
+        ensures { option_copied result ≡ source_in (placed_at self.now place) }
     {
-        self.slots.get(&place)
-    }
-
-    pub fn row(&self, place: Place, index: usize) -> Option<&Row>
-        ensures { option_copied result ≡ row_in self.now place index }
-    {
-        match self.get(place) {
-            Some(entry) => entry.rows().get(index),
+        match self.entries.get(&place) {
+            Some(entry) => entry.source(),
             None => None,
         }
     }
-}
 
-impl<S: Drop> Shelf<S> {
-    /// Sets the syntax of a place, with what it brings to each crate. All growth comes before the first change.
+    /// A crate's row of a place that was ever set.
+    pub fn row(&self, place: Place, index: usize) -> Option<&Row>
+        ensures { option_copied result
+            ≡ option_and_then (λ placed. slice_get placed.rows index) (placed_at self.now place) }
+    {
+        match self.entries.get(&place) {
+            Some(entry) => entry.row(index),
+            None => None,
+        }
+    }
+
+    /// Sets a place, with what that brings to each crate. All growth comes before the first change.
     pub fn set(
         &mut self,
         alloc: Global,
-        place: Place,
-        syntax: S,
+        source: Source,
         mut fresh: Vec<Row>,
         start: u64,
         number: u64,
-    ) -> Result<(), S>
-        requires { IfSome (find self.old place) (λ entry. length fresh.items ≡ length entry.rows) }
-        ensures ok { OnOk result (self.new ≡ set_at start number self.old place syntax fresh.items) }
+    ) -> Result<(), Source>
+        requires { IfSome (placed_at self.old (source_place source))
+            (λ placed. length fresh.items ≡ length placed.rows) }
+        ensures ok { let place = source_place source in
+            OnOk result (HasPut place (Some (set_to start number source fresh.items (placed_at self.old place))) self.old self.new) }
         ensures err { OnErr result (self.new ≡ self.old) }
-        ensures returned { IfErr result (λ back. back ≡ syntax) }
+        ensures returned { IfErr result (λ back. back ≡ source) }
     {
-        match self.slots.get_mut(&place) {
+        let place = source.place();
+        match self.entries.get_mut(&place) {
             Some(entry) => {
-                entry.set(syntax, fresh, number);
+                entry.set(source, fresh, number);
                 Ok(())
             }
             None => {
                 settle_first(&mut fresh, alloc, start, number);
-                match self.slots.insert(place, Entry::new(syntax, fresh)) {
+                match self.entries.insert(place, Entry::new(source, fresh)) {
                     Ok(_) => Ok(()),
                     Err(failed) => {
                         let (_, entry) = failed.value;
-                        Err(entry.into_syntax().unwrap())
+                        Err(entry.into_source().unwrap())
                     }
                 }
             }
         }
     }
 
-    /// Removes the syntax of a place. Takes no memory.
+    /// Removes what is set at a place. Takes no memory.
     pub fn remove(&mut self, alloc: Global, place: Place, number: u64)
-        ensures { self.new ≡ removed number self.old place (find self.old place) }
+        ensures { HasPut place (option_map (removed number) (placed_at self.old place)) self.old self.new }
     {
-        let Some(entry) = self.slots.get_mut(&place) else {
-            return;
-        };
-        entry.remove(alloc, number);
+        if let Some(entry) = self.entries.get_mut(&place) {
+            entry.remove(alloc, number);
+        }
     }
 
     // Brings one crate another tree of a place, if it is there.
     fn recast_at(&mut self, place: Place, index: usize, fresh: &mut Row, number: u64)
-        ensures { self.new ≡ recast_found number index self.old (place, fresh.old) (find self.old place) }
+        ensures { HasPut place (option_map (recast number index fresh.old) (placed_at self.old place)) self.old self.new }
     {
-        let Some(entry) = self.slots.get_mut(&place) else {
-            return;
-        };
-        entry.recast(index, fresh, number);
+        if let Some(entry) = self.entries.get_mut(&place) {
+            entry.recast(index, fresh, number);
+        }
     }
 
     /// Brings one crate other trees. An equal tree stays, with its number. Takes no memory.
     pub fn recast(&mut self, index: usize, fresh: Vec<(Place, Row)>, number: u64)
-        ensures { self.new ≡ recast_all number index self.old fresh.items }
+        ensures { (place : Place) →
+            placed_at self.new place ≡ recast_each number index fresh.items place (placed_at self.old place) }
     {
         for (place, mut row) in fresh {
             self.recast_at(place, index, &mut row, number);
         }
     }
-}
 
-impl Shelf<Source> {
-    /// The change numbers above a bound.
-    pub fn late(&self, above: u64) -> ChangedSince<'_>
-        requires { HasFew self.now }
-        ensures value { result ≡ late above (all_changes self.now) }
-        ensures rises { IsRising self.now }
-    {
-        ChangedSince::new(self.slots.iter(), above)
-    }
-
-    /// The present syntax of each place lowered for one crate, under its own options.
+    /// What is set at each place lowered for one crate, under its own options.
     pub fn lower_for(
         &self,
         alloc: Global,
@@ -219,18 +214,26 @@ impl Shelf<Source> {
         skipped: &[Name],
         number: u64,
     ) -> Result<Vec<(Place, Row)>, LowerError>
-        requires { AreOwn self.now }
-        ensures fresh { let rows = map (fresh_of number skipped.now (crate_view krate.now)) self.now in
-            IfOk result (λ fresh. fresh.items ≡ rows) }
-        ensures fits { OnOk result (AllByRecursion (SlotFits skipped.now (crate_view krate.now)) self.now) }
-        ensures refused { IfErr result (SlotsPass skipped.now (crate_view krate.now) self.now) }
-        ensures rises { IsRising self.now }
+        ensures fresh { let fresh = fresh_of number skipped.now (Some (crate_view krate.now)) in
+            IfOk result (λ rows. rows.items ≡ map (λ e. (e.0, fresh e.0 e.1)) self.now) }
+        ensures fits { OnOk result (PlacesFit skipped.now (Some (crate_view krate.now)) self.now) }
+        ensures refused { IfErr result (UnlessMemory (PlacesPass skipped.now (Some (crate_view krate.now)) self.now)) }
+        ensures in_order { IsInOrder self.now }
     {
-        let mut fresh = Vec::with_capacity(alloc, self.slots.len())?;
-        for (place, entry) in &self.slots {
-            let row = lower_present(alloc, krate, skipped, entry.syntax(), number)?;
+        let mut fresh = Vec::with_capacity(alloc, self.entries.len())?;
+        for (place, entry) in &self.entries {
+            let row = lower_row(alloc, krate, skipped, *place, entry.source(), number)?;
             fresh.push((*place, row))?;
         }
         Ok(fresh)
+    }
+
+    /// The change numbers above a bound.
+    pub fn late(&self, above: u64) -> ChangedSince<'_>
+        requires { (place : Place) → IfSome (placed_at self.now place) (λ placed. length placed.rows ≤ crate_limit) }
+        ensures value { result ≡ late above (all_changes self.now) }
+        ensures in_order { IsInOrder self.now }
+    {
+        ChangedSince::new(self.entries.iter(), above)
     }
 }

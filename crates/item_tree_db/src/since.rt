@@ -2,15 +2,14 @@
 use crate::place::Place;
 use crate::rows::Row;
 use crate::shelf::Entry;
-use crate::source::Source;
 use hir_input::{Crate, HirFileId};
 use std::collections::btree_map::Iter;
 use std::marker::Model;
 
-/// What changed since a number: places and crates with their change numbers, in order.
+/// What changed since a number: places and crates with their change numbers, in order. rust-analyzer has no such type.
 #[derive(Drop)]
 pub struct ChangedSince<'a> {
-    slots: Iter<'a, Place, Entry<Source>>,
+    slots: Iter<'a, Place, Entry>,
     // Of the place at hand: its rows, and the crate that is next.
     place: Place,
     rows: &'a [Row],
@@ -22,7 +21,7 @@ impl<'a> Model for ChangedSince<'a> {
     ghost use Rattle.std.specs.Prelude.{List, length, ◌≤◌};
     ghost use Rattle.item_tree_db.specs.Since.{Change};
     ghost use Rattle.item_tree_db.specs.State.{crate_limit};
-    ghost use Rattle.item_tree_db.specs.Walk.{HasFew, left};
+    ghost use Rattle.item_tree_db.specs.Inner.Walk.{HasFew, left};
 
     ghost Value = { List Change };
 
@@ -33,10 +32,10 @@ impl<'a> Model for ChangedSince<'a> {
 
 impl<'a> ChangedSince<'a> {
     ghost use Rattle.std.specs.Prelude.{◌≡◌};
-    ghost use Rattle.item_tree_db.specs.Walk.{HasFew, all_changes, late};
+    ghost use Rattle.item_tree_db.specs.Inner.Walk.{HasFew, all_changes, late};
 
     /// The change numbers above a bound.
-    pub(crate) fn new(slots: Iter<'a, Place, Entry<Source>>, above: u64) -> Self
+    pub(crate) fn new(slots: Iter<'a, Place, Entry>, above: u64) -> Self
         requires { HasFew slots }
         ensures { result ≡ late above (all_changes slots.entry) }
     {

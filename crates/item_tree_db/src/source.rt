@@ -1,6 +1,6 @@
 //! The syntax of a place, as the table keeps it.
 ghost use Rattle.std.specs.Prelude.{◌≡◌};
-ghost use Rattle.item_tree_db.specs.Source.{source_place, edit_of};
+ghost use Rattle.item_tree_db.specs.Inner.Source.{source_place, edit_of};
 
 use crate::edit::Edit;
 use crate::place::Place;

@@ -1,7 +1,7 @@
 //! Ids of trees.
 ghost use Rattle.std.specs.Prelude.{◌≡◌, is_some};
 ghost use Rattle.item_tree_db.specs.State.{IsKnown, unfolding_at};
-ghost use Rattle.item_tree_db.specs.TreeIds.{place_of};
+ghost use Rattle.item_tree_db.specs.TreeIds.{tree_place};
 
 use crate::place::Place;
 use crate::sources::Sources;
@@ -51,10 +51,10 @@ impl TreeId {
     }
 
     /// The tree in a crate: the empty one where nothing is set or the syntax is `Error`. rust-analyzer's
-    /// `TreeId::item_tree`.
+    /// `TreeId::item_tree`. The caller shows `sources.knows(krate)`.
     pub fn item_tree<'db>(&self, sources: &'db Sources, krate: Crate) -> &'db ItemTree
         requires { IsKnown sources.now krate }
-        ensures { result.now ≡ unfolding_at sources.now (place_of self.now) krate.0 }
+        ensures { result.now ≡ unfolding_at sources.now (tree_place self.now) krate.0 }
     {
         match self.block {
             Some(block) => sources.tree(Place::Block(block), krate),

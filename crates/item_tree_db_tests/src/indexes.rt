@@ -1,4 +1,4 @@
-//! An index that is refreshed over edits: where it finds a name, and how many items each refresh reads.
+//! An index that is refreshed over edits: where it finds a name, and how many entries the trees have that changed.
 use crate::table::{Answer, OTHER, are_set, make, set_file, table};
 use decl_index::DeclIndex;
 use hir_input::Name;

@@ -1,17 +1,24 @@
-use Rattle.std.proofs.Common.{List, sym, subst}
+use Rattle.std.proofs.Common.{◌++◌, List, sym, ap, subst, ◌∙◌, append_assoc, append-nil}
 use Rattle.item_tree_db.specs.Since.{Change, IsSince}
-use Rattle.decl_index.proofs.Trees.{ReadUpTo, one_more, all_read}
+use Rattle.decl_index.specs.declared.entry.Entry.{Entry}
+use Rattle.decl_index.specs.Entries.{entries_at, entries_of}
 use Rattle.decl_index.proofs.index.read_since.Goals as goal
 
 pub loop-place-preserved : goal.loop-place-preserved
-loop-place-preserved c = one_more c.args.sources.now (c.in-Some.place, c.in-Some.krate, c.in-Some.field-0-2) c.into_iter-place-iterator.result c.loop-place.place-iterator c.next.new.self c.args.fresh.now.items c.loop-place.fresh.items c.read_tree.new.fresh.items c.in-Some.ensures.steps c.in_ok-read_tree.ensures.read c.in_ok-read_tree.ensures.items c.loop-place.invariant
+loop-place-preserved c =
+    let s = c.args.sources.now in
+    let left = entries_of s c.next.new.self in
+    ap (λ (xs : List Entry). xs ++ left) c.in_ok-read_tree.ensures ∙ append_assoc c.loop-place.fresh.items (entries_at s c.in-Some.place c.in-Some.krate) left
+    ∙ ap (λ (cs : List Change). c.loop-place.fresh.items ++ entries_of s cs) (sym c.in-Some.ensures.steps)
+    ∙ c.loop-place.invariant
 
 pub returns : goal.returns
 returns c =
     let s = c.args.sources.now in
-    let all = c.into_iter-place-iterator.result in
-    let old = c.args.fresh.now.items in
-    let new = c.loop-place.fresh.items in
-    let whole = subst (λ (rest : List Change). ReadUpTo s all rest old new) c.in-None.ensures.steps.0 c.loop-place.invariant in
-    let since = subst (IsSince s c.args.since) (sym c.into_iter-place-iterator.ensures.into_iter_gives) c.changed_since-place-items.ensures.since in
-    all_read s c.args.since all old new since c.changed_since-place-items.ensures.grounded whole
+    let fresh = c.loop-place.fresh.items in
+    record {
+      changes = c.into_iter-place-iterator.result;
+      since = subst (IsSince s c.args.since) (sym c.into_iter-place-iterator.ensures.into_iter_gives) c.changed_since-place-items.ensures.since;
+      grounded = c.changed_since-place-items.ensures.grounded;
+      items = sym (append-nil fresh) ∙ ap (λ (cs : List Change). fresh ++ entries_of s cs) (sym c.in-None.ensures.steps.0) ∙ c.loop-place.invariant;
+    }

@@ -1,5 +1,5 @@
 use Rattle.std.proofs.Common.{◌≡◌, ◌++◌, map, take, drop}
-use Rattle.item_tree_db.specs.Settled.{settled_row, empty_row}
+use Rattle.item_tree_db.specs.Inner.Settled.{settled_row, empty_row}
 use Rattle.item_tree_db.specs.declared.rows.Row.{Row}
 use Rattle.item_tree_db.proofs.rows.clear.Given as goal
 

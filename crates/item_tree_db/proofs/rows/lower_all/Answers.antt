@@ -1,49 +1,35 @@
-use Rattle.std.proofs.Common.{map, drop, ◌+◌, ◌∙◌, ap, List, ◌++◌}
-use Rattle.std.proofs.lemmas.List.Elements.{All-push}
+use Rattle.std.proofs.Common.{◌≡◌, inr, map, drop, ◌+◌, ◌∙◌, sym, ap, subst, List, Option, Some, ◌++◌}
 use Rattle.std.proofs.lemmas.Result.{err_from_is_err_and}
-use Rattle.item_tree.specs.Size.{FitsWith}
 use Rattle.item_tree.specs.declared.crate_data.CrateData.{CrateData}
+use Rattle.item_tree.specs.CrateView.{CrateView, crate_view}
+use Rattle.item_tree_db.specs.declared.place.Place.{Place}
 use Rattle.item_tree_db.specs.declared.rows.Row.{Row}
-use Rattle.item_tree_db.specs.Settled.{brought_to}
-use Rattle.item_tree_db.specs.Source.{source_place, source_view}
-use Rattle.item_tree_db.proofs.Lowered.{one_more, passed_at}
+use Rattle.item_tree_db.specs.Refusal.{TreeFits, TreePasses}
+use Rattle.item_tree_db.specs.Inner.Settled.{brought, fresh_row}
+use Rattle.item_tree_db.specs.Inner.Source.{source_place, source_syntax}
+use Rattle.item_tree_db.proofs.Crates.{crate_at, one_more, fits_next}
 use Rattle.item_tree_db.proofs.rows.lower_all.Goals as goal
 
 pub returns-in_err-row-clause-refused : goal.returns-in_err-row-clause-refused
 returns-in_err-row-clause-refused c =
+    let x = c.krate-item.result in
+    let at = crate_at c.args.crates.now c.loop-krate.krate-index x c.krate-item.is c.loop-krate-test.true in
+    let own = subst (λ (p : Place). TreePasses c.args.skipped.now p (Some (crate_view x)) (Some (source_syntax c.args.source.now)) c.in_err-row.field-0.0) c.place-place.ensures c.in_err-row.ensures.refused in
     let p = err_from_is_err_and c.from_residual-in_err-row.result c.from_residual-in_err-row.ensures.1 in
-    rw (p.1, p.2) (passed_at c.args.crates.now c.args.skipped.now (source_place c.args.source.now) (source_view c.args.source.now) c.loop-krate.krate-index c.krate-item.result c.in_err-row.field-0.0 c.krate-item.is c.loop-krate-test.true c.in_err-row.ensures.refused)
+    rw (p.1, p.2) (inr (c.loop-krate.krate-index, subst (λ (k : Option CrateView). TreePasses c.args.skipped.now (source_place c.args.source.now) k (Some (source_syntax c.args.source.now)) c.in_err-row.field-0.0) (sym at) own))
 
 pub loop-krate-preserved : goal.loop-krate-preserved
 loop-krate-preserved c =
-    let f : CrateData → Row = brought_to c.args.number c.args.skipped.now c.args.source.now in
+    let names = c.args.skipped.now in
+    let place = source_place c.args.source.now in
+    let syntax = source_syntax c.args.source.now in
+    let x = c.krate-item.result in
+    let f : CrateData → Row = λ krate. brought c.args.number names place syntax (crate_view krate) in
+    let row : c.in_ok-row.row ≡ f x = c.in_ok-row.ensures.row ∙ ap (λ (p : Place). fresh_row c.args.number names p (Some (crate_view x)) (Some syntax)) c.place-place.ensures in
+    let fits = subst (λ (p : Place). TreeFits names p (Some (crate_view x)) (Some syntax)) c.place-place.ensures c.in_ok-row.ensures.fits in
     record {
       rows = ap (λ (rows : List Row). rows ++ map f (drop (c.loop-krate.krate-index + 1) c.args.crates.now)) c.in_ok-push.ensures.items
-          ∙ one_more f c.loop-krate.rows.items c.args.crates.now c.loop-krate.krate-index c.krate-item.result c.in_ok-row.row c.krate-item.is c.in_ok-row.ensures.row c.loop-krate-test.true
+          ∙ one_more f c.loop-krate.rows.items c.args.crates.now c.loop-krate.krate-index x c.in_ok-row.row c.krate-item.is row c.loop-krate-test.true
           ∙ c.loop-krate.invariant.rows;
-      fits = rw c.in_ok-push.ensures.items (All-push (λ (row : Row). FitsWith (source_view c.args.source.now) row.tree) c.loop-krate.rows.items c.in_ok-row.row c.loop-krate.invariant.fits c.in_ok-row.ensures.fits);
+      fits = λ rest. c.loop-krate.invariant.fits (fits_next names place syntax c.args.crates.now c.loop-krate.krate-index x c.krate-item.is c.loop-krate-test.true fits rest);
     }
-
-pub returns-in_err-rows-clause-rows : goal.returns-in_err-rows-clause-rows
-returns-in_err-rows-clause-rows c = let p = err_from_is_err_and c.from_residual.result c.from_residual.ensures.1 in rw p.1 tt
-
-pub returns-in_err-rows-clause-fits : goal.returns-in_err-rows-clause-fits
-returns-in_err-rows-clause-fits c = let p = err_from_is_err_and c.from_residual.result c.from_residual.ensures.1 in rw p.1 tt
-
-pub returns-in_err-rows-clause-refused : goal.returns-in_err-rows-clause-refused
-returns-in_err-rows-clause-refused c = let p = err_from_is_err_and c.from_residual.result c.from_residual.ensures.1 in rw (p.1, p.2) tt
-
-pub returns-in_err-row-clause-rows : goal.returns-in_err-row-clause-rows
-returns-in_err-row-clause-rows c = let p = err_from_is_err_and c.from_residual-in_err-row.result c.from_residual-in_err-row.ensures.1 in rw p.1 tt
-
-pub returns-in_err-row-clause-fits : goal.returns-in_err-row-clause-fits
-returns-in_err-row-clause-fits c = let p = err_from_is_err_and c.from_residual-in_err-row.result c.from_residual-in_err-row.ensures.1 in rw p.1 tt
-
-pub returns-in_err-push-clause-rows : goal.returns-in_err-push-clause-rows
-returns-in_err-push-clause-rows c = let p = err_from_is_err_and c.from_residual-in_err-push.result c.from_residual-in_err-push.ensures.1 in rw p.1 tt
-
-pub returns-in_err-push-clause-fits : goal.returns-in_err-push-clause-fits
-returns-in_err-push-clause-fits c = let p = err_from_is_err_and c.from_residual-in_err-push.result c.from_residual-in_err-push.ensures.1 in rw p.1 tt
-
-pub returns-in_err-push-clause-refused : goal.returns-in_err-push-clause-refused
-returns-in_err-push-clause-refused c = let p = err_from_is_err_and c.from_residual-in_err-push.result c.from_residual-in_err-push.ensures.1 in rw (p.1, p.2) tt

@@ -8,8 +8,7 @@ new_listing : (c : goal.After-drop-fresh-2) → IsListing c.args.sources.now c.r
 new_listing c =
     let s = c.args.sources.now in
     let behind = subst (λ (index : IndexView). IsBehind index s) (sym c.self.view_is) c.requires in
-    let replaced = c.in_ok-replace.ensures in
-    refreshed s c.self.inside.number c.self.inside.entries.items c.unwrap_or-since.result c.new-fresh.result.items c.read_since.new.fresh.items c.replace.new.entries.items c.unwrap_or-since.ensures c.new-fresh.ensures.items behind c.self.invariant c.in_ok-read_since.ensures replaced.moved replaced.sorted
+    refreshed s c.self.inside.number c.self.inside.entries.items c.unwrap_or-since.result c.in_ok-fresh.fresh.items c.replace.new.entries.items c.unwrap_or-since.ensures behind c.self.invariant c.in_ok-fresh.ensures c.in_ok-replace.ensures.moved c.in_ok-replace.ensures.sorted
 
 pub invariant_of-self-2 : goal.invariant_of-self-2
 invariant_of-self-2 c = (new_listing c).in_order
@@ -20,5 +19,4 @@ returns-clause-index c = record { number = ap Some c.number.ensures; listing = n
 pub returns-clause-behind : goal.returns-clause-behind
 returns-clause-behind c =
     let s = c.args.sources.now in
-    let entries = c.replace.new.entries.items in
-    subst (λ (n : ℕ). AreAsOf n entries s) (sym c.number.ensures) (behind_index s (Some s.number, entries) c.in_ok-read_since.ensures.grounded.started (record { number = refl; listing = new_listing c }))
+    subst (λ (n : ℕ). AreAsOf n c.replace.new.entries.items s) (sym c.number.ensures) (behind_index s (Some s.number, c.replace.new.entries.items) c.in_ok-fresh.ensures.grounded.started (record { number = refl; listing = new_listing c }))

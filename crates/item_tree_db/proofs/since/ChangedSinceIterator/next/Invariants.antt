@@ -1,7 +1,7 @@
 use Rattle.std.proofs.Common.{◌≡◌, length, ◌+◌, ◌-◌, ◌≤◌}
 use Rattle.item_tree_db.specs.State.{crate_limit}
-use Rattle.item_tree_db.specs.Walk.{HasFew, left}
-use Rattle.item_tree_db.proofs.Walks.{steps}
+use Rattle.item_tree_db.specs.Inner.Walk.{HasFew, left}
+use Rattle.item_tree_db.proofs.Shelves.{steps}
 use Rattle.item_tree_db.proofs.since.ChangedSinceIterator.next.Given as goal
 
 abbrev pub invariant-loop-self : goal.invariant-loop-self

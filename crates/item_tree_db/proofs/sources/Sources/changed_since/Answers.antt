@@ -1,7 +1,23 @@
-use Rattle.std.proofs.Common.{subst}
-use Rattle.item_tree_db.specs.Since.{IsGrounded}
-use Rattle.item_tree_db.proofs.Histories.{grounded}
+use Rattle.std.proofs.Common.{ℕ, ◌≤◌, List, max, subst, ap, sym, ◌∙◌}
+use Rattle.std.proofs.lemmas.List.{length-map}
+use Rattle.item_tree.specs.CrateView.{crate_view}
+use Rattle.item_tree_db.specs.Since.{Change, IsGrounded, IsSince}
+use Rattle.item_tree_db.specs.State.{State, crate_limit}
+use Rattle.item_tree_db.specs.Inner.Table.{table_from}
+use Rattle.item_tree_db.specs.Inner.Walk.{all_changes, late}
+use Rattle.item_tree_db.proofs.Changes.{since_is, few_rows}
+use Rattle.item_tree_db.proofs.Steps.{grounded}
 use Rattle.item_tree_db.proofs.sources.Sources.changed_since.Goals as goal
 
+pub late-requires : goal.late-requires
+late-requires c = let i = c.self.inside in few_rows (table_from i.crates.items i.skipped.items i.start i.number i.places) c.self.invariant.sound (subst (λ (m : ℕ). m ≤ crate_limit) (sym (length-map i.crates.items crate_view)) c.self.invariant.few)
+
+pub returns-clause-since : goal.returns-clause-since
+returns-clause-since c =
+    let i = c.self.inside in
+    let is = c.late.ensures.value ∙ ap (λ (m : ℕ). late m (all_changes i.places)) c.max.ensures in
+    let since = since_is (table_from i.crates.items i.skipped.items i.start i.number i.places) c.self.invariant.sound c.late.ensures.in_order c.args.n in
+    subst (λ (l : List Change). IsSince c.args.self.now c.args.n l) (sym is) (subst (λ (s : State). IsSince s c.args.n (late (max c.args.n i.start) (all_changes i.places))) c.self.view_is since)
+
 pub returns-clause-grounded : goal.returns-clause-grounded
-returns-clause-grounded c = subst IsGrounded c.self.view_is (grounded c.self.inside.store c.self.invariant)
+returns-clause-grounded c = let i = c.self.inside in subst IsGrounded c.self.view_is (grounded (table_from i.crates.items i.skipped.items i.start i.number i.places) c.self.invariant.sound)

@@ -1,21 +1,30 @@
-use Rattle.std.proofs.Common.{[], OnOk, subst}
-use Rattle.item_tree_db.specs.State.{State}
+use Rattle.std.proofs.Common.{[], ◌∷◌, sym, subst}
 use Rattle.item_tree_db.specs.Edits.{edit_view}
-use Rattle.item_tree_db.specs.Refusal.{FitsAfter}
-use Rattle.item_tree_db.proofs.Outcomes.{settled_one}
+use Rattle.item_tree_db.specs.History.{IsFooting}
+use Rattle.item_tree_db.specs.State.{State}
+use Rattle.item_tree_db.specs.Inner.Table.{table_from}
+use Rattle.item_tree_db.proofs.BodyTexts.{ignores_bodies}
+use Rattle.item_tree_db.proofs.Histories.{after_none}
+use Rattle.item_tree_db.proofs.Steps.{footing_of}
 use Rattle.item_tree_db.proofs.sources.Sources.edit.Goals as goal
 
-pub invariant_of-self : goal.invariant_of-self
-invariant_of-self c = (settled_one c.self.inside.store c.edit.new.self c.args.self.now (edit_view c.args.edit) c.edit.result c.self.view_is c.self.invariant c.edit.ensures.ok c.edit.ensures.err).sound
+pub returns-then-self-clause-footing : goal.returns-then-self-clause-footing
+returns-then-self-clause-footing c =
+    let i = c.self.inside in
+    let old = c.args.self.now in
+    footing_of (table_from i.crates.items i.skipped.items i.start i.number i.places) c.self.invariant.sound old old [] c.self.view_is (after_none old)
 
-pub returns-clause-ok : goal.returns-clause-ok
-returns-clause-ok c = (settled_one c.self.inside.store c.edit.new.self c.args.self.now (edit_view c.args.edit) c.edit.result c.self.view_is c.self.invariant c.edit.ensures.ok c.edit.ensures.err).ok
-
-pub returns-clause-bodies : goal.returns-clause-bodies
-returns-clause-bodies c = (settled_one c.self.inside.store c.edit.new.self c.args.self.now (edit_view c.args.edit) c.edit.result c.self.view_is c.self.invariant c.edit.ensures.ok c.edit.ensures.err).bodies
-
-pub returns-clause-fits : goal.returns-clause-fits
-returns-clause-fits c = subst (λ (s : State). OnOk c.edit.result (FitsAfter s [] (edit_view c.args.edit))) c.self.view_is c.edit.ensures.fits
+pub returns-in_err-make-clause-footing : goal.returns-in_err-make-clause-footing
+returns-in_err-make-clause-footing c =
+    let i = c.self.inside in
+    let old = c.args.self.now in
+    let same = footing_of (table_from i.crates.items i.skipped.items i.start i.number i.places) c.self.invariant.sound old old [] c.self.view_is (after_none old) in
+    subst (λ (s : State). IsFooting old s) (sym c.in_err-make.ensures.err) same
 
 pub returns-clause-footing : goal.returns-clause-footing
-returns-clause-footing c = (settled_one c.self.inside.store c.edit.new.self c.args.self.now (edit_view c.args.edit) c.edit.result c.self.view_is c.self.invariant c.edit.ensures.ok c.edit.ensures.err).footing
+returns-clause-footing c =
+    let i = c.self-2.inside in
+    footing_of (table_from i.crates.items i.skipped.items i.start i.number i.places) c.self-2.invariant.sound c.args.self.now c.make.new.self (edit_view c.args.edit ∷ []) c.self-2.view_is c.in_ok-make.ensures.ok
+
+pub returns-clause-bodies : goal.returns-clause-bodies
+returns-clause-bodies c = ignores_bodies c.args.self.now c.make.new.self (edit_view c.args.edit ∷ []) c.in_ok-make.ensures.ok

@@ -1,0 +1,7 @@
+use Rattle.std.proofs.Common.{◌≡◌, ◌++◌, take}
+use Rattle.std.specs.List.{flat_map}
+use Rattle.decl_index.specs.Entries.{entries_by}
+use Rattle.decl_index.proofs.index.read_items.Given as goal
+
+abbrev pub invariant-loop-id : goal.invariant-loop-id
+invariant-loop-id l = l.fresh.items ≡ l.initial.fresh.items ++ flat_map (entries_by l.tree l.place l.krate) (take l.id-index l.ids)
