@@ -11,7 +11,7 @@ use Rattle.item_tree.specs.Shown.{StandFor, IsLeaf, IsParent}
 use Rattle.item_tree.proofs.Lookup.{leaf_kind-map}
 use Rattle.item_tree.proofs.Walking.{flat_map_of_id, leaf_of_id, parent_of_id}
 use Rattle.item_tree_request.specs.ImportLines.{use_lines, leaf_lines, node_lines, import_lines}
-use Rattle.item_tree_request.specs.ImportsByIds.{lines_at}
+use Rattle.item_tree_request.specs.Inner.ImportsByIds.{import_lines_at}
 
 abbrev pub is_use : {V : Type 0} → Leaf V → Bool
 is_use (use_item v t) = true
@@ -33,7 +33,7 @@ module _ (reserved : List (List ℕ)) (u : Unfolding) where
   flat_map-nodes empty = refl
   flat_map-nodes (more n f) = ap (λ lines. node_lines reserved n ++ lines) (flat_map-nodes f)
 
-  pub top_lines : (is : List ℕ) (f : Forest) → StandFor u is f → flat_map (lines_at reserved u) is ≡ import_lines reserved f
+  pub top_lines : (is : List ℕ) (f : Forest) → StandFor u is f → flat_map (import_lines_at reserved u) is ≡ import_lines reserved f
   top_lines is f e = flat_map_of_id u (node_lines reserved) is (nodes f) e ∙ flat_map-nodes f
 
   -- an item without items in it, by the numbers of its visibilities
@@ -49,15 +49,15 @@ module _ (reserved : List (List ℕ)) (u : Unfolding) where
   same_lines h (use_item v t) (use_item w r) e = let q : t ≡ r = cc in ap (use_lines reserved (file_id kind.Use h)) (sym q)
   same_lines h _ _ e = cc
 
-  leaf_shows : (i : ℕ) (a : FileAstId) (l : Leaf ℕ) (p : IsLeaf u i a l) → lines_at reserved u i ≡ leaf_lines reserved p.head l
+  leaf_shows : (i : ℕ) (a : FileAstId) (l : Leaf ℕ) (p : IsLeaf u i a l) → import_lines_at reserved u i ≡ leaf_lines reserved p.head l
   leaf_shows i a l p = leaf_of_id u [] (node_lines reserved) i a l p ∙ same_lines p.head l p.item p.visible
 
-  pub use_shows : {i : ℕ} {a : FileAstId} {v : ℕ} {t : Tree} → IsLeaf u i a (use_item v t) → lines_at reserved u i ≡ use_lines reserved a t
+  pub use_shows : {i : ℕ} {a : FileAstId} {v : ℕ} {t : Tree} → IsLeaf u i a (use_item v t) → import_lines_at reserved u i ≡ use_lines reserved a t
   use_shows {i} {a} {v} {t} p =
       let kinds : kind.Use ≡ leaf_kind p.item = leaf_kind-map (vis_at u.forest) (use_item v t) ∙ ap leaf_kind p.visible ∙ sym (leaf_kind-map Some p.item) in
       leaf_shows i a (use_item v t) p ∙ ap (λ b. use_lines reserved b t) (ap (λ k. file_id k p.head) kinds ∙ sym p.ast_id)
 
-  pub other_shows : {i : ℕ} {a : FileAstId} {l : Leaf ℕ} → IsLeaf u i a l → is_use l ≡ false → lines_at reserved u i ≡ []
+  pub other_shows : {i : ℕ} {a : FileAstId} {l : Leaf ℕ} → IsLeaf u i a l → is_use l ≡ false → import_lines_at reserved u i ≡ []
   other_shows {i} {a} {l} p other = leaf_shows i a l p ∙ no_lines reserved p.head l other
 
   -- a module, by the number of its visibility
@@ -65,5 +65,5 @@ module _ (reserved : List (List ℕ)) (u : Unfolding) where
   module_lines h n v (inline o w) f e = refl
   module_lines h n v extern_block f e = cc
 
-  pub module_shows : {i : ℕ} {a : FileAstId} {n : List ℕ} {v : ℕ} {is : List ℕ} → IsParent u i a (inline n v) is → lines_at reserved u i ≡ flat_map (lines_at reserved u) is
+  pub module_shows : {i : ℕ} {a : FileAstId} {n : List ℕ} {v : ℕ} {is : List ℕ} → IsParent u i a (inline n v) is → import_lines_at reserved u i ≡ flat_map (import_lines_at reserved u) is
   module_shows {i} {a} {n} {v} {is} p = parent_of_id u [] (node_lines reserved) i a (inline n v) is p ∙ module_lines p.head n v p.item p.below p.visible ∙ sym (top_lines is p.below p.children)

@@ -9,9 +9,8 @@ use Rattle.item_tree.specs.declared.fault.LowerError.TheVariants.{TooManyItems, 
 use Rattle.item_tree_db.specs.State.{State, present}
 use Rattle.item_tree_db.specs.Edits.{EditView, set, remove, set_cfg}
 use Rattle.item_tree_db.specs.History.{IsAfter, under, crate_after, present_after}
-use Rattle.item_tree_db.specs.Refusal.{last_number, FirstFit, PassesAfter, IsCause}
-use Rattle.item_tree_db.specs.Refusal as lowers
-use Rattle.item_tree_request.specs.Made.{IsMade, IsUnmade, refusal_of}
+use Rattle.item_tree_db.specs.Refusal.{last_number, FirstFit, TreePasses, PassesAfter, IsCause}
+use Rattle.item_tree_request.specs.Inner.Made.{IsMade, IsUnmade, refusal_of}
 use Rattle.item_tree_request.specs.Outputs.{NonePasses, PassesAt}
 
 pub is_made : (s u : State) (edits : List EditView) → IsAfter s edits u → u.number ≤ last_number → FirstFit s edits (length edits) → IsMade s edits u
@@ -26,31 +25,23 @@ full_at s u edits place within after full = (within, omega (arith, full, after.n
 -- what an edit passes in the table after others, it passes after those
 passes_front : (s u : State) (before : List EditView) (edit : EditView) (error : LowerError) → IsAfter s before u → PassesAfter u [] edit error → PassesAfter s before edit error
 passes_front s u before (set place syntax) error after h =
-    (h.0, subst (λ names. lowers.TreePasses names place (crate_after s before h.0) (Some syntax) error) after.skipped (subst (λ krate. lowers.TreePasses u.skipped place krate (Some syntax) error) (after.crates h.0) h.1))
+    (h.0, subst (λ names. TreePasses names place (crate_after s before h.0) (Some syntax) error) after.skipped (subst (λ krate. TreePasses u.skipped place krate (Some syntax) error) (after.crates h.0) h.1))
 passes_front s u before (remove place) error after h = absurd h
 passes_front s u before (set_cfg i options) error after h =
     let krate = under (Some options) (crate_after s before i) in (
       h.0,
-      subst (λ names. lowers.TreePasses names h.0 krate (present_after s before h.0) error) after.skipped
-          (subst (λ syntax. lowers.TreePasses u.skipped h.0 krate syntax error) (after.syntaxes h.0)
-          (subst (λ k. lowers.TreePasses u.skipped h.0 (under (Some options) k) (present u h.0) error) (after.crates i) h.1)),
+      subst (λ names. TreePasses names h.0 krate (present_after s before h.0) error) after.skipped
+          (subst (λ syntax. TreePasses u.skipped h.0 krate syntax error) (after.syntaxes h.0)
+          (subst (λ k. TreePasses u.skipped h.0 (under (Some options) k) (present u h.0) error) (after.crates i) h.1)),
     )
 
 -- the cause of a refusal that is a size
 size_of : (u : State) (edit : EditView) (error : LowerError) → error ≢ OutOfMemory → IsCause u edit (Lower error) → PassesAfter u [] edit error
-size_of u (set place syntax) TooManyItems size cause = cause
-size_of u (set place syntax) TooManyVisibilities size cause = cause
-size_of u (set place syntax) TooManyUseTrees size cause = cause
-size_of u (set place syntax) TooManyAttributes size cause = cause
-size_of u (set place syntax) TooManySupers size cause = cause
-size_of u (set place syntax) OutOfMemory size cause = absurd (size refl)
-size_of u (set_cfg i options) TooManyItems size cause = cause
-size_of u (set_cfg i options) TooManyVisibilities size cause = cause
-size_of u (set_cfg i options) TooManyUseTrees size cause = cause
-size_of u (set_cfg i options) TooManyAttributes size cause = cause
-size_of u (set_cfg i options) TooManySupers size cause = cause
-size_of u (set_cfg i options) OutOfMemory size cause = absurd (size refl)
-size_of u (remove place) error size cause = absurd cause
+size_of u (set place syntax) error size (inl e) = absurd (size e)
+size_of u (set place syntax) error size (inr h) = h
+size_of u (remove place) error size h = absurd h
+size_of u (set_cfg i options) error size (inl e) = absurd (size e)
+size_of u (set_cfg i options) error size (inr h) = h
 
 -- an edit refused in the table after others
 tree_passes : (s u : State) (edits : List EditView) (place : ℕ) (edit : EditView) (error : LowerError)

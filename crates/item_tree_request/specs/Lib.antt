@@ -1,11 +1,10 @@
 pub mod Edits
 pub mod Shows
+pub mod Named
 pub mod Requests
 pub mod ImportLines
-pub mod ImportsByIds
 pub mod Outputs
 pub mod Streams
 pub mod Runs
 pub mod Status
-pub mod Seen
-pub mod Made
+pub mod Inner

@@ -1,11 +1,11 @@
 -- What a run has read and written when it answers, over what its program writes of shows.
-use Rattle.std.specs.Prelude.{◌≡◌, ℕ, List, length, None, Option}
+use Rattle.std.specs.Prelude.{◌≡◌, ℕ, List, length, None, Option, Result, MatchResult}
 use Rattle.std.specs.Io.KnownBytes.{Keeps, Appends}
 use Rattle.serde_json.specs.Data.{Data}
 use Rattle.item_tree.specs.declared.fault.EditFault.{EditFault}
 use Rattle.item_tree_request.specs.declared.error.RunError.{RunError}
 use Rattle.item_tree_request.specs.declared.error.RunError.TheVariants.{NotJson, NotRequest, Refused, OutOfMemory, Read, Write}
-use Rattle.item_tree_request.specs.Outputs.{ShowText, table_of, IsOutput, NonePasses, PassesAt}
+use Rattle.item_tree_request.specs.Outputs.{ShowText, first_table, IsOutput, NonePasses, PassesAt}
 use Rattle.item_tree_request.specs.Requests.{Request, request, IsJsonText, IsRequest}
 use Rattle.item_tree_request.specs.Streams.{IsReadToEnd, TakesBeginning}
 
@@ -13,15 +13,15 @@ use Rattle.item_tree_request.specs.Streams.{IsReadToEnd, TakesBeginning}
 pub record IsOutputOf (IsText : ShowText) (bytes text : List ℕ) : Type 0 where
   pub asked : Request
   pub is_request : IsRequest bytes asked
-  pub none_passes : NonePasses (table_of asked) asked.edits (length asked.edits)
+  pub none_passes : NonePasses (first_table asked) asked.edits (length asked.edits)
   pub is_output : IsOutput IsText asked text
 
 -- the bytes are a request, whose edit at this place is the first that passes a size, and passes this one
 pub record IsRefusedAt (bytes : List ℕ) (place : ℕ) (cause : EditFault) : Type 0 where
   pub asked : Request
   pub is_request : IsRequest bytes asked
-  pub none_before : NonePasses (table_of asked) asked.edits place
-  pub passes : PassesAt (table_of asked) asked.edits place cause
+  pub none_before : NonePasses (first_table asked) asked.edits place
+  pub passes : PassesAt (first_table asked) asked.edits place cause
 
 -- the bytes are refused for this cause
 abbrev pub IsRefusedFor : List ℕ → RunError → Type 0
@@ -48,3 +48,7 @@ IsFailure IsText had left held holds (Refused place cause) = IsRefused had left 
 IsFailure IsText had left held holds OutOfMemory = Keeps held holds
 IsFailure IsText had left held holds Read = Keeps held holds
 IsFailure IsText had left held holds Write = (bytes : List ℕ) × (text : List ℕ) × IsReadToEnd had left bytes × IsOutputOf IsText bytes text × TakesBeginning held holds text
+
+-- what a run has read and written when it answers: all was done, or what stands after its error
+abbrev pub HasRun : {A : Type 0} → ShowText → Result A RunError → (had left : Option (List ℕ)) (held holds : Option (List ℕ)) → Type 0
+HasRun IsText result had left held holds = MatchResult result (λ _. IsDone IsText had left held holds) (IsFailure IsText had left held holds)

@@ -1,10 +1,11 @@
 -- What a run takes from its reader and gives to its writer.
-use Rattle.std.specs.Prelude.{◌≡◌, ◌<◌, ◌≤◌, ◌*◌, List, ℕ, ◌++◌, length, Option}
+use Rattle.std.specs.Prelude.{◌≡◌, ◌<◌, ◌≤◌, ◌-◌, ◌*◌, List, ℕ, ◌++◌, length, Option}
 use Rattle.std.specs.Io.KnownBytes.{Consumes, Appends, IsAtEnd}
+use Rattle.item_tree_request.specs.declared.stream.TheConstants.{ROOM, MOST_READS}
 
--- the most bytes that are read: before the read that tells the end, fewer than 16,777,216 reads give at most 4,096 each
+-- the most bytes that are read: the last read tells the end, and each before it has given at most its room
 abbrev pub most_bytes : ℕ
-most_bytes = 16777215 * 4096
+most_bytes = (MOST_READS - 1) * ROOM
 
 -- these are all the bytes that the reader had left, where those are known, and none is left; and they are no more than are read
 abbrev pub IsReadToEnd : Option (List ℕ) → Option (List ℕ) → List ℕ → Type 0

@@ -4,9 +4,10 @@ ghost use Rattle.serde_json.specs.View.{view};
 ghost use Rattle.item_tree.specs.CrateView.{crate_view};
 ghost use Rattle.item_tree_db.specs.State.{new_table};
 ghost use Rattle.item_tree_db.specs.Edits.{edit_view};
-ghost use Rattle.item_tree_request.specs.Made.{IsMade, IsServed, IsUnmade, refusal_of};
-ghost use Rattle.item_tree_request.specs.Outputs.{table_of};
-ghost use Rattle.item_tree_request.specs.Seen.{request_view, EditNamesCrate, NamesOwnCrates};
+ghost use Rattle.item_tree_request.specs.Inner.Made.{IsMade, IsServed, IsUnmade, refusal_of};
+ghost use Rattle.item_tree_request.specs.Outputs.{first_table};
+ghost use Rattle.item_tree_request.specs.Inner.RequestView.{request_view, NamesOwnCrates};
+ghost use Rattle.item_tree_request.specs.Named.{EditNamesCrate};
 ghost use Rattle.item_tree_request.specs.Requests.{IsJsonText, IsRequest};
 ghost use Rattle.item_tree_request.specs.Runs.{IsOutputOf, IsRefusedFor};
 
@@ -81,7 +82,7 @@ fn serve<T: ShowWriter>(alloc: Global, writer: &T, request: Request) -> Result<S
     requires { NamesOwnCrates request }
     ensures { MatchResult result
         (λ text. IsServed T.is_text (request_view request) (string_bytes text))
-        (IsUnmade (table_of (request_view request)) (request_view request).edits) }
+        (IsUnmade (first_table (request_view request)) (request_view request).edits) }
 {
     let Request {
         start,

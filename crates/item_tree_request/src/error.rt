@@ -1,5 +1,4 @@
 //! Why a run fails.
-ghost use Rattle.hir_input.specs.Equality.{DecidesEq, IsCopied};
 ghost use Rattle.std.specs.Prelude.{◌≡◌};
 ghost use Rattle.item_tree_request.specs.Status.{status_of};
 
@@ -9,15 +8,18 @@ use thiserror::Error;
 /// Why a run has no output. It is displayed as the line for standard error.
 #[derive(Clone, Copy, Debug, PartialEq, Eq, Error)]
 pub enum RunError {
-    /// The input is no JSON text, or one that nests deeper than 127.
+    /// The input is no JSON text in UTF-8, or one that nests deeper than 127 or holds a number past the floats
+    /// of 64 bits.
     #[error("not JSON")]
     NotJson,
-    /// The input is JSON that asks for nothing.
+    /// The input is JSON, but no request: a key is missing or of a wrong form, or names a crate that is not
+    /// there.
     #[error("not a request")]
     NotRequest,
     /// An edit passes a size: its place in the list, counted from 0, and the size.
     #[error("edit {place} refused: {cause}")]
     Refused { place: usize, cause: EditFault },
+    /// The allocator refused memory.
     #[error("out of memory")]
     OutOfMemory,
     /// A read failed, or the input has no end in sight.
@@ -42,9 +44,3 @@ impl RunError {
         }
     }
 }
-
-// `==` decides whether two errors are one, and a copy is its source: the derives are held to it by these clauses.
-fn laws()
-    ensures equal { DecidesEq ⟦<RunError as PartialEq>⟧.eq }
-    ensures copied { IsCopied ⟦<RunError as Clone>⟧.is_clone }
-{}

@@ -5,7 +5,7 @@ ghost use Rattle.item_tree.specs.Calls.{import};
 ghost use Rattle.item_tree.specs.Shown.{IsContained};
 ghost use Rattle.item_tree.specs.Walk.{AreContained, of_id};
 ghost use Rattle.item_tree_request.specs.ImportLines.{kind_word, import_line, use_lines, import_lines};
-ghost use Rattle.item_tree_request.specs.ImportsByIds.{lines_at};
+ghost use Rattle.item_tree_request.specs.Inner.ImportsByIds.{import_lines_at};
 
 use hir_input::{Edition, FileAstId, ModPath};
 use item_tree::{
@@ -93,7 +93,7 @@ fn push_all(
     text: &mut String,
 ) -> Result<(), AllocError>
     requires { AreContained tree.now ids.now }
-    ensures { let lines = flat_map (lines_at edition.now.reserved.items tree.now) ids.now in
+    ensures { let lines = flat_map (import_lines_at edition.now.reserved.items tree.now) ids.now in
         OnOk result (string_bytes text.new ≡ string_bytes text.old ++ lines) }
 {
     for id in ids {
@@ -113,7 +113,7 @@ fn push_one(
     text: &mut String,
 ) -> Result<(), AllocError>
     requires { IsContained tree.now id }
-    ensures { OnOk result (string_bytes text.new ≡ string_bytes text.old ++ lines_at edition.now.reserved.items tree.now id) }
+    ensures { OnOk result (string_bytes text.new ≡ string_bytes text.old ++ import_lines_at edition.now.reserved.items tree.now id) }
 {
     match tree.index(id) {
         ModItemKind::Use(ast_id, item) => {

@@ -1,16 +1,17 @@
 //! The request that a run reads.
 ghost use Rattle.std.specs.Prelude.{◌≡◌, ◌^◌, None, Some, IfOk, OnOk, MatchResult, codes};
 ghost use Rattle.serde_json.specs.View.{view};
-ghost use Rattle.hir_input_json.specs.Editions.{edition_at as edition_at_form, edition_view};
+ghost use Rattle.hir_input.specs.Edition.{edition_view};
+ghost use Rattle.hir_input_json.specs.Editions.{edition_at as edition_at_form};
 ghost use Rattle.hir_input_json.specs.Forms.{field as field_of, optional, whole, name as name_form, list_at as each_at};
 ghost use Rattle.hir_input_json.specs.Held.{held, without};
 ghost use Rattle.hir_input_json.specs.declared.fault.Fault.TheVariants.{WrongForm};
 ghost use Rattle.hir_input_json.specs.Reads.{Reads};
-ghost use Rattle.item_tree_request.specs.Seen.{request_view, NamesOwnCrates};
+ghost use Rattle.item_tree_request.specs.Inner.RequestView.{request_view, NamesOwnCrates};
 ghost use Rattle.item_tree_request.specs.Requests.{request as request_form, parts as parts_form};
 
-mod crates;
-mod edit;
+pub mod crates;
+pub mod edit;
 pub mod show;
 
 use crate::request::crates::crates_at;

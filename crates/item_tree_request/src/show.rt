@@ -1,9 +1,8 @@
 //! The texts of shows: pages and imports, and the lines of what changed.
-ghost use Rattle.std.specs.Prelude.{◌≡◌, ◌++◌, [], OnOk, string_bytes};
+ghost use Rattle.std.specs.Prelude.{◌≡◌, ◌++◌, OnOk, string_bytes};
 ghost use Rattle.std.specs.List.{flat_map};
 ghost use Rattle.item_tree_db.specs.State.{IsKnown};
-ghost use Rattle.item_tree_request.specs.Made.{IsAdded};
-ghost use Rattle.item_tree_request.specs.Outputs.{AreChanges, change_line, page_text, imports_text, shown, IsShown};
+ghost use Rattle.item_tree_request.specs.Outputs.{AreChanges, IsAdded, change_line, page_text, imports_text, printed, IsPrinted};
 
 use crate::imports::push_imports;
 use crate::request::show::{Show, ShowKind, TreeShow};
@@ -21,7 +20,7 @@ fn push_page(
     text: &mut String,
 ) -> Result<(), AllocError>
     requires { IsKnown sources.now show.krate }
-    ensures { OnOk result (string_bytes text.new ≡ string_bytes text.old ++ page_text edition.now.reserved.items sources.now [] show) }
+    ensures { OnOk result (string_bytes text.new ≡ string_bytes text.old ++ page_text edition.now.reserved.items sources.now show) }
 {
     let tree = sources.tree(show.place, show.krate);
     let page = tree.pretty_print(alloc, edition)?;
@@ -38,7 +37,7 @@ fn push_tree_imports(
     text: &mut String,
 ) -> Result<(), AllocError>
     requires { IsKnown sources.now show.krate }
-    ensures { OnOk result (string_bytes text.new ≡ string_bytes text.old ++ imports_text edition.now.reserved.items sources.now [] show) }
+    ensures { OnOk result (string_bytes text.new ≡ string_bytes text.old ++ imports_text edition.now.reserved.items sources.now show) }
 {
     let tree = sources.tree(show.place, show.krate);
     push_imports(alloc, tree, edition, text)
@@ -77,7 +76,7 @@ fn push_tree(
     text: &mut String,
 ) -> Result<(), AllocError>
     requires { IsKnown sources.now show.krate }
-    ensures { OnOk result (string_bytes text.new ≡ string_bytes text.old ++ shown edition.now.reserved.items sources.now [] show) }
+    ensures { OnOk result (string_bytes text.new ≡ string_bytes text.old ++ printed edition.now.reserved.items sources.now show) }
 {
     match show.kind {
         ShowKind::Page => push_page(alloc, sources, edition, show, text),
@@ -104,16 +103,17 @@ fn push_lines(changes: ChangedSince<'_>, text: &mut String) -> Result<(), AllocE
 ///
 /// The only error is want of memory.
 pub fn push_changes(sources: &Sources, since: u64, text: &mut String) -> Result<(), AllocError>
-    ensures { OnOk result (IsAdded (AreChanges sources.now [] since) (string_bytes text.old) (string_bytes text.new)) }
+    ensures { OnOk result (IsAdded (AreChanges sources.now since) (string_bytes text.old) (string_bytes text.new)) }
 {
     push_lines(sources.changed_since(since), text)
 }
 
 /// The page of a tree, or the imports of its uses.
+#[derive(Debug)]
 pub struct Pages;
 
 impl ShowWriter for Pages {
-    ghost is_text = { IsShown };
+    ghost is_text = { IsPrinted };
 
     fn push_show(
         &self,

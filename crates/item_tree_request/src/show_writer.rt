@@ -1,7 +1,6 @@
 //! What a program writes of the shows of a request.
 ghost use Rattle.std.specs.Prelude.{All, IfOk, string_bytes};
-ghost use Rattle.item_tree_request.specs.Made.{IsTextOver, Knows};
-ghost use Rattle.item_tree_request.specs.Outputs.{AreJoined};
+ghost use Rattle.item_tree_request.specs.Outputs.{AreJoined, Knows};
 
 use crate::request::show::Show;
 use hir_input::Edition;
@@ -11,10 +10,9 @@ use std::alloc::{AllocError, Global};
 /// What a program writes of shows.
 pub trait ShowWriter {
     ghost use Rattle.std.specs.Prelude.{OnOk};
-    ghost use Rattle.item_tree_request.specs.Made.{IsAdded};
-    ghost use Rattle.item_tree_request.specs.Outputs.{ShowText};
+    ghost use Rattle.item_tree_request.specs.Outputs.{IsAdded, ShowText};
 
-    // Under reserved words, after the edits of a table, this text of a show.
+    // Under reserved words, over a table, this text of a show.
     ghost is_text: { ShowText };
 
     /// Adds the text of a show over a table.
@@ -29,7 +27,7 @@ pub trait ShowWriter {
         text: &mut String,
     ) -> Result<(), AllocError>
         requires { Knows sources.now show }
-        ensures { let IsText = IsTextOver is_text edition.now.reserved.items sources.now show in
+        ensures { let IsText = is_text edition.now.reserved.items sources.now show in
             OnOk result (IsAdded IsText (string_bytes text.old) (string_bytes text.new)) };
 }
 
@@ -42,7 +40,7 @@ pub(crate) fn output_of<T: ShowWriter>(
     shows: &[Show],
 ) -> Result<String, AllocError>
     requires { All (Knows sources.now) shows.now }
-    ensures { IfOk result (λ text. AreJoined (IsTextOver T.is_text edition.now.reserved.items sources.now) shows.now (string_bytes text)) }
+    ensures { IfOk result (λ text. AreJoined (T.is_text edition.now.reserved.items sources.now) shows.now (string_bytes text)) }
 {
     let mut text = String::new(alloc);
     for show in shows {

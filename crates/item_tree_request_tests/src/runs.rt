@@ -1,8 +1,7 @@
 //! Runs over memory, with readers and writers that fail, and the texts of errors.
 use hir_input_json::Fault;
 use item_tree::{EditFault, LowerError};
-use item_tree_request::RunError;
-use item_tree_request::run::run;
+use item_tree_request::{RunError, run};
 use std::alloc::{AllocError, Global};
 use std::io::{Error, ErrorKind, Read, Write};
 use std::test::Fail;

@@ -1,7 +1,8 @@
-//! Reads edits of files as JSON from standard input, and writes the pages of their item trees and the imports of their uses.
+//! Reads a request as JSON from standard input: edits of files, blocks and cfg options, and what is to be shown.
+//! Writes the pages and the imports of item trees, and what changed.
 #![tactic(auto)]
 
-use item_tree_request::run::run;
+pub use item_tree_request::{RunError, run};
 use std::process::ExitCode;
 
 fn main(rt: HostRuntime) -> ExitCode {

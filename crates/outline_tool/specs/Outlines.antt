@@ -1,8 +1,6 @@
 -- What is written of the shows of a request.
 use Rattle.std.specs.Prelude.{◌≡◌, ℕ, List, [], ◌++◌}
-use Rattle.item_tree_db.specs.State.{State}
-use Rattle.item_tree_db.specs.Edits.{EditView}
-use Rattle.item_tree_db.specs.History.{unfolding_after}
+use Rattle.item_tree_db.specs.State.{State, unfolding_at}
 use Rattle.item_tree_request.specs.declared.request.show.Show.TheVariants.{OfTree, Changed}
 use Rattle.item_tree_request.specs.declared.request.show.TreeShow.{TreeShow}
 use Rattle.item_tree_request.specs.declared.request.show.ShowKind.{ShowKind}
@@ -10,21 +8,21 @@ use Rattle.item_tree_request.specs.declared.request.show.ShowKind.TheVariants.{P
 use Rattle.item_tree_request.specs.Outputs.{ShowText, heading, AreChanges}
 use Rattle.outline.specs.Lines.{forest_lines}
 
--- the outline of a crate's tree of a place, after the edits of a table
-unfoldable pub outline_of : State → List EditView → TreeShow → List ℕ
-outline_of s edits show = forest_lines [] (unfolding_after s edits show.place show.krate.0).forest
+-- the outline of a crate's tree of a place
+unfoldable pub outline_of : State → TreeShow → List ℕ
+outline_of u show = forest_lines [] (unfolding_at u show.place show.krate.0).forest
 
 -- of a tree the line and the outline, of a page or imports the outline alone
-abbrev pub outlined_as : ShowKind → State → List EditView → TreeShow → List ℕ
-outlined_as Page s edits show = outline_of s edits show
-outlined_as Tree s edits show = heading s edits show ++ outline_of s edits show
-outlined_as Imports s edits show = outline_of s edits show
+abbrev pub outlined_as : ShowKind → State → TreeShow → List ℕ
+outlined_as Page u show = outline_of u show
+outlined_as Tree u show = heading u show ++ outline_of u show
+outlined_as Imports u show = outline_of u show
 
 -- the text of a show of a tree
-abbrev pub outlined : State → List EditView → TreeShow → List ℕ
-outlined s edits show = outlined_as show.kind s edits show
+abbrev pub outlined : State → TreeShow → List ℕ
+outlined u show = outlined_as show.kind u show
 
 -- the text of a show: that of a tree, or the lines of all changes since a number; reserved words do not matter to it
 abbrev pub IsOutlined : ShowText
-IsOutlined reserved s edits (OfTree show) text = text ≡ outlined s edits show
-IsOutlined reserved s edits (Changed since) text = AreChanges s edits since text
+IsOutlined reserved u (OfTree show) text = text ≡ outlined u show
+IsOutlined reserved u (Changed since) text = AreChanges u since text

@@ -1,4 +1,5 @@
-//! Reads edits of files as JSON from standard input, and writes the outlines of their item trees.
+//! Reads a request as JSON from standard input: edits of files, blocks and cfg options, and what is to be shown.
+//! Writes the outlines of item trees, and what changed.
 #![tactic(auto)]
 
 mod outlines;

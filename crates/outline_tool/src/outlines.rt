@@ -1,5 +1,5 @@
 //! The texts of shows: outlines, and the lines of what changed.
-ghost use Rattle.std.specs.Prelude.{◌≡◌, ◌++◌, [], OnOk, string_bytes};
+ghost use Rattle.std.specs.Prelude.{◌≡◌, ◌++◌, OnOk, string_bytes};
 ghost use Rattle.item_tree_db.specs.State.{IsKnown};
 ghost use Rattle.outline_tool.specs.Outlines.{outline_of, outlined, IsOutlined};
 
@@ -8,23 +8,20 @@ use item_tree_db::Sources;
 use item_tree_request::request::show::{Show, ShowKind, TreeShow};
 use item_tree_request::show::{push_change, push_changes};
 use item_tree_request::show_writer::ShowWriter;
-use outline::outline_text;
+use outline::push_outline;
 use std::alloc::{AllocError, Global};
 
 #[tactic(auto, unfolding(crate::specs::Outlines::outline_of))]
-fn push_outline(
+fn push_tree_outline(
     alloc: Global,
     sources: &Sources,
     show: TreeShow,
     text: &mut String,
 ) -> Result<(), AllocError>
     requires { IsKnown sources.now show.krate }
-    ensures { OnOk result (string_bytes text.new ≡ string_bytes text.old ++ outline_of sources.now [] show) }
+    ensures { OnOk result (string_bytes text.new ≡ string_bytes text.old ++ outline_of sources.now show) }
 {
-    let tree = sources.tree(show.place, show.krate);
-    let outline = outline_text(alloc, tree)?;
-    text.push_str(&outline)?;
-    Ok(())
+    push_outline(alloc, sources.tree(show.place, show.krate), text)
 }
 
 fn push_tree(
@@ -34,15 +31,15 @@ fn push_tree(
     text: &mut String,
 ) -> Result<(), AllocError>
     requires { IsKnown sources.now show.krate }
-    ensures { OnOk result (string_bytes text.new ≡ string_bytes text.old ++ outlined sources.now [] show) }
+    ensures { OnOk result (string_bytes text.new ≡ string_bytes text.old ++ outlined sources.now show) }
 {
     match show.kind {
         ShowKind::Tree => {
             let changed = sources.changed(show.place, show.krate);
             push_change(show.place, show.krate, changed, text)?;
-            push_outline(alloc, sources, show, text)
+            push_tree_outline(alloc, sources, show, text)
         }
-        ShowKind::Page | ShowKind::Imports => push_outline(alloc, sources, show, text),
+        ShowKind::Page | ShowKind::Imports => push_tree_outline(alloc, sources, show, text),
     }
 }
 

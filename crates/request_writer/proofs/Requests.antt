@@ -46,8 +46,8 @@ year_law E2024 = refl
 edition_law : (e : EditionView) → IfSome (edition_data e) (Holds edition e)
 unfolding field
 edition_law e =
-    mapped (each_data name_data e.reserved) (edition_object (year_number e.year)) (HoldEach name e.reserved) (Holds edition e) (each_law name_data name name_law e.reserved)
-    (λ ds h. record { there = refl; reads = rw (year_law e.year, h.reads) refl; exact = rw h.exact refl })
+    mapped (each_data name_data e.1) (edition_object (year_number e.0)) (HoldEach name e.1) (Holds edition e) (each_law name_data name name_law e.1)
+    (λ ds h. record { there = refl; reads = rw (year_law e.0, h.reads) refl; exact = rw h.exact refl })
 
 -- ---- crates
 

@@ -44,7 +44,7 @@ request_object krate edition edits shows skipped =
 -- ---- parts
 
 abbrev pub edition_data : EditionView → Option Data
-edition_data e = option_map (edition_object (year_number e.year)) (each_data name_data e.reserved)
+edition_data e = option_map (edition_object (year_number e.0)) (each_data name_data e.1)
 
 -- a file set to its syntax
 abbrev pub edit_data : Bool → ℕ → SyntaxView → Option Data

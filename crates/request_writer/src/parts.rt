@@ -4,7 +4,7 @@ ghost use Rattle.serde_json.specs.Data.{number, unsigned};
 ghost use Rattle.serde_json.specs.View.{view, items_view};
 ghost use Rattle.hir_input.specs.Cfg.{atom_view};
 ghost use Rattle.hir_input.specs.Syntax.{syntax_view};
-ghost use Rattle.hir_input_json.specs.Editions.{edition_view};
+ghost use Rattle.hir_input.specs.Edition.{edition_view};
 ghost use Rattle.hir_input_writer.specs.Cfgs.{atom_data};
 ghost use Rattle.hir_input_writer.specs.Literals.{year_number as number_of_year};
 ghost use Rattle.hir_input_writer.specs.Parts.{each_data, name_data, whole_data};

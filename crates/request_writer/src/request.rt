@@ -3,7 +3,7 @@ ghost use Rattle.std.specs.Prelude.{◌≡◌, IfErr, IfOk, MatchResult, Some, m
 ghost use Rattle.serde_json.specs.View.{view, items_view};
 ghost use Rattle.hir_input.specs.Cfg.{atom_view};
 ghost use Rattle.hir_input.specs.Syntax.{syntax_view};
-ghost use Rattle.hir_input_json.specs.Editions.{edition_view};
+ghost use Rattle.hir_input.specs.Edition.{edition_view};
 ghost use Rattle.hir_input_writer.specs.Writes.{Writes};
 ghost use Rattle.item_tree_request.specs.Requests.{IsJsonText, IsRequest, request as request_form};
 ghost use Rattle.request_writer.specs.Meant.{meant};

@@ -2,7 +2,7 @@
 use Rattle.std.specs.Prelude.{◌≡◌, ◌⊎◌, ℕ, List, [], ◌∷◌, map}
 use Rattle.hir_input.specs.Cfg.{atom_view}
 use Rattle.hir_input.specs.Syntax.{SyntaxView, syntax_view}
-use Rattle.hir_input_json.specs.Editions.{edition_view}
+use Rattle.hir_input.specs.Edition.{edition_view}
 use Rattle.item_tree_request.specs.declared.request.show.Show.{Show}
 use Rattle.item_tree_request.specs.Requests.{IsRequest, Request}
 use Rattle.request_writer.specs.declared.request.RequestOptions.{RequestOptions}

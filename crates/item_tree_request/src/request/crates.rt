@@ -37,12 +37,12 @@ fn crates_of(alloc: Global, items: Vec<Value>) -> Result<Vec<CrateData>, Fault>
     Ok(crates)
 }
 
-// Takes the crates out.
-pub(crate) fn crates_at(
-    alloc: Global,
-    members: &mut Map<String, Value>,
-) -> Result<Vec<CrateData>, Fault>
-    ensures reads { Reads (λ v. map crate_view v.items) result (each_at crate_form (codes "crates") (held members.old)) }
+/// Takes the crates out, none where they are absent.
+///
+/// `WrongForm` comes only where they have no reading (`Edits.crate_data`).
+pub fn crates_at(alloc: Global, members: &mut Map<String, Value>) -> Result<Vec<CrateData>, Fault>
+    ensures reads { Reads (λ v. map crate_view v.items) result
+        (each_at crate_form (codes "crates") (held members.old)) }
     ensures left { OnOk result (held members.new ≡ without (codes "crates") (held members.old)) }
 {
     let items = list_at(alloc, members, "crates")?;

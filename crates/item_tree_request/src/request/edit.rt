@@ -5,7 +5,7 @@ ghost use Rattle.hir_input.specs.Syntax.{syntax_view};
 ghost use Rattle.item_tree_db.specs.Edits.{edit_view};
 ghost use Rattle.item_tree.specs.CrateView.{crate_view};
 ghost use Rattle.item_tree_request.specs.Edits.{edit as edit_form, set_cfg_edit};
-ghost use Rattle.item_tree_request.specs.Seen.{EditNamesCrate};
+ghost use Rattle.item_tree_request.specs.Named.{EditNamesCrate};
 ghost use Rattle.hir_input_json.specs.Forms.{each, field as field_of, required, list_at as each_at};
 ghost use Rattle.hir_input_json.specs.Syntaxes.{syntax as syntax_form};
 ghost use Rattle.hir_input_json.specs.Held.{held, without};
@@ -45,35 +45,44 @@ fn set_cfg_of(alloc: Global, members: &mut Map<String, Value>, count: usize) -> 
     })
 }
 
-// An edit of a table of this many crates.
+/// An edit of a table of this many crates, whose members are taken out.
+///
+/// `WrongForm` comes only where it has no reading (`Edits.edit`).
+pub fn edit_in(alloc: Global, members: &mut Map<String, Value>, count: usize) -> Result<Edit, Fault>
+    ensures reads { Reads edit_view result (edit_form count (held members.old)) }
+    ensures known { IfOk result (EditNamesCrate count) }
+{
+    match word_at(members, "edit")? {
+        "set_file" => {
+            let file = HirFileId(id_at(members, "file")?);
+            let syntax = syntax_at(alloc, members)?;
+            Ok(Edit::SetFile { file, syntax })
+        }
+        "remove_file" => {
+            let file = HirFileId(id_at(members, "file")?);
+            Ok(Edit::RemoveFile { file })
+        }
+        "set_block" => {
+            let block = BlockId(id_at(members, "block")?);
+            let syntax = block_in(alloc, members)?;
+            Ok(Edit::SetBlock { block, syntax })
+        }
+        "remove_block" => {
+            let block = BlockId(id_at(members, "block")?);
+            Ok(Edit::RemoveBlock { block })
+        }
+        "set_cfg" => set_cfg_of(alloc, members, count),
+        _ => Err(Fault::WrongForm),
+    }
+}
+
 #[tactic(auto, using(hir_input_json::proofs::Held::no_field))]
 fn edit_of(alloc: Global, value: Value, count: usize) -> Result<Edit, Fault>
     ensures reads { Reads edit_view result (edit_form count (view value)) }
     ensures known { IfOk result (EditNamesCrate count) }
 {
     let mut members = members_of(value)?;
-    match word_at(&members, "edit")? {
-        "set_file" => {
-            let file = HirFileId(id_at(&members, "file")?);
-            let syntax = syntax_at(alloc, &mut members)?;
-            Ok(Edit::SetFile { file, syntax })
-        }
-        "remove_file" => {
-            let file = HirFileId(id_at(&members, "file")?);
-            Ok(Edit::RemoveFile { file })
-        }
-        "set_block" => {
-            let block = BlockId(id_at(&members, "block")?);
-            let syntax = block_in(alloc, &mut members)?;
-            Ok(Edit::SetBlock { block, syntax })
-        }
-        "remove_block" => {
-            let block = BlockId(id_at(&members, "block")?);
-            Ok(Edit::RemoveBlock { block })
-        }
-        "set_cfg" => set_cfg_of(alloc, &mut members, count),
-        _ => Err(Fault::WrongForm),
-    }
+    edit_in(alloc, &mut members, count)
 }
 
 fn edits_of(alloc: Global, items: Vec<Value>, count: usize) -> Result<Vec<Edit>, Fault>

@@ -5,7 +5,7 @@ ghost use Rattle.item_tree.specs.CrateView.{crate_view};
 ghost use Rattle.hir_input_json.specs.Forms.{each, field as field_of, required, whole, list_at as each_at};
 ghost use Rattle.hir_input_json.specs.Held.{held};
 ghost use Rattle.hir_input_json.specs.Reads.{Reads};
-ghost use Rattle.item_tree_request.specs.Seen.{NamesCrate};
+ghost use Rattle.item_tree_request.specs.Named.{NamesCrate};
 ghost use Rattle.item_tree_request.specs.Shows.{show as show_form, place_at as place_form, tree_show};
 
 use hir_input::{BlockId, Crate, HirFileId};
@@ -17,7 +17,7 @@ use serde_json::{Map, Value};
 use std::alloc::Global;
 
 /// What is shown of a tree.
-#[derive(Clone, Copy)]
+#[derive(Clone, Copy, Debug, PartialEq, Eq)]
 pub enum ShowKind {
     /// Its page.
     Page,
@@ -28,7 +28,7 @@ pub enum ShowKind {
 }
 
 /// A crate's tree of a place that is to be shown.
-#[derive(Clone, Copy)]
+#[derive(Clone, Copy, Debug, PartialEq, Eq)]
 pub struct TreeShow {
     pub kind: ShowKind,
     pub krate: Crate,
@@ -36,7 +36,7 @@ pub struct TreeShow {
 }
 
 /// What is to be shown.
-#[derive(Clone, Copy)]
+#[derive(Clone, Copy, Debug, PartialEq, Eq)]
 pub enum Show {
     OfTree(TreeShow),
     /// What changed since a number.
@@ -76,23 +76,32 @@ fn since_at(members: &Map<String, Value>) -> Result<u64, Fault>
     since.as_u64().ok_or(Fault::WrongForm)
 }
 
-// A show after edits of a table of this many crates.
+/// A show after edits of a table of this many crates, of these members.
+///
+/// `WrongForm` comes only where it has no reading (`Shows.show`).
+pub fn show_in(members: &Map<String, Value>, count: usize) -> Result<Show, Fault>
+    ensures reads { Reads (λ show. show) result (show_form count (held members.now)) }
+    ensures known { IfOk result (NamesCrate count) }
+{
+    match word_at(members, "show")? {
+        "page" => tree_show_of(members, ShowKind::Page, count),
+        "tree" => tree_show_of(members, ShowKind::Tree, count),
+        "imports" => tree_show_of(members, ShowKind::Imports, count),
+        "changed" => {
+            let since = since_at(members)?;
+            Ok(Show::Changed { since })
+        }
+        _ => Err(Fault::WrongForm),
+    }
+}
+
 #[tactic(auto, using(hir_input_json::proofs::Held::no_field))]
 fn show_of(value: Value, count: usize) -> Result<Show, Fault>
     ensures reads { Reads (λ show. show) result (show_form count (view value)) }
     ensures known { IfOk result (NamesCrate count) }
 {
     let members = members_of(value)?;
-    match word_at(&members, "show")? {
-        "page" => tree_show_of(&members, ShowKind::Page, count),
-        "tree" => tree_show_of(&members, ShowKind::Tree, count),
-        "imports" => tree_show_of(&members, ShowKind::Imports, count),
-        "changed" => {
-            let since = since_at(&members)?;
-            Ok(Show::Changed { since })
-        }
-        _ => Err(Fault::WrongForm),
-    }
+    show_in(&members, count)
 }
 
 fn shows_of(alloc: Global, items: Vec<Value>, count: usize) -> Result<Vec<Show>, Fault>

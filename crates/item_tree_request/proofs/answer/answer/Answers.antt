@@ -1,4 +1,4 @@
-use Rattle.item_tree_request.specs.Seen.{request_view}
+use Rattle.item_tree_request.specs.Inner.RequestView.{request_view}
 use Rattle.item_tree_request.proofs.Served.{answered}
 use Rattle.item_tree_request.proofs.answer.answer.Goals as goal
 

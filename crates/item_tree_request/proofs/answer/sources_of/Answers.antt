@@ -3,7 +3,7 @@ use Rattle.std.specs.List.{AllByRecursion}
 use Rattle.std.proofs.lemmas.List.{length-map}
 use Rattle.item_tree_db.specs.Edits.{edit_view}
 use Rattle.item_tree_db.specs.Refusal.{last_number, NamesKnown, FirstFit}
-use Rattle.item_tree_request.specs.Made.{IsMade, IsUnmade, refusal_of}
+use Rattle.item_tree_request.specs.Inner.Made.{IsMade, IsUnmade, refusal_of}
 use Rattle.item_tree_request.proofs.Made.{is_made, is_unmade, found_in_map}
 use Rattle.item_tree_request.proofs.Outputs.{edits_known}
 use Rattle.item_tree_request.proofs.answer.sources_of.Goals as goal

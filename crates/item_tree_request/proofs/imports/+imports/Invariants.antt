@@ -1,7 +1,7 @@
 use Rattle.std.proofs.Common.{◌≡◌, ◌+◌, ◌*◌, ◌++◌, take, string_bytes}
 use Rattle.std.specs.List.{sum_by, flat_map}
 use Rattle.item_tree.specs.Walk.{count_at}
-use Rattle.item_tree_request.specs.ImportsByIds.{lines_at}
+use Rattle.item_tree_request.specs.Inner.ImportsByIds.{import_lines_at}
 use Rattle.item_tree_request.proofs.imports.+imports.Given as goal
 
 abbrev pub decreases-push_all : goal.decreases-push_all
@@ -11,4 +11,4 @@ abbrev pub decreases-push_one : goal.decreases-push_one
 decreases-push_one l = 2 * count_at l.tree.now l.id
 
 abbrev pub invariant-push_all-loop-id : goal.invariant-push_all-loop-id
-invariant-push_all-loop-id l = string_bytes l.text ≡ string_bytes l.initial.text ++ flat_map (lines_at l.edition.reserved.items l.tree) (take l.id-index l.ids)
+invariant-push_all-loop-id l = string_bytes l.text ≡ string_bytes l.initial.text ++ flat_map (import_lines_at l.edition.reserved.items l.tree) (take l.id-index l.ids)

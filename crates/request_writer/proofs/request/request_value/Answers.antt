@@ -3,7 +3,7 @@ use Rattle.std.proofs.Common.{map}
 use Rattle.serde_json.specs.View.{view}
 use Rattle.hir_input.specs.Cfg.{atom_view}
 use Rattle.hir_input.specs.Syntax.{syntax_view}
-use Rattle.hir_input_json.specs.Editions.{edition_view}
+use Rattle.hir_input.specs.Edition.{edition_view}
 use Rattle.request_writer.proofs.Requests.{request_again}
 use Rattle.request_writer.proofs.request.request_value.Goals as goal
 

@@ -5,7 +5,7 @@ use Rattle.item_tree_db.specs.Edits.{edit_view}
 use Rattle.hir_input_json.specs.Forms.{each}
 use Rattle.hir_input_json.proofs.Lists.{joined, joined_push}
 use Rattle.item_tree_request.specs.Edits.{edit}
-use Rattle.item_tree_request.specs.Seen.{EditNamesCrate}
+use Rattle.item_tree_request.specs.Named.{EditNamesCrate}
 use Rattle.item_tree_request.proofs.request.edit.edits_of.Goals as goal
 
 pub loop-item-preserved : goal.loop-item-preserved

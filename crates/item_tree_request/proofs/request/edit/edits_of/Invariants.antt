@@ -4,7 +4,7 @@ use Rattle.serde_json.specs.View.{items_view}
 use Rattle.item_tree_db.specs.Edits.{edit_view}
 use Rattle.hir_input_json.specs.Forms.{each}
 use Rattle.item_tree_request.specs.Edits.{edit}
-use Rattle.item_tree_request.specs.Seen.{EditNamesCrate}
+use Rattle.item_tree_request.specs.Named.{EditNamesCrate}
 use Rattle.hir_input_json.proofs.Lists.{joined}
 use Rattle.item_tree_request.proofs.request.edit.edits_of.Given as goal
 

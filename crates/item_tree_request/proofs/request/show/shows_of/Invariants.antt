@@ -3,7 +3,7 @@ use Rattle.std.proofs.Common.{◌≡◌, All}
 use Rattle.serde_json.specs.View.{items_view}
 use Rattle.hir_input_json.specs.Forms.{each}
 use Rattle.item_tree_request.specs.Shows.{show}
-use Rattle.item_tree_request.specs.Seen.{NamesCrate}
+use Rattle.item_tree_request.specs.Named.{NamesCrate}
 use Rattle.hir_input_json.proofs.Lists.{joined}
 use Rattle.item_tree_request.proofs.request.show.shows_of.Given as goal
 

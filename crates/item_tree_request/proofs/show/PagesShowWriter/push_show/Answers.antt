@@ -1,21 +1,9 @@
-use Rattle.std.proofs.Common.{[], refl}
+use Rattle.std.proofs.Common.{refl}
 use Rattle.std.proofs.lemmas.Result.{on_ok_weaker}
-use Rattle.item_tree_request.specs.declared.request.show.Show.TheVariants.{OfTree, Changed}
-use Rattle.item_tree_request.specs.Outputs.{shown}
-use Rattle.item_tree_request.proofs.Outputs.{is_shown}
+use Rattle.item_tree_request.specs.Outputs.{printed}
 use Rattle.item_tree_request.proofs.show.PagesShowWriter.push_show.Goals as goal
 
 pub returns-in-OfTree : goal.returns-in-OfTree
 returns-in-OfTree c =
-    let reserved = c.args.edition.now.reserved.items in
-    let u = c.args.sources.now in
-    let show = c.in-OfTree.show in
-    let text = shown reserved u [] show in
-    rw c.in-OfTree.is (on_ok_weaker c.push_tree.result (λ e. (text, (λ s edits after known. is_shown s u edits after reserved (OfTree show) text known refl), e)) c.push_tree.ensures)
-
-pub returns-in-Changed : goal.returns-in-Changed
-returns-in-Changed c =
-    let reserved = c.args.edition.now.reserved.items in
-    let u = c.args.sources.now in
-    let since = c.in-Changed.since in
-    rw c.in-Changed.is (on_ok_weaker c.push_changes.result (λ added. (added.0, (λ s edits after known. is_shown s u edits after reserved (Changed since) added.0 known added.1), added.2)) c.push_changes.ensures)
+    let text = printed c.args.edition.now.reserved.items c.args.sources.now c.in-OfTree.show in
+    rw c.in-OfTree.is (on_ok_weaker c.push_tree.result (λ e. (text, refl, e)) c.push_tree.ensures)

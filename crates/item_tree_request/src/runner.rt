@@ -1,7 +1,6 @@
 //! A run over a reader and a writer.
-ghost use Rattle.std.specs.Prelude.{MatchResult};
-ghost use Rattle.item_tree_request.specs.Outputs.{IsShown};
-ghost use Rattle.item_tree_request.specs.Runs.{IsDone, IsFailure};
+ghost use Rattle.item_tree_request.specs.Outputs.{AreFixed, IsPrinted};
+ghost use Rattle.item_tree_request.specs.Runs.{HasRun};
 
 use crate::answer::answer;
 use crate::error::RunError;
@@ -15,18 +14,16 @@ use std::io::{Read, Write};
 ///
 /// After any error but `Write` nothing was written, and after `Write` a beginning of the output was, but not
 /// all of it. At most 16,777,216 reads are made, each with room for 4,096 bytes, and none after one that failed:
-/// a reader that is not at its end then has failed too.
+/// a reader that is not at its end then has failed too. Of the reads the clause says that they gave no more than
+/// 16,777,215 full rooms, and nothing of a reader or a writer that does not tell its bytes.
 pub fn run_with<T: ShowWriter, R: Read, W: Write>(
     alloc: Global,
     writer: &T,
     input: &mut R,
     output: &mut W,
 ) -> Result<(), RunError>
-    ensures { MatchResult result
-        (λ _. IsDone T.is_text (R.remaining input.old) (R.remaining input.new)
-        (W.contents output.old) (W.contents output.new))
-        (IsFailure T.is_text (R.remaining input.old) (R.remaining input.new)
-        (W.contents output.old) (W.contents output.new)) }
+    ensures { HasRun T.is_text result (R.remaining input.old) (R.remaining input.new)
+        (W.contents output.old) (W.contents output.new) }
 {
     let bytes = read_to_end(alloc, input)?;
     let text = answer(alloc, writer, &bytes)?;
@@ -37,12 +34,11 @@ pub fn run_with<T: ShowWriter, R: Read, W: Write>(
 /// Reads a request in JSON up to the reader's end, makes its edits, and writes the pages and imports of its shows.
 ///
 /// Its errors are those of `run_with`.
+#[tactic(auto, using(crate::proofs::Outputs::printed_fixed))]
 pub fn run<R: Read, W: Write>(alloc: Global, input: &mut R, output: &mut W) -> Result<(), RunError>
-    ensures { MatchResult result
-        (λ _. IsDone IsShown (R.remaining input.old) (R.remaining input.new)
-        (W.contents output.old) (W.contents output.new))
-        (IsFailure IsShown (R.remaining input.old) (R.remaining input.new)
-        (W.contents output.old) (W.contents output.new)) }
+    ensures run { HasRun IsPrinted result (R.remaining input.old) (R.remaining input.new)
+        (W.contents output.old) (W.contents output.new) }
+    ensures fixed { AreFixed IsPrinted }
 {
     run_with(alloc, &Pages, input, output)
 }

@@ -1,16 +1,14 @@
 -- What making the edits of a request and serving it leads to.
-use Rattle.std.specs.Prelude.{◌≡◌, ℕ, List, ◌++◌, length}
+use Rattle.std.specs.Prelude.{ℕ, List, length}
 use Rattle.item_tree.specs.declared.fault.EditFault.{EditFault}
 use Rattle.item_tree.specs.declared.fault.EditFault.TheVariants.{Lower}
 use Rattle.item_tree.specs.declared.fault.LowerError.TheVariants as lowering
-use Rattle.item_tree_db.specs.State.{State, IsKnown}
+use Rattle.item_tree_db.specs.State.{State}
 use Rattle.item_tree_db.specs.Edits.{EditView}
 use Rattle.item_tree_db.specs.History.{IsAfter}
 use Rattle.item_tree_request.specs.declared.error.RunError.{RunError}
 use Rattle.item_tree_request.specs.declared.error.RunError.TheVariants.{NotJson, NotRequest, Refused, OutOfMemory, Read, Write}
-use Rattle.item_tree_request.specs.declared.request.show.Show.{Show}
-use Rattle.item_tree_request.specs.declared.request.show.Show.TheVariants.{OfTree, Changed}
-use Rattle.item_tree_request.specs.Outputs.{ShowText, table_of, IsOutput, NonePasses, PassesAt}
+use Rattle.item_tree_request.specs.Outputs.{ShowText, first_table, IsOutput, NonePasses, PassesAt}
 use Rattle.item_tree_request.specs.Requests.{Request}
 
 -- the edits lead from s to u, and none passes a size
@@ -20,7 +18,7 @@ pub record IsMade (s : State) (edits : List EditView) (u : State) : Type 0 where
 
 -- no edit of the request passes a size, and the text is its output
 pub record IsServed (IsText : ShowText) (q : Request) (text : List ℕ) : Type 0 where
-  pub none_passes : NonePasses (table_of q) q.edits (length q.edits)
+  pub none_passes : NonePasses (first_table q) q.edits (length q.edits)
   pub is_output : IsOutput IsText q text
 
 -- the edit at the place is the first that passes a size, or memory is wanting
@@ -36,18 +34,3 @@ IsUnmade s edits Write = ⊥
 abbrev pub refusal_of : ℕ → EditFault → RunError
 refusal_of place (Lower lowering.OutOfMemory) = OutOfMemory
 refusal_of place cause = Refused place cause
-
--- ---- shows of a table as it stands
-
--- the crate of a show of a tree is one of the table
-abbrev pub Knows : State → Show → Type 0
-Knows s (OfTree show) = IsKnown s show.krate
-Knows s (Changed since) = Unit {0}
-
--- the text is that of the show after whatever edits led to the table, from one that has its crate
-abbrev pub IsTextOver : ShowText → List (List ℕ) → State → Show → List ℕ → Type 0
-IsTextOver IsText reserved u show text = (s : State) (edits : List EditView) → IsAfter s edits u → Knows s show → IsText reserved s edits show text
-
--- such a text was added
-abbrev pub IsAdded : (List ℕ → Type 0) → (old new : List ℕ) → Type 0
-IsAdded IsText old new = (text : List ℕ) × IsText text × (new ≡ old ++ text)

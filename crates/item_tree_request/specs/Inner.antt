@@ -1,0 +1,4 @@
+-- Words that private contracts alone cite.
+pub mod RequestView
+pub mod Made
+pub mod ImportsByIds

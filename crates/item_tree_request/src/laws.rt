@@ -1,0 +1,16 @@
+//! What holds of the types here: `==` decides whether two values are one, and a copy is its source. Each derive is held to it
+//! by a clause; the functions do nothing.
+ghost use Rattle.item_tree.specs.Items.{IsByValue};
+
+use crate::error::RunError;
+use crate::request::show::{Show, ShowKind, TreeShow};
+
+fn errors()
+    ensures by_value { IsByValue ⟦<RunError as PartialEq>⟧.eq ⟦<RunError as Clone>⟧.is_clone }
+{}
+
+fn shows()
+    ensures kinds { IsByValue ⟦<ShowKind as PartialEq>⟧.eq ⟦<ShowKind as Clone>⟧.is_clone }
+    ensures of_trees { IsByValue ⟦<TreeShow as PartialEq>⟧.eq ⟦<TreeShow as Clone>⟧.is_clone }
+    ensures shows { IsByValue ⟦<Show as PartialEq>⟧.eq ⟦<Show as Clone>⟧.is_clone }
+{}
