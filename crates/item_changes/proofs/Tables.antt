@@ -16,7 +16,7 @@ use Rattle.item_rows.specs.Rows.{RowView}
 use Rattle.item_changes.specs.declared.keys.Key as code_key
 use Rattle.item_changes.specs.declared.items.Item as code_item
 use Rattle.item_changes.specs.Changes.{key, has_key, is_like, is_same, Item}
-use Rattle.item_changes.specs.Inner.{key_view, same_key, Counts, count_of, CountsOne, CountsAll, Identity, same_identity, Table, found_in, is_at, FindsAll, item_view}
+use Rattle.item_changes.specs.Inner.{key_view, same_key, Counts, count_of, CountsOne, CountsAll, Identity, same_identity, ItemTable, found_in, is_at, FindsAll, item_view}
 use Rattle.item_changes.proofs.Behind.{row_of}
 use Rattle.item_changes.proofs.Once.{key_decides, count_more}
 use Rattle.item_changes.proofs.Rests.{lent_decide, name_decides}
@@ -96,7 +96,7 @@ one_put p more i old new whole e h =
     ap (option_or (find p more)) (e ∙ sym (last_or p i old)) ∙ sym (or_assoc (find p more) (find p (i ∷ [])) old) ∙ ap (λ o. option_or o old) (sym (find-append p more (i ∷ []))) ∙ h
 
 -- what a table finds after an item is put in it
-pub item_put : (old new : Table) (k : code_key.Key) (n : ℕ) (b : Bor code_item.Item) → key_view k ≡ key (item_view b.now).row → n ≡ (item_view b.now).place
+pub item_put : (old new : ItemTable) (k : code_key.Key) (n : ℕ) (b : Bor code_item.Item) → key_view k ≡ key (item_view b.now).row → n ≡ (item_view b.now).place
     → (q : Identity) → get same_identity new q ≡ cond (same_identity (k, n) q) (Some b) (get same_identity old q) → found_in new q ≡ cond (is_at q (item_view b.now)) (Some (item_view b.now)) (found_in old q)
 item_put old new k n b e f q put = ap (option_map (λ (i : Bor code_item.Item). item_view i.now)) put ∙ at_either (same_identity (k, n) q) ∙ ap (λ t. cond t (Some (item_view b.now)) (found_in old q)) (identity_is k n q (item_view b.now) e f)
   where
@@ -105,7 +105,7 @@ item_put old new k n b e f q put = ap (option_map (λ (i : Bor code_item.Item). 
     at_either false = refl
 
 -- what is found of an item's key and place is found of the item
-pub found_same : (table : Table) (items : List code_item.Item) (i : Item) (k : code_key.Key) (n : ℕ) (r : Option (Bor code_item.Item)) → FindsAll table items → r ≡ get same_identity table (k, n) → key_view k ≡ key i.row → n ≡ i.place
+pub found_same : (table : ItemTable) (items : List code_item.Item) (i : Item) (k : code_key.Key) (n : ℕ) (r : Option (Bor code_item.Item)) → FindsAll table items → r ≡ get same_identity table (k, n) → key_view k ≡ key i.row → n ≡ i.place
     → option_map (λ (j : Bor code_item.Item). item_view j.now) r ≡ find (is_same i) (map item_view items)
 found_same table items i k n r all g e f =
     ap (option_map (λ (j : Bor code_item.Item). item_view j.now)) g ∙ all (k, n) ∙ (λ t. find (λ j. has_key (e t) j.row && f t == j.place) (map item_view items))

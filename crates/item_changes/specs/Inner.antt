@@ -132,10 +132,10 @@ Identity = code_key.Key × ℕ
 abbrev pub same_identity : Identity → Identity → Bool
 same_identity a b = same_key a.0 b.0 && a.1 == b.1
 
-abbrev pub Table : Type 0
-Table = HashMap Identity (Bor code_item.Item) (BuildHasherDefault FoldHasher)
+abbrev pub ItemTable : Type 0
+ItemTable = HashMap Identity (Bor code_item.Item) (BuildHasherDefault FoldHasher)
 
-abbrev pub found_in : Table → Identity → Option Item
+abbrev pub found_in : ItemTable → Identity → Option Item
 found_in table q = option_map (λ i. item_view i.now) (get same_identity table q)
 
 -- an item has this key and place
@@ -143,7 +143,7 @@ abbrev pub is_at : Identity → Item → Bool
 is_at q i = has_key (key_view q.0) i.row && q.1 == i.place
 
 -- the table finds each of these items
-abbrev pub FindsAll : Table → List code_item.Item → Type 0
+abbrev pub FindsAll : ItemTable → List code_item.Item → Type 0
 FindsAll table items = (q : Identity) → found_in table q ≡ find (is_at q) (map item_view items)
 
 abbrev pub Finds : code_finder.Finder → Type 0

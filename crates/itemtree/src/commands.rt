@@ -5,7 +5,8 @@ use crate::request::write_request;
 use crate::tags::write_tags;
 use clap::ArgMatches;
 use itemtree_commands::{
-    Options, changed, check, duplicates, find, imports, outline, outline_json, page, push_tags,
+    CompareError, Options, changed, check, duplicates, find, imports, outline, outline_json, page,
+    push_tags,
 };
 use source_listing::{Query, Source};
 use source_tree::SourceError;
@@ -280,7 +281,8 @@ fn compare(
             }
             Ok(1)
         }
-        Err(error) => unread(rt, new_path, error),
+        Err(CompareError::Old(error)) => unread(rt, old_path, error),
+        Err(CompareError::New(error)) => unread(rt, new_path, error),
     }
 }
 

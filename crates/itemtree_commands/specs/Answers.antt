@@ -1,5 +1,5 @@
 -- What the commands answer, from the text of a file on.
-use Rattle.std.specs.Prelude.{◌≡◌, ◌↔◌, ◌⊎◌, ℕ, Bool, IsTrue, if◌then◌else◌, Option, None, List, ◌++◌, length, string_bytes}
+use Rattle.std.specs.Prelude.{◌≡◌, ◌↔◌, ℕ, Bool, IsTrue, if◌then◌else◌, Option, None, List, ◌++◌, length, string_bytes}
 use Rattle.item_tree.specs.Page.{page}
 use Rattle.item_rows.specs.Rows.{rows}
 use Rattle.item_changes.specs.Changes.{changes}
@@ -17,6 +17,8 @@ use Rattle.source_tree.specs.Trees.{IsRefused, IsTreeOf}
 use Rattle.itemtree_commands.specs.declared.Options.{Options}
 use Rattle.itemtree_commands.specs.declared.Checked.{Checked}
 use Rattle.itemtree_commands.specs.declared.Compared.{Compared}
+use Rattle.itemtree_commands.specs.declared.CompareError.{CompareError}
+use Rattle.itemtree_commands.specs.declared.CompareError.TheVariants.{Old, New}
 
 -- the tree of a text under the options
 abbrev pub HasTree : Options → List ℕ → SourceTree → Type 0
@@ -81,5 +83,7 @@ AreCompared o old new c =
     × (string_bytes c.text ≡ change_lines o.edition.reserved.items (side old before) (side new after) (changes before.tree.forest after.tree.forest))
     × (IsTrue c.is_same ↔ (before.tree ≡ after.tree))
 
-abbrev pub HasNoTreeOfBoth : Options → List ℕ → List ℕ → SourceError → Type 0
-HasNoTreeOfBoth o old new e = HasNoTree o old e ⊎ HasNoTree o new e
+-- the text that is said to have no tree has none, and a new one is said so only where the old one has a tree
+abbrev pub IsUncompared : Options → List ℕ → List ℕ → CompareError → Type 0
+IsUncompared o old new (Old e) = HasNoTree o old e
+IsUncompared o old new (New e) = HasNoTree o new e × ((t : SourceTree) × HasTree o old t)

@@ -53,6 +53,13 @@ pub struct Compared {
     pub is_same: bool,
 }
 
+/// Why two texts have no answer: which of them has no tree, and why.
+#[derive(Debug, Drop)]
+pub enum CompareError {
+    Old(SourceError),
+    New(SourceError),
+}
+
 /// The tree of a text under the options.
 fn read(alloc: Global, text: &str, options: &Options) -> Result<SourceTree, SourceError>
     ensures tree { IfOk result (spec.HasTree options.now text.now) }
@@ -217,20 +224,27 @@ pub fn push_tags(
 /// where only bodies, comments or layout became others.
 ///
 /// Trees that differ in the order of their items or in the attributes of the file alone have no such line. Its errors are
-/// those of `source_tree`, for the old text first.
+/// those of `source_tree`: of the old text, or of the new one where the old one has a tree. Want of memory behind both is
+/// told of the new one.
 pub fn changed(
     alloc: Global,
     old: Source<'_>,
     new: Source<'_>,
     options: &Options,
-) -> Result<Compared, SourceError>
+) -> Result<Compared, CompareError>
     ensures compared { let compared = spec.AreCompared options.now (source_view old.entry) (source_view new.entry) in
         IfOk result compared }
     ensures typing { IfOk result (λ c. IsSameWhereTyped old.entry.text.now new.entry.text.now c.is_same) }
-    ensures refused { IfErr result (spec.HasNoTreeOfBoth options.now old.entry.text.now new.entry.text.now) }
+    ensures refused { IfErr result (spec.IsUncompared options.now old.entry.text.now new.entry.text.now) }
 {
-    let before = read(alloc, old.text, options)?;
-    let after = read(alloc, new.text, options)?;
+    let before = match read(alloc, old.text, options) {
+        Ok(before) => before,
+        Err(error) => return Err(CompareError::Old(error)),
+    };
+    let after = match read(alloc, new.text, options) {
+        Ok(after) => after,
+        Err(error) => return Err(CompareError::New(error)),
+    };
     let olds = Side {
         source: old,
         places: &before.places,
@@ -241,8 +255,12 @@ pub fn changed(
         places: &after.places,
         tree: &after.tree,
     };
+    let text = match source_listing::change_lines(alloc, olds, news, &options.edition) {
+        Ok(text) => text,
+        Err(error) => return Err(CompareError::New(SourceError::from(error))),
+    };
     Ok(Compared {
-        text: source_listing::change_lines(alloc, olds, news, &options.edition)?,
+        text,
         is_same: before.tree == after.tree,
     })
 }

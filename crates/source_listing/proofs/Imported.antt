@@ -1,21 +1,31 @@
 -- Imports.
-use Rattle.std.proofs.Common.{◌≡◌, ℕ, ◌<◌, List, length, map, ap, sym, ◌∙◌, subst}
+use Rattle.std.proofs.Common.{◌≡◌, ℕ, ◌<◌, ◌+◌, List, [], ◌∷◌, ◌++◌, length, map, take, ap, sym, ◌∙◌, subst, append-nil, Option}
 use Rattle.std.specs.Prelude.{All, slice_index_or}
-use Rattle.std.proofs.lemmas.List.{get_or-map, length-map}
+use Rattle.std.proofs.lemmas.List.{get_or-map, length-map, take_more}
+use Rattle.std.proofs.lemmas.Grind.{flat_map-append}
 use Rattle.std.specs.List.{flat_map}
 use Rattle.std.proofs.lemmas.List.Folds.{flat_map-map}
+use Rattle.item_tree.specs.Imports.{Import}
 use Rattle.item_tree.specs.Node.{Forest}
 use Rattle.def_collector.specs.Declarations.{declarations}
-use Rattle.def_collector.specs.Seen.{Seen, defined}
+use Rattle.def_collector.specs.DeclarationView.{DeclarationView, view_of}
 use Rattle.rust_items.specs.declared.source_file.ItemPlace.{ItemPlace}
 use Rattle.source_listing.specs.Lines.{Source}
-use Rattle.source_listing.specs.Imports.{import_lines, seen_lines}
+use Rattle.source_listing.specs.declared.finder.Spot.{Spot}
+use Rattle.source_listing.specs.Imports.{import_line, import_lines, of_seen, of_uses, seen_lines}
+use Rattle.source_listing.specs.Inner.{IsSameTreeFinder, IsTreeFinderOf, places_in, text_in}
+use Rattle.source_listing.specs.declared.uses.TreeFinder.{TreeFinder}
+
+-- what is told of what is collected is what is told of what is declared
+pub seen_of_all : {A D : Type 0} (each : (ℕ → Option Spot) → Import → List A) (see : D → DeclarationView) (text : List ℕ) (places : List ItemPlace) (ds : List D) (f : Forest)
+    → map see ds ≡ map view_of (declarations f) → flat_map (λ d. of_seen each text places (see d)) ds ≡ of_uses each text places f
+seen_of_all each see text places ds f e =
+    sym (flat_map-map (of_seen each text places) see ds) ∙ ap (flat_map (of_seen each text places)) e ∙ flat_map-map (of_seen each text places) view_of (declarations f)
 
 -- the lines of what is collected are those of what is declared
-pub lines_of_all : {D : Type 0} (see : D → Seen) (s : Source) (reserved : List (List ℕ)) (places : List ItemPlace) (ds : List D) (f : Forest)
-    → map see ds ≡ map defined (declarations f) → flat_map (λ d. seen_lines s reserved places (see d)) ds ≡ import_lines s reserved places f
-lines_of_all see s reserved places ds f e =
-    sym (flat_map-map (seen_lines s reserved places) see ds) ∙ ap (flat_map (seen_lines s reserved places)) e ∙ flat_map-map (seen_lines s reserved places) defined (declarations f)
+pub lines_of_all : {D : Type 0} (see : D → DeclarationView) (s : Source) (reserved : List (List ℕ)) (places : List ItemPlace) (ds : List D) (f : Forest)
+    → map see ds ≡ map view_of (declarations f) → flat_map (λ d. seen_lines s reserved places (see d)) ds ≡ import_lines s reserved places f
+lines_of_all see s reserved places ds f e = seen_of_all (import_line s.path reserved) see s.text places ds f e
 
 -- what is collected is contained, each by itself
 pub contained_at : {D : Type 0} (P : ℕ → Type 0) (id : D → ℕ) (ds : List D) (i : ℕ) (d : D) → All P (map id ds) → i < length ds → slice_index_or ds i d ≡ d → P (id d)
@@ -23,3 +33,21 @@ contained_at P id ds i d all l e =
     let found : P (slice_index_or (map id ds) i (id d)) = all i (id d) (rw (length-map ds id) l) in
     let same : slice_index_or (map id ds) i (id d) ≡ id d = get_or-map id ds i d (id d) l ∙ ap id e in
     subst P same found
+
+-- what is told of one more
+pub one_more_seen : {A D : Type 0} (told : D → List A) (ds : List D) (i : ℕ) (d : D) (before after : List A) → i < length ds → slice_index_or ds i d ≡ d
+    → before ≡ flat_map told (take i ds) → after ≡ before ++ told d → after ≡ flat_map told (take (i + 1) ds)
+one_more_seen told ds i d before after l g e n =
+    let more : take (i + 1) ds ≡ take i ds ++ d ∷ [] = take_more ds i d l ∙ ap (λ y. take i ds ++ y ∷ []) g in
+    n ∙ ap (λ b. b ++ told d) e ∙ ap (λ b. flat_map told (take i ds) ++ b) (sym (append-nil (told d)))
+    ∙ sym (flat_map-append told (take i ds) (d ∷ [])) ∙ ap (flat_map told) (sym more)
+
+-- ---- by what finds use trees
+
+-- what is told by the places that are found in a text is told by those of the text
+pub seen_by_finder : {A : Type 0} (each : (ℕ → Option Spot) → Import → List A) (text : List ℕ) (places : List ItemPlace) (f : TreeFinder) (d : DeclarationView) → IsTreeFinderOf text places f
+    → of_seen each (text_in f) (places_in f) d ≡ of_seen each text places d
+seen_by_finder each text places f d is = ap (λ t. of_seen each t (places_in f) d) is.0.0 ∙ ap (λ ps. of_seen each text ps d) is.0.1
+
+pub finder_same : (text : List ℕ) (places : List ItemPlace) (old new : TreeFinder) → IsSameTreeFinder old new → IsTreeFinderOf text places old → IsTreeFinderOf text places new
+finder_same text places old new same is = ((same.0.0 ∙ is.0.0, same.0.1 ∙ is.0.1), same.1 ∙ is.1)

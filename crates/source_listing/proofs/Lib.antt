@@ -1,7 +1,11 @@
+pub mod Skips
 pub mod Found
 pub mod Nested
+pub mod NoFloats
 pub mod Pushed
 pub mod Imported
 pub mod Repeats
 pub mod Printers
 pub mod Between
+pub mod Firsts
+pub mod AsMany

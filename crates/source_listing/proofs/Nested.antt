@@ -1,98 +1,25 @@
--- Objects by the ids of items, and that they hold no float.
-use Rattle.std.proofs.Common.{◌≡◌, ℕ, ◌+◌, Bool, true, false, ◌||◌, if◌then◌else◌, List, [], ◌∷◌, ◌++◌, Option, Some, None, refl, ap, sym, ◌∙◌}
+-- Objects by the ids of items.
+use Rattle.std.proofs.Common.{◌≡◌, ℕ, ◌+◌, Bool, true, false, List, [], ◌∷◌, ◌++◌, Option, Some, None, refl, ap, sym, ◌∙◌}
 use Rattle.std.specs.List.{flat_map}
 use Rattle.std.specs.Option.{option_map_or}
-use Rattle.serde_json.specs.Data.{Data, Items}
+use Rattle.serde_json.specs.Data.{Data}
 use Rattle.serde_json.specs.View.{items_of}
-use Rattle.serde_json.specs.Written.{has_float, items_have_float}
-use Rattle.item_tree.specs.declared.visibility.RawVisibility.{RawVisibility}
-use Rattle.item_tree.specs.declared.visibility.RawVisibility.TheVariants.{Module, PubSelf, PubCrate, Public}
-use Rattle.item_tree.specs.declared.visibility.VisibilityExplicitness.TheVariants.{Explicit, Implicit}
 use Rattle.item_tree.specs.Layout.{node_at}
 use Rattle.item_tree.specs.Node.{Node, leaf, parent, Forest, empty, more, nodes, Unfolding}
 use Rattle.item_tree.specs.Shown.{StandFor}
 use Rattle.item_tree.specs.Walk.{children, children_at}
 use Rattle.item_tree.proofs.Walking.{flat_map_of_id}
 use Rattle.rust_items.specs.declared.source_file.ItemPlace.{ItemPlace}
-use Rattle.source_listing.specs.declared.finder.Spot.{Spot}
 use Rattle.source_listing.specs.Lines.{Choice, Source, is_chosen}
 use Rattle.source_listing.specs.Places.{spot_of}
-use Rattle.source_listing.specs.Objects.{ItemView, item_in, name_form, visibility_form, line_form, column_form, range_form, object_form, file_form, own_objects, node_objects, forest_objects}
+use Rattle.source_listing.specs.Objects.{ItemView, item_in, object_form, own_objects, node_objects, forest_objects}
 use Rattle.hir_input.specs.declared.edition.Edition.{Edition}
 use Rattle.source_listing.specs.declared.finder.Finder.{Finder}
 use Rattle.source_listing.specs.declared.lines.Printer.{Printer}
 use Rattle.source_listing.specs.Inner.{IsPrinterOf, IsSameFinder, file_of, item_at, objects_at, places_of, reserved_of}
 use Rattle.source_listing.proofs.Printers.{file_is}
 
--- ---- no floats
-
-name_none : (o : Option (List ℕ)) → has_float (name_form o) ≡ false
-name_none None = refl
-name_none (Some name) = refl
-
-visibility_none : (reserved : List (List ℕ)) (o : Option RawVisibility) → has_float (visibility_form reserved o) ≡ false
-visibility_none reserved None = refl
-visibility_none reserved (Some Public) = refl
-visibility_none reserved (Some PubCrate) = refl
-visibility_none reserved (Some (PubSelf Explicit)) = refl
-visibility_none reserved (Some (PubSelf Implicit)) = refl
-visibility_none reserved (Some (Module path e)) = refl
-
-line_none : (o : Option Spot) → has_float (line_form o) ≡ false
-line_none None = refl
-line_none (Some spot) = refl
-
-column_none : (o : Option Spot) → has_float (column_form o) ≡ false
-column_none None = refl
-column_none (Some spot) = refl
-
-range_none : (o : Option Spot) → has_float (range_form o) ≡ false
-range_none None = refl
-range_none (Some spot) = refl
-
-object_none : (reserved : List (List ℕ)) (x : ItemView) (spot : Option Spot) (ds : Items) → items_have_float ds ≡ false → has_float (object_form reserved x spot ds) ≡ false
-object_none reserved x spot ds e = rw (e, column_none spot, line_none spot, name_none x.name, range_none spot, visibility_none reserved x.visibility) refl
-
-or_none : (a b : Bool) → a ≡ false → b ≡ false → (a || b) ≡ false
-or_none a b e f = rw (e, f) refl
-
-first_none : (a b : Bool) → (a || b) ≡ false → a ≡ false
-first_none false b e = refl
-first_none true b e = absurd (cc)
-
-second_none : (a b : Bool) → (a || b) ≡ false → b ≡ false
-second_none false b e = e
-second_none true b e = absurd (cc)
-
-both_none : (xs ys : List Data) → items_have_float (items_of xs) ≡ false → items_have_float (items_of ys) ≡ false → items_have_float (items_of (xs ++ ys)) ≡ false
-both_none [] ys e f = f
-both_none (x ∷ xs) ys e f =
-    let here = first_none (has_float x) (items_have_float (items_of xs)) e in
-    let rest = second_none (has_float x) (items_have_float (items_of xs)) e in or_none (has_float x) (items_have_float (items_of (xs ++ ys))) here (both_none xs ys rest f)
-
-one_none : (b : Bool) (d : Data) → has_float d ≡ false → items_have_float (items_of (if b then d ∷ [] else [])) ≡ false
-one_none false d e = refl
-one_none true d e = or_none (has_float d) false e refl
-
 module _ (s : Source) (reserved : List (List ℕ)) (places : List ItemPlace) (c : Choice) where
-  own_none : (level : ℕ) (x : ItemView) (ds : List Data) → items_have_float (items_of ds) ≡ false → items_have_float (items_of (own_objects s reserved places c level x ds)) ≡ false
-  own_none level x ds e =
-      one_none (is_chosen c level x.is_active) (object_form reserved x (spot_of s.text places x.id) (items_of ds)) (object_none reserved x (spot_of s.text places x.id) (items_of ds) e)
-
-  mutual
-    node_none : (level : ℕ) (a : Bool) (n : Node) → items_have_float (items_of (node_objects s reserved places c level a n)) ≡ false
-    node_none level a (leaf h l) = own_none level (item_in a (leaf h l)) [] refl
-    node_none level a (parent h t f) = own_none level (item_in a (parent h t f)) (forest_objects s reserved places c (level + 1) (item_in a (parent h t f)).is_active f) (forest_none (level + 1) (item_in a (parent h t f)).is_active f)
-
-    forest_none : (level : ℕ) (a : Bool) (f : Forest) → items_have_float (items_of (forest_objects s reserved places c level a f)) ≡ false
-    forest_none level a empty = refl
-    forest_none level a (more n f) = both_none (node_objects s reserved places c level a n) (forest_objects s reserved places c level a f) (node_none level a n) (forest_none level a f)
-
-  pub file_none : (f : Forest) → has_float (file_form s.path (items_of (forest_objects s reserved places c 0 true f))) ≡ false
-  file_none f = or_none (items_have_float (items_of (forest_objects s reserved places c 0 true f))) false (forest_none 0 true f) refl
-
-  -- ---- by the ids of items
-
   forest_is : (level : ℕ) (a : Bool) (f : Forest) → flat_map (node_objects s reserved places c level a) (nodes f) ≡ forest_objects s reserved places c level a f
   forest_is level a empty = refl
   forest_is level a (more n f) = ap (λ ds. node_objects s reserved places c level a n ++ ds) (forest_is level a f)

@@ -11,14 +11,15 @@ use Rattle.item_tree.specs.Shown.{Lent, lent_leaf, lent_parent, IsLent, StandFor
 use Rattle.item_tree.specs.Walk.{children, children_at}
 use Rattle.item_tree.proofs.Walking.{flat_map_of_id, leaf_of_id, parent_of_id}
 use Rattle.rust_items.specs.declared.source_file.ItemPlace.{ItemPlace}
-use Rattle.source_listing.specs.Lines.{Source}
-use Rattle.source_listing.specs.Repeated.{Named, leaf_named, node_named, forest_named, first_alike, line_if_any, repeat_lines}
-use Rattle.source_listing.specs.declared.lines.Printer.{Printer}
-use Rattle.source_listing.specs.Inner.{IsSameFile, file_of, own_named, lent_named, own_named_at, named_at, places_of}
-use Rattle.source_listing.proofs.Printers.{file_same}
+use Rattle.item_tree.specs.Imports.{Import, imports}
+use Rattle.item_tree.specs.Tree.{Tree}
+use Rattle.source_listing.specs.Places.{place_of}
+use Rattle.source_listing.specs.Uses.{Trees, trees_of, tree_spots, import_spot}
+use Rattle.source_listing.specs.Repeated.{Named, named_import, leaf_named, node_named, forest_named, first_alike, line_if_any, repeat_lines}
+use Rattle.source_listing.specs.Inner.{own_named, lent_named, own_named_at, named_at}
 
-module _ (reserved : List (List ℕ)) (around : Option FileAstId) where
-  named-leaf : {V W : Type 0} (f : V → W) (at : FileAstId) (l : Leaf V) → leaf_named reserved around at (leaf_map f l) ≡ leaf_named reserved around at l
+module _ (text : List ℕ) (places : List ItemPlace) (reserved : List (List ℕ)) (around : Option FileAstId) where
+  named-leaf : {V W : Type 0} (f : V → W) (at : FileAstId) (l : Leaf V) → leaf_named text places reserved around at (leaf_map f l) ≡ leaf_named text places reserved around at l
   named-leaf f at (plain k n v) = refl
   named-leaf f at (constant n v) = refl
   named-leaf f at (struct_item n v s c) = refl
@@ -34,59 +35,67 @@ module _ (reserved : List (List ℕ)) (around : Option FileAstId) where
 
   -- what is lent of an item has its imports
   pub own_lent : (u : Unfolding) (i : ℕ) (x : Lent) (at : FileAstId) → IsLent u i x → option_map node_ast (node_at u.forest i) ≡ Some at
-      → own_named_at u reserved around i ≡ lent_named reserved around at x
+      → own_named_at text places reserved u around i ≡ lent_named text places reserved around at x
   own_lent u i (lent_leaf a l) at p e =
-      leaf_of_id u [] (own_named reserved around) i a l p ∙ ap (λ a. leaf_named reserved around a p.item) (same_ast (node_at u.forest i) (leaf p.head p.item) at p.found e)
-      ∙ sym (named-leaf Some at p.item) ∙ ap (leaf_named reserved around at) (sym p.visible) ∙ named-leaf (vis_at u.forest) at l
-  own_lent u i (lent_parent a t is) at p e = parent_of_id u [] (own_named reserved around) i a t is p
+      leaf_of_id u [] (own_named text places reserved around) i a l p ∙ ap (λ a. leaf_named text places reserved around a p.item) (same_ast (node_at u.forest i) (leaf p.head p.item) at p.found e)
+      ∙ sym (named-leaf Some at p.item) ∙ ap (leaf_named text places reserved around at) (sym p.visible) ∙ named-leaf (vis_at u.forest) at l
+  own_lent u i (lent_parent a t is) at p e = parent_of_id u [] (own_named text places reserved around) i a t is p
 
-  forest_is : (f : Forest) → flat_map (node_named reserved around) (nodes f) ≡ forest_named reserved around f
+  forest_is : (f : Forest) → flat_map (node_named text places reserved around) (nodes f) ≡ forest_named text places reserved around f
   forest_is empty = refl
-  forest_is (more n f) = ap (λ xs. node_named reserved around n ++ xs) (forest_is f)
+  forest_is (more n f) = ap (λ xs. node_named text places reserved around n ++ xs) (forest_is f)
 
   -- the imports of ids that stand for a forest
-  pub ids_named : (u : Unfolding) (is : List ℕ) (f : Forest) → StandFor u is f → flat_map (named_at u reserved around) is ≡ forest_named reserved around f
-  ids_named u is f e = flat_map_of_id u (node_named reserved around) is (nodes f) e ∙ forest_is f
+  pub ids_named : (u : Unfolding) (is : List ℕ) (f : Forest) → StandFor u is f → flat_map (named_at text places reserved u around) is ≡ forest_named text places reserved around f
+  ids_named u is f e = flat_map_of_id u (node_named text places reserved around) is (nodes f) e ∙ forest_is f
 
-  node_is : (n : Node) → node_named reserved around n ≡ own_named reserved around n ++ forest_named reserved (Some (node_ast n)) (children n)
-  node_is (leaf h l) = sym (append-nil (leaf_named reserved around (node_ast (leaf h l)) l))
+  node_is : (n : Node) → node_named text places reserved around n ≡ own_named text places reserved around n ++ forest_named text places reserved (Some (node_ast n)) (children n)
+  node_is (leaf h l) = sym (append-nil (leaf_named text places reserved around (node_ast (leaf h l)) l))
   node_is (parent h t f) = refl
 
-one_named : (reserved : List (List ℕ)) (around : Option FileAstId) (u : Unfolding) (is : List ℕ) (o : Option Node) (at : FileAstId) → option_map node_ast o ≡ Some at → StandFor u is (option_map_or children o empty)
-    → option_map_or (node_named reserved around) o [] ≡ option_map_or (own_named reserved around) o [] ++ flat_map (named_at u reserved (Some at)) is
-one_named reserved around u is None at e f = absurd (cc)
-one_named reserved around u is (Some n) at e f =
+one_named : (text : List ℕ) (places : List ItemPlace) (reserved : List (List ℕ)) (around : Option FileAstId) (u : Unfolding) (is : List ℕ) (o : Option Node) (at : FileAstId) → option_map node_ast o ≡ Some at → StandFor u is (option_map_or children o empty)
+    → option_map_or (node_named text places reserved around) o [] ≡ option_map_or (own_named text places reserved around) o [] ++ flat_map (named_at text places reserved u (Some at)) is
+one_named text places reserved around u is None at e f = absurd (cc)
+one_named text places reserved around u is (Some n) at e f =
     let e : node_ast n ≡ at = cc in
-    node_is reserved around n ∙ ap (λ a. own_named reserved around n ++ forest_named reserved (Some a) (children n)) e
-    ∙ ap (λ xs. own_named reserved around n ++ xs) (sym (ids_named reserved (Some at) u is (children n) f))
+    node_is text places reserved around n ∙ ap (λ a. own_named text places reserved around n ++ forest_named text places reserved (Some a) (children n)) e
+    ∙ ap (λ xs. own_named text places reserved around n ++ xs) (sym (ids_named text places reserved (Some at) u is (children n) f))
+
+-- the imports of a use, by where its use trees stand
+pub own_use : (text text' : List ℕ) (places : List ItemPlace) (reserved : List (List ℕ)) (around : Option FileAstId) (u : Unfolding) (i : ℕ) (a at : FileAstId) (v : ℕ) (t : Tree) (trees : Option Trees) (xs : List Import) (before after : List Named)
+    → IsLent u i (lent_leaf a (use_item v t)) → option_map node_ast (node_at u.forest i) ≡ Some at → text' ≡ text → trees ≡ option_map (trees_of text) (place_of at places) → xs ≡ imports t
+    → after ≡ before ++ map (named_import reserved around (tree_spots text' trees)) xs → after ≡ before ++ own_named_at text places reserved u around i
+own_use text text' places reserved around u i a at v t trees xs before after p q e f x g =
+    g ∙ ap (λ z. before ++ map (named_import reserved around (tree_spots z trees)) xs) e ∙ ap (λ z. before ++ map (named_import reserved around (tree_spots text z)) xs) f
+    ∙ ap (λ z. before ++ map (named_import reserved around (import_spot text places at)) z) x
+    ∙ ap (λ z. before ++ z) (sym (own_lent text places reserved around u i (lent_leaf a (use_item v t)) at p q))
 
 -- the imports of an item itself, and then those of its children, are its imports
-pub named_adds : (reserved : List (List ℕ)) (around : Option FileAstId) (u : Unfolding) (i : ℕ) (is : List ℕ) (at : FileAstId) (before mid after : List Named)
-    → option_map node_ast (node_at u.forest i) ≡ Some at → StandFor u is (children_at u i)
-    → mid ≡ before ++ own_named_at u reserved around i → after ≡ mid ++ flat_map (named_at u reserved (Some at)) is → after ≡ before ++ named_at u reserved around i
-named_adds reserved around u i is at before mid after e s f g =
-    rw (g, f) (append_assoc before (own_named_at u reserved around i) (flat_map (named_at u reserved (Some at)) is) ∙ ap (λ (xs : List Named). before ++ xs) (sym (one_named reserved around u is (node_at u.forest i) at e s)))
+pub named_adds : (text text' : List ℕ) (places places' : List ItemPlace) (reserved : List (List ℕ)) (around : Option FileAstId) (u : Unfolding) (i : ℕ) (is : List ℕ) (at : FileAstId) (before mid after : List Named)
+    → text' ≡ text → places' ≡ places → option_map node_ast (node_at u.forest i) ≡ Some at → StandFor u is (children_at u i)
+    → mid ≡ before ++ own_named_at text places reserved u around i → after ≡ mid ++ flat_map (named_at text' places' reserved u (Some at)) is → after ≡ before ++ named_at text places reserved u around i
+named_adds text text' places places' reserved around u i is at before mid after t p e s f g =
+    g ∙ ap (λ z. mid ++ flat_map (named_at z places' reserved u (Some at)) is) t ∙ ap (λ z. mid ++ flat_map (named_at text z reserved u (Some at)) is) p
+    ∙ ap (λ z. z ++ flat_map (named_at text places reserved u (Some at)) is) f
+    ∙ append_assoc before (own_named_at text places reserved u around i) (flat_map (named_at text places reserved u (Some at)) is) ∙ ap (λ (xs : List Named). before ++ xs) (sym (one_named text places reserved around u is (node_at u.forest i) at e s))
 
 -- ---- lines
 
 -- the lines of one more import
-pub one_more_repeat : (s : Source) (places : List ItemPlace) (before xs : List Named) (x : Named)
-    → repeat_lines s places before (xs ++ x ∷ []) ≡ repeat_lines s places before xs ++ line_if_any s places x (first_alike x (before ++ xs))
-one_more_repeat s places before [] x = append-nil (line_if_any s places x (first_alike x before)) ∙ ap (λ b. line_if_any s places x (first_alike x b)) (sym (append-nil before))
-one_more_repeat s places before (y ∷ xs) x =
-    ap (λ ls. line_if_any s places y (first_alike y before) ++ ls) (one_more_repeat s places (before ++ y ∷ []) xs x ∙ ap (λ b. repeat_lines s places (before ++ y ∷ []) xs ++ line_if_any s places x (first_alike x b)) (append_assoc before (y ∷ []) xs))
-    ∙ sym (append_assoc (line_if_any s places y (first_alike y before)) (repeat_lines s places (before ++ y ∷ []) xs) (line_if_any s places x (first_alike x (before ++ y ∷ xs))))
+pub one_more_repeat : (path : List ℕ) (before xs : List Named) (x : Named)
+    → repeat_lines path before (xs ++ x ∷ []) ≡ repeat_lines path before xs ++ line_if_any path x (first_alike x (before ++ xs))
+one_more_repeat path before [] x = append-nil (line_if_any path x (first_alike x before)) ∙ ap (λ b. line_if_any path x (first_alike x b)) (sym (append-nil before))
+one_more_repeat path before (y ∷ xs) x =
+    ap (λ ls. line_if_any path y (first_alike y before) ++ ls) (one_more_repeat path (before ++ y ∷ []) xs x ∙ ap (λ b. repeat_lines path (before ++ y ∷ []) xs ++ line_if_any path x (first_alike x b)) (append_assoc before (y ∷ []) xs))
+    ∙ sym (append_assoc (line_if_any path y (first_alike y before)) (repeat_lines path (before ++ y ∷ []) xs) (line_if_any path x (first_alike x (before ++ y ∷ xs))))
 
--- the same by a printer
-pub line_of_more : {A : Type 0} (f : A → Named) (p q : Printer) (xs : List A) (i : ℕ) (x : A) (before after : List ℕ) → IsSameFile p q → i < length xs → slice_index_or xs i x ≡ x
-    → before ≡ repeat_lines (file_of p) (places_of p) [] (map f (take i xs))
-    → after ≡ before ++ line_if_any (file_of q) (places_of q) (f x) (first_alike (f x) (map f (take i xs)))
-    → after ≡ repeat_lines (file_of p) (places_of p) [] (map f (take (i + 1) xs))
-line_of_more f p q xs i x before after h l g e n =
-    let s = file_of p in
+-- the same of one more of a list
+pub line_of_more : {A : Type 0} (f : A → Named) (path : List ℕ) (xs : List A) (i : ℕ) (x : A) (before after : List ℕ) → i < length xs → slice_index_or xs i x ≡ x
+    → before ≡ repeat_lines path [] (map f (take i xs))
+    → after ≡ before ++ line_if_any path (f x) (first_alike (f x) (map f (take i xs)))
+    → after ≡ repeat_lines path [] (map f (take (i + 1) xs))
+line_of_more f path xs i x before after l g e n =
     let more : take (i + 1) xs ≡ take i xs ++ x ∷ [] = take_more xs i x l ∙ ap (λ y. take i xs ++ y ∷ []) g in
-    n ∙ ap (λ file. before ++ line_if_any file (places_of q) (f x) (first_alike (f x) (map f (take i xs)))) (file_same p q h)
-    ∙ ap (λ places. before ++ line_if_any s places (f x) (first_alike (f x) (map f (take i xs)))) h.2.1
-    ∙ ap (λ b. b ++ line_if_any s (places_of p) (f x) (first_alike (f x) (map f (take i xs)))) e
-    ∙ sym (one_more_repeat s (places_of p) [] (map f (take i xs)) (f x))
-    ∙ ap (repeat_lines s (places_of p) []) (sym (map-append f (take i xs) (x ∷ [])) ∙ ap (map f) (sym more))
+    n ∙ ap (λ b. b ++ line_if_any path (f x) (first_alike (f x) (map f (take i xs)))) e
+    ∙ sym (one_more_repeat path [] (map f (take i xs)) (f x))
+    ∙ ap (repeat_lines path []) (sym (map-append f (take i xs) (x ∷ [])) ∙ ap (map f) (sym more))

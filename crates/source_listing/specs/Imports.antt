@@ -9,12 +9,13 @@ use Rattle.item_tree.specs.declared.use_tree.ImportKind.TheVariants as kind
 use Rattle.item_tree.specs.Imports.{Import}
 use Rattle.item_tree.specs.Node.{Forest, node_ast}
 use Rattle.item_tree.specs.UseText.{shown_rename}
-use Rattle.def_collector.specs.Declarations.{Declared, name_of, imports_of, declarations}
-use Rattle.def_collector.specs.Seen.{Seen, defined}
+use Rattle.def_collector.specs.Declarations.{Declared, declared_name, declared_imports, declarations}
+use Rattle.def_collector.specs.DeclarationView.{DeclarationView, view_of}
 use Rattle.rust_items.specs.declared.source_file.ItemPlace.{ItemPlace}
 use Rattle.source_listing.specs.declared.finder.Spot.{Spot}
 use Rattle.source_listing.specs.Lines.{Source}
-use Rattle.source_listing.specs.Places.{item_place, spot_of}
+use Rattle.source_listing.specs.Places.{item_place}
+use Rattle.source_listing.specs.Uses.{import_spot}
 
 -- an import as a use of it alone would be written
 abbrev pub import_text : List (List ℕ) → ImportKind → Path → Option ImportAlias → List ℕ
@@ -22,22 +23,33 @@ import_text reserved kind.Plain path alias = shown_path reserved path ++ shown_r
 import_text reserved kind.Glob path alias = shown_path reserved path ++ codes "::*"
 import_text reserved kind.TypeOnly path alias = shown_path reserved path ++ codes "::{self" ++ shown_rename reserved alias ++ codes "}"
 
--- the place of its use item, and the import
-abbrev pub import_line : List ℕ → List (List ℕ) → Option Spot → Import → List ℕ
-import_line path reserved spot x = item_place path spot ++ import_text reserved x.kind x.path x.alias ++ codes "\n"
+-- the place of its use tree, by the number of that, and the import
+abbrev pub import_line : List ℕ → List (List ℕ) → (ℕ → Option Spot) → Import → List ℕ
+import_line path reserved spots x = item_place path (spots x.index) ++ import_text reserved x.kind x.path x.alias ++ codes "\n"
 
-abbrev pub lines_of : List ℕ → List (List ℕ) → Option Spot → Declared → List ℕ
-lines_of path reserved spot (name_of name) = []
-lines_of path reserved spot (imports_of xs) = flat_map (import_line path reserved spot) xs
+abbrev pub spots_of_any : List ℕ → List ItemPlace → Option FileAstId → ℕ → Option Spot
+spots_of_any text places None index = None
+spots_of_any text places (Some id) index = import_spot text places id index
 
-abbrev pub spot_of_any : List ℕ → List ItemPlace → Option FileAstId → Option Spot
-spot_of_any text places None = None
-spot_of_any text places (Some id) = spot_of text places id
+-- what is told of imports, by what is told of each with the places of use trees by their numbers
+module _ {A : Type 0} (each : (ℕ → Option Spot) → Import → List A) where
+  -- of what is declared, which holds imports in a use alone
+  abbrev pub of_declared : (ℕ → Option Spot) → Declared → List A
+  of_declared spots (declared_name name) = []
+  of_declared spots (declared_imports xs) = flat_map (each spots) xs
+
+  -- of a declaration
+  abbrev pub of_seen : List ℕ → List ItemPlace → DeclarationView → List A
+  of_seen text places d = of_declared (spots_of_any text places (option_map node_ast d.node)) d.declared
+
+  -- of the imports of all uses, in the order in which they are written
+  abbrev pub of_uses : List ℕ → List ItemPlace → Forest → List A
+  of_uses text places f = flat_map (λ d. of_seen text places (view_of d)) (declarations f)
 
 -- the lines of a declaration, of which a use alone has any
-abbrev pub seen_lines : Source → List (List ℕ) → List ItemPlace → Seen → List ℕ
-seen_lines s reserved places d = lines_of s.path reserved (spot_of_any s.text places (option_map node_ast d.node)) d.declared
+abbrev pub seen_lines : Source → List (List ℕ) → List ItemPlace → DeclarationView → List ℕ
+seen_lines s reserved places d = of_seen (import_line s.path reserved) s.text places d
 
 -- the imports of all uses, in the order in which they are written
 abbrev pub import_lines : Source → List (List ℕ) → List ItemPlace → Forest → List ℕ
-import_lines s reserved places f = flat_map (λ d. seen_lines s reserved places (defined d)) (declarations f)
+import_lines s reserved places f = of_uses (import_line s.path reserved) s.text places f

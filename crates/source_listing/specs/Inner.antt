@@ -1,20 +1,34 @@
 -- For the crate's own functions.
-use Rattle.std.specs.Prelude.{◌≡◌, ℕ, Bool, List, [], ◌∷◌, Option, option_copied, string_bytes}
+use Rattle.std.specs.Prelude.{◌≡◌, ◌==◌, ◌&&◌, if◌then◌else◌, ℕ, Bool, true, false, List, [], ◌∷◌, Option, Some, None, option_copied, option_map, string_bytes}
+use Rattle.std.specs.Borrow.{Bor}
+use Rattle.std.specs.HashMap.{get, HashMap}
+use Rattle.std.specs.List.{find}
+use Rattle.std.specs.Option.{option_or}
+use Rattle.std.specs.Str.{bytes_eq}
+use Rattle.std.specs.declared.hash.BuildHasherDefault.{BuildHasherDefault}
+use Rattle.std.specs.declared.hash.FoldHasher.{FoldHasher}
 use Rattle.serde_json.specs.Data.{Data}
 use Rattle.hir_input.specs.declared.edition.Edition.{Edition}
 use Rattle.hir_input.specs.declared.ids.FileAstId.{FileAstId}
 use Rattle.item_tree.specs.Node.{Node, leaf, parent, node_ast, Unfolding}
 use Rattle.item_tree.specs.Shown.{Lent, lent_leaf, lent_parent}
 use Rattle.item_tree.specs.Walk.{of_id}
+use Rattle.rust_ids.specs.Ids.{kind_place}
 use Rattle.rust_items.specs.declared.source_file.ItemPlace.{ItemPlace}
 use Rattle.source_listing.specs.declared.json.Item as code_item
 use Rattle.source_listing.specs.declared.lines.Printer.{Printer}
 use Rattle.source_listing.specs.declared.finder.Finder.{Finder}
 use Rattle.source_listing.specs.declared.repeated.Named as code_named
+use Rattle.source_listing.specs.declared.repeated.Key as code_key
+use Rattle.source_listing.specs.contracts.repeated.KeyPartialEq.TheImpl as keys
+use Rattle.source_listing.specs.declared.uses.UseTrees as code_trees
+use Rattle.source_listing.specs.declared.uses.TreeFinder.{TreeFinder}
 use Rattle.source_listing.specs.Changed.{Side}
 use Rattle.source_listing.specs.Lines.{Choice, Source}
 use Rattle.source_listing.specs.Objects.{ItemView, item_in, node_objects}
+use Rattle.source_listing.specs.Places.{AreDistinct}
 use Rattle.source_listing.specs.Repeated.{Named, leaf_named, node_named}
+use Rattle.source_listing.specs.Uses.{Trees}
 
 -- ---- printers, and what finds places for them
 
@@ -59,22 +73,87 @@ objects_at s reserved places c u level is_active i = of_id u [] (node_objects s 
 
 -- ---- imports by the ids of items
 
+abbrev pub trees_view : code_trees.UseTrees → Trees
+trees_view t = record { place = t.place; starts = t.starts.items }
+
+abbrev pub text_in : TreeFinder → List ℕ
+text_in f = f.finder.lines
+
+abbrev pub places_in : TreeFinder → List ItemPlace
+places_in f = f.finder.places.all.now
+
+abbrev pub file_in : List ℕ → TreeFinder → Source
+file_in path f = record { path = path; text = text_in f }
+
+-- the use trees that are found are those of a text and of its items
+abbrev pub IsTreeFinderOf : List ℕ → List ItemPlace → TreeFinder → Type 0
+IsTreeFinderOf text places f = IsFinderOf text places f.finder × (f.uses.text.now ≡ text)
+
+-- they are those of the text whose items are found, and no two of these have one id
+abbrev pub FindsTrees : TreeFinder → Type 0
+FindsTrees f = (f.uses.text.now ≡ text_in f) × AreDistinct (places_in f)
+
+-- nothing of the file is another
+abbrev pub IsSameTreeFinder : TreeFinder → TreeFinder → Type 0
+IsSameTreeFinder old new = IsSameFinder old.finder new.finder × (new.uses.text.now ≡ old.uses.text.now)
+
 abbrev pub named_view : code_named.Named → Named
-named_view x = record { around = x.around; at = x.at; text = string_bytes x.text }
+named_view x = record { around = x.around; spot = x.spot; text = string_bytes x.text }
 
--- those of a node itself
-abbrev pub own_named : List (List ℕ) → Option FileAstId → Node → List Named
-own_named reserved around (leaf h l) = leaf_named reserved around (node_ast (leaf h l)) l
-own_named reserved around (parent h t f) = []
+module _ (text : List ℕ) (places : List ItemPlace) (reserved : List (List ℕ)) where
+  -- those of a node itself
+  abbrev pub own_named : Option FileAstId → Node → List Named
+  own_named around (leaf h l) = leaf_named text places reserved around (node_ast (leaf h l)) l
+  own_named around (parent h t f) = []
 
--- those of what is lent
-abbrev pub lent_named : List (List ℕ) → Option FileAstId → FileAstId → Lent → List Named
-lent_named reserved around at (lent_leaf a l) = leaf_named reserved around at l
-lent_named reserved around at (lent_parent a t is) = []
+  -- those of what is lent
+  abbrev pub lent_named : Option FileAstId → FileAstId → Lent → List Named
+  lent_named around at (lent_leaf a l) = leaf_named text places reserved around at l
+  lent_named around at (lent_parent a t is) = []
 
--- those of the item of an id itself, and of all that stand in it
-abbrev pub own_named_at : Unfolding → List (List ℕ) → Option FileAstId → ℕ → List Named
-own_named_at u reserved around i = of_id u [] (own_named reserved around) i
+  -- those of the item of an id itself, and of all that stand in it
+  abbrev pub own_named_at : Unfolding → Option FileAstId → ℕ → List Named
+  own_named_at u around i = of_id u [] (own_named around) i
 
-abbrev pub named_at : Unfolding → List (List ℕ) → Option FileAstId → ℕ → List Named
-named_at u reserved around i = of_id u [] (node_named reserved around) i
+  abbrev pub named_at : Unfolding → Option FileAstId → ℕ → List Named
+  named_at u around i = of_id u [] (node_named text places reserved around) i
+
+-- ---- the first imports that are alike, by what they have in common
+
+pub record Key : Type 0 where
+  pub around : Option (ℕ × ℕ × ℕ)
+  pub text : List ℕ
+
+abbrev pub key_view : code_key.Key → Key
+key_view k = record { around = k.around; text = k.text.now }
+
+abbrev pub id_key : FileAstId → ℕ × ℕ × ℕ
+id_key id = (kind_place id.kind, id.hash, id.number)
+
+abbrev pub key : Named → Key
+key x = record { around = option_map id_key x.around; text = x.text }
+
+abbrev pub is_around : Option (ℕ × ℕ × ℕ) → Option FileAstId → Bool
+is_around None None = true
+is_around (Some a) (Some id) = a.0 == kind_place id.kind && (a.1 == id.hash && a.2 == id.number)
+is_around _ _ = false
+
+abbrev pub has_key : Key → Named → Bool
+has_key k x = is_around k.around x.around && bytes_eq k.text x.text
+
+abbrev pub same_key : code_key.Key → code_key.Key → Bool
+same_key = keys.ghosts.eq
+
+abbrev pub Firsts : Type 0
+Firsts = HashMap code_key.Key (Bor code_named.Named) (BuildHasherDefault FoldHasher)
+
+abbrev pub first_in : Firsts → code_key.Key → Option Named
+first_in table k = option_map (λ n. named_view n.now) (get same_key table k)
+
+-- this import is put in, unless one of its key is there
+abbrev pub PutsFirst : Firsts → Firsts → code_key.Key → Named → Type 0
+PutsFirst old new k x = (q : code_key.Key) → first_in new q ≡ (if same_key k q then option_or (first_in old q) (Some x) else first_in old q)
+
+-- the table finds the first of each key among these imports
+abbrev pub FindsFirsts : Firsts → List Named → Type 0
+FindsFirsts table xs = (q : code_key.Key) → first_in table q ≡ find (has_key (key_view q)) xs

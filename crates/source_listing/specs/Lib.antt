@@ -3,7 +3,10 @@ pub mod Places
 pub mod Lines
 pub mod Changed
 pub mod Objects
+pub mod Uses
+pub mod Told
 pub mod Imports
+pub mod ImportObjects
 pub mod Repeated
 pub mod Pages
 pub mod Search

@@ -1,5 +1,5 @@
--- The objects of an outline.
-use Rattle.std.specs.Prelude.{ℕ, ◌+◌, Bool, true, ◌&&◌, if◌then◌else◌, List, [], ◌∷◌, ◌++◌, codes, Option, Some, None}
+-- The objects of an outline, and of problems.
+use Rattle.std.specs.Prelude.{ℕ, ◌+◌, Bool, true, ◌&&◌, if◌then◌else◌, List, [], ◌∷◌, ◌++◌, codes, map, Option, Some, None}
 use Rattle.serde_json.specs.Data.{Data, unsigned, null, boolean, number, string, array, object, Items, no_items, item, no_members, member}
 use Rattle.serde_json.specs.View.{items_of}
 use Rattle.serde_json.specs.Written.{compact_text}
@@ -12,9 +12,13 @@ use Rattle.item_tree.specs.declared.visibility.VisibilityExplicitness.TheVariant
 use Rattle.item_tree.specs.Node.{Node, leaf, parent, Forest, empty, more, node_ast}
 use Rattle.def_collector.specs.Declarations.{node_name, node_visibility}
 use Rattle.item_rows.specs.Rows.{is_enabled}
+use Rattle.line_index.specs.declared.Position.{Position}
+use Rattle.line_index.specs.Positions.{position_of}
+use Rattle.rust_items.specs.declared.log.Problem.{Problem}
+use Rattle.rust_items.specs.declared.log.ProblemKind.{ProblemKind}
 use Rattle.rust_items.specs.declared.source_file.ItemPlace.{ItemPlace}
 use Rattle.source_listing.specs.declared.finder.Spot.{Spot}
-use Rattle.source_listing.specs.Lines.{Choice, Source, is_chosen, word}
+use Rattle.source_listing.specs.Lines.{Choice, Source, is_chosen, message, word}
 use Rattle.source_listing.specs.Places.{spot_of}
 
 -- an item, and whether no cfg disables it nor an item that it stands in
@@ -93,3 +97,20 @@ module _ (s : Source) (reserved : List (List ℕ)) (places : List ItemPlace) (c 
   -- the object of a file, on one line
   abbrev pub json_line : Forest → List ℕ
   json_line f = compact_text (file_form s.path (items_of (forest_objects 0 true f))) ++ codes "\n"
+
+-- ---- problems
+
+-- what is wrong at a line and a column
+abbrev pub problem_at : Position → ProblemKind → Data
+problem_at at kind =
+    object
+    (member (codes "column") (count_form at.column)
+    (member (codes "line") (count_form at.line)
+    (member (codes "message") (string (message kind)) no_members)))
+
+-- the object of a problem of a text
+abbrev pub problem_form : List ℕ → Problem → Data
+problem_form text p = problem_at (position_of text p.at) p.kind
+
+abbrev pub problem_objects : List ℕ → List Problem → List Data
+problem_objects text ps = map (problem_form text) ps

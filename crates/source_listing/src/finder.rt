@@ -16,6 +16,16 @@ pub(crate) struct Spot {
     pub(crate) range: TextRange,
 }
 
+/// An item stands at its name, or where it begins.
+pub(crate) fn stands_at(place: ItemPlace) -> usize
+    ensures { result ≡ spec.stands_at place }
+{
+    match place.name {
+        Some(name) => name.start,
+        None => place.range.start,
+    }
+}
+
 /// Where a text's items stand, to be found by their ids.
 #[derive(Drop)]
 pub(crate) struct Finder<'a> {
@@ -40,16 +50,10 @@ impl<'a> Finder<'a> {
         ensures same { IsSameFinder self.old self.new }
     {
         match self.places.find(id) {
-            Some(place) => {
-                let at = match place.name {
-                    Some(name) => name.start,
-                    None => place.range.start,
-                };
-                Some(Spot {
-                    position: self.lines.position(at),
-                    range: place.range,
-                })
-            }
+            Some(place) => Some(Spot {
+                position: self.lines.position(stands_at(place)),
+                range: place.range,
+            }),
             None => None,
         }
     }

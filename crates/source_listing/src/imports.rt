@@ -1,18 +1,20 @@
 //! Imports as lines of text.
 ghost use Rattle.std.specs.Prelude.{◌≡◌, ◌++◌, ◌∷◌, [], Some, IfOk, OnOk, map, option_map, string_bytes};
 ghost use Rattle.std.specs.List.{flat_map};
-ghost use Rattle.def_collector.specs.Seen.{seen};
-ghost use Rattle.import_lister.specs.Listed.{import_of};
+ghost use Rattle.def_collector.specs.DeclarationView.{declaration_view};
+ghost use Rattle.import_lister.specs.Listed.{listed_import};
 ghost use Rattle.item_tree.specs.Shown.{IsContained};
 ghost use Rattle.item_tree.specs.UseText.{shown_rename};
 ghost use Rattle.source_listing.specs.Imports as spec;
-ghost use Rattle.source_listing.specs.Inner.{IsSameFile, file_of, places_of, reserved_of};
-ghost use Rattle.source_listing.specs.Places.{AreDistinct, spot_of};
+ghost use Rattle.source_listing.specs.Inner.{FindsTrees, IsSameTreeFinder, file_in, places_in, text_in, trees_view};
+ghost use Rattle.source_listing.specs.Places.{AreDistinct};
+ghost use Rattle.source_listing.specs.Uses.{tree_spots};
 ghost use Rattle.source_listing.specs.Views.{source_view};
 
-use crate::lines::{Printer, Source};
+use crate::lines::{Source, push_spot};
+use crate::uses::{TreeFinder, UseTrees};
 use def_collector::{Declaration, Declares, collect};
-use hir_input::{Edition, FileAstId};
+use hir_input::Edition;
 use import_lister::Listed;
 use item_tree::{ImportAlias, ImportKind, ItemTree};
 use rust_items::ItemPlace;
@@ -58,67 +60,73 @@ pub(crate) fn push_import_text(
     }
 }
 
-impl Printer<'_> {
-    fn push_import(
-        &mut self,
-        id: FileAstId,
-        import: &Listed,
-        out: &mut String,
-    ) -> Result<(), AllocError>
-        requires { AreDistinct (places_of self.old) }
-        ensures text { let spot = spot_of (file_of self.old).text (places_of self.old) id in
-            let line = spec.import_line (file_of self.old).path (reserved_of self.old) spot in
-            OnOk result (string_bytes out.new ≡ string_bytes out.old ++ line (import_of import.now)) }
-        ensures same { IsSameFile self.old self.new }
-    {
-        self.push_place_of(id, out)?;
-        push_import_text(self.edition, import, out)?;
-        out.push_str("\n")
-    }
+/// The line of an import, whose use tree is one of these.
+fn push_import(
+    path: &str,
+    edition: &Edition,
+    finder: &mut TreeFinder<'_>,
+    trees: &Option<UseTrees>,
+    import: &Listed,
+    out: &mut String,
+) -> Result<(), AllocError>
+    ensures text { let spots = tree_spots (text_in finder.old) (option_map trees_view trees.now) in
+        let line = spec.import_line path.now edition.now.reserved.items spots in
+        OnOk result (string_bytes out.new ≡ string_bytes out.old ++ line (listed_import import.now)) }
+    ensures same { IsSameTreeFinder finder.old finder.new }
+{
+    let spot = finder.spot(trees, import.index);
+    push_spot(path, spot, out)?;
+    push_import_text(edition, import, out)?;
+    out.push_str("\n")
+}
 
-    fn push_imports(
-        &mut self,
-        id: FileAstId,
-        imports: &[Listed],
-        out: &mut String,
-    ) -> Result<(), AllocError>
-        requires { AreDistinct (places_of self.old) }
-        ensures text { let spot = spot_of (file_of self.old).text (places_of self.old) id in
-            let line = spec.import_line (file_of self.old).path (reserved_of self.old) spot in
-            OnOk result (string_bytes out.new ≡ string_bytes out.old ++ flat_map line (map import_of imports.now)) }
-        ensures same { IsSameFile self.old self.new }
-    {
-        for import in imports {
-            self.push_import(id, import, out)?;
-        }
-        Ok(())
+/// The lines of the imports of a use.
+fn push_imports(
+    path: &str,
+    edition: &Edition,
+    finder: &mut TreeFinder<'_>,
+    trees: &Option<UseTrees>,
+    imports: &[Listed],
+    out: &mut String,
+) -> Result<(), AllocError>
+    ensures text { let spots = tree_spots (text_in finder.old) (option_map trees_view trees.now) in
+        let line = spec.import_line path.now edition.now.reserved.items spots in
+        OnOk result (string_bytes out.new ≡ string_bytes out.old ++ flat_map line (map listed_import imports.now)) }
+    ensures same { IsSameTreeFinder finder.old finder.new }
+{
+    for import in imports {
+        push_import(path, edition, finder, trees, import, out)?;
     }
+    Ok(())
+}
 
-    /// The imports of an item, if that is a use.
-    fn push_declaration(
-        &mut self,
-        tree: &ItemTree,
-        declaration: &Declaration<'_>,
-        out: &mut String,
-    ) -> Result<(), AllocError>
-        requires distinct { AreDistinct (places_of self.old) }
-        requires contained { IsContained tree.now declaration.now.id }
-        ensures text { let lines = spec.seen_lines (file_of self.old) (reserved_of self.old) (places_of self.old) in
-            OnOk result (string_bytes out.new ≡ string_bytes out.old ++ lines (seen tree.now declaration.now)) }
-        ensures same { IsSameFile self.old self.new }
-    {
-        match &declaration.declares {
-            Declares::Name(_) => Ok(()),
-            Declares::Imports(imports) => {
-                let id = declaration.id.ast_id(tree);
-                self.push_imports(id, imports, out)
-            }
+/// The lines of the imports of an item, if that is a use.
+fn push_declaration(
+    alloc: Global,
+    path: &str,
+    edition: &Edition,
+    finder: &mut TreeFinder<'_>,
+    tree: &ItemTree,
+    declaration: &Declaration<'_>,
+    out: &mut String,
+) -> Result<(), AllocError>
+    requires finds { FindsTrees finder.old }
+    requires contained { IsContained tree.now declaration.now.id }
+    ensures text { let lines = spec.seen_lines (file_in path.now finder.old) edition.now.reserved.items (places_in finder.old) in
+        OnOk result (string_bytes out.new ≡ string_bytes out.old ++ lines (declaration_view tree.now declaration.now)) }
+    ensures same { IsSameTreeFinder finder.old finder.new }
+{
+    match &declaration.declares {
+        Declares::Name(_) => Ok(()),
+        Declares::Imports(imports) => {
+            let trees = finder.find(alloc, declaration.id.ast_id(tree))?;
+            push_imports(path, edition, finder, &trees, imports, out)
         }
     }
 }
 
-/// A line for each import of a file, in the order in which they are written: file, line and column of its use item, and the
-/// import as a use of it alone would be written. What a cfg disables is not left out.
+/// A line for each import of a file, in the order in which they are written: file, line and column of its own use tree, and
+/// the import as a use of it alone would be written. What a cfg disables is not left out.
 ///
 /// The places are those that the reader gave with the syntax of the tree. The only error is want of memory.
 #[tactic(auto, using(crate::proofs::Imported::lines_of_all))]
@@ -133,11 +141,19 @@ pub fn import_lines(
     ensures { let lines = spec.import_lines (source_view source.entry) edition.now.reserved.items places.now in
         IfOk result (λ text. string_bytes text ≡ lines tree.now.forest) }
 {
-    let mut printer = Printer::new(source, places, edition);
+    let mut finder = TreeFinder::new(source.text, places);
     let mut out = String::new(alloc);
     let collected = collect(alloc, tree)?;
     for declaration in &collected.declarations {
-        printer.push_declaration(tree, declaration, &mut out)?;
+        push_declaration(
+            alloc,
+            source.path,
+            edition,
+            &mut finder,
+            tree,
+            declaration,
+            &mut out,
+        )?;
     }
     Ok(out)
 }

@@ -1,5 +1,5 @@
 //! Outlines as JSON.
-ghost use Rattle.std.specs.Prelude.{◌≡◌, ◌+◌, ◌<◌, ◌^◌, ◌++◌, ◌∷◌, [], false, codes, map, IfOk, OnOk, option_copied, string_bytes};
+ghost use Rattle.std.specs.Prelude.{◌≡◌, ◌+◌, ◌<◌, ◌^◌, ◌++◌, ◌∷◌, [], true, false, codes, map, IfOk, OnOk, option_copied, string_bytes};
 ghost use Rattle.std.specs.List.{flat_map, sum_by};
 ghost use Rattle.serde_json.specs.Data.{string};
 ghost use Rattle.serde_json.specs.View.{items_view, view};
@@ -86,7 +86,7 @@ fn visibility_value(
     }
 }
 
-fn line_value(spot: Option<Spot>) -> Value
+pub(crate) fn line_value(spot: Option<Spot>) -> Value
     ensures { view result ≡ spec.line_form spot }
 {
     match spot {
@@ -95,7 +95,7 @@ fn line_value(spot: Option<Spot>) -> Value
     }
 }
 
-fn column_value(spot: Option<Spot>) -> Value
+pub(crate) fn column_value(spot: Option<Spot>) -> Value
     ensures { view result ≡ spec.column_form spot }
 {
     match spot {
@@ -239,13 +239,38 @@ fn line_of(alloc: Global, value: &Value) -> Result<String, AllocError>
     Ok(line)
 }
 
-/// The chosen items of a file's tree as one JSON object on one line: the file's `path`, and its `items`, each an object with
-/// its `id`, the word of its `kind`, its `name`, its `visibility` as it was written, the `line` and the `column` at which it
-/// stands, its bytes with its attributes as a `range` (where they begin and where they end), whether no cfg disables it
-/// (`active`), and the objects of the items in it as `children`. What an item has not is null; names are without `r#`.
+/// The chosen items of a file's tree as values, each an object with its `id`, the word of its `kind`, its `name`, its
+/// `visibility` as it was written, the `line` and the `column` at which it stands, its bytes with its attributes as a `range`
+/// (where they begin and where they end), whether no cfg disables it (`active`), and the objects of the items in it as
+/// `children`. What an item has not is null; names are without `r#`.
 ///
 /// The places are those that the reader gave with the syntax of the tree. The only error is want of memory.
 #[tactic(auto, using(item_tree::proofs::Walking::ids_contained, item_tree::proofs::Walking::ids_count))]
+pub fn outline_items(
+    alloc: Global,
+    source: Source<'_>,
+    places: &[ItemPlace],
+    tree: &ItemTree,
+    edition: &Edition,
+    choice: Choice,
+) -> Result<Vec<Value>, AllocError>
+    requires { AreDistinct places.now }
+    ensures { let objects = spec.forest_objects (source_view source.entry) edition.now.reserved.items places.now in
+        IfOk result (λ items. map view items.items ≡ objects (choice_view choice) 0 true tree.now.forest) }
+{
+    let mut printer = Printer::new(source, places, edition);
+    let top = Around {
+        level: 0,
+        is_active: true,
+    };
+    let ids = tree.top_level_items();
+    objects(alloc, &mut printer, tree, ids, top, choice)
+}
+
+/// The chosen items of a file's tree as one JSON object on one line: the file's `path`, and its `items`, as `outline_items`
+/// gives them.
+///
+/// The places are those that the reader gave with the syntax of the tree. The only error is want of memory.
 pub fn outline_json(
     alloc: Global,
     source: Source<'_>,
@@ -258,13 +283,7 @@ pub fn outline_json(
     ensures { let line = spec.json_line (source_view source.entry) edition.now.reserved.items places.now in
         IfOk result (λ text. string_bytes text ≡ line (choice_view choice) tree.now.forest) }
 {
-    let mut printer = Printer::new(source, places, edition);
-    let top = Around {
-        level: 0,
-        is_active: true,
-    };
-    let ids = tree.top_level_items();
-    let items = objects(alloc, &mut printer, tree, ids, top, choice)?;
+    let items = outline_items(alloc, source, places, tree, edition, choice)?;
     let file = file_value(alloc, source.path, items)?;
     line_of(alloc, &file)
 }

@@ -3,8 +3,10 @@
 
 mod changed;
 mod finder;
+mod import_objects;
 mod imports;
 mod json;
+mod laws;
 mod lines;
 mod pages;
 mod places;
@@ -12,13 +14,16 @@ mod problems;
 mod repeated;
 mod search;
 mod tags;
+mod use_reader;
+mod uses;
 
 pub use changed::{Side, change_lines};
+pub use import_objects::import_items;
 pub use imports::import_lines;
-pub use json::outline_json;
+pub use json::{outline_items, outline_json};
 pub use lines::{Choice, Source, outline};
 pub use pages::without_ids;
-pub use problems::problem_lines;
+pub use problems::{problem_items, problem_lines};
 pub use repeated::repeated_lines;
 pub use search::{Query, found_lines};
 pub use tags::push_tags;

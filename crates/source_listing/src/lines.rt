@@ -8,7 +8,7 @@ ghost use Rattle.source_listing.specs.Places.{AreDistinct, item_place, place_tex
 ghost use Rattle.source_listing.specs.Search.{found_line};
 ghost use Rattle.source_listing.specs.Views.{choice_view, source_view};
 
-use crate::finder::Finder;
+use crate::finder::{Finder, Spot};
 use hir_input::{AstIdKind, Edition, FileAstId, Name};
 use item_rows::{Row, item_rows};
 use item_tree::{ItemTree, RawVisibility, VisibilityExplicitness};
@@ -57,6 +57,19 @@ pub(crate) fn push_place(path: &str, position: Position, out: &mut String) -> Re
 {
     let (line, column) = (position.line, position.column);
     write!(out, "{path}:{line}:{column}: ")
+}
+
+/// The same of what stands in a file.
+pub(crate) fn push_spot(path: &str, spot: Option<Spot>, out: &mut String) -> Result<(), AllocError>
+    ensures { OnOk result (string_bytes out.new ≡ string_bytes out.old ++ item_place path.now spot) }
+{
+    match spot {
+        Some(spot) => push_place(path, spot.position, out),
+        None => {
+            out.push_str(path)?;
+            out.push_str(": ")
+        }
+    }
 }
 
 /// The word of a kind.
@@ -171,13 +184,8 @@ impl Printer<'_> {
             OnOk result (string_bytes out.new ≡ string_bytes out.old ++ item_place (file_of self.old).path spot) }
         ensures same { IsSameFile self.old self.new }
     {
-        match self.finder.find(id) {
-            Some(spot) => push_place(self.path, spot.position, out),
-            None => {
-                out.push_str(self.path)?;
-                out.push_str(": ")
-            }
-        }
+        let spot = self.finder.find(id);
+        push_spot(self.path, spot, out)
     }
 
     /// The line of an item.

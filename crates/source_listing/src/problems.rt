@@ -1,11 +1,14 @@
-//! Problems as lines of text.
-ghost use Rattle.std.specs.Prelude.{◌≡◌, IfOk, OnOk, ◌++◌, string_bytes};
+//! Problems as lines of text, and as JSON values.
+ghost use Rattle.std.specs.Prelude.{◌≡◌, IfOk, OnOk, ◌++◌, map, string_bytes};
+ghost use Rattle.serde_json.specs.View.{view};
 ghost use Rattle.source_listing.specs.Lines as spec;
+ghost use Rattle.source_listing.specs.Objects.{problem_at, problem_objects};
 ghost use Rattle.source_listing.specs.Views.{source_view};
 
 use crate::lines::{Source, push_place};
-use line_index::LineIndex;
+use line_index::{LineIndex, Position};
 use rust_items::{Problem, ProblemKind};
+use serde_json::{Value, json};
 use std::alloc::{AllocError, Global};
 
 /// What is wrong, in words.
@@ -40,4 +43,33 @@ pub fn problem_lines(
         writeln!(out, "{message}")?;
     }
     Ok(out)
+}
+
+/// The object of a problem.
+fn problem_value(alloc: Global, position: Position, kind: ProblemKind) -> Result<Value, AllocError>
+    ensures { IfOk result (λ value. view value ≡ problem_at position kind) }
+{
+    let (column, line) = (position.column, position.line);
+    let message = message(kind);
+    json!(in alloc; {"column": column, "line": line, "message": message})
+}
+
+/// The problems of a text as values, each an object with the `line` and the `column` at which it stands, and a `message` that
+/// says what is wrong.
+///
+/// The only error is want of memory.
+pub fn problem_items(
+    alloc: Global,
+    text: &str,
+    problems: &[Problem],
+) -> Result<Vec<Value>, AllocError>
+    ensures { IfOk result (λ items. map view items.items ≡ problem_objects text.now problems.now) }
+{
+    let mut items = Vec::new(alloc);
+    let mut lines = LineIndex::new(text);
+    for problem in problems {
+        let position = lines.position(problem.at);
+        items.push(problem_value(alloc, position, problem.kind)?)?;
+    }
+    Ok(items)
 }

@@ -1,29 +1,33 @@
 //! Imports that repeat an earlier one of their module.
-ghost use Rattle.std.specs.Prelude.{◌≡◌, ◌<◌, ◌++◌, ◌∷◌, [], length, map, take, IfOk, OnOk, option_map, slice_index_or, string_bytes};
+ghost use Rattle.std.specs.Prelude.{◌≡◌, ◌++◌, [], map, IfOk, OnOk, option_map, string_bytes};
 ghost use Rattle.std.specs.List.{flat_map};
-ghost use Rattle.import_lister.specs.Listed.{import_of};
+ghost use Rattle.import_lister.specs.Listed.{listed_import};
 ghost use Rattle.item_tree.specs.Shown.{IsContained};
 ghost use Rattle.item_tree.specs.Walk.{AreContained};
-ghost use Rattle.source_listing.specs.Inner.{IsSameFile, file_of, own_named_at, named_at, named_view, places_of};
-ghost use Rattle.source_listing.specs.Places.{AreDistinct, spot_of};
+ghost use Rattle.source_listing.specs.Imports.{import_text};
+ghost use Rattle.source_listing.specs.Inner.{FindsTrees, IsSameTreeFinder, PutsFirst, first_in, key, key_view, named_at, named_view, own_named_at, places_in, text_in, trees_view};
+ghost use Rattle.source_listing.specs.Places.{AreDistinct};
 ghost use Rattle.source_listing.specs.Repeated as spec;
+ghost use Rattle.source_listing.specs.Uses.{tree_spots};
 ghost use Rattle.source_listing.specs.Views.{source_view};
 
+use crate::finder::Spot;
 use crate::imports::push_import_text;
-use crate::lines::{Printer, Source};
-use crate::places::is_id;
+use crate::lines::{Source, push_spot};
+use crate::uses::{TreeFinder, UseTrees};
 use hir_input::{Edition, FileAstId};
 use import_lister::{Listed, list_imports};
 use item_tree::{ItemTree, ModItemId, ModItemKind};
 use rust_items::ItemPlace;
 use std::alloc::{AllocError, Global};
+use std::collections::HashMap;
 use tree_walk::children;
 
-/// An import: the item that its use stands in, its use, and how a use of it alone would be written.
+/// An import: the item that its use stands in, its place, and how a use of it alone would be written.
 #[derive(Drop)]
 pub(crate) struct Named {
     around: Option<FileAstId>,
-    at: FileAstId,
+    spot: Option<Spot>,
     text: String,
 }
 
@@ -31,30 +35,35 @@ fn named_import(
     alloc: Global,
     edition: &Edition,
     around: Option<FileAstId>,
-    at: FileAstId,
+    spot: Option<Spot>,
     import: &Listed,
 ) -> Result<Named, AllocError>
-    ensures { IfOk result (λ n. named_view n ≡ spec.named_import edition.now.reserved.items around at (import_of import.now)) }
+    ensures { let text = import_text edition.now.reserved.items import.now.kind import.now.path import.now.alias in
+        IfOk result (λ n. named_view n ≡ record { around = around; spot = spot; text = text }) }
 {
     let mut text = String::new(alloc);
     push_import_text(edition, import, &mut text)?;
-    Ok(Named { around, at, text })
+    Ok(Named { around, spot, text })
 }
 
-/// The imports of a use.
+/// The imports of a use, whose use trees are these.
 fn push_listed(
     alloc: Global,
     edition: &Edition,
     around: Option<FileAstId>,
-    at: FileAstId,
+    finder: &mut TreeFinder<'_>,
+    trees: &Option<UseTrees>,
     imports: &[Listed],
     found: &mut Vec<Named>,
 ) -> Result<(), AllocError>
-    ensures { let own = map (spec.named_import edition.now.reserved.items around at) (map import_of imports.now) in
+    ensures named { let spots = tree_spots (text_in finder.old) (option_map trees_view trees.now) in
+        let own = map (spec.named_import edition.now.reserved.items around spots) (map listed_import imports.now) in
         OnOk result (map named_view found.new.items ≡ map named_view found.old.items ++ own) }
+    ensures same { IsSameTreeFinder finder.old finder.new }
 {
     for import in imports {
-        found.push(named_import(alloc, edition, around, at, import)?)?;
+        let spot = finder.spot(trees, import.index);
+        found.push(named_import(alloc, edition, around, spot, import)?)?;
     }
     Ok(())
 }
@@ -63,19 +72,23 @@ fn push_listed(
 fn push_own(
     alloc: Global,
     edition: &Edition,
+    finder: &mut TreeFinder<'_>,
     tree: &ItemTree,
     around: Option<FileAstId>,
     id: ModItemId,
     found: &mut Vec<Named>,
 ) -> Result<(), AllocError>
-    requires { IsContained tree.now id }
-    ensures { let own = own_named_at tree.now edition.now.reserved.items around id in
+    requires finds { FindsTrees finder.old }
+    requires contained { IsContained tree.now id }
+    ensures named { let own = own_named_at (text_in finder.old) (places_in finder.old) edition.now.reserved.items tree.now around id in
         OnOk result (map named_view found.new.items ≡ map named_view found.old.items ++ own) }
+    ensures same { IsSameTreeFinder finder.old finder.new }
 {
     match tree.index(id) {
         ModItemKind::Use(_, item) => {
             let imports = list_imports(alloc, item)?;
-            push_listed(alloc, edition, around, id.ast_id(tree), &imports, found)
+            let trees = finder.find(alloc, id.ast_id(tree))?;
+            push_listed(alloc, edition, around, finder, &trees, &imports, found)
         }
         _ => Ok(()),
     }
@@ -86,17 +99,20 @@ fn push_own(
 fn push_all(
     alloc: Global,
     edition: &Edition,
+    finder: &mut TreeFinder<'_>,
     tree: &ItemTree,
     around: Option<FileAstId>,
     ids: &[ModItemId],
     found: &mut Vec<Named>,
 ) -> Result<(), AllocError>
-    requires { AreContained tree.now ids.now }
-    ensures { let all = flat_map (named_at tree.now edition.now.reserved.items around) ids.now in
+    requires finds { FindsTrees finder.old }
+    requires contained { AreContained tree.now ids.now }
+    ensures named { let all = flat_map (named_at (text_in finder.old) (places_in finder.old) edition.now.reserved.items tree.now around) ids.now in
         OnOk result (map named_view found.new.items ≡ map named_view found.old.items ++ all) }
+    ensures same { IsSameTreeFinder finder.old finder.new }
 {
     for id in ids {
-        push_one(alloc, edition, tree, around, *id, found)?;
+        push_one(alloc, edition, finder, tree, around, *id, found)?;
     }
     Ok(())
 }
@@ -106,130 +122,121 @@ fn push_all(
 fn push_one(
     alloc: Global,
     edition: &Edition,
+    finder: &mut TreeFinder<'_>,
     tree: &ItemTree,
     around: Option<FileAstId>,
     id: ModItemId,
     found: &mut Vec<Named>,
 ) -> Result<(), AllocError>
-    requires { IsContained tree.now id }
-    ensures { let all = named_at tree.now edition.now.reserved.items around id in
+    requires finds { FindsTrees finder.old }
+    requires contained { IsContained tree.now id }
+    ensures named { let all = named_at (text_in finder.old) (places_in finder.old) edition.now.reserved.items tree.now around id in
         OnOk result (map named_view found.new.items ≡ map named_view found.old.items ++ all) }
+    ensures same { IsSameTreeFinder finder.old finder.new }
 {
-    push_own(alloc, edition, tree, around, id, found)?;
+    push_own(alloc, edition, finder, tree, around, id, found)?;
     let inside = Some(id.ast_id(tree));
-    push_all(alloc, edition, tree, inside, children(tree, id), found)
+    push_all(
+        alloc,
+        edition,
+        finder,
+        tree,
+        inside,
+        children(tree, id),
+        found,
+    )
 }
 
-fn is_one_around(one: Option<FileAstId>, other: Option<FileAstId>) -> bool
-    ensures { result ≡ spec.is_one_around one other }
+/// What imports that are alike have in common: the item around them, and how they would be written.
+#[derive(Clone, Copy, PartialEq, Eq, Hash)]
+pub(crate) struct Key<'n> {
+    around: Option<(u8, u16, u32)>,
+    text: &'n str,
+}
+
+fn key_of(import: &Named) -> Key<'_>
+    ensures { key_view result ≡ key (named_view import.now) }
 {
-    match (one, other) {
-        (None, None) => true,
-        (Some(one), Some(other)) => is_id(one, other),
-        (None, Some(_)) | (Some(_), None) => false,
+    Key {
+        around: match import.around {
+            Some(id) => Some((id.kind as u8, id.hash, id.number)),
+            None => None,
+        },
+        text: &import.text,
     }
 }
 
-fn is_alike(one: &Named, other: &Named) -> bool
-    ensures { result ≡ spec.is_alike (named_view one.now) (named_view other.now) }
-{
-    is_one_around(one.around, other.around) && one.text.as_str() == other.text.as_str()
-}
+/// The first import of each key.
+type Firsts<'n> = HashMap<Key<'n>, &'n Named>;
 
-/// The first that is alike.
-fn first_alike<'a>(one: &Named, others: &'a [Named]) -> Option<&'a Named>
-    ensures { let first = spec.first_alike (named_view one.now) (map named_view others.now) in
-        option_map (λ n. named_view n.now) result ≡ first }
+/// Where something stands, with nothing behind it.
+fn push_spot_alone(path: &str, spot: Option<Spot>, out: &mut String) -> Result<(), AllocError>
+    ensures { OnOk result (string_bytes out.new ≡ string_bytes out.old ++ spec.spot_text path.now spot) }
 {
-    let mut left = others;
-    while let [other, rest @ ..] = left {
-        if is_alike(one, other) {
-            return Some(other);
+    match spot {
+        Some(spot) => {
+            let (line, column) = (spot.position.line, spot.position.column);
+            write!(out, "{path}:{line}:{column}")
         }
-        left = rest;
+        None => out.push_str(path),
     }
-    None
 }
 
-impl Printer<'_> {
-    /// Where the item of an id stands, with nothing behind it.
-    fn push_spot(&mut self, id: FileAstId, out: &mut String) -> Result<(), AllocError>
-        requires { AreDistinct (places_of self.old) }
-        ensures text { let spot = spot_of (file_of self.old).text (places_of self.old) id in
-            OnOk result (string_bytes out.new ≡ string_bytes out.old ++ spec.spot_text (file_of self.old).path spot) }
-        ensures same { IsSameFile self.old self.new }
-    {
-        let path = self.path;
-        match self.finder.find(id) {
-            Some(spot) => {
-                let (line, column) = (spot.position.line, spot.position.column);
-                write!(out, "{path}:{line}:{column}")
-            }
-            None => out.push_str(path),
-        }
-    }
+fn push_repeat(
+    path: &str,
+    import: &Named,
+    first: &Named,
+    out: &mut String,
+) -> Result<(), AllocError>
+    ensures { let line = spec.repeat_line path.now (named_view import.now) (named_view first.now) in
+        OnOk result (string_bytes out.new ≡ string_bytes out.old ++ line) }
+{
+    push_spot(path, import.spot, out)?;
+    out.push_str(&import.text)?;
+    out.push_str(" (again, first at ")?;
+    push_spot_alone(path, first.spot, out)?;
+    out.push_str(")\n")
+}
 
-    fn push_repeat(
-        &mut self,
-        import: &Named,
-        first: &Named,
-        out: &mut String,
-    ) -> Result<(), AllocError>
-        requires { AreDistinct (places_of self.old) }
-        ensures text { let line = spec.repeat_line (file_of self.old) (places_of self.old) (named_view import.now) in
-            OnOk result (string_bytes out.new ≡ string_bytes out.old ++ line (named_view first.now)) }
-        ensures same { IsSameFile self.old self.new }
-    {
-        self.push_place_of(import.at, out)?;
-        out.push_str(&import.text)?;
-        out.push_str(" (again, first at ")?;
-        self.push_spot(first.at, out)?;
-        out.push_str(")\n")
-    }
-
-    /// The line of an import, if one of those before is alike.
-    fn push_if_repeated(
-        &mut self,
-        import: &Named,
-        before: &[Named],
-        out: &mut String,
-    ) -> Result<(), AllocError>
-        requires { AreDistinct (places_of self.old) }
-        ensures text { let first = spec.first_alike (named_view import.now) (map named_view before.now) in
-            let line = spec.line_if_any (file_of self.old) (places_of self.old) (named_view import.now) first in
-            OnOk result (string_bytes out.new ≡ string_bytes out.old ++ line) }
-        ensures same { IsSameFile self.old self.new }
-    {
-        match first_alike(import, before) {
-            Some(first) => self.push_repeat(import, first, out),
-            None => Ok(()),
+/// The line of an import, if one before it is of its key; else it is the first.
+fn push_if_repeated<'n>(
+    path: &str,
+    key: Key<'n>,
+    import: &'n Named,
+    firsts: &mut Firsts<'n>,
+    out: &mut String,
+) -> Result<(), AllocError>
+    ensures text { let line = spec.line_if_any path.now (named_view import.now) (first_in firsts.old key.entry) in
+        OnOk result (string_bytes out.new ≡ string_bytes out.old ++ line) }
+    ensures first { OnOk result (PutsFirst firsts.old firsts.new key.entry (named_view import.now)) }
+{
+    match firsts.get(&key).copied() {
+        Some(first) => push_repeat(path, import, first, out),
+        None => {
+            firsts.insert(key, import)?;
+            Ok(())
         }
     }
 }
 
 /// The lines of those imports that repeat an earlier one.
-fn lines_of(
-    alloc: Global,
-    printer: &mut Printer<'_>,
-    imports: &[Named],
-) -> Result<String, AllocError>
-    requires { AreDistinct (places_of printer.old) }
-    ensures { let lines = spec.repeat_lines (file_of printer.old) (places_of printer.old) [] in
-        IfOk result (λ text. string_bytes text ≡ lines (map named_view imports.now)) }
+fn lines_of(alloc: Global, path: &str, imports: &[Named]) -> Result<String, AllocError>
+    ensures { let lines = spec.repeat_lines path.now [] (map named_view imports.now) in
+        IfOk result (λ text. string_bytes text ≡ lines) }
 {
     let mut out = String::new(alloc);
-    for at in 0..imports.len() {
-        printer.push_if_repeated(&imports[at], &imports[..at], &mut out)?;
+    let mut firsts = HashMap::new(alloc);
+    for import in imports {
+        push_if_repeated(path, key_of(import), import, &mut firsts, &mut out)?;
     }
     Ok(out)
 }
 
 /// A line for each import that repeats an earlier one of the same module, in the order in which they are written: file, line
-/// and column of its use item, the import as a use of it alone would be written, and where the first that is written so
+/// and column of its own use tree, the import as a use of it alone would be written, and where the first that is written so
 /// stands. Two modules are the same only if they are one item, whatever their names; what a cfg disables counts as well.
 ///
-/// The time may grow with the square of the number of imports. The places are those that the reader gave with the syntax of
-/// the tree. The only error is want of memory.
+/// The places are those that the reader gave with the syntax of the tree. The only error is want of memory.
 #[tactic(auto, using(item_tree::proofs::Walking::ids_contained, crate::proofs::Repeats::ids_named))]
 pub fn repeated_lines(
     alloc: Global,
@@ -242,15 +249,9 @@ pub fn repeated_lines(
     ensures { let lines = spec.repeated_lines (source_view source.entry) edition.now.reserved.items places.now in
         IfOk result (λ text. string_bytes text ≡ lines tree.now.forest) }
 {
-    let mut printer = Printer::new(source, places, edition);
+    let mut finder = TreeFinder::new(source.text, places);
+    let ids = tree.top_level_items();
     let mut found = Vec::new(alloc);
-    push_all(
-        alloc,
-        edition,
-        tree,
-        None,
-        tree.top_level_items(),
-        &mut found,
-    )?;
-    lines_of(alloc, &mut printer, &found)
+    push_all(alloc, edition, &mut finder, tree, None, ids, &mut found)?;
+    lines_of(alloc, source.path, &found)
 }

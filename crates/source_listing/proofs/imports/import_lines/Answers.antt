@@ -1,11 +1,11 @@
-use Rattle.std.proofs.Common.{rules, ap, map, ◌∙◌}
+use Rattle.std.proofs.Common.{rules, ap, map, string_bytes, ◌++◌, ◌∙◌}
 use Rattle.std.specs.List.{flat_map}
 use Rattle.std.proofs.lemmas.List.{take_all}
-use Rattle.def_collector.specs.Seen.{id_of, seen}
+use Rattle.def_collector.specs.DeclarationView.{id_of, declaration_view}
 use Rattle.item_tree.specs.Shown.{IsContained}
-use Rattle.source_listing.specs.Imports.{seen_lines}
+use Rattle.source_listing.specs.Imports.{import_line, seen_lines}
 use Rattle.source_listing.specs.Views.{source_view}
-use Rattle.source_listing.proofs.Imported.{contained_at, lines_of_all}
+use Rattle.source_listing.proofs.Imported.{contained_at, finder_same, lines_of_all, one_more_seen, seen_by_finder}
 use Rattle.source_listing.proofs.imports.import_lines.Goals as goal
 
 pub push_declaration-requires-clause-contained : goal.push_declaration-requires-clause-contained
@@ -14,9 +14,24 @@ push_declaration-requires-clause-contained c =
 
 pub returns : goal.returns
 returns c =
-    let see = seen c.args.tree.now in
+    let see = declaration_view c.args.tree.now in
     let s = source_view c.args.source in
     let ds = c.deref-declaration-items.result.now in
     let whole = take_all c.loop-declaration.declaration-index ds (search rules) in
     let all = lines_of_all see s c.args.edition.now.reserved.items c.args.places.now ds c.args.tree.now.forest (ap (map see) c.deref-declaration-items.ensures.value ∙ c.in_ok-collected.ensures.declared) in
     c.loop-declaration.invariant.text ∙ ap (flat_map (λ d. seen_lines s c.args.edition.now.reserved.items c.args.places.now (see d))) whole ∙ all
+
+pub loop-declaration-preserved : goal.loop-declaration-preserved
+loop-declaration-preserved c =
+    let s = source_view c.args.source in
+    let reserved = c.args.edition.now.reserved.items in
+    let places = c.args.places.now in
+    let before = c.loop-declaration in
+    let d = c.declaration-item.result in
+    let see = declaration_view c.args.tree.now in
+    let out = string_bytes before.out in
+    record {
+      text = one_more_seen (λ x. seen_lines s reserved places (see x)) c.deref-declaration-items.result.now before.declaration-index d out (string_bytes c.push_declaration.new.out) (search rules) (search rules) before.invariant.text
+          (c.in_ok-push_declaration.ensures.text ∙ ap (λ line. out ++ line) (seen_by_finder (import_line s.path reserved) s.text places before.finder (see d) before.invariant.is));
+      is = finder_same s.text places before.finder c.push_declaration.new.finder c.in_ok-push_declaration.ensures.same before.invariant.is;
+    }

@@ -1,12 +1,21 @@
-use Rattle.std.proofs.Common.{rules, string_bytes}
+use Rattle.std.proofs.Common.{rules, ap, map, take, string_bytes, ◌++◌, ◌∙◌}
 use Rattle.source_listing.specs.Inner.{named_view}
+use Rattle.source_listing.specs.Repeated.{line_if_any}
+use Rattle.source_listing.proofs.Firsts.{finds_next, first_is}
 use Rattle.source_listing.proofs.Repeats.{line_of_more}
 use Rattle.source_listing.proofs.repeated.lines_of.Goals as goal
 
-pub loop-at-preserved : goal.loop-at-preserved
-loop-at-preserved c =
+pub loop-import-preserved : goal.loop-import-preserved
+loop-import-preserved c =
+    let path = c.args.path.now in
+    let imports = c.args.imports.now in
+    let before = c.loop-import in
+    let import = c.import-item.result in
+    let out = string_bytes before.out in
+    let first = first_is before.firsts (map named_view (take before.import-index imports)) c.key_of.result (named_view import) c.key_of.ensures before.invariant.firsts in
     record {
-      text = line_of_more named_view c.args.printer.now c.loop-at.printer c.args.imports.now c.loop-at.at c.index-imports-at.result (string_bytes c.loop-at.out) (string_bytes c.push_if_repeated.new.out) c.loop-at.invariant.same (search rules) (search rules)
-          c.loop-at.invariant.text c.in_ok-push_if_repeated.ensures.text;
-      same = search rules;
+      text = line_of_more named_view path imports before.import-index import out (string_bytes c.push_if_repeated.new.out) (search rules) (search rules) before.invariant.text
+          (c.in_ok-push_if_repeated.ensures.text ∙ ap (λ y. out ++ line_if_any path (named_view import) y) first);
+      firsts = finds_next named_view before.firsts c.push_if_repeated.new.firsts imports before.import-index import c.key_of.result (search rules) (search rules) c.key_of.ensures c.in_ok-push_if_repeated.ensures.first
+          before.invariant.firsts;
     }

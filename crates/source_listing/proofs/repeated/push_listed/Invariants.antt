@@ -1,8 +1,14 @@
-use Rattle.std.proofs.Common.{◌≡◌, ◌++◌, map, take}
-use Rattle.import_lister.specs.Listed.{import_of}
-use Rattle.source_listing.specs.Inner.{named_view}
+use Rattle.std.proofs.Common.{◌≡◌, ◌++◌, map, option_map, take}
+use Rattle.import_lister.specs.Listed.{listed_import}
+use Rattle.source_listing.specs.Inner.{IsSameTreeFinder, named_view, text_in, trees_view}
 use Rattle.source_listing.specs.Repeated as spec
+use Rattle.source_listing.specs.Uses.{tree_spots}
 use Rattle.source_listing.proofs.repeated.push_listed.Given as goal
 
 abbrev pub invariant-loop-import : goal.invariant-loop-import
-invariant-loop-import l = map named_view l.found.items ≡ map named_view l.initial.found.items ++ map (spec.named_import l.edition.reserved.items l.around l.at) (map import_of (take l.import-index l.imports))
+invariant-loop-import l =
+    let named = spec.named_import l.edition.reserved.items l.around (tree_spots (text_in l.fn.finder) (option_map trees_view l.trees)) in
+    record {
+      named : map named_view l.found.items ≡ map named_view l.initial.found.items ++ map named (map listed_import (take l.import-index l.imports));
+      same : IsSameTreeFinder l.fn.finder l.finder;
+    }

@@ -1,0 +1,131 @@
+-- What is listed holds no float.
+use Rattle.std.proofs.Common.{◌≡◌, ℕ, ◌+◌, Bool, true, false, ◌||◌, if◌then◌else◌, List, [], ◌∷◌, ◌++◌, Option, Some, None, option_map, refl}
+use Rattle.std.specs.List.{flat_map}
+use Rattle.serde_json.specs.Data.{Data, Items}
+use Rattle.serde_json.specs.View.{items_of}
+use Rattle.serde_json.specs.Written.{has_float, items_have_float}
+use Rattle.def_collector.specs.Declarations.{Declared, declared_name, declared_imports, declarations}
+use Rattle.def_collector.specs.DeclarationView.{view_of}
+use Rattle.item_tree.specs.declared.use_tree.ImportAlias.{ImportAlias}
+use Rattle.item_tree.specs.declared.visibility.RawVisibility.{RawVisibility}
+use Rattle.item_tree.specs.declared.visibility.RawVisibility.TheVariants.{Module, PubSelf, PubCrate, Public}
+use Rattle.item_tree.specs.declared.visibility.VisibilityExplicitness.TheVariants.{Explicit, Implicit}
+use Rattle.item_tree.specs.Imports.{Import}
+use Rattle.item_tree.specs.Node.{Node, leaf, parent, Forest, empty, more, node_ast}
+use Rattle.rust_items.specs.declared.log.Problem.{Problem}
+use Rattle.rust_items.specs.declared.source_file.ItemPlace.{ItemPlace}
+use Rattle.source_listing.specs.declared.finder.Spot.{Spot}
+use Rattle.source_listing.specs.ImportObjects.{alias_form, import_form, import_object, seen_objects, import_objects}
+use Rattle.source_listing.specs.Imports.{of_declared, spots_of_any}
+use Rattle.source_listing.specs.Lines.{Choice, Source, is_chosen}
+use Rattle.source_listing.specs.Places.{spot_of}
+use Rattle.source_listing.specs.Objects.{ItemView, item_in, name_form, visibility_form, line_form, column_form, range_form, object_form, file_form, own_objects, node_objects, forest_objects, problem_objects}
+
+-- ---- lists
+
+or_none : (a b : Bool) → a ≡ false → b ≡ false → (a || b) ≡ false
+or_none a b e f = rw (e, f) refl
+
+first_none : (a b : Bool) → (a || b) ≡ false → a ≡ false
+first_none false b e = refl
+first_none true b e = absurd (cc)
+
+second_none : (a b : Bool) → (a || b) ≡ false → b ≡ false
+second_none false b e = e
+second_none true b e = absurd (cc)
+
+both_none : (xs ys : List Data) → items_have_float (items_of xs) ≡ false → items_have_float (items_of ys) ≡ false → items_have_float (items_of (xs ++ ys)) ≡ false
+both_none [] ys e f = f
+both_none (x ∷ xs) ys e f =
+    let here = first_none (has_float x) (items_have_float (items_of xs)) e in
+    let rest = second_none (has_float x) (items_have_float (items_of xs)) e in or_none (has_float x) (items_have_float (items_of (xs ++ ys))) here (both_none xs ys rest f)
+
+one_none : (b : Bool) (d : Data) → has_float d ≡ false → items_have_float (items_of (if b then d ∷ [] else [])) ≡ false
+one_none false d e = refl
+one_none true d e = or_none (has_float d) false e refl
+
+flat_none : {A : Type 0} (each : A → List Data) (xs : List A) → ((x : A) → items_have_float (items_of (each x)) ≡ false) → items_have_float (items_of (flat_map each xs)) ≡ false
+flat_none each [] h = refl
+flat_none each (x ∷ xs) h = both_none (each x) (flat_map each xs) (h x) (flat_none each xs h)
+
+-- ---- members
+
+name_none : (o : Option (List ℕ)) → has_float (name_form o) ≡ false
+name_none None = refl
+name_none (Some name) = refl
+
+visibility_none : (reserved : List (List ℕ)) (o : Option RawVisibility) → has_float (visibility_form reserved o) ≡ false
+visibility_none reserved None = refl
+visibility_none reserved (Some Public) = refl
+visibility_none reserved (Some PubCrate) = refl
+visibility_none reserved (Some (PubSelf Explicit)) = refl
+visibility_none reserved (Some (PubSelf Implicit)) = refl
+visibility_none reserved (Some (Module path e)) = refl
+
+line_none : (o : Option Spot) → has_float (line_form o) ≡ false
+line_none None = refl
+line_none (Some spot) = refl
+
+column_none : (o : Option Spot) → has_float (column_form o) ≡ false
+column_none None = refl
+column_none (Some spot) = refl
+
+range_none : (o : Option Spot) → has_float (range_form o) ≡ false
+range_none None = refl
+range_none (Some spot) = refl
+
+alias_none : (reserved : List (List ℕ)) (o : Option ImportAlias) → has_float (alias_form reserved o) ≡ false
+alias_none reserved None = refl
+alias_none reserved (Some alias) = refl
+
+-- ---- outlines
+
+object_none : (reserved : List (List ℕ)) (x : ItemView) (spot : Option Spot) (ds : Items) → items_have_float ds ≡ false → has_float (object_form reserved x spot ds) ≡ false
+object_none reserved x spot ds e = rw (e, column_none spot, line_none spot, name_none x.name, range_none spot, visibility_none reserved x.visibility) refl
+
+module _ (s : Source) (reserved : List (List ℕ)) (places : List ItemPlace) (c : Choice) where
+  own_none : (level : ℕ) (x : ItemView) (ds : List Data) → items_have_float (items_of ds) ≡ false → items_have_float (items_of (own_objects s reserved places c level x ds)) ≡ false
+  own_none level x ds e =
+      one_none (is_chosen c level x.is_active) (object_form reserved x (spot_of s.text places x.id) (items_of ds)) (object_none reserved x (spot_of s.text places x.id) (items_of ds) e)
+
+  mutual
+    node_none : (level : ℕ) (a : Bool) (n : Node) → items_have_float (items_of (node_objects s reserved places c level a n)) ≡ false
+    node_none level a (leaf h l) = own_none level (item_in a (leaf h l)) [] refl
+    node_none level a (parent h t f) = own_none level (item_in a (parent h t f)) (forest_objects s reserved places c (level + 1) (item_in a (parent h t f)).is_active f) (forest_none (level + 1) (item_in a (parent h t f)).is_active f)
+
+    forest_none : (level : ℕ) (a : Bool) (f : Forest) → items_have_float (items_of (forest_objects s reserved places c level a f)) ≡ false
+    forest_none level a empty = refl
+    forest_none level a (more n f) = both_none (node_objects s reserved places c level a n) (forest_objects s reserved places c level a f) (node_none level a n) (forest_none level a f)
+
+  -- the values of an outline hold no float
+  pub no_float_in_outline : (f : Forest) → items_have_float (items_of (forest_objects s reserved places c 0 true f)) ≡ false
+  no_float_in_outline f = forest_none 0 true f
+
+  -- nor does the object of a file
+  pub file_none : (f : Forest) → has_float (file_form s.path (items_of (forest_objects s reserved places c 0 true f))) ≡ false
+  file_none f = or_none (items_have_float (items_of (forest_objects s reserved places c 0 true f))) false (no_float_in_outline f) refl
+
+-- ---- problems
+
+-- the values of problems hold no float
+pub no_float_in_problems : (text : List ℕ) (ps : List Problem) → items_have_float (items_of (problem_objects text ps)) ≡ false
+no_float_in_problems text [] = refl
+no_float_in_problems text (p ∷ ps) = no_float_in_problems text ps
+
+-- ---- imports
+
+module _ (reserved : List (List ℕ)) where
+  import_none : (spot : Option Spot) (x : Import) → has_float (import_form reserved spot x) ≡ false
+  import_none spot x = rw (alias_none reserved x.alias, column_none spot, line_none spot) refl
+
+  each_none : (spots : ℕ → Option Spot) (x : Import) → items_have_float (items_of (import_object reserved spots x)) ≡ false
+  each_none spots x = or_none (has_float (import_form reserved (spots x.index) x)) false (import_none (spots x.index) x) refl
+
+  declared_none : (spots : ℕ → Option Spot) (d : Declared) → items_have_float (items_of (of_declared (import_object reserved) spots d)) ≡ false
+  declared_none spots (declared_name name) = refl
+  declared_none spots (declared_imports xs) = flat_none (import_object reserved spots) xs (each_none spots)
+
+-- the values of imports hold no float
+pub no_float_in_imports : (text : List ℕ) (reserved : List (List ℕ)) (places : List ItemPlace) (f : Forest) → items_have_float (items_of (import_objects text reserved places f)) ≡ false
+no_float_in_imports text reserved places f = flat_none (λ d. seen_objects text reserved places (view_of d)) (declarations f)
+    (λ d. declared_none reserved (spots_of_any text places (option_map node_ast (view_of d).node)) (view_of d).declared)

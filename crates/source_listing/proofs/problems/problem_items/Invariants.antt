@@ -1,0 +1,7 @@
+use Rattle.std.proofs.Common.{◌≡◌, map, take}
+use Rattle.serde_json.specs.View.{view}
+use Rattle.source_listing.specs.Objects.{problem_objects}
+use Rattle.source_listing.proofs.problems.problem_items.Given as goal
+
+abbrev pub invariant-loop-problem : goal.invariant-loop-problem
+invariant-loop-problem l = (map view l.items.items ≡ problem_objects l.fn.text (take l.problem-index l.problems)) × (l.lines ≡ l.fn.text)

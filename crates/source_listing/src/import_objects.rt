@@ -1,0 +1,159 @@
+//! Imports as JSON values.
+ghost use Rattle.std.specs.Prelude.{◌≡◌, ◌++◌, IfOk, OnOk, map, option_map};
+ghost use Rattle.std.specs.List.{flat_map};
+ghost use Rattle.serde_json.specs.View.{view};
+ghost use Rattle.def_collector.specs.DeclarationView.{declaration_view};
+ghost use Rattle.import_lister.specs.Listed.{listed_import};
+ghost use Rattle.item_tree.specs.Shown.{IsContained};
+ghost use Rattle.source_listing.specs.ImportObjects as spec;
+ghost use Rattle.source_listing.specs.Inner.{FindsTrees, IsSameTreeFinder, places_in, text_in, trees_view};
+ghost use Rattle.source_listing.specs.Places.{AreDistinct};
+ghost use Rattle.source_listing.specs.Uses.{tree_spots};
+
+use crate::finder::Spot;
+use crate::json::{column_value, line_value};
+use crate::uses::{TreeFinder, UseTrees};
+use def_collector::{Declaration, Declares, collect};
+use hir_input::Edition;
+use import_lister::Listed;
+use item_tree::{ImportAlias, ImportKind, ItemTree};
+use rust_items::ItemPlace;
+use serde_json::{Value, json};
+use std::alloc::{AllocError, Global};
+
+/// The word of a kind of import.
+fn import_word(kind: ImportKind) -> &'static str
+    ensures { result.now ≡ spec.import_word kind }
+{
+    match kind {
+        ImportKind::Plain => "plain",
+        ImportKind::Glob => "glob",
+        ImportKind::TypeOnly => "type",
+    }
+}
+
+fn alias_value(
+    alloc: Global,
+    edition: &Edition,
+    alias: &Option<ImportAlias>,
+) -> Result<Value, AllocError>
+    ensures { let form = spec.alias_form edition.now.reserved.items alias.now in
+        IfOk result (λ value. view value ≡ form) }
+{
+    match alias {
+        None => Ok(Value::Null),
+        Some(alias) => {
+            let alias = alias.display(edition);
+            let text = alias.to_string(alloc)?;
+            Ok(Value::String(text))
+        }
+    }
+}
+
+/// The object of an import whose use tree stands there.
+fn import_value(
+    alloc: Global,
+    edition: &Edition,
+    spot: Option<Spot>,
+    import: &Listed,
+) -> Result<Value, AllocError>
+    ensures { let form = spec.import_form edition.now.reserved.items spot (listed_import import.now) in
+        IfOk result (λ value. view value ≡ form) }
+{
+    let alias = alias_value(alloc, edition, &import.alias)?;
+    let (column, line) = (column_value(spot), line_value(spot));
+    let kind = import_word(import.kind);
+    let path = import.path.display(edition);
+    let path = path.to_string(alloc)?;
+    json!(in alloc; {"alias": alias, "column": column, "kind": kind, "line": line, "path": path})
+}
+
+/// Adds the object of an import, whose use tree is one of these.
+fn push_import(
+    alloc: Global,
+    edition: &Edition,
+    finder: &mut TreeFinder<'_>,
+    trees: &Option<UseTrees>,
+    import: &Listed,
+    out: &mut Vec<Value>,
+) -> Result<(), AllocError>
+    ensures objects { let spots = tree_spots (text_in finder.old) (option_map trees_view trees.now) in
+        let objects = spec.import_object edition.now.reserved.items spots (listed_import import.now) in
+        OnOk result (map view out.new.items ≡ map view out.old.items ++ objects) }
+    ensures same { IsSameTreeFinder finder.old finder.new }
+{
+    let spot = finder.spot(trees, import.index);
+    let value = import_value(alloc, edition, spot, import)?;
+    out.push(value)?;
+    Ok(())
+}
+
+/// Adds the objects of the imports of a use.
+fn push_imports(
+    alloc: Global,
+    edition: &Edition,
+    finder: &mut TreeFinder<'_>,
+    trees: &Option<UseTrees>,
+    imports: &[Listed],
+    out: &mut Vec<Value>,
+) -> Result<(), AllocError>
+    ensures objects { let spots = tree_spots (text_in finder.old) (option_map trees_view trees.now) in
+        let objects = flat_map (spec.import_object edition.now.reserved.items spots) (map listed_import imports.now) in
+        OnOk result (map view out.new.items ≡ map view out.old.items ++ objects) }
+    ensures same { IsSameTreeFinder finder.old finder.new }
+{
+    for import in imports {
+        push_import(alloc, edition, finder, trees, import, out)?;
+    }
+    Ok(())
+}
+
+/// Adds the objects of the imports of an item, if that is a use.
+fn push_declaration(
+    alloc: Global,
+    edition: &Edition,
+    finder: &mut TreeFinder<'_>,
+    tree: &ItemTree,
+    declaration: &Declaration<'_>,
+    out: &mut Vec<Value>,
+) -> Result<(), AllocError>
+    requires finds { FindsTrees finder.old }
+    requires contained { IsContained tree.now declaration.now.id }
+    ensures objects { let objects = spec.seen_objects (text_in finder.old) edition.now.reserved.items (places_in finder.old) in
+        OnOk result (map view out.new.items ≡ map view out.old.items ++ objects (declaration_view tree.now declaration.now)) }
+    ensures same { IsSameTreeFinder finder.old finder.new }
+{
+    match &declaration.declares {
+        Declares::Name(_) => Ok(()),
+        Declares::Imports(imports) => {
+            let trees = finder.find(alloc, declaration.id.ast_id(tree))?;
+            push_imports(alloc, edition, finder, &trees, imports, out)
+        }
+    }
+}
+
+/// The imports of a file as values, in the order in which they are written, each an object with the `line` and the `column` of
+/// its own use tree, its `path`, the word of its `kind` (`plain`; `glob` for all names of the path; `type` for a name in the
+/// type namespace alone, by `self` in a list), and what it is renamed to as its `alias`, which is null where it is not. What a
+/// cfg disables is not left out.
+///
+/// The places are those that the reader gave with the syntax of the tree. The only error is want of memory.
+pub fn import_items(
+    alloc: Global,
+    text: &str,
+    places: &[ItemPlace],
+    tree: &ItemTree,
+    edition: &Edition,
+) -> Result<Vec<Value>, AllocError>
+    requires { AreDistinct places.now }
+    ensures { let objects = spec.import_objects text.now edition.now.reserved.items places.now in
+        IfOk result (λ items. map view items.items ≡ objects tree.now.forest) }
+{
+    let mut finder = TreeFinder::new(text, places);
+    let mut out = Vec::new(alloc);
+    let collected = collect(alloc, tree)?;
+    for declaration in &collected.declarations {
+        push_declaration(alloc, edition, &mut finder, tree, declaration, &mut out)?;
+    }
+    Ok(out)
+}
