@@ -1,0 +1,4 @@
+pub mod Begun
+pub mod Lines
+pub mod Parts
+pub mod Served

@@ -1,0 +1,201 @@
+//! What no clause says: that answers are flushed, and what becomes of long lines and failures at a concrete service.
+ghost use Rattle.std.specs.Prelude.{◌≡◌};
+ghost use Rattle.line_stream.specs.Lines.{Told};
+
+use crate::{Answer, Line, MOST_LINE, Service, StreamError, serve};
+use std::alloc::Global;
+use std::io::{self, BufRead, BufReader, Read, Write};
+use std::test::Fail;
+
+// Answers a line by itself, and counts.
+#[derive(Drop)]
+struct Echo {
+    answered: u32,
+}
+
+impl Service for Echo {
+    ghost use Rattle.std.specs.Prelude.{codes};
+    ghost use Rattle.line_stream.specs.Lines.{Told};
+
+    ghost answers = { λ _ said _ text. said ≡ Told.too_long → text ≡ codes "too long" };
+
+    fn answer(&mut self, _alloc: Global, line: Line) -> Answer {
+        self.answered = self.answered.saturating_add(1);
+        match line {
+            Line::Whole(bytes) => match String::from_utf8(bytes) {
+                Ok(text) => Answer::Made(text),
+                Err(_) => Answer::Fixed("no text"),
+            },
+            Line::TooLong => Answer::Fixed("too long"),
+            Line::OutOfMemory => Answer::Fixed("out of memory"),
+        }
+    }
+}
+
+// Shows what was flushed alone.
+#[derive(Drop)]
+struct Screen {
+    waiting: Vec<u8>,
+    shown: Vec<u8>,
+    writes: u32,
+    most_writes: u32,
+}
+
+impl Screen {
+    fn new(alloc: Global, most_writes: u32) -> Screen {
+        Screen {
+            waiting: Vec::new(alloc),
+            shown: Vec::new(alloc),
+            writes: 0,
+            most_writes,
+        }
+    }
+}
+
+// Takes three bytes a write at most.
+impl Write for Screen {
+    fn write(&mut self, buf: &[u8]) -> io::Result<usize> {
+        if self.writes >= self.most_writes {
+            return Ok(0);
+        }
+        self.writes += 1;
+        let count = buf.len().min(3);
+        self.waiting.extend_from_slice(&buf[..count])?;
+        Ok(count)
+    }
+
+    fn flush(&mut self) -> io::Result<()> {
+        self.shown.extend_from_slice(&self.waiting)?;
+        self.waiting.clear();
+        Ok(())
+    }
+}
+
+// Fails after its bytes, and is interrupted before each read.
+#[derive(Drop)]
+struct Failing<'a> {
+    rest: &'a [u8],
+    is_interrupted: bool,
+}
+
+impl Read for Failing<'_> {
+    fn read(&mut self, buf: &mut [u8]) -> io::Result<usize> {
+        self.is_interrupted = !self.is_interrupted;
+        if self.is_interrupted {
+            return Err(io::Error::from(io::ErrorKind::Interrupted));
+        }
+        if self.rest.is_empty() {
+            return Err(io::Error::from(io::ErrorKind::Other));
+        }
+        let (mut piece, _) = self.rest.split_at(self.rest.len().min(2));
+        let count = piece.read(buf)?;
+        self.rest = &self.rest[count..];
+        Ok(count)
+    }
+}
+
+// Counts line feeds, for which no memory is wanted.
+#[derive(Drop)]
+struct Feeds {
+    count: usize,
+}
+
+impl Write for Feeds {
+    fn write(&mut self, buf: &[u8]) -> io::Result<usize> {
+        let count = buf.iter().filter(|byte| **byte == b'\n').count();
+        self.count = self.count.saturating_add(count);
+        Ok(buf.len())
+    }
+
+    fn flush(&mut self) -> io::Result<()> {
+        Ok(())
+    }
+}
+
+#[test]
+fn answers_each_line(rt: HostRuntime) -> Result<(), Fail> {
+    let alloc = rt.alloc();
+    for (input, output, count) in [
+        ("", "", 0),
+        ("\n", "\n", 1),
+        ("one\n\ntwo", "one\n\ntwo\n", 3),
+        ("a\r\nb\n", "a\r\nb\n", 2),
+    ] {
+        let mut echo = Echo { answered: 0 };
+        let mut written = Vec::new(alloc);
+        let served = serve(alloc, &mut input.as_bytes(), &mut written, &mut echo);
+        assert!(rt; served.is_ok(), "{input}");
+        assert!(rt; written.as_slice() == output.as_bytes(), "{input}");
+        assert_eq!(rt; echo.answered, count, "{input}");
+    }
+    Ok(())
+}
+
+#[test]
+fn flushes_before_a_read(rt: HostRuntime) -> Result<(), Fail> {
+    let alloc = rt.alloc();
+    let failing = Failing {
+        rest: b"first\nsecond\nthi",
+        is_interrupted: false,
+    };
+    let mut echo = Echo { answered: 0 };
+    let mut screen = Screen::new(alloc, 100);
+    let served = serve(
+        alloc,
+        &mut BufReader::new(alloc, failing)?,
+        &mut screen,
+        &mut echo,
+    );
+    assert!(rt; matches!(served, Err(StreamError::Read)));
+    assert!(rt; screen.shown.as_slice() == "first\nsecond\n".as_bytes());
+    Ok(())
+}
+
+#[test]
+fn stops_at_a_failed_write(rt: HostRuntime) -> Result<(), Fail> {
+    let alloc = rt.alloc();
+    let mut echo = Echo { answered: 0 };
+    let mut screen = Screen::new(alloc, 4);
+    let served = serve(
+        alloc,
+        &mut "first\nsecond\nthird\n".as_bytes(),
+        &mut screen,
+        &mut echo,
+    );
+    assert!(rt; matches!(served, Err(StreamError::Write)));
+    assert!(rt; screen.shown.as_slice() == "first\n".as_bytes());
+    assert!(rt; screen.waiting.as_slice() == "sec".as_bytes());
+    assert_eq!(rt; echo.answered, 2);
+    Ok(())
+}
+
+#[test]
+fn passes_over_a_long_line(rt: HostRuntime) -> Result<(), Fail> {
+    let alloc = rt.alloc();
+    let long = io::repeat(b'x').take(MOST_LINE as u64 + 1);
+    let mut input = BufReader::new(alloc, long)?.chain("\nshort\n".as_bytes());
+    let mut echo = Echo { answered: 0 };
+    let mut written = Vec::new(alloc);
+    let served = serve(alloc, &mut input, &mut written, &mut echo);
+    assert!(rt; served.is_ok());
+    assert!(rt; written.as_slice() == "too long\nshort\n".as_bytes());
+    Ok(())
+}
+
+// Also where an allocation is made to fail.
+#[test]
+fn answers_without_memory(rt: HostRuntime) -> Result<(), Fail> {
+    let alloc = rt.alloc();
+    let mut echo = Echo { answered: 0 };
+    let mut feeds = Feeds { count: 0 };
+    let served = serve(
+        alloc,
+        &mut "one\ntwo\nthree".as_bytes(),
+        &mut feeds,
+        &mut echo,
+    );
+    assert!(rt; served.is_ok());
+    assert_eq!(rt; feeds.count, 3);
+    assert_eq!(rt; echo.answered, 3);
+    Ok(())
+}
