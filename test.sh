@@ -1,8 +1,8 @@
 #!/usr/bin/env bash
-# Passes every test: the merge gate (proofs, wrong bodies, tests, the stored runs), and what the gate does not run. It tells the
+# Runs every test: the merge gate (proofs, wrong bodies, tests, the stored runs), and what the gate does not run. It prints the
 # seconds of each part as it ends, and its last line is `N passed, M failed`, whatever happens.
 #
-# The status is 0 where nothing failed, 69 where something that the tests need is missing, and else 1.
+# The status is 0 where nothing failed, 69 where something that the tests need is missing, and otherwise 1.
 set -uo pipefail
 cd "$(dirname "$(realpath "${BASH_SOURCE[0]}")")" || exit 1
 program=crates/item_tree_tool/out/item_tree_tool
@@ -38,15 +38,18 @@ trap close EXIT
 trap 'exit 130' INT
 trap 'exit 143' TERM HUP
 
-for needed in rt python3 cc realpath; do
-    if ! command -v "$needed" > /dev/null; then
-        echo "test.sh: $needed is not on the path, and the tests need it" | tee -a "$log" >&2
-        planned=1 is_missing=69
-        exit
-    fi
+lack() {
+    echo "test.sh: $1" >&2
+    planned=1 is_missing=69
+    exit
+}
+
+[ "$(uname -sm)" = 'Linux x86_64' ] || lack "the tests need Linux on x86-64, and this is $(uname -sm)"
+for needed in rt python3 cc; do
+    command -v "$needed" > /dev/null || lack "$needed is not on the path, and the tests need it"
 done
 
-# Runs a part, and tells at which second each of its crates was done with, and how long it took.
+# Runs a part, and prints the second at which each of its crates was done, and how long it took.
 part() {
     local name=$1 start=$SECONDS line status
     shift
@@ -62,8 +65,9 @@ part() {
     return "$status"
 }
 
-planned=9
-# The gate leaves the programs and the tests as it built them; after one that failed they would be those of an earlier text.
+planned=10
+part 'the closed words' tests/closed_words.sh
+# The gate leaves the programs and the tests as it built them; after a failure they would be those of earlier sources.
 if part 'the merge gate' rt ci; then
     part 'the requests' tests/requests.sh "$program"
     part 'the outlines' tests/requests.sh "$outlines" outlines

@@ -285,6 +285,10 @@ def main():
     parser.add_argument("--times", type=int, default=1, metavar="N")
     options = parser.parse_args()
     runs = Runs(options.program)
+    if not os.access(runs.program, os.X_OK):
+        print(f"no program is at {options.program}", file=sys.stderr)
+        print("deep_and_wide: 0 passed, 1 failed")
+        return 69
     resource.setrlimit(resource.RLIMIT_STACK, (STACK, STACK))
     for shape in DEEP:
         runs.deep(shape)

@@ -375,9 +375,9 @@ def main():
     options = parser.parse_args()
     program, requests = os.path.abspath(options.program), all_requests()
     if not os.access(program, os.X_OK):
-        print(f"no program is at {options.program}")
+        print(f"no program is at {options.program}", file=sys.stderr)
         print("hostile_bytes: 0 passed, 1 failed")
-        return 1
+        return 69
     # A run that takes more than two gigabytes is out of memory, and so a failure.
     resource.setrlimit(resource.RLIMIT_AS, (2 << 30, 2 << 30))
     if options.only is not None:

@@ -3,6 +3,7 @@
 import os
 import pty
 import re
+import shlex
 import shutil
 import subprocess
 import sys
@@ -73,7 +74,7 @@ def check_vim(folder):
 def check_request(folder):
     """The program over JSON answers a request with the page that `itemtree page` writes."""
     wanted = run('itemtree page known.rs', folder)
-    got = run(f'itemtree request --show page known.rs | {TOOL}', folder)
+    got = run(f'itemtree request --show page known.rs | {shlex.quote(TOOL)}', folder)
     tell(got == wanted, 'a request and the page that it asks for', got, wanted)
 
 
@@ -102,6 +103,11 @@ def check_progress(folder):
 
 
 def main():
+    for program in (PROGRAM, TOOL):
+        if not os.access(program, os.X_OK):
+            print(f'no program is at {program}', file=sys.stderr)
+            print('itemtree: 0 passed, 1 failed')
+            return 69
     with tempfile.TemporaryDirectory() as folder:
         shutil.copytree(os.path.join(TOP, 'tests/itemtree'), folder, dirs_exist_ok=True)
         check_examples(os.path.join(TOP, 'docs/ITEMTREE.md'), folder)

@@ -7,9 +7,9 @@
 set -uo pipefail
 cd "$(dirname "${BASH_SOURCE[0]}")/.." || exit 2
 if ! command -v rt > /dev/null; then
-    echo 'rt is not on the path'
+    echo 'must_not_compile.sh: rt is not on the path' >&2
     echo 'must_not_compile: 0 passed, 1 failed'
-    exit 1
+    exit 69
 fi
 work=$(mktemp -d)
 trap 'rm -rf "$work"' EXIT
@@ -44,9 +44,10 @@ for source in tests/must_not_compile/*.txt; do
         echo "$name: wanted $wanted, found ${found:-nothing}"
     fi
 done
-if grep -E 'error' "$work/log" | grep -qvE '^src/[a-z_]+\.rt:.* error\['; then
+stray=$(grep -w error "$work/log" | grep -vE '^src/[a-z_]+\.rt:.* error\[')
+if [ -n "$stray" ]; then
     failed=$((failed + 1))
-    echo 'an error that is of no file'
+    printf 'an error that is of no file: %s\n' "$stray"
 fi
 [ "$failed" = 0 ] || tail -n 20 "$work/log"
 echo "must_not_compile: $passed passed, $failed failed"

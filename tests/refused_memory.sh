@@ -17,6 +17,13 @@ itemtree=$(realpath "$3")
 shift 3
 mapfile -t binaries < <(realpath "$@")
 here=$(cd "$(dirname "${BASH_SOURCE[0]}")" && pwd)
+for needed in "$program" "$outlines" "$itemtree" "${binaries[@]}" cc; do
+    if ! command -v "$needed" > /dev/null; then
+        echo "refused_memory.sh: there is no $needed" >&2
+        echo 'refused_memory: 0 passed, 1 failed'
+        exit 69
+    fi
+done
 work=$(mktemp -d)
 trap 'rm -rf "$work"' EXIT
 cc -shared -fPIC -O1 -o "$work/refuse_memory.so" "$here/refuse_memory.c" -ldl || exit 2
@@ -58,7 +65,7 @@ try_request() {
 try_command() {
     local request command
     read -ra command <<< "$2"
-    command=("${command[@]/#FILE/$here/itemtree/shapes.rs}")
+    command=("${command[@]/#FILE/"$here/itemtree/shapes.rs"}")
     for ((request = 1; ; request++)); do
         refuse "$request" "$1" "${command[@]}" "$here/itemtree/shapes.rs"
         [ "$made" -ge "$request" ] || break

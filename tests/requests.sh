@@ -9,6 +9,11 @@
 set -uo pipefail
 program=$(realpath "$1")
 folder=${2:-requests}
+if [ ! -x "$program" ]; then
+    echo "requests.sh: no program is at $1" >&2
+    echo "$folder: 0 passed, 1 failed"
+    exit 69
+fi
 cd "$(dirname "${BASH_SOURCE[0]}")/$folder" || exit 2
 work=$(mktemp -d)
 trap 'rm -rf "$work"' EXIT

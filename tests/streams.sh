@@ -4,6 +4,11 @@
 #   streams.sh PROGRAM
 set -uo pipefail
 program=$(realpath "$1")
+if [ ! -x "$program" ] || ! command -v python3 > /dev/null; then
+    echo "streams.sh: no program is at $1, or python3 is not on the path" >&2
+    echo 'streams: 0 passed, 1 failed'
+    exit 69
+fi
 here=$(cd "$(dirname "${BASH_SOURCE[0]}")" && pwd)
 work=$(mktemp -d)
 trap 'rm -rf "$work"' EXIT
