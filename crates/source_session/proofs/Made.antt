@@ -1,0 +1,161 @@
+-- What the edits of a line make of a session.
+use Rattle.std.proofs.Common.{◌≡◌, ℕ, ◌≤◌, ◌==◌, suc, true, false, if◌then◌else◌, inl, inr, List, [], ◌∷◌, Option, Some, None, IfSome, All, Result, Ok, Err, OnOk, IfOk, IfErr, MatchResult, slice_get, length, map, take, refl, sym, ap, subst, ◌∙◌, arith}
+use Rattle.std.proofs.lemmas.List.{length-map, take_all}
+use Rattle.std.proofs.lemmas.List.Elements.{All-take}
+use Rattle.std.specs.Option.{option_or, unwrap_or}
+use Rattle.hir_input_json.specs.Editions.{EditionView}
+use Rattle.item_tree.specs.declared.fault.EditFault.{EditFault}
+use Rattle.item_tree.specs.declared.fault.EditFault.TheVariants.{TooManyEdits, Lower}
+use Rattle.item_tree.specs.declared.fault.LowerError.TheVariants.{TooManyItems, TooManyVisibilities, TooManyUseTrees, TooManyAttributes, TooManySupers, OutOfMemory}
+use Rattle.item_tree_db.specs.declared.edit.AllRefused.{AllRefused}
+use Rattle.item_tree_db.specs.declared.edit.Edit.{Edit}
+use Rattle.item_tree_db.specs.Edits.{EditView, edit_view, edits_before}
+use Rattle.item_tree_db.specs.Refusal.{last_number, FirstFit, IsRefusal}
+use Rattle.item_tree_db.specs.History.{IsAfter, IsFooting, last_some}
+use Rattle.item_tree_db.specs.State.{State}
+use Rattle.item_tree_db.proofs.Histories.{after_none}
+use Rattle.item_tree_request.specs.Inner.Made.{IsUnmade, refusal_of}
+use Rattle.item_tree_request.proofs.Made.{is_made, is_unmade, found_in_map}
+use Rattle.decl_index.specs.Entries.{IndexView}
+use Rattle.decl_index.proofs.Laws.{behind_after}
+use Rattle.source_session.specs.Edits.{LineEdit}
+use Rattle.source_session.specs.Inner.{IsPlaced, LeavesPlaced, AreTogether, session_of}
+use Rattle.source_session.specs.declared.error.LineError.{LineError}
+use Rattle.source_session.specs.Refusals.{line_refusal, made_count}
+use Rattle.source_session.specs.Sessions.{Session, AreMade, IsEdited, IsStopped, IsUnedited}
+use Rattle.source_session.proofs.Kept.{text_over}
+use Rattle.source_session.specs.Texts.{Texts, Change, text_in, text_after, leaves, AreMeant}
+
+-- ---- the places of texts
+
+placed_leaves : (file : ℕ) (c : Change) → LeavesPlaced c → IfSome (leaves file c) IsPlaced
+placed_leaves file None h = tt
+placed_leaves file (Some c) h = elim (c.0 == file) as (λ b. IfSome (if b then Some c.1 else None) IsPlaced) [ true ↦ h | false ↦ tt ]
+
+some_either : {A : Type 0} (P : A → Type 0) (a b : Option A) → IfSome a P → IfSome b P → IfSome (option_or a b) P
+some_either P None b h k = k
+some_either P (Some a) b h k = h
+
+some_else : {A : Type 0} (P : A → Type 0) (o : Option A) (d : A) → IfSome o P → P d → P (unwrap_or o d)
+some_else P None d h k = k
+some_else P (Some a) d h k = h
+
+placed_last : (file : ℕ) (cs : List Change) → All LeavesPlaced cs → IfSome (last_some (leaves file) cs) IsPlaced
+placed_last file [] h = tt
+placed_last file (c ∷ cs) h = some_either IsPlaced (last_some (leaves file) cs) (leaves file c) (placed_last file cs (λ k d within. h (suc k) d (omega (arith, within)))) (placed_leaves file c (h 0 None (omega arith)))
+
+placed_after : (texts : Texts) (cs : List Change) → ((file : ℕ) → IsPlaced (text_in texts file)) → All LeavesPlaced cs → (file : ℕ) → IsPlaced (text_after texts cs file)
+placed_after texts cs old new file = some_else IsPlaced (last_some (leaves file) cs) (text_in texts file) (placed_last file cs new) (old file)
+
+-- ---- what belongs together
+
+-- after edits of the table and changes of the texts
+pub together_after : (count : ℕ) (s u : State) (edits : List EditView) (old new : Texts) (changes : List Change) (index : IndexView) → AreTogether count s old index → IsAfter s edits u → IsFooting s u → All LeavesPlaced changes
+    → ((file : ℕ) → text_in new file ≡ text_after old changes file) → AreTogether count u new index
+together_after count s u edits old new changes index t after footing placed texts = record {
+  known = λ n own small. rw after.count (t.known n own small);
+  behind = behind_after s u edits index after footing t.behind;
+  placed = λ file. subst IsPlaced (sym (texts file)) (placed_after old changes t.placed placed file);
+}
+
+-- where the texts of files are as they were
+pub together_still : (count : ℕ) (s : State) (old new : Texts) (index : IndexView) → AreTogether count s old index → ((file : ℕ) → text_in new file ≡ text_in old file) → AreTogether count s new index
+together_still count s old new index t texts = record {
+  known = t.known;
+  behind = t.behind;
+  placed = λ file. subst IsPlaced (sym (texts file)) (t.placed file);
+}
+
+-- ---- outcomes
+
+pub same_length : (ls : List LineEdit) (es : List EditView) (cs : List Change) → AreMeant ls es cs → length cs ≡ length es
+same_length [] [] [] h = refl
+same_length (l ∷ ls) (e ∷ es) (c ∷ cs) h = ap suc (same_length ls es cs h.1)
+same_length [] (e ∷ es) cs h = absurd h
+same_length [] [] (c ∷ cs) h = absurd h
+same_length (l ∷ ls) [] cs h = absurd h
+same_length (l ∷ ls) (e ∷ es) [] h = absurd h
+
+-- nothing is made
+pub made_none : (s u : Session) → u.count ≡ s.count → u.edition ≡ s.edition → u.table ≡ s.table → ((file : ℕ) → text_in u.texts file ≡ text_in s.texts file) → AreMade s [] [] u
+made_none s u count edition table texts = record { count = count; edition = edition; table = subst (IsAfter s.table []) (sym table) (after_none s.table); texts = texts }
+
+pub stopped_none : (s : Session) (asked : List LineEdit) (u : Session) → u.count ≡ s.count → u.edition ≡ s.edition → u.table ≡ s.table → ((file : ℕ) → text_in u.texts file ≡ text_in s.texts file) → IsStopped s asked u
+stopped_none s asked u count edition table texts = record { edits = []; changes = []; count = 0; meant = inl refl; made = made_none s u count edition table texts }
+
+-- all is made, and memory is wanting behind it
+pub stopped_all : (s : Session) (asked : List LineEdit) (u : Session) → IsEdited s asked u → IsStopped s asked u
+stopped_all s asked u e = record {
+  edits = e.edits;
+  changes = e.changes;
+  count = length e.edits;
+  meant = inr e.meant;
+  made = subst (λ es. AreMade s es (take (length e.edits) e.changes) u) (sym (take_all (length e.edits) e.edits (omega arith)))
+      (subst (λ cs. AreMade s e.edits cs u) (sym (take_all (length e.edits) e.changes (omega (arith, same_length asked e.edits e.changes e.meant)))) e.made);
+}
+
+-- an edit is refused, or memory is wanting in it
+module _ (s : Session) (asked : List LineEdit) (u : Session) (edits : List EditView) (changes : List Change) (place : ℕ) (meant : AreMeant asked edits changes) (made : AreMade s (take place edits) (take place changes) u) where
+  pub refused_at : (cause : EditFault) → IsUnmade s.table edits (refusal_of place cause) → IsUnedited s asked u (line_refusal place cause)
+  refused_at TooManyEdits h = record { edits = edits; changes = changes; meant = meant; made = made; none_before = h.0; passes = h.1 }
+  refused_at (Lower TooManyItems) h = record { edits = edits; changes = changes; meant = meant; made = made; none_before = h.0; passes = h.1 }
+  refused_at (Lower TooManyVisibilities) h = record { edits = edits; changes = changes; meant = meant; made = made; none_before = h.0; passes = h.1 }
+  refused_at (Lower TooManyUseTrees) h = record { edits = edits; changes = changes; meant = meant; made = made; none_before = h.0; passes = h.1 }
+  refused_at (Lower TooManyAttributes) h = record { edits = edits; changes = changes; meant = meant; made = made; none_before = h.0; passes = h.1 }
+  refused_at (Lower TooManySupers) h = record { edits = edits; changes = changes; meant = meant; made = made; none_before = h.0; passes = h.1 }
+  refused_at (Lower OutOfMemory) h = record { edits = edits; changes = changes; count = place; meant = inr meant; made = made }
+
+-- ---- what the table answers
+
+-- it refuses an edit of a list
+abbrev pub IsRefusalIn : State → AllRefused → Type 0
+IsRefusalIn u all = IsRefusal u all.refused
+
+abbrev pub outcome_of : {A : Type 0} → A → Result ℕ AllRefused → Result A LineError
+outcome_of a (Ok number) = Ok a
+outcome_of a (Err all) = Err (line_refusal all.place all.refused.cause)
+
+-- the first edits of the table lead where it stands, all of them or those before the refused one
+pub after_first : (s u : State) (edits : List Edit) (made : Result ℕ AllRefused) → OnOk made (IsAfter s (map edit_view edits) u) → IfErr made (λ all. IsAfter s (edits_before all edits) u)
+    → IsAfter s (take (made_count (length edits) made) (map edit_view edits)) u
+after_first s u edits (Ok number) ok err = subst (λ es. IsAfter s es u) (sym (take_all (length edits) (map edit_view edits) (omega (arith, length-map edits edit_view)))) ok
+after_first s u edits (Err all) ok err = err
+
+-- what all edits of a line come to
+module _ (s u : Session) (asked : List LineEdit) (edits : List Edit) (changes : List Change) (meant : AreMeant asked (map edit_view edits) changes) where
+  edited_by : (number : ℕ) → AreMade s (take (length edits) (map edit_view edits)) (take (length edits) changes) u → number ≡ u.table.number → number ≤ last_number → FirstFit s.table (map edit_view edits) (length edits) → IsEdited s asked u
+  edited_by number made is small fit =
+      let es = map edit_view edits in
+      let whole = length-map edits edit_view in
+      let all = subst (λ xs. AreMade s xs (take (length edits) changes) u) (take_all (length edits) es (omega (arith, whole))) made in
+      let both = subst (λ cs. AreMade s es cs u) (take_all (length edits) changes (omega (arith, whole, same_length asked es changes meant))) all in
+      let fits = is_made s.table u.table es both.table (omega (arith, small, is)) (subst (FirstFit s.table es) (sym whole) fit) in
+      record { edits = es; changes = changes; meant = meant; made = both; none_passes = fits.none_passes }
+
+  pub outcome_by : {A : Type 0} (a : A) (made : Result ℕ AllRefused) → AreMade s (take (made_count (length edits) made) (map edit_view edits)) (take (made_count (length edits) made) changes) u
+      → IfOk made (λ number. number ≡ u.table.number) → IfOk made (λ number. number ≤ last_number) → OnOk made (FirstFit s.table (map edit_view edits) (length edits))
+      → IfErr made (λ all. slice_get edits all.place ≡ Some all.refused.edit) → IfErr made (λ all. FirstFit s.table (map edit_view edits) all.place) → IfErr made (IsRefusalIn u.table)
+      → IfErr made (λ all. u.table.number ≡ last_number → all.refused.cause ≡ TooManyEdits) → IfErr made (λ all. u.table.number ≤ last_number)
+      → MatchResult (outcome_of a made) (λ _. IsEdited s asked u) (IsUnedited s asked u)
+  outcome_by a (Ok number) both is small fit found before cause full range = edited_by number both is small fit
+  outcome_by a (Err all) both is small fit found before cause full range =
+      let es = map edit_view edits in
+      refused_at s asked u es changes all.place meant both all.refused.cause
+      (is_unmade s.table u.table es all.place (edit_view all.refused.edit) all.refused.cause (found_in_map edit_view edits all.place all.refused.edit found) both.table range before cause full)
+
+-- ---- a table and the texts of its files
+
+-- room was made for the texts, the table answered, and the first changes were made
+module _ (s u : State) (old room new : Texts) (edits : List Edit) (changes : List Change) (made : Result ℕ AllRefused) (n : ℕ) (ok : OnOk made (IsAfter s (map edit_view edits) u)) (refused : IfErr made (λ all. IsAfter s (edits_before all edits) u))
+    (count_is : n ≡ made_count (length edits) made) (same : (file : ℕ) → text_in room file ≡ text_in old file) (put : (file : ℕ) → text_in new file ≡ text_after room (take n changes) file) where
+  texts_after : (file : ℕ) → text_in new file ≡ text_after old (take (made_count (length edits) made) changes) file
+  texts_after file = put file ∙ text_over old room (take n changes) same file ∙ ap (λ k. text_after old (take k changes) file) count_is
+
+  pub files_made : (count : ℕ) (edition : EditionView)
+      → AreMade (session_of count edition s old) (take (made_count (length edits) made) (map edit_view edits)) (take (made_count (length edits) made) changes) (session_of count edition u new)
+  files_made count edition = record { count = refl; edition = refl; table = after_first s u edits made ok refused; texts = texts_after }
+
+  pub files_together : (count : ℕ) (index : IndexView) → AreTogether count s old index → IsFooting s u → All LeavesPlaced changes → AreTogether count u new index
+  files_together count index t footing placed =
+      let k = made_count (length edits) made in
+      together_after count s u (take k (map edit_view edits)) old new (take k changes) index t (after_first s u edits made ok refused) footing (All-take LeavesPlaced k changes placed) texts_after

@@ -1,0 +1,112 @@
+-- Crates that lines name, and values without floats.
+use Rattle.std.proofs.Common.{◌≡◌, ℕ, ◌+◌, ◌<◌, suc, true, false, ◌||◌, List, [], ◌∷◌, ◌++◌, Option, Some, None, IsSome, All, Result, Ok, Err, IfOk, length, map, filter, take, get_or, refl, sym, ap, subst, ◌∙◌, arith}
+use Rattle.std.proofs.lemmas.List.{take_more}
+use Rattle.std.specs.List.{AllByRecursion, AllZip}
+use Rattle.std.specs.Option.{option_map, option_map_or}
+use Rattle.serde_json.specs.Data.{Data, string, null}
+use Rattle.serde_json.specs.View.{items_of}
+use Rattle.serde_json.specs.Written.{has_float, items_have_float}
+use Rattle.hir_input.specs.declared.ids.Crate.{Crate}
+use Rattle.hir_input.specs.declared.ids.FileAstId.{FileAstId}
+use Rattle.hir_input.specs.declared.ids.HirFileId.{HirFileId}
+use Rattle.hir_input.specs.Id.{shown_id}
+use Rattle.item_tree.specs.Layout.{node_at}
+use Rattle.item_tree.specs.Node.{Node, node_ast}
+use Rattle.item_tree_db.specs.declared.edit.Edit.{Edit}
+use Rattle.item_tree_db.specs.declared.edit.Edit.TheVariants.{SetFile, RemoveFile, SetBlock, RemoveBlock, SetCfg}
+use Rattle.item_tree_db.specs.declared.place.Place.{Place}
+use Rattle.item_tree_db.specs.declared.place.Place.TheVariants.{File, Block}
+use Rattle.item_tree_db.specs.Edits.{edit_view}
+use Rattle.item_tree_db.specs.Refusal.{NamesKnown}
+use Rattle.item_tree_db.specs.State.{State, unfolding_at}
+use Rattle.item_tree_request.specs.declared.request.show.Show.{Show}
+use Rattle.item_tree_request.specs.declared.request.show.Show.TheVariants.{OfTree, Changed}
+use Rattle.item_tree_request.specs.Named as request
+use Rattle.item_tree_request.specs.Outputs.{Knows}
+use Rattle.decl_index.specs.declared.entry.Entry.{Entry}
+use Rattle.source_session.specs.Inner.{AreUnfloating, Knowing}
+use Rattle.decl_index.specs.Lookup.{has_name}
+use Rattle.source_listing.proofs.NoFloats.{no_float_in_outline, no_float_in_imports, no_float_in_problems}
+use Rattle.source_session.specs.Sessions.{Session}
+use Rattle.source_session.specs.Shown.{text_bytes, text_places, text_problems, forest_of, all_items, outline_form, imports_form, problems_form, id_form, found_in, found_form, IsFound}
+use Rattle.source_session.specs.Texts.{text_in}
+
+-- ---- crates
+
+pub show_known : (count : ℕ) (table : State) → Knowing count table → (show : Show) → request.NamesCrate count show → Knows table show
+show_known count table known (OfTree show) named = known show.krate.0 named.0 named.1
+show_known count table known (Changed since) named = tt
+
+edit_known : (count : ℕ) (table : State) → Knowing count table → (e : Edit) → request.EditNamesCrate count e → NamesKnown table (edit_view e)
+edit_known count table known (SetFile file syntax) named = tt
+edit_known count table known (RemoveFile file) named = tt
+edit_known count table known (SetBlock block syntax) named = tt
+edit_known count table known (RemoveBlock block) named = tt
+edit_known count table known (SetCfg krate options) named = known krate.0 named.0 named.1
+
+pub edits_known : (count : ℕ) (table : State) → Knowing count table → (es : List Edit) → All (request.EditNamesCrate count) es → AllByRecursion (NamesKnown table) (map edit_view es)
+edits_known count table known [] named = tt
+edits_known count table known (e ∷ es) named = (edit_known count table known e (named 0 e (omega arith)), edits_known count table known es (λ k d within. named (suc k) d (omega (arith, within))))
+
+-- ---- items of a name
+
+-- an id whose item has a name is an id
+pub is_some_by : {A B : Type 0} (f : A → Option B) (o : Option A) (b : B) → option_map_or f o None ≡ Some b → IsSome o
+is_some_by f None b e = absurd cc
+is_some_by f (Some a) b e = refl
+
+pub shown_by : (o : Option Node) (id : FileAstId) → option_map node_ast o ≡ Some id → option_map_or (λ n. string (shown_id (node_ast n))) o null ≡ string (shown_id id)
+shown_by None id e = absurd cc
+shown_by (Some n) id e = let same : node_ast n ≡ id = cc in ap (λ x. string (shown_id x)) same
+
+-- ---- floats
+
+no_float_or_null : (o : Option Node) → has_float (option_map_or (λ n. string (shown_id (node_ast n))) o null) ≡ false
+no_float_or_null None = refl
+no_float_or_null (Some n) = refl
+
+no_float_id : (s : State) (e : Entry) → has_float (id_form s e) ≡ false
+no_float_id s e = no_float_or_null (node_at (unfolding_at s e.place e.krate.0).forest e.id)
+
+no_float_found : (place : Place) (s : State) (e : Entry) → has_float (found_in place e.krate (id_form s e)) ≡ false
+no_float_found (File file) s e = ap (λ b. b || false) (no_float_id s e)
+no_float_found (Block block) s e = ap (λ b. b || false) (no_float_id s e)
+
+pub no_float_in_found : (s : State) (entries : List Entry) → AreUnfloating (map (found_form s) entries)
+no_float_in_found s [] = refl
+no_float_in_found s (e ∷ es) = rw (no_float_found e.place s e, no_float_in_found s es) refl
+
+-- ---- shows
+
+-- what holds of an answer's value, holds of it
+pub if_ok : {A E : Type 0} (P Q : A → Type 0) (r : Result A E) → ((a : A) → P a → Q a) → IfOk r P → IfOk r Q
+if_ok P Q (Ok a) more h = more a h
+if_ok P Q (Err e) more h = tt
+
+pub no_float_outline : (u : Session) (krate : Crate) (file : HirFileId) → has_float (outline_form u krate file) ≡ false
+no_float_outline u krate file =
+    let t = text_in u.texts file.0 in no_float_in_outline (record { path = []; text = text_bytes t }) u.edition.1 (text_places t) all_items (forest_of u krate file)
+
+pub no_float_imports : (u : Session) (krate : Crate) (file : HirFileId) → has_float (imports_form u krate file) ≡ false
+no_float_imports u krate file = let t = text_in u.texts file.0 in no_float_in_imports (text_bytes t) u.edition.1 (text_places t) (forest_of u krate file)
+
+pub no_float_problems : (u : Session) (file : HirFileId) → has_float (problems_form u file) ≡ false
+no_float_problems u file = let t = text_in u.texts file.0 in no_float_in_problems (text_bytes t) (text_problems t)
+
+pub no_float_found_value : (s : State) (name : List ℕ) (d : Data) → IsFound s name d → has_float d ≡ false
+no_float_found_value s name d h = ap has_float h.2 ∙ no_float_in_found s (filter (has_name name) h.0)
+
+-- ---- one value more
+
+pub unfloating_push : (ds : List Data) (d : Data) → AreUnfloating ds → has_float d ≡ false → AreUnfloating (ds ++ d ∷ [])
+unfloating_push [] d h e = rw e refl
+unfloating_push (x ∷ ds) d h e = elim (has_float x) as (λ b. (b || items_have_float (items_of ds)) ≡ false → (b || items_have_float (items_of (ds ++ d ∷ []))) ≡ false) [ true ↦ λ g. g | false ↦ λ g. unfloating_push ds d g e ] h
+
+zip_push : {A B : Type 0} (R : A → B → Type 0) (xs : List A) (ys : List B) (x : A) (y : B) → AllZip R xs ys → R x y → AllZip R (xs ++ x ∷ []) (ys ++ y ∷ [])
+zip_push R [] [] x y are is = (is, tt)
+zip_push R [] (z ∷ ys) x y are is = absurd are
+zip_push R (w ∷ xs) [] x y are is = absurd are
+zip_push R (w ∷ xs) (z ∷ ys) x y are is = (are.0, zip_push R xs ys x y are.1 is)
+
+pub zip_more : {A B : Type 0} (R : A → B → Type 0) (xs : List A) (ys : List B) (i : ℕ) (d : A) (y : B) → i < length xs → AllZip R (take i xs) ys → R (get_or xs i d) y → AllZip R (take (i + 1) xs) (ys ++ y ∷ [])
+zip_more R xs ys i d y within are is = subst (λ front. AllZip R front (ys ++ y ∷ [])) (sym (take_more xs i d within)) (zip_push R (take i xs) ys (get_or xs i d) y are is)

@@ -1,0 +1,95 @@
+-- Items read one after another.
+use Rattle.std.proofs.Common.{◌≡◌, ℕ, false, bytes_eq, ◌+◌, List, [], ◌∷◌, ◌++◌, Option, Some, None, map, length, codes, refl, ap, sym, subst, ◌∙◌}
+use Rattle.std.proofs.lemmas.List.{append_assoc, map-append}
+use Rattle.std.specs.Option.{option_map, unwrap_or}
+use Rattle.serde_json.specs.declared.value.Value.{Value}
+use Rattle.serde_json.specs.Data.{Data, Items, item, null}
+use Rattle.serde_json.specs.View.{view}
+use Rattle.hir_input_json.specs.Forms.{field}
+use Rattle.hir_input_json.specs.Held.{without}
+use Rattle.hir_input_json.proofs.Held.{field_without}
+use Rattle.source_session.specs.declared.error.LineError.{LineError}
+use Rattle.source_session.specs.declared.error.LineError.TheVariants.{NotJson, NotRequest, Refused, TooLong, OutOfMemory}
+use Rattle.source_session.specs.declared.pointer.Pointer.{Pointer}
+use Rattle.source_session.specs.Lines.{Parsed, right, wrong, ◌>>=◌, placed, each_from, Settings, settings, Asked, asked, first_line, later_line, IsMisread}
+use Rattle.source_session.specs.Replies.{Open, asked_of, of_opened, of_session}
+
+-- what was read, and then what is left
+abbrev pub after : {A : Type 0} → List A → Parsed (List A) → Parsed (List A)
+after done (right rest) = right (done ++ rest)
+after done (wrong pointer) = wrong pointer
+
+pub after_none : {A : Type 0} (r : Parsed (List A)) → r ≡ after [] r
+after_none (right rest) = refl
+after_none (wrong pointer) = refl
+
+-- one more element before a reading
+abbrev pub more : {A : Type 0} → A → Parsed (List A) → Parsed (List A)
+more a r = do
+  as' ← r
+  right (a ∷ as')
+
+pub after_more : {A : Type 0} (done : List A) (a : A) (r : Parsed (List A)) → after done (more a r) ≡ after (done ++ a ∷ []) r
+after_more done a (right rest) = ap right (sym (append_assoc done (a ∷ []) rest))
+after_more done a (wrong pointer) = refl
+
+pub after_push : {T A : Type 0} (view : T → A) (done : List T) (t : T) (r : Parsed (List A)) → after (map view done) (more (view t) r) ≡ after (map view (done ++ t ∷ [])) r
+after_push view done t r = after_more (map view done) (view t) r ∙ ap (λ xs. after xs r) (sym (map-append view done (t ∷ [])))
+
+-- the next item, read and not read
+module _ {A : Type 0} (form : Data → Option A) (place : ℕ → Pointer) where
+  pub next_read : (n : ℕ) (d : Data) (ds : Items) (a : A) → placed (place n) (form d) ≡ right a → each_from form place n (item d ds) ≡ more a (each_from form place (n + 1) ds)
+  next_read n d ds a e = rw e refl
+
+  pub next_misread : (n : ℕ) (d : Data) (ds : Items) (p : Pointer) → placed (place n) (form d) ≡ wrong p → each_from form place n (item d ds) ≡ wrong p
+  next_misread n d ds p e = rw e refl
+
+-- ---- lines
+
+-- an object without what opens a session
+abbrev pub rest_of : Data → Data
+rest_of d = without (codes "edition") (without (codes "skipped") (without (codes "crates") d))
+
+-- has the same edits and shows
+pub asked_rest : (count : ℕ) (d : Data) → asked count (rest_of d) ≡ asked count d
+asked_rest count d =
+    let a = without (codes "crates") d in
+    let b = without (codes "skipped") a in
+    let edits : field (codes "edits") (rest_of d) ≡ field (codes "edits") d = field_without (codes "edits") (codes "edition") b refl ∙ field_without (codes "edits") (codes "skipped") a refl ∙ field_without (codes "edits") (codes "crates") d refl in
+    let shows : field (codes "shows") (rest_of d) ≡ field (codes "shows") d = field_without (codes "shows") (codes "edition") b refl ∙ field_without (codes "shows") (codes "skipped") a refl ∙ field_without (codes "shows") (codes "crates") d refl in
+    rw (edits, shows) refl
+
+module _ (d : Data) (s : Settings) (n : ℕ) (opened : settings d ≡ right s) (count : n ≡ length s.crates) where
+  pub first_read : (a : Asked) → asked n (rest_of d) ≡ right a → first_line d ≡ right (s, a)
+  first_read a e = rw (opened, subst (λ k. asked k d ≡ right a) count (sym (asked_rest n d) ∙ e)) refl
+
+  wrong_rest : (p : Pointer) → asked n (rest_of d) ≡ wrong p → first_line d ≡ wrong p
+  wrong_rest p e = rw (opened, subst (λ k. asked k d ≡ wrong p) count (sym (asked_rest n d) ∙ e)) refl
+
+  pub first_misread : (e : LineError) → IsMisread (asked n (rest_of d)) e → IsMisread (first_line d) e
+  first_misread (NotRequest p) h = wrong_rest p h
+  first_misread OutOfMemory h = tt
+  first_misread (NotJson column) h = absurd h
+  first_misread (Refused place cause) h = absurd h
+  first_misread TooLong h = absurd h
+
+-- ---- lines without their ids
+
+first_no_id : (d : Data) → first_line (without (codes "id") d) ≡ first_line d
+first_no_id d =
+    let without_id : (key : List ℕ) → bytes_eq key (codes "id") ≡ false → field key (without (codes "id") d) ≡ field key d = λ key. field_without key (codes "id") d in
+    rw (without_id (codes "crates") refl, without_id (codes "skipped") refl, without_id (codes "edition") refl, without_id (codes "start") refl, without_id (codes "edits") refl, without_id (codes "shows") refl) refl
+
+later_no_id : (count : ℕ) (d : Data) → later_line count (without (codes "id") d) ≡ later_line count d
+later_no_id count d =
+    let without_id : (key : List ℕ) → bytes_eq key (codes "id") ≡ false → field key (without (codes "id") d) ≡ field key d = λ key. field_without key (codes "id") d in
+    rw (without_id (codes "crates") refl, without_id (codes "skipped") refl, without_id (codes "edition") refl, without_id (codes "start") refl, without_id (codes "edits") refl, without_id (codes "shows") refl) refl
+
+pub asked_no_id : (open_one : Open) (d : Data) → asked_of open_one (without (codes "id") d) ≡ asked_of open_one d
+asked_no_id None d = ap of_opened (first_no_id d)
+asked_no_id (Some s) d = ap (of_session s) (later_no_id s.count d)
+
+-- a value, or a null where there is none
+pub view_or_null : (o : Option Value) (v : Value) → view v ≡ null → view (unwrap_or o v) ≡ unwrap_or (option_map view o) null
+view_or_null None v h = h
+view_or_null (Some x) v h = refl

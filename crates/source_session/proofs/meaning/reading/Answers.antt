@@ -1,0 +1,15 @@
+use Rattle.std.proofs.Common.{refl, subst}
+use Rattle.rust_items.specs.SourceFiles.{IsSourceFile}
+use Rattle.source_session.proofs.meaning.reading.Goals as goal
+
+pub returns-clause-means : goal.returns-clause-means
+returns-clause-means c = record {
+  read = c.in_ok-read.read;
+  is_read = subst (λ text. IsSourceFile text c.in_ok-read.read) c.deref.ensures c.in_ok-read.ensures.file;
+  edit_is = refl;
+  kept = record { text = c.args.text; places = c.in_ok-read.read.places; problems = c.in_ok-read.read.problems };
+  change_is = refl;
+  text_is = refl;
+  places = refl;
+  problems = refl;
+}

@@ -1,0 +1,31 @@
+use Rattle.std.proofs.Common.{◌≡◌, Err, map, rules, sym, subst}
+use Rattle.std.specs.List.{AllZip}
+use Rattle.serde_json.specs.View.{view}
+use Rattle.source_session.specs.declared.error.LineError.TheVariants.{OutOfMemory}
+use Rattle.source_session.specs.Edits.{edit_view}
+use Rattle.source_session.specs.Inner.{outcome_view}
+use Rattle.source_session.specs.LineViews.{asked_view}
+use Rattle.source_session.specs.Replies.{IsDone}
+use Rattle.source_session.specs.Sessions.{IsEdited}
+use Rattle.source_session.specs.Shown.{IsShown}
+use Rattle.source_session.proofs.Made.{stopped_all}
+use Rattle.source_session.proofs.session.Session.perform.Goals as goal
+
+pub returns-in_err-values-clause-done : goal.returns-in_err-values-clause-done
+returns-in_err-values-clause-done c =
+    let s = c.args.self.now in
+    let u = c.show_all.new.self in
+    let edits = map edit_view c.args.asked.edits.items in
+    let is : c.from_residual-in_err-values.result ≡ Err OutOfMemory = search rules in
+    let edited = subst (IsEdited s edits) (sym c.show_all.ensures.same) c.in_ok-edit.ensures in
+    subst (λ r. IsDone s (asked_view c.args.asked) u (outcome_view r)) (sym is) (stopped_all s edits u edited)
+
+pub returns-clause-done : goal.returns-clause-done
+returns-clause-done c =
+    let s = c.args.self.now in
+    let edits = map edit_view c.args.asked.edits.items in
+    let values = map view c.in_ok-values.values.items in
+    let over = subst (λ shows. AllZip (IsShown c.edit.new.self) shows values) c.deref.ensures.value c.in_ok-values.ensures.shown in (
+      subst (IsEdited s edits) (sym c.show_all.ensures.same) c.in_ok-edit.ensures,
+      subst (λ u. AllZip (IsShown u) c.args.asked.shows.items values) (sym c.show_all.ensures.same) over,
+    )

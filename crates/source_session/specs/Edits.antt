@@ -1,0 +1,56 @@
+-- The edits of a line.
+use Rattle.std.specs.Prelude.{ℕ, ◌^◌, ◌≤◌, nat_lt, List, length, codes, string_bytes, if◌then◌else◌, Option, Some, None}
+use Rattle.std.specs.Option.{option_and_then, option_map}
+use Rattle.serde_json.specs.Data.{Data}
+use Rattle.serde_json.specs.Find.{as_str}
+use Rattle.serde_json.specs.Written.{has_float}
+use Rattle.hir_input_json.specs.Forms.{field, required, on_word, id_at, ◌>>=◌}
+use Rattle.item_tree_db.specs.Edits as table
+use Rattle.item_tree_request.specs.Edits as request
+use Rattle.item_tree_request.specs.Named.{EditNamesCrate}
+use Rattle.source_session.specs.declared.edit.LineEdit as code
+use Rattle.source_session.specs.declared.edit.LineEdit.TheVariants.{Table, SetText}
+
+-- an edit of a line: one of a request, or a file set to what is read of a text
+pub data LineEdit : Type 0 where
+  of_table : table.EditView → LineEdit
+  set_text : ℕ → List ℕ → LineEdit
+
+-- so many bytes as the ids of items are distinct for
+abbrev pub IsShort : List ℕ → Type 0
+IsShort text = length text ≤ 2 ^ 32
+
+abbrev pub if_short : List ℕ → Option (List ℕ)
+if_short text = if nat_lt (2 ^ 32) (length text) then None else Some text
+
+-- a text that is short
+abbrev pub short_text : Data → Option (List ℕ)
+short_text d = option_and_then if_short (as_str d)
+
+-- a file set to a text
+abbrev pub text_edit : Data → Option LineEdit
+text_edit d = do
+  file ← id_at (codes "file") d
+  text ← required short_text (field (codes "text") d)
+  Some (set_text file text)
+
+-- an edit of a table of this many crates, by its word
+abbrev pub edit : ℕ → Data → Option LineEdit
+edit count d = do
+  word ← required as_str (field (codes "edit") d)
+  on_word word (codes "set_text") (text_edit d) (option_map of_table (request.edit count d))
+
+-- the same of a value without a float
+abbrev pub line_edit : ℕ → Data → Option LineEdit
+line_edit count d = if has_float d then None else edit count d
+
+-- ---- what was read
+
+abbrev pub edit_view : code.LineEdit → LineEdit
+edit_view (Table e) = of_table (table.edit_view e)
+edit_view (SetText file text) = set_text file.0 (string_bytes text)
+
+-- a crate that it names is one of this many, and a text is short
+abbrev pub IsUsable : ℕ → code.LineEdit → Type 0
+IsUsable count (Table e) = EditNamesCrate count e
+IsUsable count (SetText file text) = IsShort (string_bytes text)

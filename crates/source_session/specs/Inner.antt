@@ -1,0 +1,65 @@
+-- Words that private contracts alone cite.
+use Rattle.std.specs.Prelude.{◌≡◌, ℕ, ◌<◌, ◌^◌, false, List, length, map, Option, Some, None, IsSome, IfSome, Result, Ok, Err, IfOk}
+use Rattle.std.specs.declared.alloc.Global.{Global}
+use Rattle.std.specs.declared.vec.Vec.{Vec}
+use Rattle.serde_json.specs.declared.value.Value.{Value}
+use Rattle.serde_json.specs.Data.{Data}
+use Rattle.serde_json.specs.View.{items_of, view}
+use Rattle.serde_json.specs.Written.{items_have_float}
+use Rattle.hir_input_json.specs.Editions.{EditionView}
+use Rattle.item_tree_db.specs.State.{State}
+use Rattle.source_listing.specs.Places.{AreDistinct}
+use Rattle.decl_index.specs.Entries.{IndexView, IsBehind}
+use Rattle.source_session.specs.declared.error.LineError.{LineError}
+use Rattle.source_session.specs.declared.texts.SourceText.{SourceText}
+use Rattle.source_session.specs.declared.reply.Reply as reply
+use Rattle.source_session.specs.Replies.{Outcome, Reply}
+use Rattle.source_session.specs.Sessions.{Session}
+use Rattle.source_session.specs.Texts.{Texts, Change, slot_in, text_in}
+
+-- something is kept for a file
+abbrev pub HasSlot : Texts → ℕ → Type 0
+HasSlot texts file = IsSome (slot_in texts file)
+
+-- there is room for the text that a change brings
+abbrev pub HasSlotFor : Texts → Change → Type 0
+HasSlotFor texts None = Unit {0}
+HasSlotFor texts (Some (file, None)) = Unit {0}
+HasSlotFor texts (Some (file, Some text)) = HasSlot texts file
+
+-- the places of a text are those of items with different ids
+abbrev pub IsPlaced : Option SourceText → Type 0
+IsPlaced text = IfSome text (λ t. AreDistinct t.places.items)
+
+abbrev pub LeavesPlaced : Change → Type 0
+LeavesPlaced change = IfSome change (λ c. IsPlaced c.1)
+
+-- the crates that lines name are crates of the table
+abbrev pub Knowing : ℕ → State → Type 0
+Knowing count table = (n : ℕ) → n < count → n < 2 ^ 32 → n < length table.crates
+
+-- the session of these parts
+abbrev pub session_of : ℕ → EditionView → State → Texts → Session
+session_of count edition table texts = record { count = count; edition = edition; table = table; texts = texts }
+
+-- how the parts of a session belong together
+pub record AreTogether (count : ℕ) (table : State) (texts : Texts) (index : IndexView) : Type 0 where
+  pub known : Knowing count table
+  pub behind : IsBehind index table
+  pub placed : (file : ℕ) → IsPlaced (text_in texts file)
+
+-- no value of a list holds a float
+abbrev pub AreUnfloating : List Data → Type 0
+AreUnfloating values = items_have_float (items_of values) ≡ false
+
+-- the values of an outcome as data
+abbrev pub outcome_view : Result (Vec Value Global) LineError → Outcome
+outcome_view (Ok values) = Ok (map view values.items)
+outcome_view (Err e) = Err e
+
+-- no value of an outcome holds a float
+abbrev pub IsUnfloating : Result (Vec Value Global) LineError → Type 0
+IsUnfloating r = IfOk r (λ values. AreUnfloating (map view values.items))
+
+abbrev pub reply_view : reply.Reply → Reply
+reply_view r = record { id = view r.id; outcome = outcome_view r.outcome }

@@ -1,0 +1,12 @@
+pub mod Edits
+pub mod Shows
+pub mod Lines
+pub mod Errors
+pub mod Texts
+pub mod Sessions
+pub mod Shown
+pub mod Replies
+pub mod Histories
+pub mod LineViews
+pub mod Refusals
+pub mod Inner

@@ -1,0 +1,133 @@
+-- What a line is answered with, and what it leaves of a session.
+use Rattle.std.specs.Prelude.{◌≡◌, ◌⊎◌, ℕ, ◌++◌, List, codes, decimal, Bool, true, false, Option, Some, None, Result, Ok, Err}
+use Rattle.std.specs.List.{AllZip}
+use Rattle.std.specs.Option.{unwrap_or}
+use Rattle.serde_json.specs.Data.{Data, Members, null, array}
+use Rattle.serde_json.specs.Find.{as_object}
+use Rattle.serde_json.specs.View.{items_of}
+use Rattle.serde_json.specs.Written.{compact_text, has_float}
+use Rattle.hir_input_json.specs.Forms.{field}
+use Rattle.item_tree_request.specs.Requests.{IsJsonText}
+use Rattle.line_stream.specs.Answers.{Answering}
+use Rattle.line_stream.specs.Lines.{Told, whole, too_long, no_memory}
+use Rattle.source_session.specs.declared.error.LineError.{LineError}
+use Rattle.source_session.specs.declared.error.LineError.TheVariants.{NotJson, NotRequest, TooLong, OutOfMemory}
+use Rattle.source_session.specs.declared.pointer.Pointer.TheVariants as at
+use Rattle.source_session.specs.Errors.{error_form}
+use Rattle.source_session.specs.Lines.{Parsed, right, wrong, ◌>>=◌, Settings, Asked, first_line, later_line}
+use Rattle.source_session.specs.Sessions.{Session, new_session, IsEdited, IsUnedited}
+use Rattle.source_session.specs.Shown.{IsShown}
+
+-- ---- texts
+
+-- the values of the shows of a line, or why it has none
+abbrev pub Outcome : Type 0
+Outcome = Result (List Data) LineError
+
+abbrev pub outcome_text : Outcome → List ℕ
+outcome_text (Ok values) = codes "\"shows\":" ++ compact_text (array (items_of values))
+outcome_text (Err e) = codes "\"error\":" ++ compact_text (error_form e)
+
+-- the number of the last edit, if a session is open
+abbrev pub number_text : Option ℕ → List ℕ
+number_text None = codes "null"
+number_text (Some n) = decimal n
+
+abbrev pub reply_text : Data → Option ℕ → Outcome → List ℕ
+reply_text id number outcome = codes "{\"id\":" ++ compact_text id ++ codes ",\"number\":" ++ number_text number ++ codes "," ++ outcome_text outcome ++ codes "}"
+
+-- where there is no memory for an answer
+abbrev pub out_of_memory : List ℕ
+out_of_memory = codes "{\"id\":null,\"number\":null,\"error\":{\"kind\":\"out of memory\"}}"
+
+-- ---- what a line does
+
+-- a session, if one is open
+abbrev pub Open : Type 0
+Open = Option Session
+
+abbrev pub number_of : Open → Option ℕ
+number_of None = None
+number_of (Some u) = Some u.table.number
+
+-- what is asked of a session
+abbrev pub of_session : Session → Parsed Asked → Parsed (Session × Asked)
+of_session s reading = do
+  rest ← reading
+  right (s, rest)
+
+-- the session that a line opens, and what is asked of it
+abbrev pub of_opened : Parsed (Settings × Asked) → Parsed (Session × Asked)
+of_opened reading = do
+  first ← reading
+  right (new_session first.0, first.1)
+
+-- what is asked, and of which session: the open one, or the one that the line opens
+abbrev pub asked_of : Open → Data → Parsed (Session × Asked)
+asked_of None d = of_opened (first_line d)
+asked_of (Some s) d = of_session s (later_line s.count d)
+
+-- the edits are made, and the values are those of the shows
+abbrev pub IsDone : Session → Asked → Session → Outcome → Type 0
+IsDone s a u (Ok values) = IsEdited s a.edits u × AllZip (IsShown u) a.shows values
+IsDone s a u (Err e) = IsUnedited s a.edits u e
+
+-- what is asked is done, or a line of wrong form changes nothing
+abbrev pub IsOutcome : Open → Parsed (Session × Asked) → Open → Outcome → Type 0
+IsOutcome old (wrong pointer) new outcome = (new ≡ old) × (outcome ≡ Err (NotRequest pointer))
+IsOutcome old (right (s, a)) new outcome = (u : Session) × (new ≡ Some u) × IsDone s a u outcome
+
+-- nothing changes, and memory is wanting
+abbrev pub IsWanting : Open → Open → Outcome → Type 0
+IsWanting old new outcome = (new ≡ old) × (outcome ≡ Err OutOfMemory)
+
+-- the id that an object gives
+abbrev pub id_of : Data → Data
+id_of d = unwrap_or (field (codes "id") d) null
+
+-- ---- replies
+
+pub record Reply : Type 0 where
+  pub id : Data
+  pub outcome : Outcome
+
+-- a line is refused as a whole, and changes nothing
+abbrev pub IsRefusedAs : LineError → Open → Open → Reply → Type 0
+IsRefusedAs e old new r = (new ≡ old) × (r ≡ record { id = null; outcome = Err e })
+
+-- an object is answered under its id, unless that holds a float
+abbrev pub IsReplyUnless : Bool → Open → Data → Open → Reply → Type 0
+IsReplyUnless true old d new r = IsRefusedAs (NotRequest at.Id) old new r
+IsReplyUnless false old d new r = (r.id ≡ id_of d) × (IsWanting old new r.outcome ⊎ IsOutcome old (asked_of old d) new r.outcome)
+
+abbrev pub IsReplyTo : Open → Data → Open → Reply → Type 0
+IsReplyTo old d new r = IsReplyUnless (has_float (id_of d)) old d new r
+
+-- a value that is no object is no request
+abbrev pub IsReplyOf : Option Members → Open → Data → Open → Reply → Type 0
+IsReplyOf None old d new r = IsRefusedAs (NotRequest at.Line) old new r
+IsReplyOf (Some ms) old d new r = IsReplyTo old d new r
+
+abbrev pub IsValueReply : Open → Data → Open → Reply → Type 0
+IsValueReply old d new r = IsReplyOf (as_object d) old d new r
+
+-- the bytes are no JSON text; the column is the one that serde_json tells
+pub record IsNotJson (bytes : List ℕ) (old new : Open) (r : Reply) : Type 0 where
+  pub column : ℕ
+  pub refused : IsRefusedAs (NotJson column) old new r
+  pub none : (d : Data) → ¬ IsJsonText bytes d
+
+-- the bytes are the JSON text of a value, which is answered
+pub record IsAnswered (bytes : List ℕ) (old new : Open) (r : Reply) : Type 0 where
+  pub value : Data
+  pub text : IsJsonText bytes value
+  pub reply : IsValueReply old value new r
+
+abbrev pub IsReply : Open → Told → Open → Reply → Type 0
+IsReply old (whole bytes) new r = IsRefusedAs OutOfMemory old new r ⊎ (IsNotJson bytes old new r ⊎ IsAnswered bytes old new r)
+IsReply old too_long new r = IsRefusedAs TooLong old new r
+IsReply old no_memory new r = IsRefusedAs OutOfMemory old new r
+
+-- the answers of a conversation: the text of a reply, or the text for want of memory
+abbrev pub Replies : Answering Open
+Replies old told new text = (r : Reply) × IsReply old told new r × ((text ≡ reply_text r.id (number_of new) r.outcome) ⊎ (text ≡ out_of_memory))

@@ -1,0 +1,66 @@
+-- The shows of a line.
+use Rattle.std.specs.Prelude.{ℕ, ◌^◌, ◌<◌, List, codes, if◌then◌else◌, Option, Some, None}
+use Rattle.std.specs.Option.{option_map}
+use Rattle.serde_json.specs.Data.{Data}
+use Rattle.serde_json.specs.Find.{as_str}
+use Rattle.serde_json.specs.Written.{has_float}
+use Rattle.hir_input.specs.declared.ids.Crate.{Crate}
+use Rattle.hir_input.specs.declared.ids.HirFileId.{HirFileId}
+use Rattle.hir_input_json.specs.Forms.{field, required, on_word, id_at, below, name, ◌>>=◌}
+use Rattle.item_tree_request.specs.Named as request
+use Rattle.item_tree_request.specs.Shows as request_shows
+use Rattle.source_session.specs.declared.show.LineShow.{LineShow}
+use Rattle.source_session.specs.declared.show.LineShow.TheVariants.{Table, Outline, ImportPlaces, Problems, Find}
+
+-- one of this many crates, which are numbered from 0
+abbrev pub crate_in : ℕ → Data → Option Crate
+crate_in count d = do
+  number ← id_at (codes "crate") d
+  known ← below count number
+  Some (record { 0 = known })
+
+abbrev pub file_in : Data → Option HirFileId
+file_in d = option_map (λ number. record { 0 = number }) (id_at (codes "file") d)
+
+abbrev pub name_in : Data → Option (List ℕ)
+name_in d = required name (field (codes "name") d)
+
+-- a show of a crate's tree of a file
+abbrev pub tree_show : (Crate → HirFileId → LineShow) → ℕ → Data → Option LineShow
+tree_show of count d = do
+  krate ← crate_in count d
+  file ← file_in d
+  Some (of krate file)
+
+-- by the word for what is shown
+abbrev pub show_by : ℕ → List ℕ → Data → Option LineShow
+show_by count word d =
+    on_word word (codes "outline") (tree_show Outline count d)
+    (on_word word (codes "import_places") (tree_show ImportPlaces count d)
+    (on_word word (codes "problems") (option_map Problems (file_in d))
+    (on_word word (codes "find") (option_map Find (name_in d))
+    (option_map Table (request_shows.show count d)))))
+
+-- a show after edits of a table of this many crates, by its word
+abbrev pub show : ℕ → Data → Option LineShow
+show count d = do
+  word ← required as_str (field (codes "show") d)
+  show_by count word d
+
+-- the same of a value without a float
+abbrev pub line_show : ℕ → Data → Option LineShow
+line_show count d = if has_float d then None else show count d
+
+-- ---- crates
+
+-- the crate is one of this many
+abbrev pub IsNamed : ℕ → Crate → Type 0
+IsNamed count krate = (krate.0 < count) × (krate.0 < 2 ^ 32)
+
+-- so is the one that a show names, if it names one
+abbrev pub NamesCrate : ℕ → LineShow → Type 0
+NamesCrate count (Table show) = request.NamesCrate count show
+NamesCrate count (Outline krate file) = IsNamed count krate
+NamesCrate count (ImportPlaces krate file) = IsNamed count krate
+NamesCrate count (Problems file) = Unit {0}
+NamesCrate count (Find name) = Unit {0}

@@ -1,0 +1,179 @@
+//! A conversation: requests line by line, over one table.
+ghost use Rattle.std.specs.Prelude.{◌≡◌, ◌⊎◌, None, Err, false};
+ghost use Rattle.serde_json.specs.Data.{null};
+ghost use Rattle.serde_json.specs.View.{view};
+ghost use Rattle.serde_json.specs.Written.{has_float};
+ghost use Rattle.hir_input_json.specs.Held.{held};
+ghost use Rattle.line_stream.specs.Lines.{told};
+ghost use Rattle.source_session.specs.Inner.{IsUnfloating, outcome_view, reply_view};
+ghost use Rattle.source_session.specs.LineViews.{asked_view, IsOwn};
+ghost use Rattle.source_session.specs.Replies.{IsDone, IsOutcome, IsReply, IsReplyTo, IsValueReply, IsWanting, asked_of, number_of};
+
+use crate::error::LineError;
+use crate::line::{Asked, first_line, later_line};
+use crate::pointer::Pointer;
+use crate::reply::{Outcome, Reply, reply_text};
+use crate::session::Session;
+use hir_input_json::float::has_float;
+use hir_input_json::member::{members_of, taken};
+use line_stream::{Answer, Line, Service};
+use serde_json::{Map, Value};
+use std::alloc::Global;
+use std::marker::Model;
+
+/// A conversation, whose first request opens a session: a table of item trees, which lives as long as it.
+#[derive(Drop)]
+pub struct Conversation {
+    session: Option<Session>,
+}
+
+impl Model for Conversation {
+    ghost use Rattle.std.specs.Coded.{codes};
+    ghost use Rattle.item_tree_db.specs.Codes.{state_code};
+    ghost use Rattle.source_session.specs.Replies.{Open};
+
+    ghost Value = { Open };
+
+    ghost coded = { Prim.hlevel (codes, state_code) };
+
+    ghost view = { λ x. x.session };
+}
+
+const OUT_OF_MEMORY: &str = "{\"id\":null,\"number\":null,\"error\":{\"kind\":\"out of memory\"}}";
+
+// A line that is refused as a whole.
+fn refused(error: LineError) -> Reply
+    ensures id { view result.id ≡ null }
+    ensures outcome { result.outcome ≡ Err error }
+{
+    Reply {
+        id: Value::Null,
+        outcome: Err(error),
+    }
+}
+
+impl Session {
+    // Makes the edits that are asked for, and shows what is asked for.
+    fn perform(&mut self, alloc: Global, asked: Asked) -> Outcome
+        requires { IsOwn self.old.count asked }
+        ensures done { IsDone self.old (asked_view asked) self.new (outcome_view result) }
+        ensures no_float { IsUnfloating result }
+    {
+        self.edit(alloc, asked.edits)?;
+        let values = self.show_all(alloc, &asked.shows)?;
+        Ok(values)
+    }
+}
+
+impl Conversation {
+    /// A conversation without a session. Takes no memory.
+    pub fn new() -> Conversation
+        ensures { result ≡ None }
+    {
+        Conversation { session: None }
+    }
+
+    // Does what the first line asks.
+    fn open(&mut self, alloc: Global, members: Map<String, Value>) -> Outcome
+        requires { self.old ≡ None }
+        ensures outcome { IsWanting self.old self.new (outcome_view result)
+            ⊎ IsOutcome self.old (asked_of self.old (held members)) self.new (outcome_view result) }
+        ensures no_float { IsUnfloating result }
+    {
+        let first = first_line(alloc, members)?;
+        let mut session = Session::new(alloc, first.settings);
+        let outcome = session.perform(alloc, first.asked);
+        self.session = Some(session);
+        outcome
+    }
+
+    // Does what a line asks.
+    fn ask(&mut self, alloc: Global, members: Map<String, Value>) -> Outcome
+        ensures outcome { IsWanting self.old self.new (outcome_view result)
+            ⊎ IsOutcome self.old (asked_of self.old (held members)) self.new (outcome_view result) }
+        ensures no_float { IsUnfloating result }
+    {
+        let Some(mut session) = self.session.take() else {
+            return self.open(alloc, members);
+        };
+        let outcome = match later_line(alloc, members, session.count) {
+            Ok(asked) => session.perform(alloc, asked),
+            Err(error) => Err(error),
+        };
+        self.session = Some(session);
+        outcome
+    }
+
+    // Answers an object.
+    fn reply_to(&mut self, alloc: Global, mut members: Map<String, Value>) -> Reply
+        ensures reply { IsReplyTo self.old (held members) self.new (reply_view result) }
+        ensures id { has_float (view result.id) ≡ false }
+        ensures outcome { IsUnfloating result.outcome }
+    {
+        let id = taken(&mut members, "id").unwrap_or(Value::Null);
+        if has_float(&id) {
+            return refused(LineError::NotRequest {
+                pointer: Pointer::Id,
+            });
+        }
+        let outcome = self.ask(alloc, members);
+        Reply { id, outcome }
+    }
+
+    // Answers a value.
+    fn value_reply(&mut self, alloc: Global, value: Value) -> Reply
+        ensures reply { IsValueReply self.old (view value) self.new (reply_view result) }
+        ensures id { has_float (view result.id) ≡ false }
+        ensures outcome { IsUnfloating result.outcome }
+    {
+        match members_of(value) {
+            Ok(members) => self.reply_to(alloc, members),
+            Err(_) => refused(LineError::NotRequest {
+                pointer: Pointer::Line,
+            }),
+        }
+    }
+
+    // Answers a line.
+    fn reply(&mut self, alloc: Global, line: Line) -> Reply
+        ensures reply { IsReply self.old (told line) self.new (reply_view result) }
+        ensures id { has_float (view result.id) ≡ false }
+        ensures outcome { IsUnfloating result.outcome }
+    {
+        let bytes = match line {
+            Line::Whole(bytes) => bytes,
+            Line::TooLong => return refused(LineError::TooLong),
+            Line::OutOfMemory => return refused(LineError::OutOfMemory),
+        };
+        match Value::from_slice(alloc, &bytes) {
+            Ok(value) => self.value_reply(alloc, value),
+            Err(error) if error.is_memory() => refused(LineError::OutOfMemory),
+            Err(error) => refused(LineError::NotJson {
+                column: error.column(),
+            }),
+        }
+    }
+
+    fn number(&self) -> Option<u64>
+        ensures { result ≡ number_of self.now }
+    {
+        match &self.session {
+            Some(session) => Some(session.number()),
+            None => None,
+        }
+    }
+}
+
+impl Service for Conversation {
+    ghost use Rattle.source_session.specs.Replies.{Replies};
+
+    ghost answers = { Replies };
+
+    fn answer(&mut self, alloc: Global, line: Line) -> Answer {
+        let reply = self.reply(alloc, line);
+        match reply_text(alloc, reply, self.number()) {
+            Ok(text) => Answer::Made(text),
+            Err(_) => Answer::Fixed(OUT_OF_MEMORY),
+        }
+    }
+}

@@ -1,0 +1,82 @@
+//! Edits of a line, read from their forms.
+ghost use Rattle.std.specs.Prelude.{◌≡◌, ℕ, IfOk, codes, string_bytes};
+ghost use Rattle.serde_json.specs.View.{view};
+ghost use Rattle.hir_input_json.specs.Forms.{field as field_of, required};
+ghost use Rattle.hir_input_json.specs.Held.{held};
+ghost use Rattle.hir_input_json.specs.Reads.{Reads};
+ghost use Rattle.source_session.specs.Edits.{edit as edit_form, line_edit, text_edit, short_text, edit_view, IsUsable, IsShort};
+
+use hir_input::HirFileId;
+use hir_input_json::Fault;
+use hir_input_json::float::has_float;
+use hir_input_json::member::{id_at, members_of, taken, word_at};
+use item_tree_db::Edit;
+use item_tree_request::request::edit::edit_in;
+use serde_json::{Map, Value};
+use std::alloc::Global;
+
+/// An edit of a line.
+#[derive(Debug, Drop)]
+pub enum LineEdit {
+    /// One of a request.
+    Table(Edit),
+    /// A file set to what is read of a Rust text.
+    SetText { file: HirFileId, text: String },
+}
+
+const MOST_BYTES: usize = 0x1_0000_0000;
+
+// Takes a text of at most 2^32 bytes out.
+fn text_at(members: &mut Map<String, Value>) -> Result<String, Fault>
+    ensures reads { Reads string_bytes result (required short_text (field_of (codes "text") (held members.old))) }
+    ensures short { IfOk result (λ text. IsShort (string_bytes text)) }
+{
+    match taken(members, "text") {
+        Some(Value::String(text)) => {
+            if text.len() > MOST_BYTES {
+                return Err(Fault::WrongForm);
+            }
+            Ok(text)
+        }
+        _ => Err(Fault::WrongForm),
+    }
+}
+
+fn set_text_of(members: &mut Map<String, Value>) -> Result<LineEdit, Fault>
+    ensures reads { Reads edit_view result (text_edit (held members.old)) }
+    ensures usable { (count : ℕ) → IfOk result (IsUsable count) }
+{
+    let file = HirFileId(id_at(members, "file")?);
+    let text = text_at(members)?;
+    Ok(LineEdit::SetText { file, text })
+}
+
+// An edit of a table of this many crates, whose members are taken out.
+fn members_edit(
+    alloc: Global,
+    members: &mut Map<String, Value>,
+    count: usize,
+) -> Result<LineEdit, Fault>
+    ensures reads { Reads edit_view result (edit_form count (held members.old)) }
+    ensures usable { IfOk result (IsUsable count) }
+{
+    match word_at(members, "edit")? {
+        "set_text" => set_text_of(members),
+        _ => Ok(LineEdit::Table(edit_in(alloc, members, count)?)),
+    }
+}
+
+/// An edit of a table of this many crates.
+///
+/// `WrongForm` comes only where it has no reading (`Edits.line_edit`).
+#[tactic(auto, using(hir_input_json::proofs::Held::no_field))]
+pub(crate) fn edit_of(alloc: Global, value: Value, count: usize) -> Result<LineEdit, Fault>
+    ensures reads { Reads edit_view result (line_edit count (view value)) }
+    ensures usable { IfOk result (IsUsable count) }
+{
+    if has_float(&value) {
+        return Err(Fault::WrongForm);
+    }
+    let mut members = members_of(value)?;
+    members_edit(alloc, &mut members, count)
+}

@@ -1,0 +1,87 @@
+//! Why a line has no shows.
+ghost use Rattle.std.specs.Prelude.{◌≡◌, IfOk};
+ghost use Rattle.serde_json.specs.View.{view};
+ghost use Rattle.source_session.specs.Errors.{cause_text, error_form};
+
+use crate::pointer::Pointer;
+use item_tree::{EditFault, LowerError};
+use serde_json::{Value, json};
+use std::alloc::{AllocError, AllocFailed, Global};
+
+/// Why a line is answered with an error.
+#[derive(Clone, Copy, Debug, PartialEq, Eq)]
+pub enum LineError {
+    /// It is no JSON text in UTF-8, or one that nests deeper than 127 or holds a number past the floats of 64 bits. The column
+    /// is the one that serde_json tells.
+    NotJson { column: usize },
+    /// It is JSON, but no request: the first value that is not of its form.
+    NotRequest { pointer: Pointer },
+    /// An edit of it passes a size: its place in the list, counted from 0, and the size.
+    Refused { place: usize, cause: EditFault },
+    /// It is longer than the longest line.
+    TooLong,
+    /// The allocator refused memory.
+    OutOfMemory,
+}
+
+impl From<AllocError> for LineError {
+    ghost use Rattle.std.specs.Prelude.{◌≡◌};
+    ghost use Rattle.source_session.specs.declared.error.LineError.TheVariants.{OutOfMemory};
+
+    ghost from_gives = { λ _ e. e ≡ OutOfMemory };
+
+    fn from(_error: AllocError) -> LineError {
+        LineError::OutOfMemory
+    }
+}
+
+impl<T: Drop> From<AllocFailed<T>> for LineError {
+    ghost use Rattle.std.specs.Prelude.{◌≡◌};
+    ghost use Rattle.source_session.specs.declared.error.LineError.TheVariants.{OutOfMemory};
+
+    ghost from_gives = { λ _ e. e ≡ OutOfMemory };
+
+    fn from(_failed: AllocFailed<T>) -> LineError {
+        LineError::OutOfMemory
+    }
+}
+
+// The size that an edit passes, in words.
+fn cause_text(cause: EditFault) -> &'static str
+    ensures { result.now ≡ cause_text cause }
+{
+    match cause {
+        EditFault::TooManyEdits => "too many edits",
+        EditFault::Lower(LowerError::TooManyItems) => "too many items",
+        EditFault::Lower(LowerError::TooManyVisibilities) => "too many visibilities",
+        EditFault::Lower(LowerError::TooManyUseTrees) => "too many use trees",
+        EditFault::Lower(LowerError::TooManyAttributes) => "too many attributes",
+        EditFault::Lower(LowerError::TooManySupers) => "too many supers",
+        EditFault::Lower(LowerError::OutOfMemory) => "out of memory",
+    }
+}
+
+fn misread_value(alloc: Global, pointer: Pointer) -> Result<Value, AllocError>
+    ensures { IfOk result (λ value. view value ≡ error_form (LineError.NotRequest pointer)) }
+{
+    let text = pointer.text(alloc)?;
+    json!(in alloc; {"kind": "not a request", "pointer": text})
+}
+
+/// The object of an error.
+///
+/// The only error is want of memory.
+pub fn error_value(alloc: Global, error: LineError) -> Result<Value, AllocError>
+    ensures { IfOk result (λ value. view value ≡ error_form error) }
+{
+    match error {
+        LineError::NotJson { column } => json!(in alloc; {"column": column, "kind": "not JSON"}),
+        LineError::NotRequest { pointer } => misread_value(alloc, pointer),
+        LineError::Refused { place, cause } => {
+            let cause = cause_text(cause);
+            json!(in alloc; {"cause": cause, "kind": "edit refused", "place": place})
+        }
+        LineError::TooLong => json!(in alloc; {"kind": "line too long"}),
+        LineError::OutOfMemory => json!(in alloc; {"kind": "out of memory"}),
+    }
+}

@@ -1,0 +1,23 @@
+//! Requests line by line over one table of item trees that lives from line to line, with files as Rust source: `Conversation`
+//! is a service of `line_stream`.
+#![tactic(auto)]
+
+mod conversation;
+mod edit;
+mod error;
+mod laws;
+mod line;
+mod meaning;
+mod pointer;
+mod reply;
+mod session;
+mod show;
+mod shown;
+mod texts;
+
+pub use conversation::Conversation;
+pub use edit::LineEdit;
+pub use error::LineError;
+pub use pointer::Pointer;
+pub use show::LineShow;
+pub use texts::SourceText;

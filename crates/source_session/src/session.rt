@@ -1,0 +1,127 @@
+//! A session: a table of trees, the texts of its files, and an index of its names.
+ghost use Rattle.std.specs.Prelude.{◌≡◌, All, MatchResult, map};
+ghost use Rattle.hir_input_json.specs.Editions.{EditionView};
+ghost use Rattle.decl_index.specs.Entries.{IndexView};
+ghost use Rattle.source_session.specs.Edits.{IsUsable, edit_view};
+ghost use Rattle.source_session.specs.LineViews.{settings_view};
+ghost use Rattle.source_session.specs.Inner.{AreTogether, Knowing, session_of};
+ghost use Rattle.source_session.specs.Refusals.{line_refusal, made_count};
+ghost use Rattle.source_session.specs.Sessions.{IsEdited, IsUnedited, new_session};
+
+use crate::edit::LineEdit;
+use crate::error::LineError;
+use crate::line::Settings;
+use crate::meaning::meanings_of;
+use crate::texts::{Texts, make_room, put_first};
+use decl_index::DeclIndex;
+use hir_input::Edition;
+use item_tree::{EditFault, LowerError};
+use item_tree_db::{AllRefused, Sources};
+use std::alloc::Global;
+use std::collections::BTreeMap;
+use std::marker::Model;
+
+/// What stands between lines.
+#[derive(Drop)]
+pub(crate) struct Session {
+    pub(crate) count: usize,
+    pub(crate) edition: Edition,
+    pub(crate) sources: Sources,
+    pub(crate) texts: Texts,
+    pub(crate) index: DeclIndex,
+}
+
+impl Model for Session {
+    ghost use Rattle.hir_input.specs.Edition.{edition_view};
+    ghost use Rattle.std.specs.Coded.{codes};
+    ghost use Rattle.item_tree_db.specs.Codes.{state_code};
+    ghost use Rattle.source_session.specs.Inner.{AreTogether};
+    ghost use Rattle.source_session.specs.Sessions as spec;
+
+    ghost Value = { spec.Session };
+
+    ghost coded = { Prim.hlevel (codes, state_code) };
+
+    ghost view = { λ x. record { count = x.count; edition = edition_view x.edition; table = x.sources; texts = x.texts.entries } };
+
+    ghost invariant = { λ x. AreTogether x.count x.sources x.texts.entries x.index };
+}
+
+// How many edits of the table were made, of so many.
+fn made_count(made: &Result<u64, AllRefused>, count: usize) -> usize
+    ensures { result ≡ made_count count made.now }
+{
+    match made {
+        Ok(_) => count,
+        Err(all) => all.place,
+    }
+}
+
+// A refused edit, or want of memory in it.
+fn refusal(place: usize, cause: EditFault) -> LineError
+    ensures { result ≡ line_refusal place cause }
+{
+    match cause {
+        EditFault::Lower(LowerError::OutOfMemory) => LineError::OutOfMemory,
+        cause => LineError::Refused { place, cause },
+    }
+}
+
+// Makes the edits of a line in a table and in the texts of its files, up to the first that is refused.
+fn edit_files(
+    alloc: Global,
+    sources: &mut Sources,
+    texts: &mut Texts,
+    edits: Vec<LineEdit>,
+    count: usize,
+) -> Result<(), LineError>
+    requires usable { All (IsUsable count) edits.items }
+    requires known { Knowing count sources.old }
+    ensures edited { (edition : EditionView) → let over = session_of count edition in
+        MatchResult result
+        (λ _. IsEdited (over sources.old texts.old.entries) (map edit_view edits.items) (over sources.new texts.new.entries))
+        (IsUnedited (over sources.old texts.old.entries) (map edit_view edits.items) (over sources.new texts.new.entries)) }
+    ensures together { (index : IndexView) → AreTogether count sources.old texts.old.entries index
+        → AreTogether count sources.new texts.new.entries index }
+{
+    let meanings = meanings_of(alloc, edits, count)?;
+    make_room(texts, &meanings.changes)?;
+    let most = meanings.edits.len();
+    let made = sources.edit_all(meanings.edits);
+    put_first(texts, meanings.changes, made_count(&made, most));
+    match made {
+        Ok(_) => Ok(()),
+        Err(all) => Err(refusal(all.place, all.refused.cause)),
+    }
+}
+
+impl Session {
+    pub(crate) fn new(alloc: Global, settings: Settings) -> Session
+        ensures { result ≡ new_session (settings_view settings) }
+    {
+        Session {
+            count: settings.crates.len(),
+            edition: settings.edition,
+            sources: Sources::new(alloc, settings.crates, settings.skipped, settings.start),
+            texts: BTreeMap::new(alloc),
+            index: DeclIndex::new(alloc),
+        }
+    }
+
+    /// The number of the last edit.
+    pub(crate) fn number(&self) -> u64
+        ensures { result ≡ self.now.table.number }
+    {
+        self.sources.number()
+    }
+
+    /// Makes the edits of a line, up to the first that is refused.
+    pub(crate) fn edit(&mut self, alloc: Global, edits: Vec<LineEdit>) -> Result<(), LineError>
+        requires { All (IsUsable self.old.count) edits.items }
+        ensures { MatchResult result
+            (λ _. IsEdited self.old (map edit_view edits.items) self.new)
+            (IsUnedited self.old (map edit_view edits.items) self.new) }
+    {
+        edit_files(alloc, &mut self.sources, &mut self.texts, edits, self.count)
+    }
+}

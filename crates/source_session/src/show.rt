@@ -1,0 +1,98 @@
+//! Shows of a line, read from their forms.
+ghost use Rattle.std.specs.Prelude.{◌≡◌, IfOk, codes};
+ghost use Rattle.serde_json.specs.View.{view};
+ghost use Rattle.hir_input_json.specs.Forms.{field as field_of, required, name as name_form};
+ghost use Rattle.hir_input_json.specs.Held.{held};
+ghost use Rattle.hir_input_json.specs.Reads.{Reads};
+ghost use Rattle.source_session.specs.Shows.{NamesCrate, IsNamed, crate_in, file_in, name_in, show as show_form, show_by, line_show};
+
+use hir_input::{Crate, HirFileId, Name};
+use hir_input_json::Fault;
+use hir_input_json::float::has_float;
+use hir_input_json::member::{id_at, members_of, taken, word_at};
+use hir_input_json::name::name_of;
+use item_tree_request::request::show::{Show, show_in};
+use serde_json::{Map, Value};
+use std::alloc::Global;
+
+/// A show of a line.
+#[derive(Debug, Drop)]
+pub enum LineShow {
+    /// One of a request.
+    Table(Show),
+    /// The items of a crate's tree of a file.
+    Outline { krate: Crate, file: HirFileId },
+    /// The imports of a crate's tree of a file, with the places of their use trees.
+    ImportPlaces { krate: Crate, file: HirFileId },
+    /// What is wrong with the text of a file.
+    Problems { file: HirFileId },
+    /// The items that have a name.
+    Find { name: Name },
+}
+
+// One of this many crates.
+fn crate_at(members: &Map<String, Value>, count: usize) -> Result<Crate, Fault>
+    ensures reads { Reads (λ krate. krate) result (crate_in count (held members.now)) }
+    ensures known { IfOk result (IsNamed count) }
+{
+    let krate = id_at(members, "crate")?;
+    if krate as usize >= count {
+        return Err(Fault::WrongForm);
+    }
+    Ok(Crate(krate))
+}
+
+fn file_at(members: &Map<String, Value>) -> Result<HirFileId, Fault>
+    ensures { Reads (λ file. file) result (file_in (held members.now)) }
+{
+    Ok(HirFileId(id_at(members, "file")?))
+}
+
+// Takes a name out.
+fn name_at(members: &mut Map<String, Value>) -> Result<Name, Fault>
+    ensures { Reads (λ name. name) result (name_in (held members.old)) }
+{
+    let name = taken(members, "name").ok_or(Fault::WrongForm)?;
+    name_of(name)
+}
+
+// A show after edits of a table of this many crates, whose members are taken out.
+fn members_show(members: &mut Map<String, Value>, count: usize) -> Result<LineShow, Fault>
+    ensures reads { Reads (λ show. show) result (show_form count (held members.old)) }
+    ensures known { IfOk result (NamesCrate count) }
+{
+    match word_at(members, "show")? {
+        "outline" => {
+            let krate = crate_at(members, count)?;
+            let file = file_at(members)?;
+            Ok(LineShow::Outline { krate, file })
+        }
+        "import_places" => {
+            let krate = crate_at(members, count)?;
+            let file = file_at(members)?;
+            Ok(LineShow::ImportPlaces { krate, file })
+        }
+        "problems" => Ok(LineShow::Problems {
+            file: file_at(members)?,
+        }),
+        "find" => Ok(LineShow::Find {
+            name: name_at(members)?,
+        }),
+        _ => Ok(LineShow::Table(show_in(members, count)?)),
+    }
+}
+
+/// A show after edits of a table of this many crates.
+///
+/// `WrongForm` comes only where it has no reading (`Shows.line_show`).
+#[tactic(auto, using(hir_input_json::proofs::Held::no_field))]
+pub(crate) fn show_of(value: Value, count: usize) -> Result<LineShow, Fault>
+    ensures reads { Reads (λ show. show) result (line_show count (view value)) }
+    ensures known { IfOk result (NamesCrate count) }
+{
+    if has_float(&value) {
+        return Err(Fault::WrongForm);
+    }
+    let mut members = members_of(value)?;
+    members_show(&mut members, count)
+}

@@ -1,0 +1,103 @@
+//! The texts of files, with what was read of them.
+ghost use Rattle.std.specs.Prelude.{◌≡◌, ℕ, ◌==◌, ◌∷◌, List, All, IfSome, OnOk, if◌then◌else◌, take, option_copied};
+ghost use Rattle.source_session.specs.Inner.{HasSlot, HasSlotFor};
+ghost use Rattle.source_session.specs.Texts.{Change as ChangeView, text_after, text_in};
+
+use rust_items::{ItemPlace, Problem};
+use std::alloc::AllocError;
+use std::collections::BTreeMap;
+
+/// A text, with what was read of it beside its syntax.
+#[derive(Debug, Drop)]
+pub struct SourceText {
+    pub text: String,
+    /// The places of the items, in preorder.
+    pub places: Vec<ItemPlace>,
+    /// What is wrong with the text, in order.
+    pub problems: Vec<Problem>,
+}
+
+/// What is kept for files: of one that was ever set to a text, the text that it is set to now.
+pub(crate) type Texts = BTreeMap<u32, Option<SourceText>>;
+
+/// What an edit leaves of the text of a file, if it sets or removes the file.
+pub(crate) type Change = Option<(u32, Option<SourceText>)>;
+
+/// The text of a file.
+pub(crate) fn text_of(texts: &Texts, file: u32) -> Option<&SourceText>
+    ensures { option_copied result ≡ text_in texts.now.entries file }
+{
+    match texts.get(&file) {
+        Some(text) => text.as_ref(),
+        None => None,
+    }
+}
+
+// Keeps something for a file.
+fn keep(texts: &mut Texts, file: u32) -> Result<(), AllocError>
+    ensures texts { (f : ℕ) → text_in texts.new.entries f ≡ text_in texts.old.entries f }
+    ensures slots { (f : ℕ) → HasSlot texts.old.entries f → HasSlot texts.new.entries f }
+    ensures kept { OnOk result (HasSlot texts.new.entries file) }
+{
+    if !texts.contains_key(&file) {
+        texts.insert(file, None)?;
+    }
+    Ok(())
+}
+
+// Makes room for the text that a change brings.
+fn room_for(texts: &mut Texts, change: &Change) -> Result<(), AllocError>
+    ensures texts { (f : ℕ) → text_in texts.new.entries f ≡ text_in texts.old.entries f }
+    ensures slots { (f : ℕ) → HasSlot texts.old.entries f → HasSlot texts.new.entries f }
+    ensures room { OnOk result (HasSlotFor texts.new.entries change.now) }
+{
+    match change {
+        Some((file, Some(_))) => keep(texts, *file),
+        _ => Ok(()),
+    }
+}
+
+/// Makes room for the texts that changes bring, so that none of them fails.
+pub(crate) fn make_room(texts: &mut Texts, changes: &[Change]) -> Result<(), AllocError>
+    ensures texts { (f : ℕ) → text_in texts.new.entries f ≡ text_in texts.old.entries f }
+    ensures room { OnOk result (All (HasSlotFor texts.new.entries) changes.now) }
+{
+    for change in changes {
+        room_for(texts, change)?;
+    }
+    Ok(())
+}
+
+// Puts what a change leaves for a file in its place, for which there is room.
+fn put(texts: &mut Texts, file: u32, text: Option<SourceText>)
+    requires { IfSome text (λ _. HasSlot texts.old.entries file) }
+    ensures texts { (f : ℕ) → text_in texts.new.entries f ≡ (if file == f then text else text_in texts.old.entries f) }
+    ensures slots { (f : ℕ) → HasSlot texts.old.entries f → HasSlot texts.new.entries f }
+{
+    if texts.contains_key(&file) {
+        let _ = texts.insert(file, text);
+    }
+}
+
+// Makes a change, for which there is room.
+#[tactic(auto, using(crate::proofs::Kept::slot_if, crate::proofs::Kept::text_step, crate::proofs::Kept::text_skip))]
+fn make(texts: &mut Texts, change: Change)
+    requires { HasSlotFor texts.old.entries change }
+    ensures texts { (rest : List ChangeView) (f : ℕ) → text_after texts.new.entries rest f ≡ text_after texts.old.entries (change ∷ rest) f }
+    ensures slots { (f : ℕ) → HasSlot texts.old.entries f → HasSlot texts.new.entries f }
+{
+    if let Some((file, text)) = change {
+        put(texts, file, text);
+    }
+}
+
+/// Makes the first changes, for which there is room.
+pub(crate) fn put_first(texts: &mut Texts, mut changes: Vec<Change>, count: usize)
+    requires { All (HasSlotFor texts.old.entries) changes.items }
+    ensures { (f : ℕ) → text_in texts.new.entries f ≡ text_after texts.old.entries (take count changes.items) f }
+{
+    changes.truncate(count);
+    for change in changes {
+        make(texts, change);
+    }
+}
