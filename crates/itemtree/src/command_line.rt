@@ -40,7 +40,7 @@ fn option<'a>(
         .help(help)
 }
 
-/// The options that every command has.
+/// The options that every command over files has.
 fn with_options<'a>(alloc: Global, command: Command<'a>) -> Result<Command<'a>, Error> {
     let (set, add) = (ArgAction::Set, ArgAction::Append);
     let edition = option(
@@ -199,6 +199,12 @@ fn request<'a>(alloc: Global) -> Result<Command<'a>, Error> {
     Ok(command)
 }
 
+fn serve<'a>(alloc: Global) -> Command<'a> {
+    Command::new(alloc, "serve").about(
+        "Answers requests in JSON line by line: each line of standard input by one of standard output",
+    )
+}
+
 /// The whole command line.
 pub(crate) fn command<'a>(alloc: Global) -> Result<Command<'a>, Error> {
     let command = Command::new(alloc, "itemtree")
@@ -213,6 +219,7 @@ pub(crate) fn command<'a>(alloc: Global) -> Result<Command<'a>, Error> {
         .subcommand(tags(alloc)?)?
         .subcommand(changed(alloc)?)?
         .subcommand(request(alloc)?)?
+        .subcommand(serve(alloc))?
         .subcommand(check(alloc)?)?;
     Ok(command)
 }

@@ -2,6 +2,7 @@
 use crate::files::{files_of_folder, is_a_folder, read};
 use crate::options::read_options;
 use crate::request::write_request;
+use crate::serve::answer_lines;
 use crate::tags::write_tags;
 use clap::ArgMatches;
 use itemtree_commands::{
@@ -296,6 +297,9 @@ pub(crate) fn run_command(rt: &HostRuntime, matches: &ArgMatches<'_>) -> Result<
     let Some((name, inner)) = matches.subcommand() else {
         return Ok(2);
     };
+    if name == "serve" {
+        return answer_lines(rt);
+    }
     let options = match read_options(rt.alloc(), inner)? {
         Ok(options) => options,
         Err(word) => {

@@ -1,4 +1,5 @@
-//! Answers what people ask of Rust files: what items they have, what they import, where a name is declared, what changed.
+//! Answers what people ask of Rust files: what items they have, what they import, where a name is declared, what changed;
+//! and requests in JSON line by line.
 #![tactic(auto)]
 
 mod command_line;
@@ -6,6 +7,7 @@ mod commands;
 mod files;
 mod options;
 mod request;
+mod serve;
 mod tags;
 mod words;
 

@@ -1,0 +1,22 @@
+//! Requests line by line, over standard input and output.
+use crate::commands::Failure;
+use source_session::Conversation;
+use std::io::BufReader;
+
+/// The status where reading or writing failed.
+const STREAM_FAILED: u8 = 6;
+
+/// Answers each line of standard input on standard output, and gives the status to end with.
+pub(crate) fn answer_lines(rt: &HostRuntime) -> Result<u8, Failure> {
+    let alloc = rt.alloc();
+    // Standard input alone reads a byte at a time from a pipe.
+    let mut input = BufReader::new(alloc, rt.stdin())?;
+    let mut conversation = Conversation::new();
+    match line_stream::serve(alloc, &mut input, &mut rt.stdout(), &mut conversation) {
+        Ok(()) => Ok(0),
+        Err(error) => {
+            let _ = eprintln!(rt; "itemtree: {error}");
+            Ok(STREAM_FAILED)
+        }
+    }
+}
