@@ -65,13 +65,14 @@ part() {
     return "$status"
 }
 
-planned=10
+planned=11
 part 'the closed words' tests/closed_words.sh
 # The gate leaves the programs and the tests as it built them; after a failure they would be those of earlier sources.
 if part 'the merge gate' rt ci; then
     part 'the requests' tests/requests.sh "$program"
     part 'the outlines' tests/requests.sh "$outlines" outlines
     part 'the command line' tests/itemtree.py
+    part 'requests line by line' tests/serve.py "$itemtree" "$program"
     part 'refused memory' tests/refused_memory.sh "$program" "$outlines" "$itemtree" "${tests[@]}"
     part 'what must not compile' tests/must_not_compile.sh
     part 'damaged requests' tests/hostile_bytes.py "$program" --seconds 60 --count 8000

@@ -6,7 +6,8 @@
 #
 # The program on each request of tests/requests that it answers, and OUTLINES on each of tests/outlines, has to end with status 5,
 # the line `out of memory` and nothing written. ITEMTREE with each of its commands on a small file has to end with status 1, a line
-# that ends so, and nothing written but the head of a tags file.
+# that ends so, and nothing written but the head of a tags file. ITEMTREE's serve on tests/itemtree/session.jsonl may end so before it
+# reads a line; otherwise it has to answer each line with one, one of them at most with an error of want of memory, and to go on.
 # Each test of the binaries TESTS whose name holds `when_memory_is_refused` has to pass in every run. Each whose name holds
 # `where_no_memory_is_left` has to pass where all requests between its marks are refused, and to make only the one there by
 # which it sees that.
@@ -77,6 +78,32 @@ try_command() {
     judge $? "itemtree $2: status $status with no request for memory refused"
 }
 
+# Whether that run answered each line, at most one of them with want of memory, and went on: the last two lines ask the same, and set
+# all that they ask of, so one of them is answered as where nothing is refused.
+went_on() {
+    local -a lines
+    mapfile -t lines < "$own/out"
+    [ "$status" = 0 ] && [ ! -s "$own/err" ] && [ "$(grep -cx '{"id":.*}' "$own/out")" = "$count" ] && [ "${#lines[@]}" = "$count" ] &&
+        [ "$(grep -c '"error":{"kind":"out of memory"}}$' "$own/out")" -le 1 ] &&
+        { [ "${lines[-1]#*,\"shows\":}" = "$wanted" ] || [ "${lines[-2]#*,\"shows\":}" = "$wanted" ]; }
+}
+
+# A session of itemtree.
+try_session() {
+    local request count wanted session=$here/itemtree/$2.jsonl
+    count=$(wc -l < "$session")
+    wanted=$("$1" serve < "$session" | tail -1)
+    wanted=${wanted#*,\"shows\":}
+    for ((request = 1; ; request++)); do
+        refuse "$request" "$1" serve < "$session"
+        [ "$made" -ge "$request" ] || break
+        if [ "$status" = 1 ] && [ ! -s "$own/out" ]; then [[ $(cat "$own/err") = *'out of memory' ]]; else went_on; fi
+        judge $? "itemtree serve: status $status with request $request for memory refused"
+    done
+    went_on && ! grep -q 'out of memory' "$own/out" && [[ $wanted = '['*']}' ]]
+    judge $? "itemtree serve: status $status with no request for memory refused"
+}
+
 # A test of a binary.
 try_test() {
     local request
@@ -101,7 +128,7 @@ try() {
     "$@"
     echo "counts: $1 $passed $failed"
 }
-export -f refuse ended_out_of_memory judge try_request try_command try_test try_marked try
+export -f refuse ended_out_of_memory judge try_request try_command went_on try_session try_test try_marked try
 
 # Each subject is three words, ended by a null byte each, since a path may hold any other.
 subjects() {
@@ -110,6 +137,7 @@ subjects() {
     for name in requests/*/*.out; do printf '%s\0' try_request "$program" "${name%.out}"; done
     for name in outlines/*/*.out; do printf '%s\0' try_request "$outlines" "${name%.out}"; done
     for name in outline page imports 'find area' 'imports --duplicates' 'outline --json' 'page --ids off' 'tags -o -' 'changed FILE' 'request --show page' check; do printf '%s\0' try_command "$itemtree" "$name"; done
+    printf '%s\0' try_session "$itemtree" session
     for binary in "${binaries[@]}"; do
         while IFS= read -r name; do
             case $name in
@@ -127,6 +155,7 @@ awk '/^counts: / { passed += $3; failed += $4; subjects[$2]++; refused[$2] += $3
      END {
          printf "%d requests of the programs: %d times memory was refused\n", subjects["try_request"], refused["try_request"]
          printf "%d commands of itemtree: %d times memory was refused\n", subjects["try_command"], refused["try_command"]
+         printf "%d sessions of itemtree: %d times memory was refused\n", subjects["try_session"], refused["try_session"]
          printf "%d tests: %d times memory was refused\n", subjects["try_test"], refused["try_test"]
          printf "%d tests: no memory was left\n", subjects["try_marked"]
          printf "refused_memory: %d passed, %d failed\n", passed, failed
