@@ -366,13 +366,13 @@ def whole(program, data, name, wanted, size=None):
 
 def check_pieces(program):
     empty = refused(None, {'column': 0, 'kind': 'not JSON'}) + b'\n'
-    cut = refused(0, {'column': 8, 'kind': 'not JSON'}) + b'\n'
+    cut = refused(0, {'column': 6, 'kind': 'not JSON'}) + b'\n'
     good = answered(0, [], 'a') + b'\n'
     whole(program, b'', 'no input', b'')
     whole(program, b'\n\n', 'empty lines', empty * 2)
     whole(program, b'{"id":"a"}', 'a last line without its line feed', good)
     whole(program, b'{"id":"a"}\r\n{"id":"a"}\r', 'carriage returns', good * 2)
-    whole(program, b'{"id":"a"}\n{"id":"a', 'half a line, and the input is closed', good + cut)
+    whole(program, b'{"id":"a"}\n{"id":', 'half a line, and the input is closed', good + cut)
     whole(program, b'{"id":"a"}\n' * 3000, 'many lines at once', good * 3000)
     whole(program, b'{"id":"a"}\n{"id":"a"}', 'a byte at a time', good * 2, 1)
     whole(program, (b' ' * 4085 + b'{"id":"a"}\n') * 3, 'in pieces of 4,096 bytes', good * 3, 4096)

@@ -1,48 +1,13 @@
 -- The texts of files, one change after another.
-use Rattle.std.proofs.Common.{◌≡◌, ℕ, suc, ◌+◌, ◌<◌, ◌==◌, true, false, cond, if◌then◌else◌, List, ◌∷◌, Option, Some, None, IsSome, IfSome, All, length, take, get_or, refl, sym, ap, subst, ◌∙◌, arith}
-use Rattle.std.proofs.lemmas.Bool.Decides.{nat_tests}
+use Rattle.std.proofs.Common.{◌≡◌, ℕ, suc, ◌+◌, ◌<◌, ◌==◌, true, false, if◌then◌else◌, List, ◌∷◌, Option, Some, None, IfSome, All, length, take, get_or, refl, sym, ap, subst, ◌∙◌, arith}
 use Rattle.std.proofs.lemmas.List.{take_more}
 use Rattle.std.proofs.lemmas.List.Elements.{All-push}
-use Rattle.std.specs.Option.{option_and_then, unwrap_or}
-use Rattle.std.specs.Ordering.{is_eq, nat_cmp}
+use Rattle.std.specs.Option.{unwrap_or}
 use Rattle.item_tree_db.specs.History.{last_some}
 use Rattle.item_tree_db.proofs.Histories.{or_else}
 use Rattle.source_session.specs.declared.texts.SourceText.{SourceText}
 use Rattle.source_session.specs.Inner.{HasSlot, HasSlotFor}
-use Rattle.source_session.specs.Texts.{Texts, Change, slot_in, text_in, leaves, text_after}
-
-pub same_file : (a b : ℕ) → is_eq (nat_cmp a b) ≡ (a == b)
-same_file a b = grind (arith, nat_tests)
-
-file_is : (a b : ℕ) → (a == b) ≡ true → b ≡ a
-file_is a b e = grind (arith, nat_tests)
-
-self_is : (a : ℕ) → (a == a) ≡ true
-self_is a = grind (arith, nat_tests)
-
--- the slots after an insertion at a file
-abbrev pub HasPut : (old new : Texts) (file : ℕ) (slot : Option SourceText) → Type 0
-HasPut old new file slot = (f : ℕ) → slot_in new f ≡ cond (is_eq (nat_cmp file f)) (Some slot) (slot_in old f)
-
--- a file in a slot of its own
-pub slots_stay : (old new : Texts) (file : ℕ) (slot : Option SourceText) → HasPut old new file slot → (f : ℕ) → HasSlot old f → HasSlot new f
-slots_stay old new file slot put f has = subst IsSome (sym (put f)) (elim (is_eq (nat_cmp file f)) as (λ b. IsSome (cond b (Some slot) (slot_in old f))) [ true ↦ refl | false ↦ has ])
-
-pub slot_here : (old new : Texts) (file : ℕ) (slot : Option SourceText) → HasPut old new file slot → HasSlot new file
-slot_here old new file slot put = subst IsSome (sym (put file ∙ ap (λ b. cond b (Some slot) (slot_in old file)) (same_file file file ∙ self_is file))) refl
-
--- what is put there is the text of the file
-pub text_put : (old new : Texts) (file : ℕ) (slot : Option SourceText) → HasPut old new file slot → (f : ℕ) → text_in new f ≡ (if file == f then slot else text_in old f)
-text_put old new file slot put f =
-    ap (option_and_then (λ text. text)) (put f ∙ ap (λ b. cond b (Some slot) (slot_in old f)) (same_file file f))
-    ∙ elim (file == f) as (λ b. option_and_then (λ text. text) (cond b (Some slot) (slot_in old f)) ≡ (if b then slot else text_in old f)) [ true ↦ refl | false ↦ refl ]
-
--- a file without a slot has no text
-pub no_text : (texts : Texts) (file : ℕ) → slot_in texts file ≡ None → (f : ℕ) → text_in texts f ≡ (if file == f then None else text_in texts f)
-no_text texts file none f = elim (file == f) as (λ b. (file == f) ≡ b → text_in texts f ≡ (if b then None else text_in texts f)) [
-  | true ↦ λ e. ap (λ x. text_in texts x) (file_is file f e) ∙ ap (option_and_then (λ text. text)) none
-  | false ↦ λ e. refl
-] refl
+use Rattle.source_session.specs.Texts.{Texts, Change, text_in, leaves, text_after}
 
 -- ---- room
 

@@ -58,14 +58,6 @@ together_after count s u edits old new changes index t after footing placed text
   placed = λ file. subst IsPlaced (sym (texts file)) (placed_after old changes t.placed placed file);
 }
 
--- where the texts of files are as they were
-pub together_still : (count : ℕ) (s : State) (old new : Texts) (index : IndexView) → AreTogether count s old index → ((file : ℕ) → text_in new file ≡ text_in old file) → AreTogether count s new index
-together_still count s old new index t texts = record {
-  known = t.known;
-  behind = t.behind;
-  placed = λ file. subst IsPlaced (sym (texts file)) (t.placed file);
-}
-
 -- ---- outcomes
 
 pub same_length : (ls : List LineEdit) (es : List EditView) (cs : List Change) → AreMeant ls es cs → length cs ≡ length es

@@ -1,13 +1,12 @@
 -- Crates that lines name, and values without floats.
-use Rattle.std.proofs.Common.{◌≡◌, ℕ, ◌+◌, ◌<◌, suc, true, false, ◌||◌, List, [], ◌∷◌, ◌++◌, Option, Some, None, IsSome, All, Result, Ok, Err, IfOk, length, map, filter, take, get_or, refl, sym, ap, subst, ◌∙◌, arith}
+use Rattle.std.proofs.Common.{◌≡◌, ℕ, ◌+◌, ◌<◌, suc, true, false, ◌||◌, List, [], ◌∷◌, ◌++◌, Option, Some, None, All, Result, Ok, Err, IfOk, length, map, filter, take, get_or, refl, sym, ap, subst, ◌∙◌, arith}
 use Rattle.std.proofs.lemmas.List.{take_more}
 use Rattle.std.specs.List.{AllByRecursion, AllZip}
-use Rattle.std.specs.Option.{option_map, option_map_or}
+use Rattle.std.specs.Option.{option_map_or}
 use Rattle.serde_json.specs.Data.{Data, string, null}
 use Rattle.serde_json.specs.View.{items_of}
 use Rattle.serde_json.specs.Written.{has_float, items_have_float}
 use Rattle.hir_input.specs.declared.ids.Crate.{Crate}
-use Rattle.hir_input.specs.declared.ids.FileAstId.{FileAstId}
 use Rattle.hir_input.specs.declared.ids.HirFileId.{HirFileId}
 use Rattle.hir_input.specs.Id.{shown_id}
 use Rattle.item_tree.specs.Layout.{node_at}
@@ -47,17 +46,6 @@ edit_known count table known (SetCfg krate options) named = known krate.0 named.
 pub edits_known : (count : ℕ) (table : State) → Knowing count table → (es : List Edit) → All (request.EditNamesCrate count) es → AllByRecursion (NamesKnown table) (map edit_view es)
 edits_known count table known [] named = tt
 edits_known count table known (e ∷ es) named = (edit_known count table known e (named 0 e (omega arith)), edits_known count table known es (λ k d within. named (suc k) d (omega (arith, within))))
-
--- ---- items of a name
-
--- an id whose item has a name is an id
-pub is_some_by : {A B : Type 0} (f : A → Option B) (o : Option A) (b : B) → option_map_or f o None ≡ Some b → IsSome o
-is_some_by f None b e = absurd cc
-is_some_by f (Some a) b e = refl
-
-pub shown_by : (o : Option Node) (id : FileAstId) → option_map node_ast o ≡ Some id → option_map_or (λ n. string (shown_id (node_ast n))) o null ≡ string (shown_id id)
-shown_by None id e = absurd cc
-shown_by (Some n) id e = let same : node_ast n ≡ id = cc in ap (λ x. string (shown_id x)) same
 
 -- ---- floats
 

@@ -36,13 +36,10 @@ after_more done a (wrong pointer) = refl
 pub after_push : {T A : Type 0} (view : T → A) (done : List T) (t : T) (r : Parsed (List A)) → after (map view done) (more (view t) r) ≡ after (map view (done ++ t ∷ [])) r
 after_push view done t r = after_more (map view done) (view t) r ∙ ap (λ xs. after xs r) (sym (map-append view done (t ∷ [])))
 
--- the next item, read and not read
+-- the next item, read
 module _ {A : Type 0} (form : Data → Option A) (place : ℕ → Pointer) where
   pub next_read : (n : ℕ) (d : Data) (ds : Items) (a : A) → placed (place n) (form d) ≡ right a → each_from form place n (item d ds) ≡ more a (each_from form place (n + 1) ds)
   next_read n d ds a e = rw e refl
-
-  pub next_misread : (n : ℕ) (d : Data) (ds : Items) (p : Pointer) → placed (place n) (form d) ≡ wrong p → each_from form place n (item d ds) ≡ wrong p
-  next_misread n d ds p e = rw e refl
 
 -- ---- lines
 

@@ -71,7 +71,7 @@ fn misread_value(alloc: Global, pointer: Pointer) -> Result<Value, AllocError>
 /// The object of an error.
 ///
 /// The only error is want of memory.
-pub fn error_value(alloc: Global, error: LineError) -> Result<Value, AllocError>
+pub(crate) fn error_value(alloc: Global, error: LineError) -> Result<Value, AllocError>
     ensures { IfOk result (λ value. view value ≡ error_form error) }
 {
     match error {
