@@ -20,8 +20,7 @@ use Rattle.decl_index.specs.Entries.{IndexView}
 use Rattle.decl_index.proofs.Laws.{behind_after}
 use Rattle.source_session.specs.Edits.{LineEdit}
 use Rattle.source_session.specs.Inner.{IsPlaced, LeavesPlaced, AreTogether, session_of}
-use Rattle.source_session.specs.declared.error.LineError.{LineError}
-use Rattle.source_session.specs.Refusals.{line_refusal, made_count}
+use Rattle.source_session.specs.Refusals.{line_refusal, made_count, outcome_of}
 use Rattle.source_session.specs.Sessions.{Session, AreMade, IsEdited, IsStopped, IsUnedited}
 use Rattle.source_session.proofs.Kept.{text_over}
 use Rattle.source_session.specs.Texts.{Texts, Change, text_in, text_after, leaves, AreMeant}
@@ -103,10 +102,6 @@ module _ (s : Session) (asked : List LineEdit) (u : Session) (edits : List EditV
 abbrev pub IsRefusalIn : State → AllRefused → Type 0
 IsRefusalIn u all = IsRefusal u all.refused
 
-abbrev pub outcome_of : {A : Type 0} → A → Result ℕ AllRefused → Result A LineError
-outcome_of a (Ok number) = Ok a
-outcome_of a (Err all) = Err (line_refusal all.place all.refused.cause)
-
 -- the first edits of the table lead where it stands, all of them or those before the refused one
 pub after_first : (s u : State) (edits : List Edit) (made : Result ℕ AllRefused) → OnOk made (IsAfter s (map edit_view edits) u) → IfErr made (λ all. IsAfter s (edits_before all edits) u)
     → IsAfter s (take (made_count (length edits) made) (map edit_view edits)) u
@@ -124,13 +119,13 @@ module _ (s u : Session) (asked : List LineEdit) (edits : List Edit) (changes : 
       let fits = is_made s.table u.table es both.table (omega (arith, small, is)) (subst (FirstFit s.table es) (sym whole) fit) in
       record { edits = es; changes = changes; meant = meant; made = both; none_passes = fits.none_passes }
 
-  pub outcome_by : {A : Type 0} (a : A) (made : Result ℕ AllRefused) → AreMade s (take (made_count (length edits) made) (map edit_view edits)) (take (made_count (length edits) made) changes) u
+  pub outcome_by : (made : Result ℕ AllRefused) → AreMade s (take (made_count (length edits) made) (map edit_view edits)) (take (made_count (length edits) made) changes) u
       → IfOk made (λ number. number ≡ u.table.number) → IfOk made (λ number. number ≤ last_number) → OnOk made (FirstFit s.table (map edit_view edits) (length edits))
       → IfErr made (λ all. slice_get edits all.place ≡ Some all.refused.edit) → IfErr made (λ all. FirstFit s.table (map edit_view edits) all.place) → IfErr made (IsRefusalIn u.table)
       → IfErr made (λ all. u.table.number ≡ last_number → all.refused.cause ≡ TooManyEdits) → IfErr made (λ all. u.table.number ≤ last_number)
-      → MatchResult (outcome_of a made) (λ _. IsEdited s asked u) (IsUnedited s asked u)
-  outcome_by a (Ok number) both is small fit found before cause full range = edited_by number both is small fit
-  outcome_by a (Err all) both is small fit found before cause full range =
+      → MatchResult (outcome_of made) (λ _. IsEdited s asked u) (IsUnedited s asked u)
+  outcome_by (Ok number) both is small fit found before cause full range = edited_by number both is small fit
+  outcome_by (Err all) both is small fit found before cause full range =
       let es = map edit_view edits in
       refused_at s asked u es changes all.place meant both all.refused.cause
       (is_unmade s.table u.table es all.place (edit_view all.refused.edit) all.refused.cause (found_in_map edit_view edits all.place all.refused.edit found) both.table range before cause full)

@@ -16,3 +16,8 @@ line_refusal place cause = Refused place cause
 abbrev pub made_count : ℕ → Result ℕ AllRefused → ℕ
 made_count count (Ok number) = count
 made_count count (Err all) = all.place
+
+-- why not all of them were made
+abbrev pub outcome_of : Result ℕ AllRefused → Result (Unit {0}) LineError
+outcome_of (Ok number) = Ok tt
+outcome_of (Err all) = Err (line_refusal all.place all.refused.cause)

@@ -5,7 +5,7 @@ ghost use Rattle.decl_index.specs.Entries.{IndexView};
 ghost use Rattle.source_session.specs.Edits.{IsUsable, edit_view};
 ghost use Rattle.source_session.specs.LineViews.{settings_view};
 ghost use Rattle.source_session.specs.Inner.{AreTogether, Knowing, session_of};
-ghost use Rattle.source_session.specs.Refusals.{line_refusal, made_count};
+ghost use Rattle.source_session.specs.Refusals.{made_count, outcome_of};
 ghost use Rattle.source_session.specs.Sessions.{IsEdited, IsUnedited, new_session};
 
 use crate::edit::LineEdit;
@@ -57,13 +57,16 @@ fn made_count(made: &Result<u64, AllRefused>, count: usize) -> usize
     }
 }
 
-// A refused edit, or want of memory in it.
-fn refusal(place: usize, cause: EditFault) -> LineError
-    ensures { result ≡ line_refusal place cause }
+// Why not all edits of the table were made: one of them was refused, or memory was wanting in it.
+fn outcome(made: Result<u64, AllRefused>) -> Result<(), LineError>
+    ensures { result ≡ outcome_of made }
 {
-    match cause {
-        EditFault::Lower(LowerError::OutOfMemory) => LineError::OutOfMemory,
-        cause => LineError::Refused { place, cause },
+    match made {
+        Ok(_) => Ok(()),
+        Err(AllRefused { place, refused }) => match refused.cause {
+            EditFault::Lower(LowerError::OutOfMemory) => Err(LineError::OutOfMemory),
+            cause => Err(LineError::Refused { place, cause }),
+        },
     }
 }
 
@@ -89,10 +92,7 @@ fn edit_files(
     let most = meanings.edits.len();
     let made = sources.edit_all(meanings.edits);
     put_first(texts, meanings.changes, made_count(&made, most));
-    match made {
-        Ok(_) => Ok(()),
-        Err(all) => Err(refusal(all.place, all.refused.cause)),
-    }
+    outcome(made)
 }
 
 impl Session {

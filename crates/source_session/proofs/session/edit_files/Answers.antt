@@ -1,11 +1,11 @@
-use Rattle.std.proofs.Common.{◌≡◌, ◌≤◌, Ok, Err, IfOk, MatchResult, length, map, refl, rules, sym, ap, ◌∙◌, subst}
+use Rattle.std.proofs.Common.{◌≡◌, ◌≤◌, Err, IfOk, MatchResult, length, map, refl, rules, sym, ap, ◌∙◌, subst}
 use Rattle.item_tree_db.specs.Refusal.{last_number}
 use Rattle.source_session.specs.declared.error.LineError.TheVariants.{OutOfMemory}
 use Rattle.source_session.specs.Edits.{edit_view}
 use Rattle.source_session.specs.Inner.{session_of}
 use Rattle.source_session.specs.Refusals.{made_count}
 use Rattle.source_session.specs.Sessions.{IsEdited, IsUnedited}
-use Rattle.source_session.proofs.Made.{files_made, files_together, outcome_by, outcome_of, stopped_none}
+use Rattle.source_session.proofs.Made.{files_made, files_together, outcome_by, stopped_none}
 use Rattle.source_session.proofs.Named.{edits_known}
 use Rattle.source_session.proofs.session.edit_files.Goals as goal
 
@@ -27,8 +27,8 @@ returns-in_err-make_room-clause-edited c = λ edition.
 pub edit_all-made-requires : goal.edit_all-made-requires
 edit_all-made-requires c = edits_known c.args.count c.args.sources.now c.requires.known c.in_ok-meanings.meanings.edits.items c.in_ok-meanings.ensures.known
 
-pub returns-in-Ok-clause-edited : goal.returns-in-Ok-clause-edited
-returns-in-Ok-clause-edited c = λ edition.
+pub returns-clause-edited : goal.returns-clause-edited
+returns-clause-edited c = λ edition.
     let old = c.args.texts.now.entries in
     let new = c.put_first.new.texts.entries in
     let s = session_of c.args.count edition c.args.sources.now old in
@@ -40,47 +40,13 @@ returns-in-Ok-clause-edited c = λ edition.
     let e = c.edit_all-made.ensures in
     let most : c.len-most.result ≡ length edits = search rules in
     let n : c.made_count.result ≡ made_count (length edits) made = c.made_count.ensures ∙ ap (λ k. made_count k made) most in
-    let is : made ≡ Ok c.in-Ok.field-0 = search rules in
-    let below : c.in-Ok.field-0 ≤ last_number = search rules in
-    let small = subst (λ m. IfOk m (λ number. number ≤ last_number)) (sym is) below in
+    let small : IfOk made (λ number. number ≤ last_number) = search rules in
     let first = files_made c.args.sources.now c.edit_all-made.new.self old c.make_room.new.texts.entries new edits changes made c.made_count.result e.ok e.refused n c.make_room.ensures.texts c.put_first.ensures c.args.count edition in
-    subst (λ m. MatchResult (outcome_of c.made_count.result m) (λ _. IsEdited s asked u) (IsUnedited s asked u)) is
-    (outcome_by s u asked edits changes c.in_ok-meanings.ensures.meant c.made_count.result made first e.number small e.fits e.place e.fits_before e.cause e.full e.in_range)
+    let told = outcome_by s u asked edits changes c.in_ok-meanings.ensures.meant made first e.number small e.fits e.place e.fits_before e.cause e.full e.in_range in
+    subst (λ r. MatchResult r (λ _. IsEdited s asked u) (IsUnedited s asked u)) (sym c.outcome.ensures) told
 
-pub returns-in-Ok-clause-together : goal.returns-in-Ok-clause-together
-returns-in-Ok-clause-together c = λ index t.
-    let edits = c.in_ok-meanings.meanings.edits.items in
-    let changes = c.in_ok-meanings.meanings.changes.items in
-    let made = c.edit_all-made.result in
-    let e = c.edit_all-made.ensures in
-    let most : c.len-most.result ≡ length edits = search rules in
-    let n : c.made_count.result ≡ made_count (length edits) made = c.made_count.ensures ∙ ap (λ k. made_count k made) most in
-    files_together c.args.sources.now c.edit_all-made.new.self c.args.texts.now.entries c.make_room.new.texts.entries c.put_first.new.texts.entries edits changes made c.made_count.result e.ok e.refused n
-    c.make_room.ensures.texts c.put_first.ensures c.args.count index t e.footing c.in_ok-meanings.ensures.placed
-
-pub returns-in-Err-clause-edited : goal.returns-in-Err-clause-edited
-returns-in-Err-clause-edited c = λ edition.
-    let old = c.args.texts.now.entries in
-    let new = c.put_first.new.texts.entries in
-    let s = session_of c.args.count edition c.args.sources.now old in
-    let u = session_of c.args.count edition c.edit_all-made.new.self new in
-    let edits = c.in_ok-meanings.meanings.edits.items in
-    let changes = c.in_ok-meanings.meanings.changes.items in
-    let asked = map edit_view c.args.edits.items in
-    let made = c.edit_all-made.result in
-    let e = c.edit_all-made.ensures in
-    let most : c.len-most.result ≡ length edits = search rules in
-    let n : c.made_count.result ≡ made_count (length edits) made = c.made_count.ensures ∙ ap (λ k. made_count k made) most in
-    let all = c.in-Err.all in
-    let is : made ≡ Err all = search rules in
-    let small = subst (λ m. IfOk m (λ number. number ≤ last_number)) (sym is) tt in
-    let first = files_made c.args.sources.now c.edit_all-made.new.self old c.make_room.new.texts.entries new edits changes made c.made_count.result e.ok e.refused n c.make_room.ensures.texts c.put_first.ensures c.args.count edition in
-    let outcome = outcome_by s u asked edits changes c.in_ok-meanings.ensures.meant c.made_count.result made first e.number small e.fits e.place e.fits_before e.cause e.full e.in_range in
-    let told = subst (λ m. MatchResult (outcome_of c.made_count.result m) (λ _. IsEdited s asked u) (IsUnedited s asked u)) is outcome in
-    subst (IsUnedited s asked u) (sym c.refusal.ensures) told
-
-pub returns-in-Err-clause-together : goal.returns-in-Err-clause-together
-returns-in-Err-clause-together c = λ index t.
+pub returns-clause-together : goal.returns-clause-together
+returns-clause-together c = λ index t.
     let edits = c.in_ok-meanings.meanings.edits.items in
     let changes = c.in_ok-meanings.meanings.changes.items in
     let made = c.edit_all-made.result in
