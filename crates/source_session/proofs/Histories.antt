@@ -1,5 +1,6 @@
 -- Edits of two goes, and whole conversations.
-use Rattle.std.proofs.Common.{◌≡◌, inl, inr, List, [], ◌∷◌, ◌++◌, Bool, true, false, Option, Some, None, Ok, Err, take, refl, sym, ap, subst, ◌∙◌}
+use Rattle.std.proofs.Common.{◌≡◌, ◌⊎◌, ℕ, inl, inr, List, [], ◌∷◌, ◌++◌, Bool, true, false, Option, Some, None, Ok, Err, length, take, refl, sym, ap, subst, ◌∙◌, arith}
+use Rattle.std.proofs.lemmas.List.{take_all}
 use Rattle.std.specs.Option.{unwrap_or}
 use Rattle.serde_json.specs.Data.{Data, Members}
 use Rattle.serde_json.specs.Find.{as_object}
@@ -7,15 +8,17 @@ use Rattle.serde_json.specs.Written.{has_float}
 use Rattle.item_tree_db.specs.Edits.{EditView}
 use Rattle.item_tree_db.specs.History.{last_some}
 use Rattle.item_tree_db.proofs.Histories.{after_join, after_none, last_append, or_else}
-use Rattle.line_stream.specs.Lines.{Told, whole, too_long, no_memory}
+use Rattle.item_tree_request.specs.Requests.{IsJsonText}
+use Rattle.line_stream.specs.Lines.{Told, whole, too_long, no_memory, IsToldOf}
 use Rattle.line_stream.specs.Served.{IsServed}
 use Rattle.source_session.specs.declared.error.LineError.{LineError}
 use Rattle.source_session.specs.declared.error.LineError.TheVariants.{NotJson, NotRequest, Refused, TooLong, OutOfMemory}
-use Rattle.source_session.specs.Histories.{IsLedTo, GoesOn}
+use Rattle.source_session.specs.Histories.{Makes, Make, IsLedTo, GoesOn}
 use Rattle.source_session.specs.Lines.{Parsed, right, wrong, Asked, later_line}
 use Rattle.source_session.specs.Replies.{Open, Outcome, Reply, Replies, IsDone, IsOutcome, IsReplyUnless, IsReplyOf, IsReply, of_session, id_of}
 use Rattle.source_session.specs.Sessions.{Session, AreMade, IsUnedited}
-use Rattle.source_session.specs.Texts.{Change, text_in, leaves}
+use Rattle.source_session.specs.Texts.{Change, text_in, leaves, AreMeant}
+use Rattle.source_session.proofs.Made.{same_length}
 
 -- edits in two goes
 pub made_join : (s u v : Session) (es fs : List EditView) (cs ds : List Change) → AreMade s es cs u → AreMade u fs ds v → AreMade s (es ++ fs) (cs ++ ds) v
@@ -30,58 +33,86 @@ made_join s u v es fs cs ds a b = record {
       ∙ ap (λ o. unwrap_or o (text_in s.texts file)) (sym (last_append (leaves file) cs ds));
 }
 
-pub led_none : (s : Session) → IsLedTo s (Some s)
-led_none s = record { session = s; stands = refl; edits = []; changes = []; made = record { count = refl; edition = refl; table = after_none s.table; texts = λ file. refl } }
+-- what a line leads to
+record LedBy (s : Session) (line : List ℕ) (new : Open) : Type 0 where
+  session : Session
+  stands : new ≡ Some session
+  edits : List EditView
+  changes : List Change
+  made : AreMade s edits changes session
+  makes : Makes s.count line edits changes
 
-led_by : (s u : Session) (new : Open) (es : List EditView) (cs : List Change) → AreMade s es cs u → new ≡ Some u → IsLedTo s new
-led_by s u new es cs made e = record { session = u; stands = e; edits = es; changes = cs; made = made }
+led_still : (s : Session) (line : List ℕ) (new : Open) → new ≡ Some s → LedBy s line new
+led_still s line new e = record { session = s; stands = e; edits = []; changes = []; made = record { count = refl; edition = refl; table = after_none s.table; texts = λ file. refl }; makes = inl (refl, refl) }
 
 -- ---- one line
 
-led_undone : (s : Session) (a : Asked) (u : Session) (e : LineError) (new : Open) → new ≡ Some u → IsUnedited s a.edits u e → IsLedTo s new
-led_undone s a u (Refused place cause) new o h = led_by s u new (take place h.edits) (take place h.changes) h.made o
-led_undone s a u OutOfMemory new o h = led_by s u new (take h.count h.edits) (take h.count h.changes) h.made o
-led_undone s a u (NotJson column) new o h = absurd h
-led_undone s a u (NotRequest pointer) new o h = absurd h
-led_undone s a u TooLong new o h = absurd h
+-- a line that is a request
+module _ (s : Session) (line : List ℕ) (d : Data) (text : IsJsonText line d) (a : Asked) (reading : later_line s.count d ≡ right a) where
+  makes_first : (es : List EditView) (cs : List Change) (n : ℕ) → AreMeant a.edits es cs → Makes s.count line (take n es) (take n cs)
+  makes_first es cs n meant = inr (record { value = d; text = text; asked = a; reading = reading; all_edits = es; all_changes = cs; meant = meant; made = n; edits_are = refl; changes_are = refl })
 
-led_done : (s : Session) (a : Asked) (u : Session) (outcome : Outcome) (new : Open) → new ≡ Some u → IsDone s a u outcome → IsLedTo s new
-led_done s a u (Ok values) new o h = led_by s u new h.0.edits h.0.changes h.0.made o
-led_done s a u (Err e) new o h = led_undone s a u e new o h
+  makes_stopped : (es : List EditView) (cs : List Change) (n : ℕ) → (n ≡ 0) ⊎ AreMeant a.edits es cs → Makes s.count line (take n es) (take n cs)
+  makes_stopped es cs n (inl z) = inl (ap (λ k. take k es) z, ap (λ k. take k cs) z)
+  makes_stopped es cs n (inr meant) = makes_first es cs n meant
 
-led_still : (s : Session) (new : Open) → new ≡ Some s → IsLedTo s new
-led_still s new e = subst (IsLedTo s) (sym e) (led_none s)
+  makes_all : (es : List EditView) (cs : List Change) → AreMeant a.edits es cs → Makes s.count line es cs
+  makes_all es cs meant =
+      subst (λ xs. Makes s.count line xs cs) (take_all (length es) es (omega arith))
+      (subst (λ xs. Makes s.count line (take (length es) es) xs) (take_all (length es) cs (omega (arith, same_length a.edits es cs meant))) (makes_first es cs (length es) meant))
+
+  led_undone : (u : Session) (e : LineError) (new : Open) → new ≡ Some u → IsUnedited s a.edits u e → LedBy s line new
+  led_undone u (Refused place cause) new o h = record { session = u; stands = o; edits = take place h.edits; changes = take place h.changes; made = h.made; makes = makes_first h.edits h.changes place h.meant }
+  led_undone u OutOfMemory new o h = record { session = u; stands = o; edits = take h.count h.edits; changes = take h.count h.changes; made = h.made; makes = makes_stopped h.edits h.changes h.count h.meant }
+  led_undone u (NotJson column) new o h = absurd h
+  led_undone u (NotRequest pointer) new o h = absurd h
+  led_undone u TooLong new o h = absurd h
+
+  led_done : (u : Session) (outcome : Outcome) (new : Open) → new ≡ Some u → IsDone s a u outcome → LedBy s line new
+  led_done u (Ok values) new o h = record { session = u; stands = o; edits = h.0.edits; changes = h.0.changes; made = h.0.made; makes = makes_all h.0.edits h.0.changes h.0.meant }
+  led_done u (Err e) new o h = led_undone u e new o h
 
 -- what is asked of an open session is asked of it
-led_asked : (s : Session) (r : Parsed Asked) (new : Open) (outcome : Outcome) → IsOutcome (Some s) (of_session s r) new outcome → IsLedTo s new
-led_asked s (right a) new outcome h = led_done s a h.0 outcome new h.1 h.2
-led_asked s (wrong pointer) new outcome h = led_still s new h.0
+led_asked : (s : Session) (line : List ℕ) (d : Data) → IsJsonText line d → (r : Parsed Asked) → later_line s.count d ≡ r → (new : Open) (outcome : Outcome) → IsOutcome (Some s) (of_session s r) new outcome → LedBy s line new
+led_asked s line d text (right a) e new outcome h = led_done s line d text a e h.0 outcome new h.1 h.2
+led_asked s line d text (wrong pointer) e new outcome h = led_still s line new h.0
 
-led_unless : (s : Session) (b : Bool) (d : Data) (new : Open) (r : Reply) → IsReplyUnless b (Some s) d new r → IsLedTo s new
-led_unless s true d new r h = led_still s new h.0
-led_unless s false d new r h = elim h.1 as (λ _. IsLedTo s new) [ inl w ↦ led_still s new w.0 | inr o ↦ led_asked s (later_line s.count d) new r.outcome o ]
+led_unless : (s : Session) (line : List ℕ) (d : Data) → IsJsonText line d → (b : Bool) (new : Open) (r : Reply) → IsReplyUnless b (Some s) d new r → LedBy s line new
+led_unless s line d text true new r h = led_still s line new h.0
+led_unless s line d text false new r h = elim h.1 as (λ _. LedBy s line new) [ inl w ↦ led_still s line new w.0 | inr o ↦ led_asked s line d text (later_line s.count d) refl new r.outcome o ]
 
-led_value : (s : Session) (o : Option Members) (d : Data) (new : Open) (r : Reply) → IsReplyOf o (Some s) d new r → IsLedTo s new
-led_value s None d new r h = led_still s new h.0
-led_value s (Some ms) d new r h = led_unless s (has_float (id_of d)) d new r h
+led_value : (s : Session) (line : List ℕ) (d : Data) → IsJsonText line d → (o : Option Members) (new : Open) (r : Reply) → IsReplyOf o (Some s) d new r → LedBy s line new
+led_value s line d text None new r h = led_still s line new h.0
+led_value s line d text (Some ms) new r h = led_unless s line d text (has_float (id_of d)) new r h
 
-led_line : (s : Session) (told : Told) (new : Open) (r : Reply) → IsReply (Some s) told new r → IsLedTo s new
-led_line s (whole bytes) new r h = elim h as (λ _. IsLedTo s new) [
-  | inl w ↦ led_still s new w.0
-  | inr t ↦ elim t as (λ _. IsLedTo s new) [ inl n ↦ led_still s new n.refused.0 | inr a ↦ led_value s (as_object a.value) a.value new r a.reply ]
+led_line : (s : Session) (line : List ℕ) (told : Told) (new : Open) (r : Reply) → IsToldOf line told → IsReply (Some s) told new r → LedBy s line new
+led_line s line (whole bytes) new r t h = elim h as (λ _. LedBy s line new) [
+  | inl w ↦ led_still s line new w.0
+  | inr v ↦ elim v as (λ _. LedBy s line new) [
+    | inl n ↦ led_still s line new n.refused.0
+    | inr a ↦ led_value s line a.value (subst (λ bs. IsJsonText bs a.value) t.0 a.text) (as_object a.value) new r a.reply
+  ]
 ]
-led_line s too_long new r h = led_still s new h.0
-led_line s no_memory new r h = led_still s new h.0
+led_line s line too_long new r t h = led_still s line new h.0
+led_line s line no_memory new r t h = led_still s line new h.0
 
 -- ---- all lines
 
-led_further : (s : Session) (next new : Open) (led : IsLedTo s next) → ((u : Session) → next ≡ Some u → IsLedTo u new) → IsLedTo s new
-led_further s next new led more =
+led_further : (s : Session) (line : List ℕ) (lines : List (List ℕ)) (next new : Open) (led : LedBy s line next) → ((u : Session) → next ≡ Some u → IsLedTo u lines new) → IsLedTo s (line ∷ lines) new
+led_further s line lines next new led more =
     let rest = more led.session led.stands in
-    led_by s rest.session new (led.edits ++ rest.edits) (led.changes ++ rest.changes) (made_join s led.session rest.session led.edits rest.edits led.changes rest.changes led.made rest.made) rest.stands
+    record {
+      session = rest.session;
+      stands = rest.stands;
+      edits = led.edits ++ rest.edits;
+      changes = led.changes ++ rest.changes;
+      made = made_join s led.session rest.session led.edits rest.edits led.changes rest.changes led.made rest.made;
+      by_lines = (led.edits, rest.edits, led.changes, rest.changes, led.makes, subst (λ k. Make k lines rest.edits rest.changes) led.made.count rest.by_lines, refl, refl);
+    }
 
 pub goes_on : (s : Session) → GoesOn s
-goes_on s [] new text h = led_still s new h.0
-goes_on s (line ∷ rest) new text h =
+goes_on s [] new text h =
+    record { session = s; stands = h.0; edits = []; changes = []; made = record { count = refl; edition = refl; table = after_none s.table; texts = λ file. refl }; by_lines = (refl, refl) }
+goes_on s (line ∷ lines) new text h =
     let answer = h.5 in
-    led_further s h.1 new (led_line s h.0 h.1 answer.0 answer.1) (λ u e. goes_on u rest new h.3 (subst (λ o. IsServed Replies o rest new h.3) e h.7))
+    led_further s line lines h.1 new (led_line s line h.0 h.1 answer.0 h.4 answer.1) (λ u e. goes_on u lines new h.3 (subst (λ o. IsServed Replies o lines new h.3) e h.7))

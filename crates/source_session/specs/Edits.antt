@@ -20,6 +20,7 @@ pub data LineEdit : Type 0 where
 abbrev pub IsShort : List ℕ → Type 0
 IsShort text = length text ≤ 2 ^ 32
 
+-- the text, if it is short
 abbrev pub if_short : List ℕ → Option (List ℕ)
 if_short text = if nat_lt (2 ^ 32) (length text) then None else Some text
 
@@ -46,6 +47,7 @@ line_edit count d = if has_float d then None else edit count d
 
 -- ---- what was read
 
+-- an edit of a line as data
 abbrev pub edit_view : code.LineEdit → LineEdit
 edit_view (Table e) = of_table (table.edit_view e)
 edit_view (SetText file text) = set_text file.0 (string_bytes text)

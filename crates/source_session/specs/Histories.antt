@@ -1,19 +1,51 @@
 -- Whole conversations: all edits that stand by then.
-use Rattle.std.specs.Prelude.{◌≡◌, ℕ, List, Some}
+use Rattle.std.specs.Prelude.{◌≡◌, ◌⊎◌, ℕ, List, [], ◌∷◌, ◌++◌, take, Some}
+use Rattle.serde_json.specs.Data.{Data}
 use Rattle.item_tree_db.specs.Edits.{EditView}
+use Rattle.item_tree_request.specs.Requests.{IsJsonText}
 use Rattle.line_stream.specs.Served.{IsServed}
+use Rattle.source_session.specs.Lines.{right, Asked, later_line}
 use Rattle.source_session.specs.Replies.{Open, Replies}
 use Rattle.source_session.specs.Sessions.{Session, AreMade}
-use Rattle.source_session.specs.Texts.{Change}
+use Rattle.source_session.specs.Texts.{Change, AreMeant}
 
--- a session is open to which edits of the session s lead
-pub record IsLedTo (s : Session) (new : Open) : Type 0 where
+-- nothing is made
+abbrev pub MakesNone : List EditView → List Change → Type 0
+MakesNone edits changes = (edits ≡ []) × (changes ≡ [])
+
+-- the line is a request to a session with this many crates, and makes the first of what its edits mean
+pub record MakesFirst (count : ℕ) (line : List ℕ) (edits : List EditView) (changes : List Change) : Type 0 where
+  pub value : Data
+  pub text : IsJsonText line value
+  pub asked : Asked
+  pub reading : later_line count value ≡ right asked
+  pub all_edits : List EditView
+  pub all_changes : List Change
+  pub meant : AreMeant asked.edits all_edits all_changes
+  pub made : ℕ
+  pub edits_are : edits ≡ take made all_edits
+  pub changes_are : changes ≡ take made all_changes
+
+-- a line makes these edits of the table, which leave this of the texts
+abbrev pub Makes : ℕ → List ℕ → List EditView → List Change → Type 0
+Makes count line edits changes = MakesNone edits changes ⊎ MakesFirst count line edits changes
+
+-- lines do, one after another
+abbrev pub Make : ℕ → List (List ℕ) → List EditView → List Change → Type 0
+Make count [] edits changes = MakesNone edits changes
+Make count (line ∷ lines) edits changes =
+    (es : List EditView) × (fs : List EditView) × (cs : List Change) × (ds : List Change)
+    × Makes count line es cs × Make count lines fs ds × (edits ≡ es ++ fs) × (changes ≡ cs ++ ds)
+
+-- a session is open to which the edits that these lines make lead from the session s
+pub record IsLedTo (s : Session) (lines : List (List ℕ)) (new : Open) : Type 0 where
   pub session : Session
   pub stands : new ≡ Some session
   pub edits : List EditView
   pub changes : List Change
   pub made : AreMade s edits changes session
+  pub by_lines : Make s.count lines edits changes
 
--- a conversation over an open session, whatever its lines, leads where a list of edits leads
+-- a conversation over an open session, whatever its lines, leads where the edits lead that they make
 abbrev pub GoesOn : Session → Type 0
-GoesOn s = (lines : List (List ℕ)) (new : Open) (text : List ℕ) → IsServed Replies (Some s) lines new text → IsLedTo s new
+GoesOn s = (lines : List (List ℕ)) (new : Open) (text : List ℕ) → IsServed Replies (Some s) lines new text → IsLedTo s lines new

@@ -31,6 +31,7 @@ HasSlotFor texts (Some (file, Some text)) = HasSlot texts file
 abbrev pub IsPlaced : Option SourceText → Type 0
 IsPlaced text = IfSome text (λ t. AreDistinct t.places.items)
 
+-- so are those of what a change leaves
 abbrev pub LeavesPlaced : Change → Type 0
 LeavesPlaced change = IfSome change (λ c. IsPlaced c.1)
 
@@ -61,5 +62,6 @@ outcome_view (Err e) = Err e
 abbrev pub IsUnfloating : Result (Vec Value Global) LineError → Type 0
 IsUnfloating r = IfOk r (λ values. AreUnfloating (map view values.items))
 
+-- a reply as data
 abbrev pub reply_view : reply.Reply → Reply
 reply_view r = record { id = view r.id; outcome = outcome_view r.outcome }

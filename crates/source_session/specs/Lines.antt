@@ -51,6 +51,7 @@ pub record Settings : Type 0 where
   -- the number before the first edit
   pub start : ℕ
 
+-- each by its form, in this order
 abbrev pub settings : Data → Parsed Settings
 settings d = do
   crates ← placed at.Crates (list_at crate_data (codes "crates") d)

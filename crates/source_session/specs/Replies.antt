@@ -24,6 +24,7 @@ use Rattle.source_session.specs.Shown.{IsShown}
 abbrev pub Outcome : Type 0
 Outcome = Result (List Data) LineError
 
+-- an outcome as the last member of an answer
 abbrev pub outcome_text : Outcome → List ℕ
 outcome_text (Ok values) = codes "\"shows\":" ++ compact_text (array (items_of values))
 outcome_text (Err e) = codes "\"error\":" ++ compact_text (error_form e)
@@ -33,6 +34,7 @@ abbrev pub number_text : Option ℕ → List ℕ
 number_text None = codes "null"
 number_text (Some n) = decimal n
 
+-- an answer
 abbrev pub reply_text : Data → Option ℕ → Outcome → List ℕ
 reply_text id number outcome = codes "{\"id\":" ++ compact_text id ++ codes ",\"number\":" ++ number_text number ++ codes "," ++ outcome_text outcome ++ codes "}"
 
@@ -46,6 +48,7 @@ out_of_memory = codes "{\"id\":null,\"number\":null,\"error\":{\"kind\":\"out of
 abbrev pub Open : Type 0
 Open = Option Session
 
+-- the number of its last edit
 abbrev pub number_of : Open → Option ℕ
 number_of None = None
 number_of (Some u) = Some u.table.number
@@ -87,6 +90,7 @@ id_of d = unwrap_or (field (codes "id") d) null
 
 -- ---- replies
 
+-- the id that a line gave, and its outcome
 pub record Reply : Type 0 where
   pub id : Data
   pub outcome : Outcome
@@ -100,6 +104,7 @@ abbrev pub IsReplyUnless : Bool → Open → Data → Open → Reply → Type 0
 IsReplyUnless true old d new r = IsRefusedAs (NotRequest at.Id) old new r
 IsReplyUnless false old d new r = (r.id ≡ id_of d) × (IsWanting old new r.outcome ⊎ IsOutcome old (asked_of old d) new r.outcome)
 
+-- the same, by the id that it gives
 abbrev pub IsReplyTo : Open → Data → Open → Reply → Type 0
 IsReplyTo old d new r = IsReplyUnless (has_float (id_of d)) old d new r
 
@@ -108,6 +113,7 @@ abbrev pub IsReplyOf : Option Members → Open → Data → Open → Reply → T
 IsReplyOf None old d new r = IsRefusedAs (NotRequest at.Line) old new r
 IsReplyOf (Some ms) old d new r = IsReplyTo old d new r
 
+-- the same of any value
 abbrev pub IsValueReply : Open → Data → Open → Reply → Type 0
 IsValueReply old d new r = IsReplyOf (as_object d) old d new r
 
@@ -123,6 +129,7 @@ pub record IsAnswered (bytes : List ℕ) (old new : Open) (r : Reply) : Type 0 w
   pub text : IsJsonText bytes value
   pub reply : IsValueReply old value new r
 
+-- what is told of a line is answered
 abbrev pub IsReply : Open → Told → Open → Reply → Type 0
 IsReply old (whole bytes) new r = IsRefusedAs OutOfMemory old new r ⊎ (IsNotJson bytes old new r ⊎ IsAnswered bytes old new r)
 IsReply old too_long new r = IsRefusedAs TooLong old new r

@@ -51,9 +51,11 @@ outline_form u krate file =
     let t = text_in u.texts file.0 in
     array (items_of (forest_objects (record { path = []; text = text_bytes t }) u.edition.1 (text_places t) all_items 0 true (forest_of u krate file)))
 
+-- the objects of its imports
 abbrev pub imports_form : Session → Crate → HirFileId → Data
 imports_form u krate file = let t = text_in u.texts file.0 in array (items_of (import_objects (text_bytes t) u.edition.1 (text_places t) (forest_of u krate file)))
 
+-- the objects of the problems of its text
 abbrev pub problems_form : Session → HirFileId → Data
 problems_form u file = let t = text_in u.texts file.0 in array (items_of (problem_objects (text_bytes t) (text_problems t)))
 
@@ -68,6 +70,7 @@ abbrev pub found_in : Place → Crate → Data → Data
 found_in (File file) krate id = object (member (codes "crate") (count_form krate.0) (member (codes "file") (count_form file.0) (member (codes "id") id no_members)))
 found_in (Block block) krate id = object (member (codes "block") (count_form block.0) (member (codes "crate") (count_form krate.0) (member (codes "id") id no_members)))
 
+-- the object of an entry
 abbrev pub found_form : State → Entry → Data
 found_form s e = found_in e.place e.krate (id_form s e)
 

@@ -19,9 +19,11 @@ crate_in count d = do
   known ← below count number
   Some (record { 0 = known })
 
+-- a file
 abbrev pub file_in : Data → Option HirFileId
 file_in d = option_map (λ number. record { 0 = number }) (id_at (codes "file") d)
 
+-- a name, which is required
 abbrev pub name_in : Data → Option (List ℕ)
 name_in d = required name (field (codes "name") d)
 

@@ -2,7 +2,7 @@
 ghost use Rattle.source_session.specs.Histories.{GoesOn};
 ghost use Rattle.source_session.specs.Sessions.{Session};
 
-// The edits that stand are those of all lines so far: state between lines is what they lead to. The function does nothing.
+// The state between lines is what the edits lead to that the lines so far made. The function does nothing.
 fn conversations()
     ensures goes_on { (s : Session) → GoesOn s }
 {}
