@@ -6,15 +6,17 @@
 PROGRAM is itemtree, and TOOL is item_tree_tool. The parts, all of them where none is named:
 
 - examples: the sessions of docs/FORMAT.md and README.md, to the byte
-- errors: each kind of error, with its pointer
+- errors: each kind of error, with its pointer; values of each form of docs/FORMAT.md, wrong and right, with pointers written by hand,
+  beside the program and beside the same forms in Python
 - lines: lines that are empty, cut, long or in pieces, and streams that fail
 - places: what is told of texts, beside what `itemtree outline`, `imports`, `check` and `find` print of the same ones
 - random: random sessions, beside TOOL run anew on the edits so far, and beside a new session that is given them at once
+- damaged: edits, shows and first lines that are damaged at random, beside the forms in Python
 - noise: random bytes between good lines
 - unread: a client that never reads its answers
 - many: 10,000 edits, whose memory and processor time stay level
 
-A random session follows from the seed and its number alone.
+A random session follows from the seed and its number alone, and what is damaged from the seed.
 """
 import argparse
 import collections
@@ -192,6 +194,224 @@ def check_examples(options):
         tell(count > 0, f'{path}: it has sessions')
 
 
+# ---- forms
+
+# The forms of docs/FORMAT.md, written from that page alone. A form gives the steps from a value to the first value of wrong form in
+# it, or None where there is none. The keys of an object stand in the order of the page: a key, its form, and whether it is required.
+
+def pointer_of(steps):
+    """The pointer, or None where nothing is wrong."""
+    return None if steps is None else ''.join(f'/{step}' for step in steps)
+
+
+def first_wrong(members):
+    """Of steps, values and forms."""
+    for step, value, form in members:
+        steps = form(value)
+        if steps is not None:
+            return [step, *steps]
+    return None
+
+
+def wrong_keys(value, keys):
+    """A null counts as absent, and no form of a required key takes a null."""
+    if not isinstance(value, dict):
+        return []
+    return first_wrong((key, value.get(key), form) for key, form, is_required in keys if is_required or value.get(key) is not None)
+
+
+def wrong_kind(value, key, kinds):
+    """An object that one of its keys tells how to read."""
+    if not isinstance(value, dict):
+        return []
+    kind = value.get(key)
+    return wrong_keys(value, kinds[kind]) if isinstance(kind, str) and kind in kinds else [key]
+
+
+def number_up_to(most):
+    return lambda value: None if type(value) is int and 0 <= value <= most else []
+
+
+def one_of(*values):
+    return lambda value: None if type(value) in (int, str) and value in values else []
+
+
+def list_of(form):
+    return lambda value: first_wrong((at, member, form) for at, member in enumerate(value)) if isinstance(value, list) else []
+
+
+def wrong_string(value):
+    return None if isinstance(value, str) else []
+
+
+def wrong_name(value):
+    return None if isinstance(value, str) and value and '\n' not in value else []
+
+
+def wrong_truth(value):
+    return None if isinstance(value, bool) else []
+
+
+def wrong_span(value):
+    return list_of(wrong_u32)(value) if isinstance(value, list) and len(value) == 2 else []
+
+
+def wrong_ctxt(value):
+    return wrong_u32(value) if type(value) is int else one_of('ROOT2015', 'ROOT2018', 'ROOT2021', 'ROOT2024')(value)
+
+
+def wrong_path(value):
+    if value == 'unreadable':
+        return None
+    if not isinstance(value, list) or not value:
+        return []
+    if not isinstance(value[0], str) or value[0] not in PATHS:
+        return [0]
+    least = PATHS[value[0]]
+    if len(value) <= len(least):
+        return []
+    return first_wrong((at, member, least[at - 1] if 0 < at <= len(least) else wrong_name) for at, member in enumerate(value))
+
+
+def wrong_vis(value):
+    if isinstance(value, dict):
+        return wrong_keys(value, [('in', wrong_path, True)])
+    return one_of('pub', 'crate', 'super', 'self')(value)
+
+
+def wrong_field(value):
+    return None if value is None else wrong_vis(value)
+
+
+def wrong_fields(value):
+    return list_of(wrong_field)(value) if isinstance(value, list) else one_of('record', 'unit')(value)
+
+
+def wrong_cfg(value):
+    if not isinstance(value, dict):
+        return None if value is None else wrong_name(value)
+    for key, keys in CFGS.items():
+        if value.get(key) is not None or key == 'not' and key in value:
+            return wrong_keys(value, keys)
+    return []
+
+
+def wrong_atom(value):
+    return wrong_keys(value, CFGS['key']) if isinstance(value, dict) else wrong_name(value)
+
+
+def wrong_meta(value):
+    return wrong_kind(value, 'meta', METAS)
+
+
+def wrong_tree(value):
+    return wrong_keys(value, [('path', wrong_path, False), ('star', wrong_truth, False), ('rename', wrong_name, False),
+                              ('list', list_of(wrong_tree), False)])
+
+
+def wrong_item(value):
+    return wrong_kind(value, 'is', ITEMS)
+
+
+def wrong_extern_item(value):
+    return wrong_kind(value, 'is', {kind: ITEMS[kind] for kind in ('fn', 'static', 'type_alias', 'macro_call')})
+
+
+def wrong_call(value):
+    return wrong_keys(value, [('is', one_of('macro_call'), False), *ITEMS['macro_call']])
+
+
+def wrong_statement(value):
+    for key, form in (('item', wrong_item), ('call', wrong_call)):
+        if isinstance(value, dict) and value.get(key) is not None:
+            return wrong_keys(value, [(key, form, True)])
+    return one_of('other')(value)
+
+
+def wrong_tail(value):
+    if isinstance(value, dict):
+        return wrong_keys(value, [('call', wrong_call, True)])
+    return one_of('other')(value)
+
+
+def wrong_syntax(value):
+    return wrong_kind(value, 'root', SYNTAXES)
+
+
+def holds_float(value):
+    return any(isinstance(part, float) or type(part) is int and not -2**63 <= part <= LAST for part in parts(value))
+
+
+def wrong_edit(value, crates):
+    """With that many crates. A float anywhere makes it wrong as a whole."""
+    return [] if holds_float(value) else wrong_kind(value, 'edit', {**EDITS, 'set_cfg': [
+        ('crate', number_up_to(crates - 1), True), ('cfg', list_of(wrong_atom), False)]})
+
+
+def wrong_show(value, crates):
+    if holds_float(value):
+        return []
+    krate, file, block = ('crate', number_up_to(crates - 1), True), ('file', wrong_u32, True), ('block', wrong_u32, True)
+    place = file if isinstance(value, dict) and value.get('file') is not None else block
+    return wrong_kind(value, 'show', {
+        'page': [krate, place], 'tree': [krate, place], 'imports': [krate, place], 'changed': [('since', wrong_u64, True)],
+        'outline': [krate, file], 'import_places': [krate, file], 'problems': [file], 'find': [('name', wrong_name, True)]})
+
+
+def wrong_crate(value):
+    return wrong_keys(value, [('root', wrong_u32, True), ('cfg', list_of(wrong_atom), False), ATTRS])
+
+
+def wrong_edition(value):
+    return wrong_keys(value, [('year', one_of(2015, 2018, 2021, 2024), False), ('reserved', list_of(wrong_name), False)])
+
+
+def wrong_opening(value):
+    """The keys of a first line that set up its session."""
+    return wrong_keys(value, [('crates', list_of(wrong_crate), False), ('skipped', list_of(wrong_name), False),
+                              ('edition', wrong_edition, False), ('start', wrong_u64, False)])
+
+
+wrong_u32, wrong_u64 = number_up_to(2**32 - 1), number_up_to(LAST)
+PATHS = {'plain': [wrong_name], 'super': [wrong_u32], 'crate': [], 'abs': [], 'dollar': [wrong_u32]}
+CFGS = {'key': [('key', wrong_name, True), ('value', wrong_string, True)], 'all': [('all', list_of(wrong_cfg), True)],
+        'any': [('any', list_of(wrong_cfg), True)], 'not': [('not', wrong_cfg, False)]}
+NAME, VIS, PATH, CTXT = ('name', wrong_name, False), ('vis', wrong_vis, False), ('path', wrong_path, False), ('ctxt', wrong_ctxt, False)
+ATTRS, ITEM_LIST, CFG = ('attrs', list_of(wrong_meta), False), ('items', list_of(wrong_item), False), ('cfg', wrong_cfg, False)
+METAS = {
+    'path': [PATH, CTXT],
+    'key_value': [PATH, CTXT, ('value', lambda value: wrong_keys(value, [
+        ('rendered', wrong_string, True), ('string', wrong_string, False), ('span', wrong_span, False)]), False)],
+    'tokens': [PATH, CTXT, ('tokens', wrong_string, True)],
+    'cfg': [CFG],
+    'cfg_attr': [CFG, ('metas', list_of(wrong_meta), False)],
+    'unsafe': [('inner', wrong_meta, True)],
+}
+ITEMS = {kind: [('hash', number_up_to(65535), False), ('number', wrong_u32, False), ATTRS, ('body', wrong_string, False), *keys]
+         for kind, keys in {
+    'fn': [NAME, VIS], 'union': [NAME, VIS], 'enum': [NAME, VIS], 'const': [NAME, VIS], 'static': [NAME, VIS], 'trait': [NAME, VIS],
+    'type_alias': [NAME, VIS], 'macro_def': [NAME, VIS],
+    'struct': [NAME, VIS, ('fields', wrong_fields, True)],
+    'module': [NAME, VIS, ('semicolon', wrong_truth, False), ITEM_LIST],
+    'use': [VIS, ('tree', wrong_tree, False)],
+    'extern_crate': [NAME, VIS, ('rename', wrong_name, False)],
+    'extern_block': [('items', list_of(wrong_extern_item), False)],
+    'impl': [('trait', wrong_truth, False)],
+    'macro_call': [PATH, ('expand_to', one_of('Statements', 'Items', 'Pattern', 'Type', 'Expr'), False), CTXT],
+    'macro_rules': [NAME],
+    'asm': [],
+}.items()}
+BODY = [('stmts', list_of(wrong_statement), False), ('tail', wrong_tail, False)]
+SYNTAXES = {'source_file': [ATTRS, ITEM_LIST], 'macro_items': [ITEM_LIST], 'macro_stmts': BODY, 'error': []}
+EDITS = {
+    'set_file': [('file', wrong_u32, True), ('syntax', wrong_syntax, True)],
+    'remove_file': [('file', wrong_u32, True)],
+    'set_block': [('block', wrong_u32, True), ATTRS, *BODY],
+    'remove_block': [('block', wrong_u32, True)],
+    'set_text': [('file', wrong_u32, True), ('text', wrong_string, True)],
+}
+
+
 # ---- errors
 
 FUNCTION = {'is': 'fn', 'name': 'f', 'hash': 48783}
@@ -208,33 +428,292 @@ NO_JSON = [
     (b'{"id":"\\ud800"}', None), (b'\xef\xbb\xbf{}', None), (b'{"id":1e400}', None), (b'{"id":01}', None), (b'\x00', None),
     (b'{"id":"\x01"}', None), (b'{} {}', None), (b'{"id":' + b'[' * 127 + b']' * 127 + b'}', None), (b'[' * 5000, None),
 ]
-# Values of wrong form under each key of a first line.
+# Values of wrong form under each key of a first line, each with its pointer from that key on.
 WRONG_SETTINGS = {
-    'crates': [0, {}, [1], [None], [{}], [{'root': -1}], [{'root': 2**32}], [{'root': 0, 'cfg': ['']}], [{'root': 0}, 'x'],
-               [{'root': 0, 'attrs': [{}]}]],
-    'skipped': ['doc', [''], [1], ['a\nb'], [None]],
-    'edition': [2021, {'year': 2020}, {'year': '2021'}, {'reserved': ['']}, []],
-    'start': [-1, 2**64, '0', [], 1.5],
+    'crates': [
+        (0, ''), ({}, ''), ([1], '/0'), ([None], '/0'), ([[]], '/0'), ([{}], '/0/root'), ([{'root': None, 'cfg': 0}], '/0/root'),
+        ([{'root': -1}], '/0/root'), ([{'root': 2**32}], '/0/root'), ([{'root': True}], '/0/root'), ([{'root': 0.5}], '/0/root'),
+        ([{'root': 0}, 'x'], '/1'), ([{'root': 0}] * 11 + [{'root': 0, 'cfg': ['a', None]}], '/11/cfg/1'),
+        ([{'root': 0, 'cfg': 'test'}], '/0/cfg'), ([{'root': 0, 'cfg': ['']}], '/0/cfg/0'), ([{'root': 0, 'attrs': {}}], '/0/attrs'),
+        ([{'root': 0, 'attrs': [{}]}], '/0/attrs/0/meta'), ([{'attrs': 0, 'cfg': 0, 'root': ''}], '/0/root'),
+        ([{'attrs': 0, 'cfg': [{'value': 0}], 'root': 0}], '/0/cfg/0/key'), ([{'root': 0, 'attrs': [0]}, {}], '/0/attrs/0'),
+    ],
+    'skipped': [('doc', ''), ({}, ''), ([''], '/0'), ([1], '/0'), (['a\nb'], '/0'), ([None], '/0'), (['a', 'b', ['c']], '/2')],
+    'edition': [
+        (2021, ''), ([], ''), ({'year': 2020}, '/year'), ({'year': '2021'}, '/year'), ({'year': -2021}, '/year'), ({'year': 1e3}, '/year'),
+        ({'reserved': 'a'}, '/reserved'), ({'reserved': ['']}, '/reserved/0'), ({'reserved': ['a', None]}, '/reserved/1'),
+        ({'reserved': 0, 'year': 0}, '/year'), ({'reserved': {}, 'year': None}, '/reserved'),
+    ],
+    'start': [(-1, ''), (2**64, ''), ('0', ''), ([], ''), (1.5, ''), (True, ''), (-2**63, '')],
 }
+# Values of wrong form for each form, each with its pointer from the value on.
+WRONG_NAMES = [('', ''), ('a\nb', ''), (1, ''), (True, ''), (['a'], ''), ({}, '')]
+WRONG_ATOMS = [
+    (None, ''), (0, ''), ([], ''), ('', ''), ('a\nb', ''), ({}, '/key'), ({'key': ''}, '/key'), ({'not': 'a'}, '/key'),
+    ({'value': 0, 'key': 0}, '/key'), ({'key': None, 'value': 'x'}, '/key'), ({'key': 'a'}, '/value'), ({'key': 'a', 'value': 1}, '/value'),
+    ({'key': 'a', 'value': None}, '/value'),
+]
+WRONG_CFGS = [
+    (0, ''), ([], ''), (True, ''), ('', ''), ('a\nb', ''), ({}, ''), ({'value': 'x'}, ''), ({'all': None}, ''),
+    ({'key': None, 'any': None, 'Not': 'a'}, ''), ({'key': ''}, '/key'), ({'value': 1, 'key': 1}, '/key'), ({'key': 'a'}, '/value'),
+    ({'key': 'a', 'value': None}, '/value'), ({'key': 'a', 'value': ['x']}, '/value'), ({'not': 'b', 'key': 'a'}, '/value'),
+    ({'all': 'a'}, '/all'), ({'any': {}}, '/any'), ({'all': [None, 'a', 0]}, '/all/2'), ({'any': [{}]}, '/any/0'),
+    ({'any': 0, 'all': [0]}, '/all/0'), ({'not': 0, 'any': ['a', '']}, '/any/1'), ({'key': None, 'all': None, 'not': 0}, '/not'),
+    ({'not': {'not': {'not': {'all': None}}}}, '/not/not/not'),
+    ({'all': [{'any': [{'not': None}, {'not': {'key': 'a'}}]}]}, '/all/0/any/1/not/value'),
+]
+WRONG_PATHS = [
+    (0, ''), ('', ''), ('plain', ''), ({}, ''), ([], ''), ([None], '/0'), ([['plain', 'a']], '/0'), (['unreadable'], '/0'),
+    (['what', 0], '/0'), (['plain'], ''), (['plain', 1], '/1'), (['plain', 'a', ''], '/2'), (['plain', 'a', 'b', None, 0], '/3'),
+    (['super'], ''), (['super', 'a'], '/1'), (['super', -1], '/1'), (['super', 2**32, ''], '/1'), (['super', True], '/1'),
+    (['super', None, 'a'], '/1'), (['super', 1, 'a', 'b\nc'], '/3'), (['crate', ''], '/1'), (['crate', 'a', 0], '/2'), (['abs', {}], '/1'),
+    (['abs', 'a', None], '/2'), (['dollar'], ''), (['dollar', 'a'], '/1'), (['dollar', 2**32, ''], '/1'), (['dollar', 9, 'a', 1], '/3'),
+]
+WRONG_VISES = [
+    (0, ''), ('', ''), ('public', ''), (['crate'], ''), (True, ''), ({'in': 'a'}, '/in'), ({'in': 0}, '/in'), ({'in': []}, '/in'),
+    ({'in': ['plain']}, '/in'), ({'in': ['super', 1, '']}, '/in/2'), ({}, '/in'), ({'in': None, 'path': ['crate']}, '/in'),
+]
+WRONG_TREES = [
+    (0, ''), ('a', ''), ([], ''), ({'path': 'a'}, '/path'), ({'path': ['super', '1']}, '/path/1'), ({'star': 1}, '/star'),
+    ({'star': 'true'}, '/star'), ({'rename': ''}, '/rename'), ({'rename': True}, '/rename'), ({'rename': 'a\nb'}, '/rename'),
+    ({'list': {}}, '/list'), ({'list': [None]}, '/list/0'), ({'list': [{}, 'a']}, '/list/1'),
+    ({'list': 0, 'rename': 0, 'star': 0, 'path': 0}, '/path'), ({'list': 0, 'rename': 0, 'star': 0}, '/star'),
+    ({'list': [0], 'rename': 0}, '/rename'), ({'path': 'unreadable', 'list': [0]}, '/list/0'),
+    ({'list': [{}, {'list': [{}, {}, {'list': [{'star': 0}]}]}]}, '/list/1/list/2/list/0/star'),
+    ({'list': [{'list': [{'list': [{'path': ['abs', 'a', 0]}]}, 0]}, 0]}, '/list/0/list/0/list/0/path/2'),
+]
+WRONG_METAS = [
+    (0, ''), (None, ''), ('path', ''), ([], ''), ({}, '/meta'), ({'meta': None, 'path': 0}, '/meta'), ({'meta': 'doc'}, '/meta'),
+    ({'meta': ['path']}, '/meta'), ({'meta': 'path', 'path': 'a'}, '/path'), ({'ctxt': '', 'path': ['plain'], 'meta': 'path'}, '/path'),
+    ({'meta': 'path', 'ctxt': 'ROOT2022'}, '/ctxt'), ({'meta': 'path', 'ctxt': -1}, '/ctxt'), ({'meta': 'path', 'ctxt': 2**32}, '/ctxt'),
+    ({'meta': 'key_value', 'value': 0, 'ctxt': '', 'path': 0}, '/path'), ({'meta': 'key_value', 'value': 0, 'ctxt': True}, '/ctxt'),
+    ({'meta': 'key_value', 'value': '1'}, '/value'), ({'meta': 'key_value', 'value': []}, '/value'),
+    ({'meta': 'key_value', 'value': {}}, '/value/rendered'),
+    ({'meta': 'key_value', 'value': {'span': 0, 'rendered': None}}, '/value/rendered'),
+    ({'meta': 'key_value', 'value': {'span': 0, 'string': 0, 'rendered': 1}}, '/value/rendered'),
+    ({'meta': 'key_value', 'value': {'span': 0, 'string': 0, 'rendered': ''}}, '/value/string'),
+    *(({'meta': 'key_value', 'value': {'rendered': '', 'span': span}}, '/value/span' + pointer) for span, pointer in [
+        (0, ''), ({}, ''), ([], ''), ([0], ''), ([0, 1, 2], ''), (['', '', ''], ''), ([None, 0], '/0'), ([-1, -1], '/0'),
+        ([0, '1'], '/1'), ([0, 2**32], '/1')]),
+    ({'meta': 'tokens'}, '/tokens'), ({'meta': 'tokens', 'tokens': None}, '/tokens'), ({'meta': 'tokens', 'tokens': 0}, '/tokens'),
+    ({'meta': 'tokens', 'ctxt': '', 'path': 0}, '/path'), ({'meta': 'tokens', 'ctxt': 'ROOT'}, '/ctxt'),
+    ({'meta': 'cfg', 'cfg': 0}, '/cfg'),
+    ({'meta': 'cfg', 'cfg': {}}, '/cfg'), ({'meta': 'cfg_attr', 'metas': 0, 'cfg': ''}, '/cfg'),
+    ({'meta': 'cfg_attr', 'metas': {}}, '/metas'), ({'meta': 'cfg_attr', 'metas': [None]}, '/metas/0'), ({'meta': 'unsafe'}, '/inner'),
+    ({'meta': 'unsafe', 'inner': None}, '/inner'), ({'meta': 'unsafe', 'inner': 'a'}, '/inner'),
+    ({'meta': 'unsafe', 'inner': {'meta': 'unsafe', 'inner': {}}}, '/inner/inner/meta'),
+    ({'meta': 'cfg_attr', 'metas': [{'meta': 'path'}, {'meta': 'cfg_attr', 'metas': [{'meta': 'unsafe', 'inner': {'meta': 'tokens'}}]}]},
+     '/metas/1/metas/0/inner/tokens'),
+]
+# What every item may have, and further keys of some items, all of wrong form.
+WRONG_COMMON = [('hash', 65536), ('number', 2**32), ('attrs', {}), ('body', 0)]
+WRONG_OTHERS = {'trait': 0, 'path': 0, 'tree': 0, 'items': 0, 'fields': 0, 'vis': 0, 'name': 0}
+NAMED = ['fn', 'union', 'enum', 'const', 'static', 'trait', 'type_alias', 'macro_def', 'struct', 'module', 'extern_crate']
+WRONG_ITEMS = [
+    (0, ''), (None, ''), ('fn', ''), ([], ''), ({}, '/is'), ({'is': None, 'hash': ''}, '/is'), ({'is': 'macro', 'hash': ''}, '/is'),
+    ({'is': 0}, '/is'), ({'name': 'f'}, '/is'),
+    *(({**WRONG_OTHERS, **dict(WRONG_COMMON[at:]), 'is': kind}, '/' + key) for at, (key, _) in enumerate(WRONG_COMMON)
+      for kind in NAMED + ['use', 'extern_block', 'impl', 'macro_call', 'macro_rules', 'asm']),
+    *(({'is': kind, 'vis': 0, 'name': 'f'}, '/vis') for kind in NAMED), *(({'is': kind, 'vis': 0, 'name': ''}, '/name') for kind in NAMED),
+    ({'is': 'fn', 'name': 0, 'body': 0, 'attrs': 0, 'number': '', 'hash': '0'}, '/hash'), ({'is': 'fn', 'hash': -1}, '/hash'),
+    ({'is': 'fn', 'name': 0, 'body': 0, 'attrs': 0, 'number': True}, '/number'),
+    ({'is': 'fn', 'name': 0, 'body': 0, 'attrs': [0]}, '/attrs/0'), ({'is': 'fn', 'name': 0, 'body': []}, '/body'),
+    *(({'is': 'struct', 'fields': fields}, '/fields' + pointer) for fields, pointer in [
+        (None, ''), ('tuple', ''), ({}, ''), (0, ''), (['pub', 1], '/1'), ([None, 'private'], '/1'),
+        ([{'in': ['dollar', 0, '']}], '/0/in/2')]),
+    ({'is': 'struct'}, '/fields'), ({'is': 'module', 'items': 0, 'semicolon': 1}, '/semicolon'), ({'is': 'module', 'items': {}}, '/items'),
+    ({'is': 'module', 'semicolon': 0, 'vis': 0}, '/vis'),
+    ({'is': 'module', 'items': [0], 'semicolon': True}, '/items/0'),
+    ({'is': 'module', 'items': [FUNCTION, {'is': 'module', 'items': [FUNCTION, FUNCTION, {'is': 'struct'}]}]}, '/items/1/items/2/fields'),
+    ({'is': 'use', 'tree': 0, 'vis': 0}, '/vis'), ({'is': 'use', 'tree': 'a'}, '/tree'), ({'is': 'extern_crate', 'rename': 1}, '/rename'),
+    ({'is': 'extern_crate', 'rename': ''}, '/rename'), ({'is': 'extern_crate', 'rename': 0, 'vis': 'x', 'name': 'a'}, '/vis'),
+    ({'is': 'extern_block', 'items': 0}, '/items'), ({'is': 'extern_block', 'items': [None]}, '/items/0'),
+    ({'is': 'extern_block', 'items': [FUNCTION, {}]}, '/items/1/is'),
+    *(({'is': 'extern_block', 'items': [{'is': kind, 'fields': 'unit'}]}, '/items/0/is') for kind in ['struct', 'const', 'module', 'use']),
+    ({'is': 'extern_block', 'items': [FUNCTION, {'is': 'static', 'name': ''}]}, '/items/1/name'),
+    ({'is': 'extern_block', 'items': [{'is': 'type_alias', 'hash': -1}]}, '/items/0/hash'),
+    ({'is': 'extern_block', 'items': [{'is': 'macro_call', 'path': ['abs', 0]}]}, '/items/0/path/1'),
+    ({'is': 'impl', 'trait': 'true'}, '/trait'), ({'is': 'impl', 'trait': 1}, '/trait'),
+    ({'is': 'macro_call', 'ctxt': '', 'expand_to': '', 'path': ''}, '/path'),
+    ({'is': 'macro_call', 'ctxt': '', 'expand_to': 'Ty'}, '/expand_to'), ({'is': 'macro_call', 'expand_to': 0}, '/expand_to'),
+    ({'is': 'macro_call', 'ctxt': 'ROOT2022'}, '/ctxt'), ({'is': 'macro_call', 'ctxt': 2**32}, '/ctxt'),
+    ({'is': 'macro_rules', 'vis': 0, 'name': ['f']}, '/name'),
+]
+WRONG_STATEMENTS = [
+    (0, ''), (None, ''), ('else', ''), ([], ''), ({}, ''), ({'item': None, 'call': None, 'tail': 'other'}, ''), ({'item': 0}, '/item'),
+    ({'item': 'other'}, '/item'), ({'item': {}}, '/item/is'), ({'call': 0, 'item': {'is': 'struct'}}, '/item/fields'),
+    ({'call': 'm'}, '/call'), ({'call': []}, '/call'), ({'call': {'is': 'fn', 'hash': -1}, 'item': None}, '/call/is'),
+    ({'call': {'is': 0}}, '/call/is'),
+    *(({'call': {**WRONG_OTHERS, **dict(WRONG_COMMON[at:])}}, '/call/' + key) for at, (key, _) in enumerate(WRONG_COMMON)),
+    ({'call': {'expand_to': 0, 'path': ['plain']}}, '/call/path'), ({'call': {'ctxt': '', 'expand_to': 'Item'}}, '/call/expand_to'),
+    ({'call': {'is': 'macro_call', 'ctxt': ''}}, '/call/ctxt'),
+]
+WRONG_TAILS = [
+    (0, ''), ('', ''), ('item', ''), (['other'], ''), ({'call': 'other'}, '/call'), ({'call': {'is': 'asm'}}, '/call/is'),
+    ({'call': {'path': ['abs', 0]}, 'item': 0}, '/call/path/1'), ({}, '/call'), ({'call': None, 'item': FUNCTION}, '/call'),
+]
+WRONG_SYNTAXES = [
+    (0, ''), ('error', ''), ([], ''), ({}, '/root'), ({'root': None, 'items': 0}, '/root'), ({'root': 'file', 'items': 0}, '/root'),
+    ({'root': 0}, '/root'), ({'items': 0, 'attrs': 0, 'root': 'source_file'}, '/attrs'),
+    ({'root': 'source_file', 'attrs': [0]}, '/attrs/0'),
+    ({'root': 'source_file', 'items': {}}, '/items'), ({'root': 'source_file', 'items': [FUNCTION] * 12 + [0]}, '/items/12'),
+    ({'root': 'macro_items', 'items': 0, 'attrs': 0}, '/items'), ({'root': 'macro_items', 'items': [FUNCTION, None]}, '/items/1'),
+    ({'root': 'macro_stmts', 'tail': 0, 'stmts': 'other', 'attrs': 0}, '/stmts'),
+    ({'root': 'macro_stmts', 'tail': 0, 'stmts': ['']}, '/stmts/0'), ({'root': 'macro_stmts', 'tail': {'call': 0}}, '/tail/call'),
+]
 WRONG_EDITS = [
-    0, None, 'set_file', [], {}, {'edit': 'set'}, {'edit': None}, {'edit': 'set_file', 'file': 1}, {**SET, 'file': -1},
-    {**SET, 'file': 2**32},
-    {**SET, 'file': None}, {**SET, 'syntax': {}}, {**SET, 'syntax': {'root': 'source_file', 'items': [{'is': 'fn', 'hash': 65536}]}},
-    {**SET, 'noted': 0.5}, {'edit': 'remove_file'}, {'edit': 'remove_file', 'file': 1.0}, {'edit': 'set_block'},
-    {'edit': 'set_block', 'block': 0, 'stmts': [1]}, {'edit': 'remove_block', 'block': '0'}, {'edit': 'set_cfg'},
-    {'edit': 'set_cfg', 'crate': 1}, {'edit': 'set_cfg', 'crate': 0, 'cfg': 'x'}, {'edit': 'set_text'}, {'edit': 'set_text', 'file': 1},
-    {'edit': 'set_text', 'file': 1, 'text': None}, {'edit': 'set_text', 'file': 1, 'text': ['fn f() {}']},
-    {'edit': 'set_text', 'text': 'fn f() {}'}, {'edit': 'set_text', 'file': -1, 'text': ''}, {'edit': 'set_text', 'block': 1, 'text': ''},
+    (0, ''), (None, ''), ('set_file', ''), ([], ''), ({}, '/edit'), ({'edit': 'set'}, '/edit'), ({'edit': None}, '/edit'),
+    ({'edit': []}, '/edit'), ({'edit': 'set_file', 'file': 1}, '/syntax'), ({**SET, 'file': -1}, '/file'),
+    ({**SET, 'file': 2**32}, '/file'), ({**SET, 'file': None}, '/file'), ({**SET, 'syntax': None}, '/syntax'),
+    ({'syntax': 0, 'file': '1', 'edit': 'set_file'}, '/file'),
+    ({**SET, 'noted': 0.5}, ''), ({**SET, 'noted': [{'deep': 2**64}]}, ''), ({**SET, 'edit': 1e3}, ''), ({**SET, 'file': -2**63 - 1}, ''),
+    ({**SET, 'file': -1, 'syntax': {'root': 'source_file', 'items': [{'is': 'fn', 'hash': 1.0}]}}, ''),
+    ({'edit': 'remove_file'}, '/file'), ({'edit': 'remove_file', 'file': 1.0}, ''), ({'edit': 'remove_file', 'block': 1}, '/file'),
+    ({'edit': 'set_block'}, '/block'), ({'edit': 'set_block', 'block': 0, 'stmts': [1]}, '/stmts/0'),
+    ({'tail': 0, 'stmts': 0, 'attrs': 0, 'block': -1, 'edit': 'set_block'}, '/block'),
+    ({'tail': 0, 'stmts': 0, 'attrs': 0, 'block': 1, 'edit': 'set_block'}, '/attrs'),
+    ({'edit': 'set_block', 'block': 0, 'attrs': [{'meta': 'path'}, 0]}, '/attrs/1'),
+    ({'tail': 0, 'stmts': {}, 'block': 1, 'edit': 'set_block'}, '/stmts'), ({'edit': 'set_block', 'block': 0, 'tail': []}, '/tail'),
+    ({'edit': 'remove_block', 'block': '0'}, '/block'), ({'edit': 'remove_block', 'file': 0}, '/block'),
+    ({'edit': 'set_cfg'}, '/crate'), ({'edit': 'set_cfg', 'crate': 1}, '/crate'), ({'edit': 'set_cfg', 'crate': -1}, '/crate'),
+    ({'cfg': 0, 'crate': 2**32, 'edit': 'set_cfg'}, '/crate'), ({'edit': 'set_cfg', 'crate': 0, 'cfg': 'x'}, '/cfg'),
+    ({'edit': 'set_text'}, '/file'), ({'edit': 'set_text', 'file': 1}, '/text'), ({'edit': 'set_text', 'file': 1, 'text': None}, '/text'),
+    ({'edit': 'set_text', 'file': 1, 'text': ['fn f() {}']}, '/text'), ({'edit': 'set_text', 'text': 'fn f() {}'}, '/file'),
+    ({'edit': 'set_text', 'file': -1, 'text': 0}, '/file'), ({'edit': 'set_text', 'block': 1, 'text': ''}, '/file'),
 ]
 WRONG_SHOWS = [
-    0, None, 'page', [], {}, {'show': 'all'}, {'show': 'page', 'crate': 0}, {**PAGE, 'crate': 1}, {**PAGE, 'crate': None},
-    {**PAGE, 'file': 'x'}, {**PAGE, 'noted': 1e3}, {'show': 'tree', 'file': 1}, {'show': 'imports', 'crate': 0, 'block': -1},
-    {'show': 'changed'}, {'show': 'changed', 'since': -1}, {'show': 'changed', 'since': 2**64}, {'show': 'outline', 'crate': 0},
-    {'show': 'outline', 'crate': 1, 'file': 1}, {'show': 'outline', 'crate': 0, 'block': 1}, {'show': 'import_places', 'crate': 0},
-    {'show': 'import_places', 'crate': 1, 'file': 1}, {'show': 'problems'}, {'show': 'problems', 'file': -1}, {'show': 'find'},
-    {'show': 'find', 'name': 1}, {'show': 'find', 'name': None}, {'show': 'find', 'name': ''}, {'show': 'find', 'name': 'a\nb'},
+    (0, ''), (None, ''), ('page', ''), ([], ''), ({}, '/show'), ({'show': 'all', 'crate': -1}, '/show'), ({'show': 1}, '/show'),
+    ({'show': None}, '/show'), ({'show': 'page', 'crate': 0}, '/block'), ({'show': 'page'}, '/crate'), ({**PAGE, 'crate': 1}, '/crate'),
+    ({**PAGE, 'crate': None}, '/crate'), ({'file': '', 'crate': 1, 'show': 'page'}, '/crate'), ({**PAGE, 'file': 'x'}, '/file'),
+    ({**PAGE, 'file': -1, 'block': 0}, '/file'), ({**PAGE, 'file': None, 'block': ''}, '/block'), ({**PAGE, 'noted': 1e3}, ''),
+    ({**PAGE, 'crate': -1, 'noted': [2**64]}, ''), ({**PAGE, 'show': [0.5]}, ''), ({'show': 'tree', 'file': 1}, '/crate'),
+    ({'show': 'tree', 'crate': 0, 'file': None, 'block': None}, '/block'), ({'show': 'tree', 'crate': True, 'file': 1}, '/crate'),
+    ({'show': 'imports', 'crate': 0, 'block': -1}, '/block'), ({'show': 'imports', 'crate': 0, 'file': 2**32}, '/file'),
+    ({'show': 'changed'}, '/since'), ({'show': 'changed', 'since': -1}, '/since'), ({'show': 'changed', 'since': 2**64}, ''),
+    ({'show': 'changed', 'since': '0'}, '/since'), ({'show': 'changed', 'since': None}, '/since'),
+    ({'show': 'outline', 'crate': 0}, '/file'), ({'show': 'outline', 'crate': 1, 'file': 1}, '/crate'),
+    ({'show': 'outline', 'crate': 0, 'block': 1}, '/file'),
+    ({'show': 'outline', 'file': 1}, '/crate'), ({'show': 'import_places', 'crate': 0}, '/file'),
+    ({'show': 'import_places', 'crate': 1, 'file': 1}, '/crate'), ({'show': 'import_places', 'crate': 0, 'file': ''}, '/file'),
+    ({'show': 'problems'}, '/file'), ({'show': 'problems', 'file': -1}, '/file'), ({'show': 'problems', 'block': 0}, '/file'),
+    ({'show': 'find'}, '/name'), ({'show': 'find', 'name': 1}, '/name'), ({'show': 'find', 'name': None}, '/name'),
+    ({'show': 'find', 'name': ''}, '/name'), ({'show': 'find', 'name': 'a\nb'}, '/name'),
 ]
-WRONG_IDS = ['1.5', '1e2', '18446744073709551616', '-9223372036854775809', '[0.5]', '{"a":[{"b":1E0}]}']
+# Values of right form, each form at least once in every way.
+GOOD_CFGS = [
+    None, 'a', {'key': 'a', 'value': '', 'all': 0}, {'all': [None, 'a', {'any': []}]}, {'any': [{'not': None}], 'not': 0},
+    {'key': None, 'all': None, 'any': None, 'not': {'not': 'é'}}, {'not': None, 'value': 0},
+]
+GOOD_PATHS = [['plain', 'a'], 'unreadable', ['super', 0], ['super', 3, 'a'], ['crate'], ['crate', 'a', 'b'], ['abs'], ['abs', 'a'],
+              ['dollar', 2**32 - 1], ['dollar', 0, 'a', 'b']]
+GOOD_METAS = [
+    {'meta': 'path'}, {'meta': 'path', 'path': ['plain', 'a'], 'ctxt': 'ROOT2015', 'value': 0}, {'meta': 'path', 'ctxt': 2**32 - 1},
+    {'meta': 'key_value', 'path': ['abs'], 'ctxt': 'ROOT2018', 'value': None}, {'meta': 'key_value', 'value': {'rendered': '1'}, 'ctxt': 0},
+    {'meta': 'key_value', 'value': {'rendered': '', 'string': '\n', 'span': [0, 2**32 - 1]}, 'ctxt': 'ROOT2021'},
+    {'meta': 'tokens', 'tokens': '', 'path': 'unreadable', 'ctxt': 'ROOT2024'}, {'meta': 'unsafe', 'inner': {'meta': 'unsafe', 'inner': {
+        'meta': 'cfg_attr', 'metas': [{'meta': 'path'}, {'meta': 'cfg', 'path': 0}]}}},
+    *({'meta': 'cfg_attr', 'cfg': cfg, 'metas': None} for cfg in GOOD_CFGS),
+]
+GOOD_CALLS = [{}, {'is': None, 'path': ['plain', 'm'], 'expand_to': 'Statements', 'ctxt': 5, 'hash': 1, 'attrs': [], 'name': 0},
+              {'is': 'macro_call', 'path': ['crate', 'm'], 'expand_to': 'Items', 'number': 1, 'body': ''}]
+GOOD_ITEMS = [
+    *({'is': kind, 'name': 'f', 'vis': vis, 'hash': 65535, 'number': 2**32 - 1, 'body': 'a\nb', 'fields': 'record', 'rename': '_'}
+      for kind, vis in zip(NAMED, ['pub', 'crate', 'super', 'self', None] + [{'in': path} for path in GOOD_PATHS])),
+    *({'is': kind, 'vis': None, 'name': None, 'hash': None, 'attrs': [meta], 'fields': ['pub', None, {'in': ['crate']}]}
+      for kind, meta in zip(NAMED, GOOD_METAS)),
+    {'is': 'struct', 'fields': 'unit', 'attrs': GOOD_METAS[len(NAMED):]}, {'is': 'struct', 'fields': []},
+    {'is': 'module', 'name': 'm', 'semicolon': True, 'items': [{'is': 'asm'}]},
+    {'is': 'module', 'name': 'm', 'semicolon': False, 'items': [{'is': 'module', 'name': 'n', 'items': [FUNCTION]}]},
+    {'is': 'use'}, {'is': 'use', 'vis': 'pub', 'tree': {'path': ['plain', 'a'], 'list': [
+        {'star': True}, {'list': [{'rename': '_', 'star': False, 'list': []}]}, *({'path': path, 'rename': 'b'} for path in GOOD_PATHS)]}},
+    {'is': 'extern_block', 'items': [FUNCTION, {'is': 'static', 'name': 'f'}, {'is': 'type_alias'}, {'is': 'macro_call'}], 'vis': 0},
+    {'is': 'extern_block'}, {'is': 'impl', 'trait': True, 'name': 0}, {'is': 'macro_rules', 'name': 'r', 'vis': 0},
+    {'is': 'asm', 'number': 0}, {'is': 'impl'}, {'is': 'macro_rules'},
+    *({'is': 'macro_call', 'path': path, 'expand_to': word} for path, word in zip(GOOD_PATHS, ['Pattern', 'Type', 'Expr', None])),
+]
+GOOD_EDITS = [
+    {'edit': 'set_block', 'block': 2**32 - 1},
+    {'edit': 'set_block', 'block': 0, 'attrs': GOOD_METAS, 'tail': {'call': GOOD_CALLS[1], 'item': 0}, 'items': 0,
+     'stmts': ['other', {'item': FUNCTION, 'call': 0}, *({'call': call, 'item': None} for call in GOOD_CALLS)]},
+    {'edit': 'set_file', 'file': 2, 'syntax': {'root': 'source_file', 'attrs': GOOD_METAS, 'items': GOOD_ITEMS, 'stmts': 0}, 'crate': 9},
+    {'edit': 'set_file', 'file': 3, 'syntax': {'root': 'macro_items', 'attrs': 0, 'items': GOOD_ITEMS[::-1]}},
+    {'edit': 'set_file', 'file': 2**32 - 1, 'syntax': {'root': 'macro_stmts', 'tail': 'other', 'attrs': 0, 'stmts': [
+        {'item': item} for item in GOOD_ITEMS]}},
+    {'edit': 'set_file', 'file': 3, 'syntax': {'root': 'error', 'items': 0, 'tail': 0}}, {'edit': 'remove_file', 'file': 3, 'syntax': 0},
+    {'edit': 'remove_block', 'block': 0, 'file': ''}, {'edit': 'set_cfg', 'crate': 0}, {'edit': 'set_text', 'file': 0, 'text': ''},
+    {'edit': 'set_cfg', 'crate': 0, 'cfg': ['a', {'key': 'a', 'value': 'a\nb', 'not': 0}], 'file': -1},
+    *({'edit': 'set_file', 'file': 3, 'syntax': {'root': root}} for root in ('source_file', 'macro_items', 'macro_stmts')),
+]
+GOOD_SHOWS = [
+    PAGE, {'show': 'page', 'crate': 0, 'file': None, 'block': 0}, {'show': 'tree', 'crate': 0, 'file': 2**32 - 1, 'block': ''},
+    {'show': 'imports', 'crate': 0, 'block': 2**32 - 1}, {'show': 'changed', 'since': LAST, 'crate': 9},
+    {'show': 'outline', 'crate': 0, 'file': 0}, {'show': 'import_places', 'crate': 0, 'file': 0, 'block': -1},
+    {'show': 'problems', 'file': 0, 'crate': -1}, {'show': 'find', 'name': '"'},
+]
+GOOD_OPENING = {
+    'crates': [{'root': 0, 'noted': {}}, {'root': 2**32 - 1, 'cfg': ['a', {'key': 'a', 'value': ''}], 'attrs': GOOD_METAS},
+               {'root': 0, 'cfg': None, 'attrs': None}],
+    'skipped': ['doc', 'a'], 'edition': {'year': 2018, 'reserved': ['f', 'é']}, 'start': 2**63,
+}
+GOOD_OPENINGS = [GOOD_OPENING, {}, {'edition': {}, 'crates': []}, {'edition': {'reserved': [], 'year': None}, 'skipped': [], 'start': LAST},
+                 *({'edition': {'year': year}} for year in (2015, 2018, 2021, 2024))]
+# What Python does not write: some numbers, equal keys, and escapes.
+WRONG_TEXTS = [
+    (b'{"edits":[{"edit":"remove_file","file":-0}]}', '/edits/0'), (b'{"edits":[{"edit":"remove_file","file":1e0}]}', '/edits/0'),
+    (b'{"edits":[{"edit":"remove_file","file":0,"noted":[-0]}]}', '/edits/0'), (b'{"shows":[{"show":"changed","since":-0}]}', '/shows/0'),
+    (b'{"shows":[{"show":"changed","since":1E1,"since":-1}]}', '/shows/0/since'),
+    (b'{"edits":[{"edit":"remove_file","file":0,"file":"x"}]}', '/edits/0/file'),
+    (b'{"edits":[{"edit":"set","edit":"remove_block"}]}', '/edits/0/block'), (b'{"edits":[{"\\u0065dit":"remove_file"}]}', '/edits/0/file'),
+]
+
+
+def file_of(item):
+    return {**SET, 'syntax': {'root': 'source_file', 'items': [item]}}
+
+
+# Where a value of each table can stand in an edit, and the pointer to it from there.
+WRONG_PLACES = [
+    (WRONG_EDITS, '', lambda value: value),
+    (WRONG_SYNTAXES, '/syntax', lambda value: {**SET, 'syntax': value}),
+    (WRONG_ITEMS, '/syntax/items/0', file_of),
+    (WRONG_NAMES, '/syntax/items/0/name', lambda value: file_of({**FUNCTION, 'name': value})),
+    (WRONG_VISES, '/syntax/items/0/vis', lambda value: file_of({**FUNCTION, 'vis': value})),
+    (WRONG_PATHS, '/syntax/items/0/tree/path', lambda value: file_of({'is': 'use', 'tree': {'path': value}})),
+    (WRONG_PATHS, '/syntax/items/0/path', lambda value: file_of({'is': 'macro_call', 'path': value})),
+    (WRONG_PATHS, '/syntax/items/0/fields/1/in', lambda value: file_of({'is': 'struct', 'fields': [None, {'in': value}]})),
+    (WRONG_PATHS, '/attrs/0/inner/path', lambda value: {'edit': 'set_block', 'block': 0, 'attrs': [
+        {'meta': 'unsafe', 'inner': {'meta': 'tokens', 'path': value}}]}),
+    (WRONG_TREES, '/syntax/items/0/tree', lambda value: file_of({'is': 'use', 'tree': value})),
+    (WRONG_METAS, '/syntax/items/0/attrs/0', lambda value: file_of({**FUNCTION, 'attrs': [value, 0]})),
+    (WRONG_CFGS, '/syntax/items/0/attrs/0/cfg', lambda value: file_of({**FUNCTION, 'attrs': [{'meta': 'cfg', 'cfg': value}]})),
+    (WRONG_CFGS, '/attrs/0/cfg', lambda value: {'edit': 'set_block', 'block': 0, 'attrs': [{'meta': 'cfg_attr', 'cfg': value}]}),
+    (WRONG_ATOMS, '/cfg/1', lambda value: {'edit': 'set_cfg', 'crate': 0, 'cfg': ['a', value]}),
+    (WRONG_STATEMENTS, '/stmts/1', lambda value: {'edit': 'set_block', 'block': 0, 'stmts': ['other', value]}),
+    (WRONG_STATEMENTS, '/syntax/stmts/0', lambda value: {**SET, 'syntax': {'root': 'macro_stmts', 'stmts': [value]}}),
+    (WRONG_TAILS, '/tail', lambda value: {'edit': 'set_block', 'block': 0, 'tail': value}),
+    (WRONG_TAILS, '/syntax/tail', lambda value: {**SET, 'syntax': {'root': 'macro_stmts', 'tail': value}}),
+]
+# Where a value of a table can stand under a key of a first line.
+WRONG_STARTS = [
+    (WRONG_ATOMS, 'crates', '/0/cfg/0', lambda value: [{'root': 0, 'cfg': [value]}]),
+    (WRONG_METAS, 'crates', '/1/attrs/0', lambda value: [{'root': 0}, {'root': 0, 'attrs': [value]}]),
+    (WRONG_NAMES, 'skipped', '/0', lambda value: [value]),
+    (WRONG_NAMES, 'edition', '/reserved/1', lambda value: {'reserved': ['a', value]}),
+]
+
+
+def wrong_edits():
+    """The edits of wrong form of all tables, for one crate, with their pointers."""
+    return [(place(value), before + pointer) for table, before, place in WRONG_PLACES for value, pointer in table]
+
+
+def wrong_settings():
+    """The keys and values of wrong form of a first line, with the pointers from the values on."""
+    return ([(key, value, pointer) for key, table in WRONG_SETTINGS.items() for value, pointer in table]
+            + [(key, place(value), before + pointer) for table, key, before, place in WRONG_STARTS for value, pointer in table])
+
+
+WRONG_IDS = ['1.5', '1e2', '-0', '18446744073709551616', '-9223372036854775809', '[0.5]', '{"a":[{"b":1E0}]}']
 IDS = [None, True, 0, LAST, -2**63, '', 'é "\\\n\r\t\b\f\0\x1f\x7f\u2028😀', [], {}, [1, [None, False], {'a': {}, 'b': 'c'}]]
 
 
@@ -267,28 +746,54 @@ def check_wrong_forms(program):
         line = f'{{"id":{told},"crates":0,"edits":0}}'.encode()
         first.append((line, no_request(None, '/id')))
         later.append((line, no_request(0, '/id')))
-    for key, values in WRONG_SETTINGS.items():
-        for value in values:
-            first.append(({'id': key, key: value}, no_request(None, '/' + key, key)))
-            later.append(({'id': key, key: value}, no_request(0, '/' + key, key)))
-        for value in {'crates': [[], [{'root': 0}]], 'skipped': [[]], 'edition': [{}], 'start': [0]}[key]:
-            later.append(({key: value, 'edits': [SET]}, no_request(0, '/' + key)))
+    for key, value, pointer in wrong_settings():
+        first.append(({'id': key, key: value, 'edits': 0}, no_request(None, '/' + key + pointer, key)))
+        later.append(({'id': key, key: value}, no_request(0, '/' + key, key)))
+    for key, value in (('crates', []), ('crates', [{'root': 0}]), ('skipped', []), ('edition', {}), ('start', 0)):
+        later.append(({key: value, 'edits': [SET]}, no_request(0, '/' + key)))
     for key in ('edits', 'shows'):
         for value in ({}, 1, 'x', True):
             first.append(({'id': 7, key: value}, no_request(None, '/' + key, 7)))
             later.append(({'id': 7, key: value}, no_request(0, '/' + key, 7)))
-    for edit in WRONG_EDITS:
-        first.append(({**OPENED, 'edits': [edit, 0], 'shows': 0}, no_request(None, '/edits/0')))
-        later.append(({'edits': [SET, SET, edit], 'shows': [0]}, no_request(0, '/edits/2')))
-    for show in WRONG_SHOWS:
-        first.append(({**OPENED, 'edits': [SET], 'shows': [PAGE, show, 0]}, no_request(None, '/shows/1')))
-        later.append(({'id': [], 'edits': [SET], 'shows': [show]}, no_request(0, '/shows/0', [])))
-    first.append(({'shows': [PAGE]}, no_request(None, '/shows/0')))
-    first.append(({'edits': [{'edit': 'set_cfg', 'crate': 0}]}, no_request(None, '/edits/0')))
+    for edit, pointer in wrong_edits():
+        first.append(({**OPENED, 'edits': [edit, 0], 'shows': 0}, no_request(None, '/edits/0' + pointer)))
+        later.append(({'edits': [SET, SET, edit], 'shows': [0]}, no_request(0, '/edits/2' + pointer)))
+    for show, pointer in WRONG_SHOWS:
+        first.append(({**OPENED, 'edits': [SET], 'shows': [PAGE, show, 0]}, no_request(None, '/shows/1' + pointer)))
+        later.append(({'id': [], 'edits': [SET], 'shows': [show]}, no_request(0, '/shows/0' + pointer, [])))
+    for line, pointer in WRONG_TEXTS:
+        first.append((line, no_request(None, pointer)))
+        later.append((line, no_request(0, pointer)))
+    first.append(({'shows': [PAGE]}, no_request(None, '/shows/0/crate')))
+    first.append(({'edits': [{'edit': 'set_cfg', 'crate': 0}]}, no_request(None, '/edits/0/crate')))
+    later.append(({'edits': [SET] * 10 + [{'edit': 'set_cfg', 'crate': 1}]}, no_request(0, '/edits/10/crate')))
     check_lines(program, 'a first line of wrong form', first + [({**OPENED, 'edits': [SET], 'shows': [PAGE]}, answered(1, [PAGED]))])
     check_lines(program, 'a later line of wrong form', [(OPENED, answered(0, []))] + later + [
         ({'shows': [PAGE, {'show': 'changed', 'since': 0}]}, answered(0, ['\n', ''])),
         ({'edits': [SET], 'shows': [PAGE]}, answered(1, [PAGED]))])
+
+
+def nested(count, value, around):
+    for _ in range(count):
+        value = around(value)
+    return value
+
+
+def check_deep_forms(program):
+    """Pointers into values that are nested as deep as JSON may be here, and behind many members."""
+    modules = nested(60, {'is': 'struct'}, lambda item: {'is': 'module', 'items': [item]})
+    trees = nested(58, {'path': []}, lambda tree: {'list': [{}, tree]})
+    nots = nested(118, {}, lambda cfg: {'not': cfg})
+    unsafes = nested(117, {'meta': 'path', 'path': 0}, lambda meta: {'meta': 'unsafe', 'inner': meta})
+    wrong = [
+        (file_of(modules), '/syntax/items/0' + '/items/0' * 60 + '/fields'),
+        (file_of({'is': 'use', 'tree': trees}), '/syntax/items/0/tree' + '/list/1' * 58 + '/path'),
+        (file_of({**FUNCTION, 'attrs': [{'meta': 'cfg', 'cfg': nots}]}), '/syntax/items/0/attrs/0/cfg' + '/not' * 118),
+        (file_of({**FUNCTION, 'attrs': [unsafes]}), '/syntax/items/0/attrs/0' + '/inner' * 117 + '/path'),
+        ({**SET, 'syntax': {'root': 'source_file', 'items': [FUNCTION] * 12345 + [0]}}, '/syntax/items/12345'),
+    ]
+    check_lines(program, 'a deep form', [(OPENED, answered(0, []))] + [
+        ({'edits': [edit]}, no_request(0, '/edits/0' + pointer)) for edit, pointer in wrong])
 
 
 def check_first_wrong_form(program):
@@ -300,9 +805,27 @@ def check_first_wrong_form(program):
             wrong = {other: 0.5 for other in reversed(keys[at:])}
             lines.append(({**{other: None for other in keys[:at]}, **wrong}, no_request(number, '/' + key)))
         lines.append(({'edits': [0, 0], 'shows': [0]}, no_request(number, '/edits/0')))
+        lines.append(({'shows': [0], 'edits': [SET, {'edit': 'set_file'}, 0.5]}, no_request(number, '/edits/1/file')))
         lines.append(({'edits': [], 'shows': [0, 0]}, no_request(number, '/shows/0')))
+        lines.append(({'shows': [{'show': 'changed'}, 0.5]}, no_request(number, '/shows/0/since')))
         lines.append(({key: None for key in keys}, answered(number or 0, [])))
         check_lines(program, 'the first wrong form', lines)
+    settings = [('crates', [{'root': 0}, {}], '/crates/1/root'), ('skipped', ['a', 0], '/skipped/1'),
+                ('edition', {'year': 0}, '/edition/year'), ('start', -1, '/start'), ('edits', [{}], '/edits/0/edit'),
+                ('shows', [{}], '/shows/0/show')]
+    check_lines(program, 'the first wrong form in a first line', [
+        ({key: value for key, value, _ in reversed(settings[at:])}, no_request(None, settings[at][2])) for at in range(len(settings))])
+
+
+def check_forms():
+    """What is written here by hand is what the forms say."""
+    told = [(pointer, wrong_edit(edit, 1), edit) for edit, pointer in wrong_edits()]
+    told += [(pointer, wrong_show(show, 1), show) for show, pointer in WRONG_SHOWS]
+    told += [(f'/{key}{pointer}', wrong_opening({key: value}), {key: value}) for key, value, pointer in wrong_settings()]
+    told += [(None, wrong_edit(edit, 1), edit) for edit in GOOD_EDITS] + [(None, wrong_show(show, 1), show) for show in GOOD_SHOWS]
+    told += [(None, wrong_opening(opening), opening) for opening in GOOD_OPENINGS]
+    faults = [f'{wanted}, and the forms say {pointer_of(steps)}: {value}' for wanted, steps, value in told if pointer_of(steps) != wanted]
+    tell(not faults, 'values with their pointers by hand, beside the forms', '\n'.join(faults))
 
 
 def check_good_forms(program):
@@ -317,6 +840,10 @@ def check_good_forms(program):
         ({'shows': [{'show': 'find', 'name': 'f'}, {'show': 'problems', 'file': 2**32 - 1}]}, answered(0, [[], []])),
     ]
     check_lines(program, 'a good form', lines)
+    check_lines(program, 'every form', [({**OPENED, 'edits': GOOD_EDITS}, answered(len(GOOD_EDITS), []))] + [
+        ({**GOOD_OPENING, 'edits': 0}, no_request(len(GOOD_EDITS), '/crates'))])
+    for opening in GOOD_OPENINGS:
+        check_lines(program, 'every form of a first line', [(opening, answered(opening.get('start', 0), []))])
     texts = {'edit': 'set_text', 'file': 1, 'text': 'fn f() {}', 'syntax': 0, 'block': 'x'}
     check_lines(program, 'ignored keys', [
         ({**OPENED, 'edits': [texts], 'shows': [{**PAGE, 'block': [], 'since': -1}]}, answered(1, [PAGED])),
@@ -345,7 +872,9 @@ def check_refused_edits(program):
 
 def check_errors(options):
     check_no_json(options.program)
+    check_forms()
     check_wrong_forms(options.program)
+    check_deep_forms(options.program)
     check_first_wrong_form(options.program)
     check_good_forms(options.program)
     check_refused_edits(options.program)
@@ -602,13 +1131,15 @@ def check_places(options):
 # ---- random sessions
 
 def parts(value):
-    yield value
-    for part in value.values() if isinstance(value, dict) else value if isinstance(value, list) else ():
-        yield from parts(part)
+    """The value, and all values in it."""
+    found = [value]
+    for part in found:
+        found += part.values() if isinstance(part, dict) else part if isinstance(part, list) else ()
+    return found
 
 
-def has_long_path(value):
-    return any(isinstance(part, list) and len(part) > 1 and part[0] == 'super' and isinstance(part[1], int) and part[1] > MOST_SUPERS
+def has_long_path(value, most=MOST_SUPERS):
+    return any(isinstance(part, list) and len(part) > 1 and part[0] == 'super' and isinstance(part[1], int) and part[1] > most
                for part in parts(value))
 
 
@@ -706,12 +1237,17 @@ class Random:
         """A line that changes nothing, and the kind of its error and its pointer."""
         edits = [self.edit()[0] for _ in range(self.chance.randrange(2))]
         opening = self.opening if is_first else {}
+        (item, of_item), (statement, of_statement) = self.chance.choice(WRONG_ITEMS), self.chance.choice(WRONG_STATEMENTS)
         lines = [
             (b'{"edits":[', 'not JSON', None),
             (b'', 'not JSON', None),
             ([], 'not a request', ''),
-            ({**opening, 'edits': edits + [{'edit': 'set_file', 'file': 0}]}, 'not a request', f'/edits/{len(edits)}'),
-            ({**opening, 'edits': edits, 'shows': [{'show': 'page', 'crate': len(self.crates), 'file': 0}]}, 'not a request', '/shows/0'),
+            ({**opening, 'edits': edits + [{'edit': 'set_file', 'file': 0}]}, 'not a request', f'/edits/{len(edits)}/syntax'),
+            ({**opening, 'edits': edits + [file_of(item)]}, 'not a request', f'/edits/{len(edits)}/syntax/items/0{of_item}'),
+            ({**opening, 'edits': edits + [{'edit': 'set_block', 'block': 0, 'stmts': [statement]}]}, 'not a request',
+             f'/edits/{len(edits)}/stmts/0{of_statement}'),
+            ({**opening, 'edits': edits, 'shows': [{'show': 'page', 'crate': len(self.crates), 'file': 0}]}, 'not a request',
+             '/shows/0/crate'),
             ({**opening, 'edits': edits, 'shows': {}}, 'not a request', '/shows'),
             ({**opening, 'id': 0.5, 'edits': edits}, 'not a request', '/id'),
         ]
@@ -827,6 +1363,119 @@ def check_random(options):
             for fault in faults[:5]:
                 print(f'serve: {fault}', file=sys.stderr)
     print(f'serve: {options.sessions} random sessions of the seed {options.seed}')
+
+
+# ---- damage
+
+ODD = [{}, [], 0, -1, 65536, 2**32, LAST, -2**63, True, 'x', '', 'a\nb', None, [[]], [None], [{}], ['x', 0], 'other', 'pub', 'unit',
+       'unreadable', ['plain', 'a'], ['super', 1], {'in': ['abs']}, {'not': None}, {'key': 'a'}, {'item': FUNCTION}, {'call': {}},
+       {'meta': 'path'}, FUNCTION]
+FLOATS = [0.5, 1e300, LAST + 1, -2**63 - 1]
+ADDED = ['noted', 'is', 'name', 'vis', 'items', 'attrs', 'item', 'call', 'key', 'all', 'not', 'in', 'span', 'file', 'block']
+
+
+def places(value):
+    """The places below a value, each as what holds it and its key there."""
+    return [(holder, key) for holder in parts(value) if isinstance(holder, (dict, list))
+            for key in (holder if isinstance(holder, dict) else range(len(holder)))]
+
+
+def depth(value):
+    count, level = 0, [value]
+    while level := [part for part in level if isinstance(part, (dict, list))]:
+        count, level = count + 1, [inner for part in level for inner in (part.values() if isinstance(part, dict) else part)]
+    return count
+
+
+def copied(value):
+    return json.loads(json.dumps(value))
+
+
+def damaged(chance, value, odd):
+    """A copy of a value, with one to three others replaced, dropped, doubled or added anywhere in it."""
+    box = [copied(value)]
+    for _ in range(chance.choice([1, 1, 1, 2, 3])):
+        all_places = places(box)
+        # The first place is that of the whole value.
+        holder, key = chance.choice(all_places[1:] if len(all_places) > 1 and chance.random() < 0.95 else all_places)
+        kind = chance.randrange(8)
+        if kind == 0 and holder is not box:
+            del holder[key]
+        elif kind == 1 and isinstance(holder, list) and holder is not box:
+            holder.insert(chance.randrange(len(holder) + 1), copied(holder[key]))
+        elif kind == 2 and isinstance(holder[key], dict):
+            holder[key][chance.choice(ADDED)] = copied(chance.choice(odd))
+        elif kind == 3:
+            other, at = chance.choice(all_places[1:] or all_places)
+            holder[key] = copied(other[at])
+        else:
+            holder[key] = copied(chance.choice(odd))
+    return box[0]
+
+
+def good_edit(case):
+    """Half of them of all forms, the others of the requests, of the random sessions, or one by hand."""
+    chance, material = case.chance, case.material
+    attrs, items = chance.sample(GOOD_METAS, 3), chance.sample(GOOD_ITEMS, 5)
+    calls = [{'call': call} for call in chance.sample(GOOD_CALLS, 2)]
+    body = {'stmts': [{'item': item} for item in items] + calls[1:], 'tail': calls[0]}
+    syntaxes = [{'root': 'source_file', 'attrs': attrs, 'items': items}, {'root': 'macro_items', 'items': items},
+                {'root': 'macro_stmts', **body}, *chance.sample(material.syntaxes, 2)]
+    blocks = [{'attrs': attrs, **body}, chance.choice(material.blocks)]
+    return chance.choices([
+        {'edit': 'set_file', 'file': 1, 'syntax': chance.choice(syntaxes)}, {'edit': 'set_block', 'block': 1, **chance.choice(blocks)},
+        {'edit': 'set_cfg', 'crate': 0, 'cfg': FLAGS}, chance.choice(GOOD_EDITS), case.edit()[0]], [60, 25, 3, 6, 6])[0]
+
+
+def check_damaged_lines(program, case, crates, count):
+    """Damaged edits and shows. A wrong value stands behind each, and is told where none of its own is."""
+    chance, right = case.chance, 0
+    with Server(program) as server:
+        case.crates = [{'root': file} for file in range(crates)]
+        number = json.loads(server.ask({'crates': case.crates}))['number']
+        for _ in range(count):
+            key, value, form = (('edits', good_edit(case), wrong_edit) if chance.random() < 0.9 else
+                                ('shows', chance.choice(GOOD_SHOWS), wrong_show))
+            value = damaged(chance, value, ODD + FLOATS if chance.random() < 0.1 else ODD)
+            if depth(value) > 125:
+                continue
+            steps = form(value, crates)
+            wanted = no_request(number, pointer_of([key, 1] if steps is None else [key, 0, *steps]))
+            got = server.ask({key: [value, 0]})
+            tell(got == wanted, f'damaged {key}: {shown(written(value))}', got, wanted)
+            if steps is None and not has_long_path(value, 100):
+                right += 1
+                answer = json.loads(server.ask({key: [value]}))
+                tell(answer.get('error', {}).get('kind') in (None, 'edit refused'), f'good {key}: {shown(written(value))}', answer)
+                number = answer['number']
+        ends_well(server, 'damaged lines')
+    return right
+
+
+def check_damaged_openings(program, chance, count):
+    """Damaged keys of first lines, which open no session: wrong edits stand behind them."""
+    with Server(program) as server:
+        for _ in range(count):
+            opening = damaged(chance, GOOD_OPENING, ODD)
+            steps = wrong_opening(opening)
+            line = {**opening, 'edits': 0} if isinstance(opening, dict) else opening
+            wanted = no_request(None, pointer_of(['edits'] if steps is None else steps))
+            got = server.ask(line)
+            tell(got == wanted, f'a damaged first line: {shown(written(line))}', got, wanted)
+        got, wanted = server.ask(OPENED), answered(0, [])
+        tell(got == wanted, 'a first line behind damaged ones', got, wanted)
+        ends_well(server, 'damaged first lines')
+
+
+def check_random_wrong_forms(options):
+    syntaxes, blocks = stored_edits()
+    edits = [{**SET, 'syntax': syntax} for syntax in syntaxes] + [{'edit': 'set_block', 'block': 0, **block} for block in blocks]
+    faults = [edit for edit in edits if wrong_edit(edit, 0) is not None]
+    tell(not faults, 'the forms, beside the requests that are answered', faults)
+    case = Random(Material(syntaxes, blocks, SNIPPETS, SNIPPETS), options.seed, 'damage')
+    right = sum(check_damaged_lines(options.program, case, crates, 1000) for crates in (0, 1, 3))
+    check_damaged_openings(options.program, case.chance, 300)
+    print(f'serve: 3,300 damaged lines of the seed {options.seed}, and {right} whose damage leaves them right')
 
 
 # ---- noise
@@ -956,7 +1605,7 @@ def check_many(options):
 
 
 PARTS = {'examples': check_examples, 'errors': check_errors, 'lines': check_line_forms, 'places': check_places, 'random': check_random,
-         'noise': check_noise, 'unread': check_unread, 'many': check_many}
+         'damaged': check_random_wrong_forms, 'noise': check_noise, 'unread': check_unread, 'many': check_many}
 
 
 def main():

@@ -1,5 +1,5 @@
 -- An object whose members are taken out as they are read.
-use Rattle.std.proofs.Common.{◌≡◌, ℕ, List, [], ◌∷◌, Option, Some, None, String, Global, Ordering, Less, Equal, Greater, string_bytes, nat_cmp, is_eq, cond, false, bytes_eq, refl, sym, ap, ◌∙◌, arith, rules}
+use Rattle.std.proofs.Common.{◌≡◌, ℕ, List, [], ◌∷◌, Option, Some, None, String, Global, Ordering, Less, Equal, Greater, string_bytes, nat_cmp, is_eq, cond, false, bytes_eq, refl, sym, ap, ◌∙◌}
 use Rattle.std.proofs.lemmas.Map.Text.{is_eq-slice_cmp}
 use Rattle.std.proofs.lemmas.Slice.Eq.{bytes_eq-Decides}
 use Rattle.std.specs.Cmp.Lexicographic.{slice_cmp}
@@ -7,10 +7,10 @@ use Rattle.std.specs.Map.{set_value}
 use Rattle.std.specs.Ordering.{match_ordering}
 use Rattle.std.specs.BTreeMap.{is_at}
 use Rattle.serde_json.specs.Data.{Data, null, boolean, number, string, array, object, Members, no_members, member}
-use Rattle.serde_json.specs.Find.{get, get_member, as_object, as_array}
+use Rattle.serde_json.specs.Find.{get, get_member, as_object}
 use Rattle.serde_json.specs.View.{view, members_view}
 use Rattle.serde_json.specs.declared.value.Value.{Value}
-use Rattle.hir_input_json.specs.Forms.{field, unless_null}
+use Rattle.hir_input_json.specs.Forms.{field}
 use Rattle.hir_input_json.specs.Held.{with_null, without}
 
 set_or : (o : Ordering) (e : String Global × Value) (w : Value) (es rest : List (String Global × Value)) (ms : Members) → view w ≡ null → members_view rest ≡ ms

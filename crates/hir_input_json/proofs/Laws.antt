@@ -1,16 +1,17 @@
 -- What holds of every form that holds forms of its own kind.
-use Rattle.std.specs.Prelude.{◌≡◌, ◌<◌, ℕ, Option}
+use Rattle.std.specs.Prelude.{◌≡◌, ◌<◌, ℕ}
 use Rattle.serde_json.specs.Data.{Data, depth}
+use Rattle.hir_input_json.specs.Reading.{Reading}
 use Rattle.hir_input_json.specs.Nested.{nested}
 
 -- two readings that agree on all that nests less deep than this
-abbrev pub AgreeBelow : {A : Type 0} → (Data → Option A) → (Data → Option A) → ℕ → Type 0
+abbrev pub AgreeBelow : {A : Type 0} → (Data → Reading A) → (Data → Reading A) → ℕ → Type 0
 AgreeBelow f g n = (e : Data) → depth e < n → f e ≡ g e
 
 -- The form asks only for the readings of values inside.
-abbrev pub LooksInside : {A : Type 0} → ((Data → Option A) → Data → Option A) → Type 0
-LooksInside {A} form = (f g : Data → Option A) (d : Data) → AgreeBelow f g (depth d) → form f d ≡ form g d
+abbrev pub LooksInside : {A : Type 0} → ((Data → Reading A) → Data → Reading A) → Type 0
+LooksInside {A} form = (f g : Data → Reading A) (d : Data) → AgreeBelow f g (depth d) → form f d ≡ form g d
 
 -- the reading is the form over itself
-abbrev pub ReadsItself : {A : Type 0} → ((Data → Option A) → Data → Option A) → Type 0
+abbrev pub ReadsItself : {A : Type 0} → ((Data → Reading A) → Data → Reading A) → Type 0
 ReadsItself {A} form = (d : Data) → nested form d ≡ form (nested form) d

@@ -1,10 +1,10 @@
 -- The reading of an edition.
-use Rattle.std.specs.Prelude.{ℕ, ◌^◌, ◌==◌, List, [], codes, if◌then◌else◌, Option, Some, None, option_and_then}
+use Rattle.std.specs.Prelude.{ℕ, ◌^◌, ◌==◌, List, [], codes, if◌then◌else◌, Option, Some, None}
 use Rattle.serde_json.specs.Data.{Data}
-use Rattle.serde_json.specs.Find.{as_object}
 use Rattle.hir_input.specs.declared.edition.EditionYear.{EditionYear}
 use Rattle.hir_input.specs.declared.edition.EditionYear.TheVariants.{E2015, E2018, E2021, E2024}
-use Rattle.hir_input_json.specs.Forms.{field, optional, whole, name, list_at, ◌>>=◌}
+use Rattle.hir_input_json.specs.Reading.{Reading, right, here, ◌>>=◌}
+use Rattle.hir_input_json.specs.Forms.{optional_at, whole, name, members_in, list_at}
 
 -- what `edition_view` of `hir_input` gives: the year, and the texts of the reserved words
 abbrev pub EditionView : Type 0
@@ -23,17 +23,19 @@ year_of n =
     else (if n == 2024 then Some E2024 else None)))
 
 -- a year
-abbrev pub year : Data → Option EditionYear
-year d = option_and_then year_of (whole (2 ^ 64) d)
+abbrev pub year : Data → Reading EditionYear
+year d = do
+  n ← whole (2 ^ 64) d
+  here (year_of n)
 
 -- an edition, whose year and reserved words may both be absent
-abbrev pub edition : Data → Option EditionView
+abbrev pub edition : Data → Reading EditionView
 edition d = do
-  _ ← as_object d
-  y ← optional E2024 year (field (codes "year") d)
+  _ ← members_in d
+  y ← optional_at E2024 (codes "year") year d
   words ← list_at name (codes "reserved") d
-  Some (y, words)
+  right (y, words)
 
 -- the edition of a request, the latest where it is absent
-abbrev pub edition_at : Data → Option EditionView
-edition_at d = optional latest edition (field (codes "edition") d)
+abbrev pub edition_at : Data → Reading EditionView
+edition_at = optional_at latest (codes "edition") edition

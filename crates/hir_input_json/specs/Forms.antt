@@ -1,12 +1,9 @@
 -- The readings that forms are made of.
-use Rattle.std.specs.Prelude.{ℕ, ◌^◌, List, [], ◌∷◌, bytes_eq, nat_lt, Bool, true, false, ◌==◌, if◌then◌else◌, Option, Some, None, option_map, option_and_then}
+use Rattle.std.specs.Prelude.{ℕ, ◌+◌, ◌^◌, List, [], ◌∷◌, bytes_eq, nat_lt, decimal, Bool, true, false, ◌==◌, if◌then◌else◌, Option, Some, None, option_and_then}
 use Rattle.std.specs.List.{list_any}
-use Rattle.serde_json.specs.Data.{Data, null, boolean, number, string, array, object, Items, no_items, item}
-use Rattle.serde_json.specs.Find.{get, as_number, as_u64, as_str, as_array}
-
--- one reading after another
-abbrev pub ◌>>=◌ : {A B : Type 0} → Option A → (A → Option B) → Option B
-◌>>=◌ m f = option_and_then f m
+use Rattle.serde_json.specs.Data.{Data, null, boolean, number, string, array, object, Items, no_items, item, Members}
+use Rattle.serde_json.specs.Find.{get, as_number, as_u64, as_bool, as_str, as_array, as_object}
+use Rattle.hir_input_json.specs.Reading.{Reading, right, wrong, reading_map, here, behind, under, ◌>>=◌}
 
 -- a null counts as absent
 abbrev pub unless_null : Data → Option Data
@@ -21,40 +18,73 @@ unless_null (object ms) = Some (object ms)
 unfoldable pub field : List ℕ → Data → Option Data
 field key d = option_and_then unless_null (get key d)
 
--- by the form, or no reading where it is absent
-abbrev pub required : {A : Type 0} → (Data → Option A) → Option Data → Option A
-required form found = option_and_then form found
+-- by the form, or wrong where it is absent
+abbrev pub required : {A : Type 0} → (Data → Reading A) → Option Data → Reading A
+required form None = wrong []
+required form (Some d) = form d
 
 -- by the form, or the default where it is absent
-abbrev pub optional : {A : Type 0} → A → (Data → Option A) → Option Data → Option A
-optional default form None = Some default
+abbrev pub optional : {A : Type 0} → A → (Data → Reading A) → Option Data → Reading A
+optional default form None = right default
 optional default form (Some d) = form d
 
 -- by the form, or read as None where it is absent
-abbrev pub maybe : {A : Type 0} → (Data → Option A) → Option Data → Option (Option A)
-maybe form None = Some None
-maybe form (Some d) = option_map Some (form d)
+abbrev pub maybe : {A : Type 0} → (Data → Reading A) → Option Data → Reading (Option A)
+maybe form None = right None
+maybe form (Some d) = reading_map Some (form d)
+
+-- the member at this key by the form; wrong at its place where it is absent
+abbrev pub required_at : {A : Type 0} → List ℕ → (Data → Reading A) → Data → Reading A
+required_at key form d = under key (required form (field key d))
+
+-- the same, or the default where it is absent
+abbrev pub optional_at : {A : Type 0} → A → List ℕ → (Data → Reading A) → Data → Reading A
+optional_at default key form d = under key (optional default form (field key d))
+
+-- the same, or read as None where it is absent
+abbrev pub maybe_at : {A : Type 0} → List ℕ → (Data → Reading A) → Data → Reading (Option A)
+maybe_at key form d = under key (maybe form (field key d))
 
 -- by the form of what is there, or otherwise
-abbrev pub by_first : {A B : Type 0} → Option B → (B → Option A) → Option A → Option A
+abbrev pub by_first : {A B : Type 0} → Option B → (B → Reading A) → Reading A → Reading A
 by_first None form otherwise = otherwise
 by_first (Some b) form otherwise = form b
 
 -- by what stands at this word
-abbrev pub on_word : {A : Type 0} → (word key : List ℕ) → Option A → Option A → Option A
+abbrev pub on_word : {A : Type 0} → (word key : List ℕ) → Reading A → Reading A → Reading A
 on_word word key form otherwise = if bytes_eq word key then form else otherwise
+
+-- the member at this key is not of its form
+abbrev pub wrong_at : {A : Type 0} → List ℕ → Reading A
+wrong_at key = wrong (behind key [])
+
+-- an object
+abbrev pub members_in : Data → Reading Members
+members_in d = here (as_object d)
+
+-- an array
+abbrev pub items_in : Data → Reading Items
+items_in d = here (as_array d)
+
+-- a text
+abbrev pub text : Data → Reading (List ℕ)
+text d = here (as_str d)
+
+-- a truth value
+abbrev pub flag : Data → Reading Bool
+flag d = here (as_bool d)
 
 -- the number, if it is below the bound
 abbrev pub below : ℕ → ℕ → Option ℕ
 below bound n = if nat_lt n bound then Some n else None
 
 -- a whole number below the bound
-abbrev pub whole : ℕ → Data → Option ℕ
-whole bound d = option_and_then (below bound) (option_and_then as_u64 (as_number d))
+abbrev pub whole : ℕ → Data → Reading ℕ
+whole bound d = here (option_and_then (below bound) (option_and_then as_u64 (as_number d)))
 
 -- the number of a file or of a crate, which is required
-abbrev pub id_at : List ℕ → Data → Option ℕ
-id_at key d = required (whole (2 ^ 32)) (field key d)
+abbrev pub id_at : List ℕ → Data → Reading ℕ
+id_at key d = required_at key (whole (2 ^ 32)) d
 
 -- whether a text is not empty and holds no line feed
 abbrev pub is_name : List ℕ → Bool
@@ -66,22 +96,35 @@ abbrev pub name_in : List ℕ → Option (List ℕ)
 name_in s = if is_name s then Some s else None
 
 -- a text that is a name
-abbrev pub name : Data → Option (List ℕ)
-name d = option_and_then name_in (as_str d)
+abbrev pub name : Data → Reading (List ℕ)
+name d = do
+  s ← text d
+  here (name_in s)
+
+-- each item by the form, the first one with this number
+abbrev pub each_from : {A : Type 0} → ℕ → (Data → Reading A) → Items → Reading (List A)
+each_from n form no_items = right []
+each_from n form (item d ds) = do
+  a ← under (decimal n) (form d)
+  as' ← each_from (n + 1) form ds
+  right (a ∷ as')
 
 -- each item by the form
-abbrev pub each : {A : Type 0} → (Data → Option A) → Items → Option (List A)
-each form no_items = Some []
-each form (item d ds) = option_and_then (λ a. option_map (λ as'. a ∷ as') (each form ds)) (form d)
+abbrev pub each : {A : Type 0} → (Data → Reading A) → Items → Reading (List A)
+each form ds = each_from 0 form ds
 
 -- a list of the form
-abbrev pub list_of : {A : Type 0} → (Data → Option A) → Data → Option (List A)
-list_of form d = option_and_then (each form) (as_array d)
+abbrev pub list_of : {A : Type 0} → (Data → Reading A) → Data → Reading (List A)
+list_of form d = do
+  ds ← items_in d
+  each form ds
 
 -- the items of the list at this key, none where it is absent
-abbrev pub items_at : List ℕ → Data → Option Items
-items_at key d = optional no_items as_array (field key d)
+abbrev pub items_at : List ℕ → Data → Reading Items
+items_at key d = optional_at no_items key items_in d
 
 -- each item of the list at this key
-abbrev pub list_at : {A : Type 0} → (Data → Option A) → List ℕ → Data → Option (List A)
-list_at form key d = option_and_then (each form) (items_at key d)
+abbrev pub list_at : {A : Type 0} → (Data → Reading A) → List ℕ → Data → Reading (List A)
+list_at form key d = do
+  ds ← items_at key d
+  under key (each form ds)

@@ -1,3 +1,4 @@
+pub mod Reading
 pub mod Forms
 pub mod Held
 pub mod Nested

@@ -1,53 +1,57 @@
 -- The reading of a syntax context, of a span and of a literal.
-use Rattle.std.specs.Prelude.{ℕ, ◌^◌, List, codes, Option, Some, None, option_map, option_and_then}
+use Rattle.std.specs.Prelude.{ℕ, ◌^◌, List, [], codes, decimal}
 use Rattle.serde_json.specs.Data.{Data, Items, no_items, item}
-use Rattle.serde_json.specs.Find.{as_str, as_array}
+use Rattle.serde_json.specs.Find.{as_str}
 use Rattle.hir_input.specs.declared.edition.EditionYear.TheVariants.{E2015, E2018, E2021, E2024}
 use Rattle.hir_input.specs.declared.ids.SyntaxContext.{SyntaxContext}
 use Rattle.hir_input.specs.declared.ids.SyntaxContext.TheVariants.{Root, Expanded}
 use Rattle.hir_input.specs.declared.span.Span.{Span}
 use Rattle.hir_input.specs.Literal.{LiteralView}
-use Rattle.hir_input_json.specs.Forms.{field, required, optional, maybe, by_first, on_word, whole, ◌>>=◌}
+use Rattle.hir_input_json.specs.Reading.{Reading, right, wrong, reading_map, under, ◌>>=◌}
+use Rattle.hir_input_json.specs.Forms.{required_at, optional_at, maybe_at, by_first, on_word, whole, text, members_in, items_in}
 
 -- the words for the roots of the editions
-abbrev pub root_word : List ℕ → Option SyntaxContext
+abbrev pub root_word : List ℕ → Reading SyntaxContext
 root_word word =
-    on_word word (codes "ROOT2015") (Some (Root E2015))
-    (on_word word (codes "ROOT2018") (Some (Root E2018))
-    (on_word word (codes "ROOT2021") (Some (Root E2021))
-    (on_word word (codes "ROOT2024") (Some (Root E2024))
-    None)))
+    on_word word (codes "ROOT2015") (right (Root E2015))
+    (on_word word (codes "ROOT2018") (right (Root E2018))
+    (on_word word (codes "ROOT2021") (right (Root E2021))
+    (on_word word (codes "ROOT2024") (right (Root E2024))
+    (wrong []))))
 
 -- a context: a word for a root, or the number of an expansion
-abbrev pub context : Data → Option SyntaxContext
-context d = by_first (as_str d) root_word (option_map Expanded (whole (2 ^ 32) d))
+abbrev pub context : Data → Reading SyntaxContext
+context d = by_first (as_str d) root_word (reading_map Expanded (whole (2 ^ 32) d))
 
 -- the latest root where it is absent
-abbrev pub context_at : Data → Option SyntaxContext
-context_at d = optional (Root E2024) context (field (codes "ctxt") d)
+abbrev pub context_at : Data → Reading SyntaxContext
+context_at = optional_at (Root E2024) (codes "ctxt") context
 
 -- in this context, from one number up to another
 abbrev pub span_of : SyntaxContext → (start end : ℕ) → Span
 span_of ctxt start end = record { start = start; end = end; ctxt = ctxt }
 
 -- a list of just the two numbers
-abbrev pub span_in : SyntaxContext → Items → Option Span
-span_in ctxt no_items = None
-span_in ctxt (item a no_items) = None
+abbrev pub span_in : SyntaxContext → Items → Reading Span
+span_in ctxt no_items = wrong []
+span_in ctxt (item a no_items) = wrong []
 span_in ctxt (item a (item b no_items)) = do
-  start ← whole (2 ^ 32) a
-  end ← whole (2 ^ 32) b
-  Some (span_of ctxt start end)
-span_in ctxt (item a (item b (item c ds))) = None
+  start ← under (decimal 0) (whole (2 ^ 32) a)
+  end ← under (decimal 1) (whole (2 ^ 32) b)
+  right (span_of ctxt start end)
+span_in ctxt (item a (item b (item c ds))) = wrong []
 
 -- a span in this context
-abbrev pub span : SyntaxContext → Data → Option Span
-span ctxt d = option_and_then (span_in ctxt) (as_array d)
+abbrev pub span : SyntaxContext → Data → Reading Span
+span ctxt d = do
+  ds ← items_in d
+  span_in ctxt ds
 
 -- a literal, whose span is in this context: empty at 0 where it is absent
-abbrev pub literal : SyntaxContext → Data → Option LiteralView
+abbrev pub literal : SyntaxContext → Data → Reading LiteralView
 literal ctxt d = do
-  rendered ← required as_str (field (codes "rendered") d)
-  string ← maybe as_str (field (codes "string") d)
-  place ← optional (span_of ctxt 0 0) (span ctxt) (field (codes "span") d)
-  Some (record { rendered = rendered; string = string; span = place })
+  _ ← members_in d
+  rendered ← required_at (codes "rendered") text d
+  string ← maybe_at (codes "string") text d
+  place ← optional_at (span_of ctxt 0 0) (codes "span") (span ctxt) d
+  right (record { rendered = rendered; string = string; span = place })

@@ -1,12 +1,13 @@
 -- A form that holds forms of its own kind.
-use Rattle.std.specs.Prelude.{ℕ, zero, suc, Option, None}
+use Rattle.std.specs.Prelude.{ℕ, zero, suc, []}
 use Rattle.serde_json.specs.Data.{Data, depth}
+use Rattle.hir_input_json.specs.Reading.{Reading, wrong}
 
 -- by a form over the reading of those inside, down to this many within one another
-abbrev pub nested_at : {A : Type 0} → ((Data → Option A) → Data → Option A) → ℕ → Data → Option A
-nested_at form zero d = None
+abbrev pub nested_at : {A : Type 0} → ((Data → Reading A) → Data → Reading A) → ℕ → Data → Reading A
+nested_at form zero d = wrong []
 nested_at form (suc n) d = form (nested_at form n) d
 
 -- down to the last
-unfoldable pub nested : {A : Type 0} → ((Data → Option A) → Data → Option A) → Data → Option A
+unfoldable pub nested : {A : Type 0} → ((Data → Reading A) → Data → Reading A) → Data → Reading A
 nested form d = nested_at form (suc (depth d)) d

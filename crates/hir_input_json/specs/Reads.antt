@@ -1,8 +1,35 @@
 -- What a reading function answers beside the reading that a form has.
-use Rattle.std.specs.Prelude.{◌≡◌, Option, Some, None, Result, MatchResult}
+use Rattle.std.specs.Prelude.{◌≡◌, ℕ, List, [], Bool, true, false, Result, MatchResult}
 use Rattle.hir_input_json.specs.declared.fault.Fault.{Fault}
-use Rattle.hir_input_json.specs.declared.fault.Fault.TheVariants.{WrongForm}
+use Rattle.hir_input_json.specs.declared.fault.Fault.TheVariants.{WrongForm, OutOfMemory}
+use Rattle.hir_input_json.specs.Reading.{Reading, right, wrong, behind}
 
--- the answer is the reading, or there is none, or memory ran out
-abbrev pub Reads : {T V : Type 0} → (T → V) → Result T Fault → Option V → Type 0
-Reads view r reading = MatchResult r (λ t. reading ≡ Some (view t)) (λ e. e ≡ WrongForm → reading ≡ None)
+-- whether a fault is of the form, and not of memory
+abbrev pub is_wrong_form : Fault → Bool
+is_wrong_form (WrongForm pointer) = true
+is_wrong_form OutOfMemory = false
+
+-- the pointer that it tells
+abbrev pub pointer_in : Fault → List ℕ
+pointer_in (WrongForm pointer) = pointer
+pointer_in OutOfMemory = []
+
+-- the fault tells where the reading is wrong, or memory ran out
+abbrev pub Tells : {V : Type 0} → Reading V → Fault → Type 0
+Tells reading e = is_wrong_form e ≡ true → reading ≡ wrong (pointer_in e)
+
+-- the answer is the reading, or the fault tells where it is wrong, or memory ran out
+abbrev pub Reads : {T V : Type 0} → (T → V) → Result T Fault → Reading V → Type 0
+Reads view r reading = MatchResult r (λ t. reading ≡ right (view t)) (Tells reading)
+
+-- it tells that the value itself is wrong
+abbrev pub IsHere : Fault → Type 0
+IsHere e = (is_wrong_form e ≡ true) × (pointer_in e ≡ [])
+
+-- it tells that what stands behind a step is wrong, or memory ran out
+abbrev pub IsAt : List ℕ → Fault → Type 0
+IsAt step e = is_wrong_form e ≡ true → pointer_in e ≡ behind step []
+
+-- if the second tells of a form, it is the first, told from before the step to where it stands
+abbrev pub IsUnder : List ℕ → Fault → Fault → Type 0
+IsUnder step e f = is_wrong_form f ≡ true → (is_wrong_form e ≡ true) × (pointer_in f ≡ behind step (pointer_in e))

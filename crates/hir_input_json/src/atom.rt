@@ -9,31 +9,35 @@ ghost use Rattle.hir_input_json.specs.Reads.{Reads};
 
 use crate::fault::Fault;
 use crate::literal::required_text_at;
-use crate::member::{list_at, members_of, taken};
+use crate::member::{list_at, members_of, required_at};
 use crate::name::name_of;
 use hir_input::CfgAtom;
 use serde_json::{Map, Value};
 use std::alloc::Global;
 
 // The atom of this key, with the value that the members hold.
-pub(crate) fn keyed_atom_of(key: Value, members: &mut Map<String, Value>) -> Result<CfgAtom, Fault>
+pub(crate) fn keyed_atom_of(
+    alloc: Global,
+    key: Value,
+    members: &mut Map<String, Value>,
+) -> Result<CfgAtom, Fault>
     ensures { Reads atom_view result (keyed_by (view key) (held members.old)) }
 {
-    let key = name_of(key)?;
-    let value = required_text_at(members, "value")?;
+    let key = name_of(alloc, key).map_err(|fault| fault.in_member(alloc, "key"))?;
+    let value = required_text_at(alloc, members, "value")?;
     Ok(CfgAtom::KeyValue { key, value })
 }
 
 #[tactic(auto, using(crate::proofs::Held::field_without, crate::proofs::Held::no_field))]
-pub(crate) fn atom_of(value: Value) -> Result<CfgAtom, Fault>
+pub(crate) fn atom_of(alloc: Global, value: Value) -> Result<CfgAtom, Fault>
     ensures { Reads atom_view result (atom_form (view value)) }
 {
     if value.is_string() {
-        return Ok(CfgAtom::Flag(name_of(value)?));
+        return Ok(CfgAtom::Flag(name_of(alloc, value)?));
     }
-    let mut members = members_of(value)?;
-    let key = taken(&mut members, "key").ok_or(Fault::WrongForm)?;
-    keyed_atom_of(key, &mut members)
+    let mut members = members_of(alloc, value)?;
+    let key = required_at(alloc, &mut members, "key")?;
+    keyed_atom_of(alloc, key, &mut members)
 }
 
 fn atoms_of(alloc: Global, items: Vec<Value>) -> Result<Vec<CfgAtom>, Fault>
@@ -41,7 +45,9 @@ fn atoms_of(alloc: Global, items: Vec<Value>) -> Result<Vec<CfgAtom>, Fault>
 {
     let mut atoms = Vec::with_capacity(alloc, items.len())?;
     for item in items {
-        atoms.push(atom_of(item)?)?;
+        let place = atoms.len();
+        let read = atom_of(alloc, item).map_err(|fault| fault.in_item(alloc, place))?;
+        atoms.push(read)?;
     }
     Ok(atoms)
 }
@@ -58,5 +64,5 @@ pub fn atoms_at(
     ensures left { OnOk result (held members.new ≡ without key.now (held members.old)) }
 {
     let items = list_at(alloc, members, key)?;
-    atoms_of(alloc, items)
+    atoms_of(alloc, items).map_err(|fault| fault.in_member(alloc, key))
 }

@@ -2,7 +2,7 @@
 ghost use Rattle.std.specs.Prelude.{◌≡◌, OnOk, codes, map};
 ghost use Rattle.serde_json.specs.View.{view, items_view};
 ghost use Rattle.hir_input.specs.Cfg.{cfg_view};
-ghost use Rattle.hir_input_json.specs.Cfgs.{cfg as cfg_form, cfg_with};
+ghost use Rattle.hir_input_json.specs.Cfgs.{cfg as cfg_form, cfg_by as cfg_by_form, cfg_with};
 ghost use Rattle.hir_input_json.specs.Forms.{each, list_of};
 ghost use Rattle.hir_input_json.specs.Held.{held, without};
 ghost use Rattle.hir_input_json.specs.Metas.{condition_at as condition_form};
@@ -32,9 +32,9 @@ fn cfg_in(alloc: Global, value: Value) -> Result<CfgExpr, Fault>
         return Ok(CfgExpr::Invalid);
     }
     if value.is_string() {
-        return Ok(CfgExpr::Atom(atom_of(value)?));
+        return Ok(CfgExpr::Atom(atom_of(alloc, value)?));
     }
-    let mut members = members_of(value)?;
+    let mut members = members_of(alloc, value)?;
     cfg_by(alloc, &mut members)
 }
 
@@ -42,24 +42,26 @@ fn cfg_in(alloc: Global, value: Value) -> Result<CfgExpr, Fault>
 #[cycle(cfgs)]
 #[tactic(auto, using(crate::proofs::Held::field_without, crate::proofs::Inside::depth_found_in, crate::proofs::Inside::depth_found_get, hir_input::proofs::CfgLemmas::cfg_views))]
 fn cfg_by(alloc: Global, members: &mut Map<String, Value>) -> Result<CfgExpr, Fault>
-    ensures { Reads cfg_view result (cfg_with cfg_form (held members.old)) }
+    ensures { Reads cfg_view result (cfg_by_form cfg_form (held members.old)) }
 {
     let inner = removed(members, "not");
     if let Some(key) = taken(members, "key") {
-        return Ok(CfgExpr::Atom(keyed_atom_of(key, members)?));
+        return Ok(CfgExpr::Atom(keyed_atom_of(alloc, key, members)?));
     }
     if let Some(list) = taken(members, "all") {
-        return Ok(CfgExpr::All(cfgs_in(alloc, list)?));
+        let cfgs = cfgs_in(alloc, list).map_err(|fault| fault.in_member(alloc, "all"))?;
+        return Ok(CfgExpr::All(cfgs));
     }
     if let Some(list) = taken(members, "any") {
-        return Ok(CfgExpr::Any(cfgs_in(alloc, list)?));
+        let cfgs = cfgs_in(alloc, list).map_err(|fault| fault.in_member(alloc, "any"))?;
+        return Ok(CfgExpr::Any(cfgs));
     }
     match inner {
         Some(inner) => {
-            let inner = cfg_of(alloc, inner)?;
+            let inner = cfg_of(alloc, inner).map_err(|fault| fault.in_member(alloc, "not"))?;
             Ok(CfgExpr::Not(Box::new(alloc, inner)?))
         }
-        None => Err(Fault::WrongForm),
+        None => Err(Fault::here(alloc)),
     }
 }
 
@@ -68,7 +70,7 @@ fn cfg_by(alloc: Global, members: &mut Map<String, Value>) -> Result<CfgExpr, Fa
 fn cfgs_in(alloc: Global, list: Value) -> Result<Vec<CfgExpr>, Fault>
     ensures { Reads (λ v. map cfg_view v.items) result (list_of cfg_form (view list)) }
 {
-    let items = array_of(list)?;
+    let items = array_of(alloc, list)?;
     cfgs_of(alloc, items)
 }
 
@@ -78,7 +80,9 @@ fn cfgs_of(alloc: Global, items: Vec<Value>) -> Result<Vec<CfgExpr>, Fault>
 {
     let mut members = Vec::with_capacity(alloc, items.len())?;
     for item in items {
-        members.push(cfg_of(alloc, item)?)?;
+        let place = members.len();
+        let read = cfg_of(alloc, item).map_err(|fault| fault.in_item(alloc, place))?;
+        members.push(read)?;
     }
     Ok(members)
 }
@@ -92,7 +96,7 @@ pub(crate) fn condition_at(
     ensures left { OnOk result (held members.new ≡ without (codes "cfg") (held members.old)) }
 {
     match removed(members, "cfg") {
-        Some(found) => cfg_of(alloc, found),
+        Some(found) => cfg_of(alloc, found).map_err(|fault| fault.in_member(alloc, "cfg")),
         None => Ok(CfgExpr::Invalid),
     }
 }

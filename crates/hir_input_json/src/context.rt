@@ -9,9 +9,10 @@ use crate::fault::Fault;
 use crate::member::{field, u32_of};
 use hir_input::{EditionYear, SyntaxContext};
 use serde_json::{Map, Value};
+use std::alloc::Global;
 
 // A root by its word.
-fn root_by(word: &str) -> Result<SyntaxContext, Fault>
+fn root_by(alloc: Global, word: &str) -> Result<SyntaxContext, Fault>
     ensures { Reads (λ ctxt. ctxt) result (root_word word.now) }
 {
     match word {
@@ -19,25 +20,28 @@ fn root_by(word: &str) -> Result<SyntaxContext, Fault>
         "ROOT2018" => Ok(SyntaxContext::Root(EditionYear::E2018)),
         "ROOT2021" => Ok(SyntaxContext::Root(EditionYear::E2021)),
         "ROOT2024" => Ok(SyntaxContext::Root(EditionYear::E2024)),
-        _ => Err(Fault::WrongForm),
+        _ => Err(Fault::here(alloc)),
     }
 }
 
-fn context_of(value: &Value) -> Result<SyntaxContext, Fault>
+fn context_of(alloc: Global, value: &Value) -> Result<SyntaxContext, Fault>
     ensures { Reads (λ ctxt. ctxt) result (context_form (view value.now)) }
 {
     match value.as_str() {
-        Some(word) => root_by(word),
-        None => Ok(SyntaxContext::Expanded(u32_of(value)?)),
+        Some(word) => root_by(alloc, word),
+        None => Ok(SyntaxContext::Expanded(u32_of(alloc, value)?)),
     }
 }
 
 // The latest root where it is absent.
-pub(crate) fn context_at(members: &Map<String, Value>) -> Result<SyntaxContext, Fault>
+pub(crate) fn context_at(
+    alloc: Global,
+    members: &Map<String, Value>,
+) -> Result<SyntaxContext, Fault>
     ensures { Reads (λ ctxt. ctxt) result (context_at_form (held members.now)) }
 {
     match field(members, "ctxt") {
-        Some(found) => context_of(found),
+        Some(found) => context_of(alloc, found).map_err(|fault| fault.in_member(alloc, "ctxt")),
         None => Ok(SyntaxContext::Root(EditionYear::E2024)),
     }
 }

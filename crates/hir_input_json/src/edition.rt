@@ -4,7 +4,7 @@ ghost use Rattle.serde_json.specs.View.{view};
 ghost use Rattle.hir_input.specs.Edition.{edition_view};
 ghost use Rattle.hir_input.specs.declared.edition.EditionYear.TheVariants.{E2024};
 ghost use Rattle.hir_input_json.specs.Editions.{edition as edition_form, edition_at as edition_at_form, year as year_form};
-ghost use Rattle.hir_input_json.specs.Forms.{field as field_of, optional};
+ghost use Rattle.hir_input_json.specs.Forms.{optional_at};
 ghost use Rattle.hir_input_json.specs.Held.{held, without};
 ghost use Rattle.hir_input_json.specs.Reads.{Reads};
 
@@ -16,8 +16,8 @@ use serde_json::{Map, Value};
 use std::alloc::Global;
 
 // The latest year where it is absent.
-fn year_at(members: &Map<String, Value>) -> Result<EditionYear, Fault>
-    ensures { Reads (λ year. year) result (optional E2024 year_form (field_of (codes "year") (held members.now))) }
+fn year_at(alloc: Global, members: &Map<String, Value>) -> Result<EditionYear, Fault>
+    ensures { Reads (λ year. year) result (optional_at E2024 (codes "year") year_form (held members.now)) }
 {
     let Some(year) = field(members, "year") else {
         return Ok(EditionYear::E2024);
@@ -27,7 +27,7 @@ fn year_at(members: &Map<String, Value>) -> Result<EditionYear, Fault>
         Some(2018) => Ok(EditionYear::E2018),
         Some(2021) => Ok(EditionYear::E2021),
         Some(2024) => Ok(EditionYear::E2024),
-        _ => Err(Fault::WrongForm),
+        _ => Err(Fault::at(alloc, "year")),
     }
 }
 
@@ -35,8 +35,8 @@ fn year_at(members: &Map<String, Value>) -> Result<EditionYear, Fault>
 fn edition_of(alloc: Global, value: Value) -> Result<Edition, Fault>
     ensures { Reads edition_view result (edition_form (view value)) }
 {
-    let mut members = members_of(value)?;
-    let year = year_at(&members)?;
+    let mut members = members_of(alloc, value)?;
+    let year = year_at(alloc, &members)?;
     let reserved = names_at(alloc, &mut members, "reserved")?;
     Ok(Edition { year, reserved })
 }
@@ -49,7 +49,9 @@ pub fn edition_at(alloc: Global, members: &mut Map<String, Value>) -> Result<Edi
     ensures left { OnOk result (held members.new ≡ without (codes "edition") (held members.old)) }
 {
     match taken(members, "edition") {
-        Some(edition) => edition_of(alloc, edition),
+        Some(edition) => {
+            edition_of(alloc, edition).map_err(|fault| fault.in_member(alloc, "edition"))
+        }
         None => Ok(Edition {
             year: EditionYear::E2024,
             reserved: Vec::new(alloc),

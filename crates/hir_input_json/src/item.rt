@@ -2,6 +2,7 @@
 ghost use Rattle.std.specs.Prelude.{◌≡◌, map, option_map};
 ghost use Rattle.serde_json.specs.View.{view, items_view};
 ghost use Rattle.hir_input.specs.Syntax.{asm_item, item_view};
+ghost use Rattle.hir_input_json.specs.Reading.{reading_map};
 ghost use Rattle.hir_input_json.specs.Forms.{each, maybe, list_of};
 ghost use Rattle.hir_input_json.specs.Held.{held};
 ghost use Rattle.hir_input_json.specs.Items.{struct_form, use_form, extern_crate_form, impl_form, macro_call_form, module_form, item as item_form, item_with, named_item as named_item_form, node as node_form};
@@ -51,7 +52,7 @@ fn extern_crate_of(alloc: Global, members: &mut Map<String, Value>) -> Result<It
     ensures { Reads item_view result (extern_crate_form (held members.old)) }
 {
     let named = named_at(alloc, members)?;
-    let rename = rename_at(members)?;
+    let rename = rename_at(alloc, members)?;
     Ok(Item::ExternCrate(with_name!(ExternCrate, named, rename)))
 }
 
@@ -60,7 +61,7 @@ fn impl_of(alloc: Global, members: &mut Map<String, Value>) -> Result<Item, Faul
     ensures { Reads item_view result (impl_form (held members.old)) }
 {
     let node = node_at(alloc, members)?;
-    let is_trait_impl = flag_at(members, "trait")?;
+    let is_trait_impl = flag_at(alloc, members, "trait")?;
     Ok(Item::Impl(with_node!(Impl, node, is_trait_impl)))
 }
 
@@ -73,7 +74,7 @@ fn macro_item_of(alloc: Global, members: &mut Map<String, Value>) -> Result<Item
 
 #[tactic(auto, using(hir_input::proofs::SyntaxViews::item_views))]
 fn asm_of(alloc: Global, members: &mut Map<String, Value>) -> Result<Item, Fault>
-    ensures { Reads item_view result (option_map asm_item (node_form (held members.old))) }
+    ensures { Reads item_view result (reading_map asm_item (node_form (held members.old))) }
 {
     let node = node_at(alloc, members)?;
     Ok(Item::AsmExpr(with_node!(AsmExpr, node)))
@@ -84,7 +85,7 @@ fn asm_of(alloc: Global, members: &mut Map<String, Value>) -> Result<Item, Fault
 fn named_item_of(alloc: Global, members: &mut Map<String, Value>) -> Result<Item, Fault>
     ensures { Reads item_view result (named_item_form (held members.old)) }
 {
-    match word_at(members, "is")? {
+    match word_at(alloc, members, "is")? {
         "fn" => Ok(Item::Fn(with_name!(Fn, named_at(alloc, members)?))),
         "union" => Ok(Item::Union(with_name!(Union, named_at(alloc, members)?))),
         "enum" => Ok(Item::Enum(with_name!(Enum, named_at(alloc, members)?))),
@@ -93,7 +94,7 @@ fn named_item_of(alloc: Global, members: &mut Map<String, Value>) -> Result<Item
         "type_alias" => Ok(Item::TypeAlias(with_name!(TypeAlias, named_at(alloc, members)?))),
         "macro_def" => Ok(Item::MacroDef(with_name!(MacroDef, named_at(alloc, members)?))),
         "const" => Ok(Item::Const(with_name!(Const, named_at(alloc, members)?))),
-        _ => Err(Fault::WrongForm),
+        _ => Err(Fault::at(alloc, "is")),
     }
 }
 
@@ -102,7 +103,7 @@ fn named_item_of(alloc: Global, members: &mut Map<String, Value>) -> Result<Item
 pub(crate) fn item_of(alloc: Global, value: Value) -> Result<Item, Fault>
     ensures { Reads item_view result (item_form (view value)) }
 {
-    let mut members = members_of(value)?;
+    let mut members = members_of(alloc, value)?;
     item_in(alloc, &mut members)
 }
 
@@ -111,7 +112,7 @@ pub(crate) fn item_of(alloc: Global, value: Value) -> Result<Item, Fault>
 fn item_in(alloc: Global, members: &mut Map<String, Value>) -> Result<Item, Fault>
     ensures { Reads item_view result (item_with item_form (held members.old)) }
 {
-    match word_at(members, "is")? {
+    match word_at(alloc, members, "is")? {
         "struct" => struct_of(alloc, members),
         "module" => module_of(alloc, members),
         "use" => use_of(alloc, members),
@@ -131,9 +132,9 @@ fn module_of(alloc: Global, members: &mut Map<String, Value>) -> Result<Item, Fa
     ensures { Reads item_view result (module_form item_form (held members.old)) }
 {
     let named = named_at(alloc, members)?;
-    let semicolon = flag_at(members, "semicolon")?;
+    let semicolon = flag_at(alloc, members, "semicolon")?;
     let list = taken(members, "items");
-    let items = items_in(alloc, list)?;
+    let items = items_in(alloc, list).map_err(|fault| fault.in_member(alloc, "items"))?;
     Ok(Item::Module(with_name!(Module, named, semicolon, items)))
 }
 
@@ -145,7 +146,7 @@ fn items_in(alloc: Global, list: Option<Value>) -> Result<Option<Vec<Item>>, Fau
     let Some(list) = list else {
         return Ok(None);
     };
-    let items = array_of(list)?;
+    let items = array_of(alloc, list)?;
     Ok(Some(items_of(alloc, items)?))
 }
 
@@ -155,7 +156,9 @@ pub(crate) fn items_of(alloc: Global, values: Vec<Value>) -> Result<Vec<Item>, F
 {
     let mut items = Vec::with_capacity(alloc, values.len())?;
     for item in values {
-        items.push(item_of(alloc, item)?)?;
+        let place = items.len();
+        let read = item_of(alloc, item).map_err(|fault| fault.in_item(alloc, place))?;
+        items.push(read)?;
     }
     Ok(items)
 }

@@ -1,8 +1,8 @@
 //! Syntax, conditions, attributes and editions, read from their forms in JSON.
 //!
-//! A form is a definition in `specs/`: a partial function from a JSON value to plain data. Each function here that reads one answers
-//! exactly its reading (`Reads`), or says that there is none, or that memory was wanting. Texts are moved and not copied: what is
-//! read is taken out of its object, which leaves a null.
+//! A form is a definition in `specs/`: from a JSON value to plain data, or to a pointer. Each function here that reads one answers
+//! exactly its reading (`Reads`), or says where the first value stands that is not of its form, or that memory was wanting. Texts
+//! are moved and not copied: what is read is taken out of its object, which leaves a null.
 #![tactic(auto)]
 
 pub mod atom;
@@ -17,9 +17,11 @@ pub mod member;
 pub mod meta;
 pub mod name;
 mod path;
+mod pointer;
 mod stmt;
 pub mod syntax;
 mod use_tree;
 mod visibility;
 
 pub use fault::Fault;
+pub use pointer::Pointer;

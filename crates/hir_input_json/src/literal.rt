@@ -1,56 +1,67 @@
 //! Literals, read from their forms.
 ghost use Rattle.std.specs.Prelude.{◌≡◌, OnOk, codes, option_map, string_bytes};
-ghost use Rattle.serde_json.specs.Find.{as_str};
 ghost use Rattle.serde_json.specs.View.{view};
-ghost use Rattle.hir_input_json.specs.Forms.{field as field_of, maybe, optional, required};
+ghost use Rattle.hir_input_json.specs.Forms.{required_at as required_form, optional_at, maybe_at, text};
 ghost use Rattle.hir_input_json.specs.Held.{held, without};
 ghost use Rattle.hir_input_json.specs.Literals.{literal as literal_form, span as span_form, span_of as span_from};
 ghost use Rattle.hir_input_json.specs.Reads.{Reads};
 
 use crate::fault::Fault;
-use crate::member::{field, members_of, taken, text_of, u32_of};
+use crate::member::{field, members_of, required_at, taken, text_of, u32_of};
 use hir_input::{Literal, Span, SyntaxContext};
 use serde_json::{Map, Value};
+use std::alloc::Global;
 
 // A text that has to be there, taken out.
-pub(crate) fn required_text_at(members: &mut Map<String, Value>, key: &str) -> Result<String, Fault>
-    ensures reads { Reads string_bytes result (required as_str (field_of key.now (held members.old))) }
+pub(crate) fn required_text_at(
+    alloc: Global,
+    members: &mut Map<String, Value>,
+    key: &str,
+) -> Result<String, Fault>
+    ensures reads { Reads string_bytes result (required_form key.now text (held members.old)) }
     ensures left { OnOk result (held members.new ≡ without key.now (held members.old)) }
 {
-    let found = taken(members, key).ok_or(Fault::WrongForm)?;
-    text_of(found)
+    let found = required_at(alloc, members, key)?;
+    text_of(alloc, found).map_err(|fault| fault.in_member(alloc, key))
 }
 
-fn string_at(members: &mut Map<String, Value>) -> Result<Option<String>, Fault>
-    ensures reads { Reads (option_map string_bytes) result (maybe as_str (field_of (codes "string") (held members.old))) }
+fn string_at(alloc: Global, members: &mut Map<String, Value>) -> Result<Option<String>, Fault>
+    ensures reads { Reads (option_map string_bytes) result (maybe_at (codes "string") text (held members.old)) }
     ensures left { OnOk result (held members.new ≡ without (codes "string") (held members.old)) }
 {
     match taken(members, "string") {
-        Some(found) => Ok(Some(text_of(found)?)),
+        Some(found) => {
+            let text = text_of(alloc, found).map_err(|fault| fault.in_member(alloc, "string"))?;
+            Ok(Some(text))
+        }
         None => Ok(None),
     }
 }
 
-#[tactic(auto, using(crate::proofs::Spans::span_of_fewer, crate::proofs::Spans::span_of_more))]
-fn span_of(value: &Value, ctxt: SyntaxContext) -> Result<Span, Fault>
+fn span_of(alloc: Global, value: &Value, ctxt: SyntaxContext) -> Result<Span, Fault>
     ensures { Reads (λ span. span) result (span_form ctxt (view value.now)) }
 {
-    match value.as_array().ok_or(Fault::WrongForm)?.as_slice() {
+    let Some(items) = value.as_array() else {
+        return Err(Fault::here(alloc));
+    };
+    match items.as_slice() {
         [start, end] => {
-            let start = u32_of(start)?;
-            let end = u32_of(end)?;
+            let start = u32_of(alloc, start).map_err(|fault| fault.in_item(alloc, 0))?;
+            let end = u32_of(alloc, end).map_err(|fault| fault.in_item(alloc, 1))?;
             Ok(Span { start, end, ctxt })
         }
-        _ => Err(Fault::WrongForm),
+        _ => Err(Fault::here(alloc)),
     }
 }
 
 // Empty at 0 where it is absent.
-fn span_at(members: &Map<String, Value>, ctxt: SyntaxContext) -> Result<Span, Fault>
-    ensures { Reads (λ span. span) result (optional (span_from ctxt 0 0) (span_form ctxt) (field_of (codes "span") (held members.now))) }
+fn span_at(alloc: Global, members: &Map<String, Value>, ctxt: SyntaxContext) -> Result<Span, Fault>
+    ensures { Reads (λ span. span) result (optional_at (span_from ctxt 0 0) (codes "span") (span_form ctxt) (held members.now)) }
 {
     match field(members, "span") {
-        Some(found) => span_of(found, ctxt),
+        Some(found) => {
+            span_of(alloc, found, ctxt).map_err(|fault| fault.in_member(alloc, "span"))
+        }
         None => Ok(Span {
             start: 0,
             end: 0,
@@ -60,13 +71,13 @@ fn span_at(members: &Map<String, Value>, ctxt: SyntaxContext) -> Result<Span, Fa
 }
 
 #[tactic(auto, using(crate::proofs::Held::field_without, crate::proofs::Held::no_field))]
-fn literal_of(value: Value, ctxt: SyntaxContext) -> Result<Literal, Fault>
+fn literal_of(alloc: Global, value: Value, ctxt: SyntaxContext) -> Result<Literal, Fault>
     ensures { Reads (λ literal. literal) result (literal_form ctxt (view value)) }
 {
-    let mut members = members_of(value)?;
-    let rendered = required_text_at(&mut members, "rendered")?;
-    let string = string_at(&mut members)?;
-    let span = span_at(&members, ctxt)?;
+    let mut members = members_of(alloc, value)?;
+    let rendered = required_text_at(alloc, &mut members, "rendered")?;
+    let string = string_at(alloc, &mut members)?;
+    let span = span_at(alloc, &members, ctxt)?;
     Ok(Literal {
         rendered,
         string,
@@ -76,13 +87,19 @@ fn literal_of(value: Value, ctxt: SyntaxContext) -> Result<Literal, Fault>
 
 // The value of a meta in this context, taken out.
 pub(crate) fn literal_at(
+    alloc: Global,
     members: &mut Map<String, Value>,
     ctxt: SyntaxContext,
 ) -> Result<Option<Literal>, Fault>
-    ensures { Reads (λ literal. literal) result (maybe (literal_form ctxt) (field_of (codes "value") (held members.old))) }
+    ensures { Reads (λ literal. literal) result (maybe_at (codes "value") (literal_form ctxt) (held members.old)) }
 {
     match taken(members, "value") {
-        Some(found) => Ok(Some(literal_of(found, ctxt)?)),
+        Some(found) => {
+            let literal = literal_of(alloc, found, ctxt).map_err(|fault| fault.in_member(
+                alloc, "value",
+            ))?;
+            Ok(Some(literal))
+        }
         None => Ok(None),
     }
 }

@@ -1,11 +1,11 @@
 //! Members of an object by their keys, and the plain values that they hold.
-ghost use Rattle.std.specs.Prelude.{◌≡◌, ◌^◌, [], None, false, IfErr, MatchResult, OnOk, option_map, string_bytes};
-ghost use Rattle.serde_json.specs.Find.{as_array, as_bool, as_object, as_str, get as get_in};
+ghost use Rattle.std.specs.Prelude.{◌≡◌, ◌^◌, [], None, false, MatchResult, OnOk, option_map, string_bytes};
+ghost use Rattle.serde_json.specs.Find.{as_object, get as get_in};
 ghost use Rattle.serde_json.specs.View.{view, items_view};
-ghost use Rattle.hir_input_json.specs.Forms.{field as field_of, optional, required, whole, id_at as id_form, items_at as items_form};
+ghost use Rattle.hir_input_json.specs.Reading.{right};
+ghost use Rattle.hir_input_json.specs.Forms.{field as field_of, required_at as required_form, optional_at, flag, items_in, text, whole, id_at as id_form, items_at as items_form};
 ghost use Rattle.hir_input_json.specs.Held.{held, without};
-ghost use Rattle.hir_input_json.specs.Reads.{Reads};
-ghost use Rattle.hir_input_json.specs.declared.fault.Fault.TheVariants.{WrongForm};
+ghost use Rattle.hir_input_json.specs.Reads.{IsHere, Reads};
 
 use crate::fault::Fault;
 use serde_json::{Map, Value};
@@ -14,33 +14,33 @@ use std::alloc::Global;
 /// The members of an object, by which its parts are read.
 ///
 /// An error comes exactly where the value is no object.
-pub fn members_of(value: Value) -> Result<Map<String, Value>, Fault>
+pub fn members_of(alloc: Global, value: Value) -> Result<Map<String, Value>, Fault>
     ensures { MatchResult result (λ members. view value ≡ held members)
-        (λ e. (e ≡ WrongForm) × (as_object (view value) ≡ None)) }
+        (λ e. IsHere e × (as_object (view value) ≡ None)) }
 {
     match value {
         Value::Object(members) => Ok(members),
-        _ => Err(Fault::WrongForm),
+        _ => Err(Fault::here(alloc)),
     }
 }
 
 // The items of an array.
-pub(crate) fn array_of(value: Value) -> Result<Vec<Value>, Fault>
-    ensures { Reads (λ v. items_view v.items) result (as_array (view value)) }
+pub(crate) fn array_of(alloc: Global, value: Value) -> Result<Vec<Value>, Fault>
+    ensures { Reads (λ v. items_view v.items) result (items_in (view value)) }
 {
     match value {
         Value::Array(items) => Ok(items),
-        _ => Err(Fault::WrongForm),
+        _ => Err(Fault::here(alloc)),
     }
 }
 
 // The text of a string.
-pub(crate) fn text_of(value: Value) -> Result<String, Fault>
-    ensures { Reads string_bytes result (as_str (view value)) }
+pub(crate) fn text_of(alloc: Global, value: Value) -> Result<String, Fault>
+    ensures { Reads string_bytes result (text (view value)) }
 {
     match value {
         Value::String(text) => Ok(text),
-        _ => Err(Fault::WrongForm),
+        _ => Err(Fault::here(alloc)),
     }
 }
 
@@ -88,24 +88,41 @@ pub fn taken(members: &mut Map<String, Value>, key: &str) -> Option<Value>
     }
 }
 
+/// Takes a member out that has to be there.
+///
+/// `WrongForm` comes only where it is absent.
+pub fn required_at(
+    alloc: Global,
+    members: &mut Map<String, Value>,
+    key: &str,
+) -> Result<Value, Fault>
+    ensures reads { Reads view result (required_form key.now right (held members.old)) }
+    ensures left { OnOk result (held members.new ≡ without key.now (held members.old)) }
+{
+    taken(members, key).ok_or_else(|| Fault::at(alloc, key))
+}
+
 /// The word that says which case of a form this is.
 ///
 /// `WrongForm` comes only where the member is absent or no string.
-pub fn word_at<'v>(members: &'v Map<String, Value>, key: &str) -> Result<&'v str, Fault>
-    ensures reads { Reads (λ word. word.now) result (required as_str (field_of key.now (held members.now))) }
-    ensures refused { IfErr result (λ e. e ≡ WrongForm) }
+pub fn word_at<'v>(
+    alloc: Global,
+    members: &'v Map<String, Value>,
+    key: &str,
+) -> Result<&'v str, Fault>
+    ensures { Reads (λ word. word.now) result (required_form key.now text (held members.now)) }
 {
     field(members, key)
         .and_then(Value::as_str)
-        .ok_or(Fault::WrongForm)
+        .ok_or_else(|| Fault::at(alloc, key))
 }
 
 // A truth value, false where it is absent.
-pub(crate) fn flag_at(members: &Map<String, Value>, key: &str) -> Result<bool, Fault>
-    ensures { Reads (λ flag. flag) result (optional false as_bool (field_of key.now (held members.now))) }
+pub(crate) fn flag_at(alloc: Global, members: &Map<String, Value>, key: &str) -> Result<bool, Fault>
+    ensures { Reads (λ flag. flag) result (optional_at false key.now flag (held members.now)) }
 {
     match field(members, key) {
-        Some(found) => found.as_bool().ok_or(Fault::WrongForm),
+        Some(found) => found.as_bool().ok_or_else(|| Fault::at(alloc, key)),
         None => Ok(false),
     }
 }
@@ -116,11 +133,11 @@ pub(crate) fn text_at(
     members: &mut Map<String, Value>,
     key: &str,
 ) -> Result<String, Fault>
-    ensures reads { Reads string_bytes result (optional [] as_str (field_of key.now (held members.old))) }
+    ensures reads { Reads string_bytes result (optional_at [] key.now text (held members.old)) }
     ensures left { OnOk result (held members.new ≡ without key.now (held members.old)) }
 {
     match taken(members, key) {
-        Some(found) => text_of(found),
+        Some(found) => text_of(alloc, found).map_err(|fault| fault.in_member(alloc, key)),
         None => Ok(String::new(alloc)),
     }
 }
@@ -137,39 +154,52 @@ pub fn list_at(
     ensures left { OnOk result (held members.new ≡ without key.now (held members.old)) }
 {
     match taken(members, key) {
-        Some(list) => array_of(list),
+        Some(list) => array_of(alloc, list).map_err(|fault| fault.in_member(alloc, key)),
         None => Ok(Vec::new(alloc)),
     }
 }
 
-// A whole number of 32 bits.
-pub(crate) fn u32_of(value: &Value) -> Result<u32, Fault>
-    ensures reads { Reads (λ n. n) result (whole (2 ^ 32) (view value.now)) }
-    ensures refused { IfErr result (λ e. e ≡ WrongForm) }
+// A whole number of 16 bits.
+fn u16_of(alloc: Global, value: &Value) -> Result<u16, Fault>
+    ensures { Reads (λ n. n) result (whole (2 ^ 16) (view value.now)) }
 {
-    let number = value.as_u64().ok_or(Fault::WrongForm)?;
-    u32::try_from(number).ok().ok_or(Fault::WrongForm)
+    let number = value.as_u64().ok_or_else(|| Fault::here(alloc))?;
+    u16::try_from(number).ok().ok_or_else(|| Fault::here(alloc))
+}
+
+// A whole number of 32 bits.
+pub(crate) fn u32_of(alloc: Global, value: &Value) -> Result<u32, Fault>
+    ensures { Reads (λ n. n) result (whole (2 ^ 32) (view value.now)) }
+{
+    let number = value.as_u64().ok_or_else(|| Fault::here(alloc))?;
+    u32::try_from(number).ok().ok_or_else(|| Fault::here(alloc))
+}
+
+/// An integer of 64 bits.
+///
+/// `WrongForm` comes only where the value is no such number, as where it is below 0 or held as a float.
+pub fn u64_of(alloc: Global, value: &Value) -> Result<u64, Fault>
+    ensures { Reads (λ n. n) result (whole (2 ^ 64) (view value.now)) }
+{
+    value.as_u64().ok_or_else(|| Fault::here(alloc))
 }
 
 // A whole number of 16 bits, 0 where it is absent.
-pub(crate) fn u16_at(members: &Map<String, Value>, key: &str) -> Result<u16, Fault>
-    ensures { Reads (λ n. n) result (optional 0 (whole (2 ^ 16)) (field_of key.now (held members.now))) }
+pub(crate) fn u16_at(alloc: Global, members: &Map<String, Value>, key: &str) -> Result<u16, Fault>
+    ensures { Reads (λ n. n) result (optional_at 0 key.now (whole (2 ^ 16)) (held members.now)) }
 {
     match field(members, key) {
-        Some(found) => {
-            let number = found.as_u64().ok_or(Fault::WrongForm)?;
-            u16::try_from(number).ok().ok_or(Fault::WrongForm)
-        }
+        Some(found) => u16_of(alloc, found).map_err(|fault| fault.in_member(alloc, key)),
         None => Ok(0),
     }
 }
 
 // A whole number of 32 bits, 0 where it is absent.
-pub(crate) fn u32_at(members: &Map<String, Value>, key: &str) -> Result<u32, Fault>
-    ensures { Reads (λ n. n) result (optional 0 (whole (2 ^ 32)) (field_of key.now (held members.now))) }
+pub(crate) fn u32_at(alloc: Global, members: &Map<String, Value>, key: &str) -> Result<u32, Fault>
+    ensures { Reads (λ n. n) result (optional_at 0 key.now (whole (2 ^ 32)) (held members.now)) }
 {
     match field(members, key) {
-        Some(found) => u32_of(found),
+        Some(found) => u32_of(alloc, found).map_err(|fault| fault.in_member(alloc, key)),
         None => Ok(0),
     }
 }
@@ -177,12 +207,11 @@ pub(crate) fn u32_at(members: &Map<String, Value>, key: &str) -> Result<u32, Fau
 /// An integer of 64 bits, 0 where it is absent.
 ///
 /// `WrongForm` comes only where the member is there and is no such number, as where it is below 0 or held as a float.
-pub fn u64_at(members: &Map<String, Value>, key: &str) -> Result<u64, Fault>
-    ensures reads { Reads (λ n. n) result (optional 0 (whole (2 ^ 64)) (field_of key.now (held members.now))) }
-    ensures refused { IfErr result (λ e. e ≡ WrongForm) }
+pub fn u64_at(alloc: Global, members: &Map<String, Value>, key: &str) -> Result<u64, Fault>
+    ensures { Reads (λ n. n) result (optional_at 0 key.now (whole (2 ^ 64)) (held members.now)) }
 {
     match field(members, key) {
-        Some(found) => found.as_u64().ok_or(Fault::WrongForm),
+        Some(found) => u64_of(alloc, found).map_err(|fault| fault.in_member(alloc, key)),
         None => Ok(0),
     }
 }
@@ -190,10 +219,11 @@ pub fn u64_at(members: &Map<String, Value>, key: &str) -> Result<u64, Fault>
 /// The number of a file, a block or a crate.
 ///
 /// `WrongForm` comes only where the member is absent or no integer of 32 bits.
-pub fn id_at(members: &Map<String, Value>, key: &str) -> Result<u32, Fault>
-    ensures reads { Reads (λ n. n) result (id_form key.now (held members.now)) }
-    ensures refused { IfErr result (λ e. e ≡ WrongForm) }
+pub fn id_at(alloc: Global, members: &Map<String, Value>, key: &str) -> Result<u32, Fault>
+    ensures { Reads (λ n. n) result (id_form key.now (held members.now)) }
 {
-    let found = field(members, key).ok_or(Fault::WrongForm)?;
-    u32_of(found)
+    match field(members, key) {
+        Some(found) => u32_of(alloc, found).map_err(|fault| fault.in_member(alloc, key)),
+        None => Err(Fault::at(alloc, key)),
+    }
 }

@@ -22,7 +22,7 @@ fn path_meta_of(alloc: Global, members: &mut Map<String, Value>) -> Result<Meta,
     ensures { Reads meta_view result (path_form (held members.old)) }
 {
     let path = path_at(alloc, members)?;
-    let ctxt = context_at(members)?;
+    let ctxt = context_at(alloc, members)?;
     Ok(Meta::Path { path, ctxt })
 }
 
@@ -31,8 +31,8 @@ fn key_value_of(alloc: Global, members: &mut Map<String, Value>) -> Result<Meta,
     ensures { Reads meta_view result (key_value_form (held members.old)) }
 {
     let path = path_at(alloc, members)?;
-    let ctxt = context_at(members)?;
-    let value = literal_at(members, ctxt)?;
+    let ctxt = context_at(alloc, members)?;
+    let value = literal_at(alloc, members, ctxt)?;
     Ok(Meta::KeyValue { path, value, ctxt })
 }
 
@@ -41,8 +41,8 @@ fn tokens_of(alloc: Global, members: &mut Map<String, Value>) -> Result<Meta, Fa
     ensures { Reads meta_view result (tokens_form (held members.old)) }
 {
     let path = path_at(alloc, members)?;
-    let ctxt = context_at(members)?;
-    let rendered = required_text_at(members, "tokens")?;
+    let ctxt = context_at(alloc, members)?;
+    let rendered = required_text_at(alloc, members, "tokens")?;
     Ok(Meta::TokenTree {
         path,
         tokens: TokenTree { rendered },
@@ -62,7 +62,7 @@ fn cfg_meta_of(alloc: Global, members: &mut Map<String, Value>) -> Result<Meta, 
 fn meta_of(alloc: Global, value: Value) -> Result<Meta, Fault>
     ensures { Reads meta_view result (meta_form (view value)) }
 {
-    let mut members = members_of(value)?;
+    let mut members = members_of(alloc, value)?;
     meta_in(alloc, &mut members)
 }
 
@@ -70,14 +70,14 @@ fn meta_of(alloc: Global, value: Value) -> Result<Meta, Fault>
 fn meta_in(alloc: Global, members: &mut Map<String, Value>) -> Result<Meta, Fault>
     ensures { Reads meta_view result (meta_with meta_form (held members.old)) }
 {
-    match word_at(members, "meta")? {
+    match word_at(alloc, members, "meta")? {
         "path" => path_meta_of(alloc, members),
         "key_value" => key_value_of(alloc, members),
         "tokens" => tokens_of(alloc, members),
         "cfg" => cfg_meta_of(alloc, members),
         "cfg_attr" => cfg_attr_of(alloc, members),
         "unsafe" => unsafe_of(alloc, members),
-        _ => Err(Fault::WrongForm),
+        _ => Err(Fault::at(alloc, "meta")),
     }
 }
 
@@ -88,7 +88,7 @@ fn cfg_attr_of(alloc: Global, members: &mut Map<String, Value>) -> Result<Meta, 
 {
     let condition = condition_at(alloc, members)?;
     let items = list_at(alloc, members, "metas")?;
-    let metas = metas_of(alloc, items)?;
+    let metas = metas_of(alloc, items).map_err(|fault| fault.in_member(alloc, "metas"))?;
     Ok(Meta::CfgAttr { condition, metas })
 }
 
@@ -98,9 +98,9 @@ fn unsafe_of(alloc: Global, members: &mut Map<String, Value>) -> Result<Meta, Fa
     ensures { Reads meta_view result (unsafe_form meta_form (held members.old)) }
 {
     let Some(inner) = taken(members, "inner") else {
-        return Err(Fault::WrongForm);
+        return Err(Fault::at(alloc, "inner"));
     };
-    let inner = meta_of(alloc, inner)?;
+    let inner = meta_of(alloc, inner).map_err(|fault| fault.in_member(alloc, "inner"))?;
     Ok(Meta::Unsafe(Box::new(alloc, inner)?))
 }
 
@@ -110,7 +110,9 @@ fn metas_of(alloc: Global, items: Vec<Value>) -> Result<Vec<Meta>, Fault>
 {
     let mut metas = Vec::with_capacity(alloc, items.len())?;
     for item in items {
-        metas.push(meta_of(alloc, item)?)?;
+        let place = metas.len();
+        let read = meta_of(alloc, item).map_err(|fault| fault.in_item(alloc, place))?;
+        metas.push(read)?;
     }
     Ok(metas)
 }
@@ -123,5 +125,5 @@ pub fn attrs_at(alloc: Global, members: &mut Map<String, Value>) -> Result<Vec<M
     ensures left { OnOk result (held members.new ≡ without (codes "attrs") (held members.old)) }
 {
     let items = list_at(alloc, members, "attrs")?;
-    metas_of(alloc, items)
+    metas_of(alloc, items).map_err(|fault| fault.in_member(alloc, "attrs"))
 }

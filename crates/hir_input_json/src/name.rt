@@ -1,8 +1,9 @@
 //! Names, read from their texts.
-ghost use Rattle.std.specs.Prelude.{◌≡◌, OnOk, option_map, string_bytes};
+ghost use Rattle.std.specs.Prelude.{◌≡◌, ◌≤◌, OnOk, string_bytes};
 ghost use Rattle.std.specs.Vec.Iter.{into_iter_items};
 ghost use Rattle.serde_json.specs.View.{view, items_view};
-ghost use Rattle.hir_input_json.specs.Forms.{field as field_of, maybe, name as name_form, name_in, each, list_at as each_at};
+ghost use Rattle.hir_input_json.specs.Reading.{here};
+ghost use Rattle.hir_input_json.specs.Forms.{maybe_at, name as name_form, name_in, each_from, list_at as each_at};
 ghost use Rattle.hir_input_json.specs.Held.{held, without};
 ghost use Rattle.hir_input_json.specs.Reads.{Reads};
 
@@ -15,38 +16,53 @@ use std::vec::IntoIter;
 
 // A text that is not empty and holds no line feed.
 #[tactic(auto, using(crate::proofs::Names::new_name))]
-pub(crate) fn name_from(text: String) -> Result<Name, Fault>
-    ensures { Reads (λ name. name) result (name_in (string_bytes text)) }
+pub(crate) fn name_from(alloc: Global, text: String) -> Result<Name, Fault>
+    ensures { Reads (λ name. name) result (here (name_in (string_bytes text))) }
 {
-    Name::new(text).ok_or(Fault::WrongForm)
+    Name::new(text).ok_or_else(|| Fault::here(alloc))
 }
 
 /// A name of its text.
 ///
 /// `WrongForm` comes only where the value is no string, or one that is empty or holds a line feed.
-pub fn name_of(value: Value) -> Result<Name, Fault>
+pub fn name_of(alloc: Global, value: Value) -> Result<Name, Fault>
     ensures { Reads (λ name. name) result (name_form (view value)) }
 {
-    name_from(text_of(value)?)
+    name_from(alloc, text_of(alloc, value)?)
 }
 
 // Takes a name out.
-pub(crate) fn name_at(members: &mut Map<String, Value>, key: &str) -> Result<Option<Name>, Fault>
-    ensures reads { Reads (λ name. name) result (maybe name_form (field_of key.now (held members.old))) }
+pub(crate) fn name_at(
+    alloc: Global,
+    members: &mut Map<String, Value>,
+    key: &str,
+) -> Result<Option<Name>, Fault>
+    ensures reads { Reads (λ name. name) result (maybe_at key.now name_form (held members.old)) }
     ensures left { OnOk result (held members.new ≡ without key.now (held members.old)) }
 {
     match taken(members, key) {
-        Some(found) => Ok(Some(name_of(found)?)),
+        Some(found) => {
+            let name = name_of(alloc, found).map_err(|fault| fault.in_member(alloc, key))?;
+            Ok(Some(name))
+        }
         None => Ok(None),
     }
 }
 
-pub(crate) fn names_of(alloc: Global, items: IntoIter<Value>) -> Result<Vec<Name>, Fault>
-    ensures { Reads (λ v. v.items) result (each name_form (items_view (into_iter_items items))) }
+// Each of the items, the first one with this number.
+pub(crate) fn names_of(
+    alloc: Global,
+    items: IntoIter<Value>,
+    first: usize,
+) -> Result<Vec<Name>, Fault>
+    requires { first ≤ 2 }
+    ensures { Reads (λ v. v.items) result (each_from first name_form (items_view (into_iter_items items))) }
 {
     let mut names = Vec::with_capacity(alloc, items.len())?;
     for item in items {
-        names.push(name_of(item)?)?;
+        let place = first + names.len();
+        let read = name_of(alloc, item).map_err(|fault| fault.in_item(alloc, place))?;
+        names.push(read)?;
     }
     Ok(names)
 }
@@ -63,5 +79,5 @@ pub fn names_at(
     ensures left { OnOk result (held members.new ≡ without key.now (held members.old)) }
 {
     let items = list_at(alloc, members, key)?;
-    names_of(alloc, items.into_iter())
+    names_of(alloc, items.into_iter(), 0).map_err(|fault| fault.in_member(alloc, key))
 }

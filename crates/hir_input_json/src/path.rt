@@ -1,5 +1,5 @@
 //! Paths, read from their forms.
-ghost use Rattle.std.specs.Prelude.{◌≡◌, OnOk, codes};
+ghost use Rattle.std.specs.Prelude.{◌≡◌, ◌≤◌, OnOk, codes};
 ghost use Rattle.std.specs.Vec.Iter.{into_iter_items};
 ghost use Rattle.serde_json.specs.View.{view, items_view};
 ghost use Rattle.hir_input_json.specs.Held.{held, without};
@@ -15,14 +15,20 @@ use serde_json::{Map, Value};
 use std::alloc::Global;
 use std::vec::IntoIter;
 
-// A path of a kind, with each of the items for a name.
-fn path_with(alloc: Global, kind: PathKind, items: IntoIter<Value>) -> Result<PathNode, Fault>
-    ensures { Reads (λ path. path) result (names_behind kind (items_view (into_iter_items items))) }
+// A path of a kind, with each of the items for a name, the first one with this number.
+fn path_with(
+    alloc: Global,
+    kind: PathKind,
+    items: IntoIter<Value>,
+    first: usize,
+) -> Result<PathNode, Fault>
+    requires { first ≤ 2 }
+    ensures { Reads (λ path. path) result (names_behind first kind (items_view (into_iter_items items))) }
 {
-    let names = names_of(alloc, items)?;
+    let names = names_of(alloc, items, first)?;
     match ModPath::from_segments(kind, names) {
         Some(path) => Ok(PathNode::Readable(path)),
-        None => Err(Fault::WrongForm),
+        None => Err(Fault::here(alloc)),
     }
 }
 
@@ -30,18 +36,18 @@ fn path_with(alloc: Global, kind: PathKind, items: IntoIter<Value>) -> Result<Pa
 fn super_path(alloc: Global, mut items: IntoIter<Value>) -> Result<PathNode, Fault>
     ensures { Reads (λ path. path) result (super_form (items_view (into_iter_items items))) }
 {
-    let count = items.next().ok_or(Fault::WrongForm)?;
-    let count = u32_of(&count)?;
-    path_with(alloc, PathKind::Super(count), items)
+    let count = items.next().ok_or_else(|| Fault::here(alloc))?;
+    let count = u32_of(alloc, &count).map_err(|fault| fault.in_item(alloc, 1))?;
+    path_with(alloc, PathKind::Super(count), items, 2)
 }
 
 // The crate that `$crate` stands for, and the names.
 fn dollar_path(alloc: Global, mut items: IntoIter<Value>) -> Result<PathNode, Fault>
     ensures { Reads (λ path. path) result (dollar_form (items_view (into_iter_items items))) }
 {
-    let number = items.next().ok_or(Fault::WrongForm)?;
-    let number = u32_of(&number)?;
-    path_with(alloc, PathKind::DollarCrate(Crate(number)), items)
+    let number = items.next().ok_or_else(|| Fault::here(alloc))?;
+    let number = u32_of(alloc, &number).map_err(|fault| fault.in_item(alloc, 1))?;
+    path_with(alloc, PathKind::DollarCrate(Crate(number)), items, 2)
 }
 
 // A path by the word of its kind.
@@ -49,12 +55,12 @@ fn path_by(alloc: Global, word: &str, items: IntoIter<Value>) -> Result<PathNode
     ensures { Reads (λ path. path) result (by_word word.now (items_view (into_iter_items items))) }
 {
     match word {
-        "plain" => path_with(alloc, PathKind::Plain, items),
+        "plain" => path_with(alloc, PathKind::Plain, items, 1),
         "super" => super_path(alloc, items),
-        "crate" => path_with(alloc, PathKind::Crate, items),
-        "abs" => path_with(alloc, PathKind::Abs, items),
+        "crate" => path_with(alloc, PathKind::Crate, items, 1),
+        "abs" => path_with(alloc, PathKind::Abs, items, 1),
         "dollar" => dollar_path(alloc, items),
-        _ => Err(Fault::WrongForm),
+        _ => Err(Fault::here(alloc).in_item(alloc, 0)),
     }
 }
 
@@ -62,8 +68,8 @@ fn path_by(alloc: Global, word: &str, items: IntoIter<Value>) -> Result<PathNode
 fn listed_path(alloc: Global, mut items: IntoIter<Value>) -> Result<PathNode, Fault>
     ensures { Reads (λ path. path) result (listed_form (items_view (into_iter_items items))) }
 {
-    let word = items.next().ok_or(Fault::WrongForm)?;
-    let word = text_of(word)?;
+    let word = items.next().ok_or_else(|| Fault::here(alloc))?;
+    let word = text_of(alloc, word).map_err(|fault| fault.in_item(alloc, 0))?;
     path_by(alloc, word.as_str(), items)
 }
 
@@ -72,9 +78,9 @@ pub(crate) fn path_of(alloc: Global, value: Value) -> Result<PathNode, Fault>
 {
     match value.as_str() {
         Some("unreadable") => Ok(PathNode::Unreadable),
-        Some(_) => Err(Fault::WrongForm),
+        Some(_) => Err(Fault::here(alloc)),
         None => {
-            let items = array_of(value)?;
+            let items = array_of(alloc, value)?;
             listed_path(alloc, items.into_iter())
         }
     }
@@ -89,7 +95,10 @@ pub(crate) fn path_at(
     ensures left { OnOk result (held members.new ≡ without (codes "path") (held members.old)) }
 {
     match taken(members, "path") {
-        Some(found) => Ok(Some(path_of(alloc, found)?)),
+        Some(found) => {
+            let path = path_of(alloc, found).map_err(|fault| fault.in_member(alloc, "path"))?;
+            Ok(Some(path))
+        }
         None => Ok(None),
     }
 }

@@ -1,27 +1,26 @@
 //! Statements and tails, read from their forms.
 ghost use Rattle.std.specs.Prelude.{◌≡◌, OnOk, codes, map};
-ghost use Rattle.serde_json.specs.Find.{as_str};
 ghost use Rattle.serde_json.specs.View.{view, items_view};
 ghost use Rattle.hir_input.specs.Syntax.{call_view, stmt_view, stmts_view, tail_view};
-ghost use Rattle.hir_input_json.specs.Forms.{each, field as field_of, list_at as each_at, optional};
+ghost use Rattle.hir_input_json.specs.Forms.{each, list_at as each_at, optional_at, text};
 ghost use Rattle.hir_input_json.specs.Held.{held, without};
-ghost use Rattle.hir_input_json.specs.Syntaxes.{call as call_form, stmt as stmt_form, tail as tail_form, tail_at as tail_at_form};
+ghost use Rattle.hir_input_json.specs.Syntaxes.{call as call_form, stmt as stmt_form, stmt_by, tail as tail_form, tail_at as tail_at_form};
 ghost use Rattle.hir_input_json.specs.Reads.{Reads};
 
 use crate::fault::Fault;
 use crate::item::item_of;
 use crate::item::macros::macro_call_of;
-use crate::member::{field, list_at, members_of, taken};
+use crate::member::{field, list_at, members_of, required_at, taken};
 use hir_input::ast::{MacroCall, Stmt, Tail};
 use serde_json::{Map, Value};
 use std::alloc::Global;
 
 // The word of a call's kind, which may be absent.
-fn kind_at<'v>(members: &'v Map<String, Value>) -> Result<&'v str, Fault>
-    ensures { Reads (λ word. word.now) result (optional (codes "macro_call") as_str (field_of (codes "is") (held members.now))) }
+fn kind_at<'v>(alloc: Global, members: &'v Map<String, Value>) -> Result<&'v str, Fault>
+    ensures { Reads (λ word. word.now) result (optional_at (codes "macro_call") (codes "is") text (held members.now)) }
 {
     match field(members, "is") {
-        Some(found) => found.as_str().ok_or(Fault::WrongForm),
+        Some(found) => found.as_str().ok_or_else(|| Fault::at(alloc, "is")),
         None => Ok("macro_call"),
     }
 }
@@ -30,10 +29,10 @@ fn kind_at<'v>(members: &'v Map<String, Value>) -> Result<&'v str, Fault>
 fn call_of(alloc: Global, value: Value) -> Result<MacroCall, Fault>
     ensures { Reads call_view result (call_form (view value)) }
 {
-    let mut members = members_of(value)?;
-    match kind_at(&members)? {
+    let mut members = members_of(alloc, value)?;
+    match kind_at(alloc, &members)? {
         "macro_call" => macro_call_of(alloc, &mut members),
-        _ => Err(Fault::WrongForm),
+        _ => Err(Fault::at(alloc, "is")),
     }
 }
 
@@ -44,23 +43,25 @@ fn stmt_of(alloc: Global, value: Value) -> Result<Stmt, Fault>
     if let Some(word) = value.as_str() {
         return match word {
             "other" => Ok(Stmt::Other),
-            _ => Err(Fault::WrongForm),
+            _ => Err(Fault::here(alloc)),
         };
     }
-    let mut members = members_of(value)?;
+    let mut members = members_of(alloc, value)?;
     stmt_in(alloc, &mut members)
 }
 
 // An item, or else a call.
 #[tactic(auto, using(crate::proofs::Held::field_without))]
 fn stmt_in(alloc: Global, members: &mut Map<String, Value>) -> Result<Stmt, Fault>
-    ensures { Reads stmt_view result (stmt_form (held members.old)) }
+    ensures { Reads stmt_view result (stmt_by (held members.old)) }
 {
     if let Some(item) = taken(members, "item") {
-        return Ok(Stmt::Item(item_of(alloc, item)?));
+        let item = item_of(alloc, item).map_err(|fault| fault.in_member(alloc, "item"))?;
+        return Ok(Stmt::Item(item));
     }
-    let call = taken(members, "call").ok_or(Fault::WrongForm)?;
-    Ok(Stmt::MacroCall(call_of(alloc, call)?))
+    let call = taken(members, "call").ok_or_else(|| Fault::here(alloc))?;
+    let call = call_of(alloc, call).map_err(|fault| fault.in_member(alloc, "call"))?;
+    Ok(Stmt::MacroCall(call))
 }
 
 fn stmts_of(alloc: Global, values: Vec<Value>) -> Result<Vec<Stmt>, Fault>
@@ -68,7 +69,9 @@ fn stmts_of(alloc: Global, values: Vec<Value>) -> Result<Vec<Stmt>, Fault>
 {
     let mut stmts = Vec::with_capacity(alloc, values.len())?;
     for stmt in values {
-        stmts.push(stmt_of(alloc, stmt)?)?;
+        let place = stmts.len();
+        let read = stmt_of(alloc, stmt).map_err(|fault| fault.in_item(alloc, place))?;
+        stmts.push(read)?;
     }
     Ok(stmts)
 }
@@ -79,7 +82,7 @@ pub(crate) fn stmts_at(alloc: Global, members: &mut Map<String, Value>) -> Resul
     ensures left { OnOk result (held members.new ≡ without (codes "stmts") (held members.old)) }
 {
     let stmts = list_at(alloc, members, "stmts")?;
-    stmts_of(alloc, stmts)
+    stmts_of(alloc, stmts).map_err(|fault| fault.in_member(alloc, "stmts"))
 }
 
 #[tactic(auto, using(crate::proofs::Held::no_field))]
@@ -89,12 +92,13 @@ fn tail_of(alloc: Global, value: Value) -> Result<Tail, Fault>
     if let Some(word) = value.as_str() {
         return match word {
             "other" => Ok(Tail::Other),
-            _ => Err(Fault::WrongForm),
+            _ => Err(Fault::here(alloc)),
         };
     }
-    let mut members = members_of(value)?;
-    let call = taken(&mut members, "call").ok_or(Fault::WrongForm)?;
-    Ok(Tail::MacroCall(call_of(alloc, call)?))
+    let mut members = members_of(alloc, value)?;
+    let call = required_at(alloc, &mut members, "call")?;
+    let call = call_of(alloc, call).map_err(|fault| fault.in_member(alloc, "call"))?;
+    Ok(Tail::MacroCall(call))
 }
 
 // Takes the tail out, nothing where it is absent.
@@ -103,7 +107,7 @@ pub(crate) fn tail_at(alloc: Global, members: &mut Map<String, Value>) -> Result
     ensures left { held members.new ≡ without (codes "tail") (held members.old) }
 {
     match taken(members, "tail") {
-        Some(tail) => tail_of(alloc, tail),
+        Some(tail) => tail_of(alloc, tail).map_err(|fault| fault.in_member(alloc, "tail")),
         None => Ok(Tail::Nothing),
     }
 }

@@ -21,7 +21,7 @@ fn source_file_of(alloc: Global, members: &mut Map<String, Value>) -> Result<Syn
 {
     let attrs = attrs_at(alloc, members)?;
     let items = list_at(alloc, members, "items")?;
-    let items = items_of(alloc, items)?;
+    let items = items_of(alloc, items).map_err(|fault| fault.in_member(alloc, "items"))?;
     Ok(Syntax::SourceFile { attrs, items })
 }
 
@@ -29,7 +29,7 @@ fn macro_items_of(alloc: Global, members: &mut Map<String, Value>) -> Result<Syn
     ensures { Reads syntax_view result (macro_items_form (held members.old)) }
 {
     let items = list_at(alloc, members, "items")?;
-    let items = items_of(alloc, items)?;
+    let items = items_of(alloc, items).map_err(|fault| fault.in_member(alloc, "items"))?;
     Ok(Syntax::MacroItems { items })
 }
 
@@ -49,19 +49,19 @@ fn macro_stmts_of(alloc: Global, members: &mut Map<String, Value>) -> Result<Syn
 pub fn syntax_of(alloc: Global, value: Value) -> Result<Syntax, Fault>
     ensures { Reads syntax_view result (syntax_form (view value)) }
 {
-    let mut members = members_of(value)?;
+    let mut members = members_of(alloc, value)?;
     syntax_in(alloc, &mut members)
 }
 
 fn syntax_in(alloc: Global, members: &mut Map<String, Value>) -> Result<Syntax, Fault>
     ensures { Reads syntax_view result (syntax_form (held members.old)) }
 {
-    match word_at(members, "root")? {
+    match word_at(alloc, members, "root")? {
         "source_file" => source_file_of(alloc, members),
         "macro_items" => macro_items_of(alloc, members),
         "macro_stmts" => macro_stmts_of(alloc, members),
         "error" => Ok(Syntax::Error),
-        _ => Err(Fault::WrongForm),
+        _ => Err(Fault::at(alloc, "root")),
     }
 }
 

@@ -2,7 +2,7 @@
 ghost use Rattle.std.specs.Prelude.{◌≡◌, OnOk, codes, map, option_map};
 ghost use Rattle.serde_json.specs.View.{view, items_view};
 ghost use Rattle.hir_input.specs.UseTreeView.{use_tree_view};
-ghost use Rattle.hir_input_json.specs.Forms.{each, field as field_of, list_of, maybe};
+ghost use Rattle.hir_input_json.specs.Forms.{each, list_of, maybe, maybe_at};
 ghost use Rattle.hir_input_json.specs.Held.{held, without};
 ghost use Rattle.hir_input_json.specs.Reads.{Reads};
 ghost use Rattle.hir_input_json.specs.UseTrees.{rename as rename_form, use_tree as use_tree_form, use_tree_with};
@@ -15,26 +15,32 @@ use hir_input::ast::{Rename, UseTree};
 use serde_json::{Map, Value};
 use std::alloc::Global;
 
-fn rename_of(value: Value) -> Result<Rename, Fault>
+fn rename_of(alloc: Global, value: Value) -> Result<Rename, Fault>
     ensures { Reads (λ rename. rename) result (rename_form (view value)) }
 {
-    let text = text_of(value)?;
+    let text = text_of(alloc, value)?;
     match text.as_str() {
         "_" => Ok(Rename { name: None }),
         _ => {
-            let name = name_from(text)?;
+            let name = name_from(alloc, text)?;
             Ok(Rename { name: Some(name) })
         }
     }
 }
 
 // Takes a rename out.
-pub(crate) fn rename_at(members: &mut Map<String, Value>) -> Result<Option<Rename>, Fault>
-    ensures reads { Reads (λ rename. rename) result (maybe rename_form (field_of (codes "rename") (held members.old))) }
+pub(crate) fn rename_at(
+    alloc: Global,
+    members: &mut Map<String, Value>,
+) -> Result<Option<Rename>, Fault>
+    ensures reads { Reads (λ rename. rename) result (maybe_at (codes "rename") rename_form (held members.old)) }
     ensures left { OnOk result (held members.new ≡ without (codes "rename") (held members.old)) }
 {
     match taken(members, "rename") {
-        Some(found) => Ok(Some(rename_of(found)?)),
+        Some(found) => {
+            let rename = rename_of(alloc, found).map_err(|fault| fault.in_member(alloc, "rename"))?;
+            Ok(Some(rename))
+        }
         None => Ok(None),
     }
 }
@@ -44,7 +50,7 @@ pub(crate) fn rename_at(members: &mut Map<String, Value>) -> Result<Option<Renam
 fn use_tree_of(alloc: Global, value: Value) -> Result<UseTree, Fault>
     ensures { Reads use_tree_view result (use_tree_form (view value)) }
 {
-    let mut members = members_of(value)?;
+    let mut members = members_of(alloc, value)?;
     use_tree_in(alloc, &mut members)
 }
 
@@ -54,10 +60,10 @@ fn use_tree_in(alloc: Global, members: &mut Map<String, Value>) -> Result<UseTre
     ensures { Reads use_tree_view result (use_tree_with use_tree_form (held members.old)) }
 {
     let path = path_at(alloc, members)?;
-    let star = flag_at(members, "star")?;
-    let rename = rename_at(members)?;
+    let star = flag_at(alloc, members, "star")?;
+    let rename = rename_at(alloc, members)?;
     let list = taken(members, "list");
-    let list = use_trees_in(alloc, list)?;
+    let list = use_trees_in(alloc, list).map_err(|fault| fault.in_member(alloc, "list"))?;
     Ok(UseTree {
         path,
         star,
@@ -74,7 +80,7 @@ fn use_trees_in(alloc: Global, list: Option<Value>) -> Result<Option<Vec<UseTree
     let Some(list) = list else {
         return Ok(None);
     };
-    let items = array_of(list)?;
+    let items = array_of(alloc, list)?;
     Ok(Some(use_trees_of(alloc, items)?))
 }
 
@@ -84,7 +90,9 @@ fn use_trees_of(alloc: Global, items: Vec<Value>) -> Result<Vec<UseTree>, Fault>
 {
     let mut trees = Vec::with_capacity(alloc, items.len())?;
     for item in items {
-        trees.push(use_tree_of(alloc, item)?)?;
+        let place = trees.len();
+        let read = use_tree_of(alloc, item).map_err(|fault| fault.in_item(alloc, place))?;
+        trees.push(read)?;
     }
     Ok(trees)
 }
@@ -94,10 +102,13 @@ pub(crate) fn use_tree_at(
     alloc: Global,
     members: &mut Map<String, Value>,
 ) -> Result<Option<UseTree>, Fault>
-    ensures { Reads (option_map use_tree_view) result (maybe use_tree_form (field_of (codes "tree") (held members.old))) }
+    ensures { Reads (option_map use_tree_view) result (maybe_at (codes "tree") use_tree_form (held members.old)) }
 {
     match taken(members, "tree") {
-        Some(found) => Ok(Some(use_tree_of(alloc, found)?)),
+        Some(found) => {
+            let tree = use_tree_of(alloc, found).map_err(|fault| fault.in_member(alloc, "tree"))?;
+            Ok(Some(tree))
+        }
         None => Ok(None),
     }
 }

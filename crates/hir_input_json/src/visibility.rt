@@ -1,20 +1,20 @@
 //! Visibilities, read from their forms.
 ghost use Rattle.std.specs.Prelude.{◌≡◌, OnOk, codes};
 ghost use Rattle.serde_json.specs.View.{view};
-ghost use Rattle.hir_input_json.specs.Forms.{field as field_of, maybe};
+ghost use Rattle.hir_input_json.specs.Forms.{maybe_at};
 ghost use Rattle.hir_input_json.specs.Held.{held, without};
 ghost use Rattle.hir_input_json.specs.Paths.{visibility as visibility_form, visibility_word};
 ghost use Rattle.hir_input_json.specs.Reads.{Reads};
 
 use crate::fault::Fault;
-use crate::member::{members_of, taken};
+use crate::member::{members_of, required_at, taken};
 use crate::path::path_of;
 use hir_input::ast::Visibility;
 use serde_json::{Map, Value};
 use std::alloc::Global;
 
 // A visibility by its word.
-fn visibility_by(word: &str) -> Result<Visibility, Fault>
+fn visibility_by(alloc: Global, word: &str) -> Result<Visibility, Fault>
     ensures { Reads (λ visibility. visibility) result (visibility_word word.now) }
 {
     match word {
@@ -22,7 +22,7 @@ fn visibility_by(word: &str) -> Result<Visibility, Fault>
         "crate" => Ok(Visibility::PubCrate),
         "super" => Ok(Visibility::PubSuper),
         "self" => Ok(Visibility::PubSelf),
-        _ => Err(Fault::WrongForm),
+        _ => Err(Fault::here(alloc)),
     }
 }
 
@@ -31,11 +31,12 @@ pub(crate) fn visibility_of(alloc: Global, value: Value) -> Result<Visibility, F
     ensures { Reads (λ visibility. visibility) result (visibility_form (view value)) }
 {
     if let Some(word) = value.as_str() {
-        return visibility_by(word);
+        return visibility_by(alloc, word);
     }
-    let mut members = members_of(value)?;
-    let path = taken(&mut members, "in").ok_or(Fault::WrongForm)?;
-    Ok(Visibility::InPath(path_of(alloc, path)?))
+    let mut members = members_of(alloc, value)?;
+    let path = required_at(alloc, &mut members, "in")?;
+    let path = path_of(alloc, path).map_err(|fault| fault.in_member(alloc, "in"))?;
+    Ok(Visibility::InPath(path))
 }
 
 // Takes a visibility out.
@@ -43,11 +44,16 @@ pub(crate) fn visibility_at(
     alloc: Global,
     members: &mut Map<String, Value>,
 ) -> Result<Option<Visibility>, Fault>
-    ensures reads { Reads (λ visibility. visibility) result (maybe visibility_form (field_of (codes "vis") (held members.old))) }
+    ensures reads { Reads (λ visibility. visibility) result (maybe_at (codes "vis") visibility_form (held members.old)) }
     ensures left { OnOk result (held members.new ≡ without (codes "vis") (held members.old)) }
 {
     match taken(members, "vis") {
-        Some(found) => Ok(Some(visibility_of(alloc, found)?)),
+        Some(found) => {
+            let visibility = visibility_of(alloc, found).map_err(|fault| fault.in_member(
+                alloc, "vis",
+            ))?;
+            Ok(Some(visibility))
+        }
         None => Ok(None),
     }
 }

@@ -1,9 +1,10 @@
 -- An atom and a condition that are written are read again.
-use Rattle.std.proofs.Common.{◌≡◌, ℕ, List, [], ◌∷◌, false, IfSome, Option, Some, None, refl, ap, subst, ◌∙◌}
+use Rattle.std.proofs.Common.{◌≡◌, ℕ, ◌+◌, List, [], ◌∷◌, false, IfSome, Option, Some, None, refl, ap, subst, ◌∙◌}
 use Rattle.serde_json.specs.Data.{Data}
 use Rattle.serde_json.specs.Written.{has_float}
 use Rattle.hir_input.specs.Cfg.{AtomView, CfgView, CfgViews, invalid, all_of, any_of, not_of, no_cfgs, cfg_and, cfgs_from}
 use Rattle.hir_input.specs.Cfg as condition
+use Rattle.hir_input_json.specs.Reading.{right}
 use Rattle.hir_input_json.specs.Forms.{field, name}
 use Rattle.hir_input_json.specs.Cfgs.{atom, cfg}
 use Rattle.hir_input_json.proofs.Attrs.{cfg_reads_itself}
@@ -14,7 +15,7 @@ use Rattle.hir_input_writer.proofs.Held.{bind, mapped, named_law, name_law}
 
 -- what a condition's data may be: a null too
 pub record CfgHolds (c : CfgView) (d : Data) : Type 0 where
-  pub reads : cfg d ≡ Some c
+  pub reads : cfg d ≡ right c
   pub exact : has_float d ≡ false
 
 abbrev listed : CfgViews → List CfgView
@@ -54,17 +55,17 @@ mutual
   cfg_law (condition.atom a) = atom_cfg a.name a.value
   cfg_law (all_of cs) =
       mapped (cfgs_data cs) _ (HoldEach cfg (listed cs)) (CfgHolds (all_of cs)) (cfgs_law cs)
-      (λ ds h. record { reads = cfg_reads_itself _ ∙ rw h.reads (ap (λ x. Some (all_of x)) (from_listed cs)); exact = rw h.exact refl })
+      (λ ds h. record { reads = cfg_reads_itself _ ∙ rw (h.reads 0) (ap (λ x. right (all_of x)) (from_listed cs)); exact = rw h.exact refl })
   cfg_law (any_of cs) =
       mapped (cfgs_data cs) _ (HoldEach cfg (listed cs)) (CfgHolds (any_of cs)) (cfgs_law cs)
-      (λ ds h. record { reads = cfg_reads_itself _ ∙ rw h.reads (ap (λ x. Some (any_of x)) (from_listed cs)); exact = rw h.exact refl })
+      (λ ds h. record { reads = cfg_reads_itself _ ∙ rw (h.reads 0) (ap (λ x. right (any_of x)) (from_listed cs)); exact = rw h.exact refl })
   cfg_law (not_of c) =
       mapped (cfg_data c) _ (CfgHolds c) (CfgHolds (not_of c)) (cfg_law c)
       (λ d h. record { reads = cfg_reads_itself _ ∙ rw h.reads refl; exact = rw h.exact refl })
 
   cfgs_law : (cs : CfgViews) → IfSome (cfgs_data cs) (HoldEach cfg (listed cs))
-  cfgs_law no_cfgs = record { reads = refl; exact = refl }
+  cfgs_law no_cfgs = record { reads = λ n. refl; exact = refl }
   cfgs_law (cfg_and c cs) =
       bind (cfg_data c) _ (CfgHolds c) (HoldEach cfg (c ∷ listed cs)) (cfg_law c) (λ d h.
       bind (cfgs_data cs) _ (HoldEach cfg (listed cs)) (HoldEach cfg (c ∷ listed cs)) (cfgs_law cs) (λ ds hs.
-      record { reads = rw (h.reads, hs.reads) refl; exact = rw (h.exact, hs.exact) refl }))
+      record { reads = λ n. rw (h.reads, hs.reads (n + 1)) refl; exact = rw (h.exact, hs.exact) refl }))

@@ -1,8 +1,8 @@
 -- What is written of a part, and how parts are put together.
-use Rattle.std.proofs.Common.{◌≡◌, ℕ, List, [], ◌∷◌, Bool, true, false, nat_lt, IfSome, Option, Some, None, if◌then◌else◌, option_map, option_and_then, refl}
+use Rattle.std.proofs.Common.{◌≡◌, ℕ, ◌+◌, List, [], ◌∷◌, Bool, true, false, nat_lt, IfSome, Option, Some, None, if◌then◌else◌, option_map, option_and_then, refl}
 use Rattle.serde_json.specs.Data.{Data, number, unsigned, string}
-use Rattle.serde_json.specs.Find.{as_str}
-use Rattle.hir_input_json.specs.Forms.{below, is_name, name, name_in, whole}
+use Rattle.hir_input_json.specs.Reading.{Reading}
+use Rattle.hir_input_json.specs.Forms.{below, is_name, name, name_in, text, whole}
 use Rattle.hir_input_writer.specs.Held.{Holds, MayHold, HoldEach}
 use Rattle.hir_input_writer.specs.Parts.{each_data, maybe_data, name_data, text_or_null, whole_data}
 
@@ -20,16 +20,16 @@ pub weaker : {A : Type 0} (m : Option A) (P : A → Type 0) (Q : A → Type 0) �
 weaker None P Q h k = h
 weaker (Some a) P Q h k = k a h
 
-pub maybe_law : {A : Type 0} (make : A → Option Data) (form : Data → Option A) → ((a : A) → IfSome (make a) (Holds form a)) → (o : Option A) → IfSome (maybe_data make o) (MayHold form o)
+pub maybe_law : {A : Type 0} (make : A → Option Data) (form : Data → Reading A) → ((a : A) → IfSome (make a) (Holds form a)) → (o : Option A) → IfSome (maybe_data make o) (MayHold form o)
 maybe_law make form law None = record { reads = refl; exact = refl }
 maybe_law make form law (Some a) = weaker (make a) (Holds form a) (MayHold form (Some a)) (law a) (λ d h. record { reads = rw (h.there, h.reads) refl; exact = h.exact })
 
-pub each_law : {A : Type 0} (make : A → Option Data) (form : Data → Option A) → ((a : A) → IfSome (make a) (Holds form a)) → (as' : List A) → IfSome (each_data make as') (HoldEach form as')
-each_law make form law [] = record { reads = refl; exact = refl }
+pub each_law : {A : Type 0} (make : A → Option Data) (form : Data → Reading A) → ((a : A) → IfSome (make a) (Holds form a)) → (as' : List A) → IfSome (each_data make as') (HoldEach form as')
+each_law make form law [] = record { reads = λ n. refl; exact = refl }
 each_law make form law (a ∷ as') =
     bind (make a) _ (Holds form a) (HoldEach form (a ∷ as')) (law a) (λ d h.
     bind (each_data make as') _ (HoldEach form as') (HoldEach form (a ∷ as')) (each_law make form law as') (λ ds hs.
-    record { reads = rw (h.reads, hs.reads) refl; exact = rw (h.exact, hs.exact) refl }))
+    record { reads = λ n. rw (h.reads, hs.reads (n + 1)) refl; exact = rw (h.exact, hs.exact) refl }))
 
 -- ---- numbers and texts
 
@@ -48,11 +48,11 @@ pub named_law : (n : List ℕ) (Q : Data → Type 0) → (name_in n ≡ Some n �
 named_law n Q k = name_by (is_name n) n Q (λ e. k (rw e refl))
 
 pub name_law : (n : List ℕ) → IfSome (name_data n) (Holds name n)
-name_law n = named_law n (Holds name n) (λ e. record { there = refl; reads = e; exact = refl })
+name_law n = named_law n (Holds name n) (λ e. record { there = refl; reads = rw e refl; exact = refl })
 
 pub whole_law : (bound n : ℕ) → IfSome (whole_data bound n) (Holds (whole bound) n)
 whole_law bound n = below_law bound n (λ m. number (unsigned m)) (Holds (whole bound) n) (λ e. record { there = refl; reads = rw e refl; exact = refl })
 
-pub text_law : (text : Option (List ℕ)) → MayHold as_str text (text_or_null text)
+pub text_law : (t : Option (List ℕ)) → MayHold text t (text_or_null t)
 text_law None = record { reads = refl; exact = refl }
 text_law (Some t) = record { reads = refl; exact = refl }

@@ -1,9 +1,10 @@
 -- An item that is written is read again.
-use Rattle.std.proofs.Common.{◌≡◌, List, [], ◌∷◌, Bool, false, IfSome, Option, Some, None, option_map, option_and_then, codes, refl, ap, subst, ◌∙◌}
-use Rattle.serde_json.specs.Data.{Data, null, array}
+use Rattle.std.proofs.Common.{◌≡◌, ◌+◌, List, [], ◌∷◌, Bool, false, IfSome, Option, Some, None, codes, refl, ap, subst, ◌∙◌}
+use Rattle.serde_json.specs.Data.{Data, null, array, object}
 use Rattle.serde_json.specs.Written.{has_float}
 use Rattle.hir_input.specs.Syntax.{NodeView, NamedView, CallView, PlainKind, fn_kind, union_kind, enum_kind, static_kind, trait_kind, type_alias_kind, macro_def_kind, ItemView, ItemViews, plain_item, const_item, struct_item, bare_module, listed_module, use_item, extern_crate, bare_extern_block, listed_extern_block, impl_item, macro_call, macro_rules, asm_item, no_items, item_and, extern_block_from, items_from, module_from}
-use Rattle.hir_input_json.specs.Forms.{field, list_of, maybe, unless_null}
+use Rattle.hir_input_json.specs.Reading.{Reading, right, reading_map, ◌>>=◌}
+use Rattle.hir_input_json.specs.Forms.{field, flag, list_of, maybe, maybe_at, optional_at, unless_null}
 use Rattle.hir_input_json.specs.Items.{item, extern_item, named_item}
 use Rattle.hir_input_json.proofs.Items.{item_reads_itself}
 use Rattle.hir_input_writer.specs.Held.{Holds, HoldEach}
@@ -23,33 +24,33 @@ from_listed (item_and i is) = ap (item_and i) (from_listed is)
 
 plain_item_law : (kind : PlainKind) (bodies : Bool) (n : NamedView) → IfSome (item_data bodies (plain_item kind n)) (Holds item (plain_item kind (named_kept bodies n)))
 unfolding named_item
-plain_item_law fn_kind = plain_law item (codes "fn") (plain_item fn_kind) (λ d e. item_reads_itself d ∙ rw e refl)
-plain_item_law union_kind = plain_law item (codes "union") (plain_item union_kind) (λ d e. item_reads_itself d ∙ rw e refl)
-plain_item_law enum_kind = plain_law item (codes "enum") (plain_item enum_kind) (λ d e. item_reads_itself d ∙ rw e refl)
-plain_item_law static_kind = plain_law item (codes "static") (plain_item static_kind) (λ d e. item_reads_itself d ∙ rw e refl)
-plain_item_law trait_kind = plain_law item (codes "trait") (plain_item trait_kind) (λ d e. item_reads_itself d ∙ rw e refl)
-plain_item_law type_alias_kind = plain_law item (codes "type_alias") (plain_item type_alias_kind) (λ d e. item_reads_itself d ∙ rw e refl)
-plain_item_law macro_def_kind = plain_law item (codes "macro_def") (plain_item macro_def_kind) (λ d e. item_reads_itself d ∙ rw e refl)
+plain_item_law fn_kind = plain_law item (codes "fn") (plain_item fn_kind) (λ ms e. item_reads_itself (object ms) ∙ rw e refl)
+plain_item_law union_kind = plain_law item (codes "union") (plain_item union_kind) (λ ms e. item_reads_itself (object ms) ∙ rw e refl)
+plain_item_law enum_kind = plain_law item (codes "enum") (plain_item enum_kind) (λ ms e. item_reads_itself (object ms) ∙ rw e refl)
+plain_item_law static_kind = plain_law item (codes "static") (plain_item static_kind) (λ ms e. item_reads_itself (object ms) ∙ rw e refl)
+plain_item_law trait_kind = plain_law item (codes "trait") (plain_item trait_kind) (λ ms e. item_reads_itself (object ms) ∙ rw e refl)
+plain_item_law type_alias_kind = plain_law item (codes "type_alias") (plain_item type_alias_kind) (λ ms e. item_reads_itself (object ms) ∙ rw e refl)
+plain_item_law macro_def_kind = plain_law item (codes "macro_def") (plain_item macro_def_kind) (λ ms e. item_reads_itself (object ms) ∙ rw e refl)
 
 const_law : (bodies : Bool) (n : NamedView) → IfSome (item_data bodies (const_item n)) (Holds item (const_item (named_kept bodies n)))
 unfolding named_item
-const_law = plain_law item (codes "const") const_item (λ d e. item_reads_itself d ∙ rw e refl)
+const_law = plain_law item (codes "const") const_item (λ ms e. item_reads_itself (object ms) ∙ rw e refl)
 
 call_item_law : (bodies : Bool) (c : CallView) → IfSome (call_data bodies c) (Holds item (macro_call (call_kept bodies c)))
 call_item_law bodies c =
     weaker (call_data bodies c) (CallHolds bodies c) (Holds item (macro_call (call_kept bodies c))) (call_law bodies c)
-    (λ d h. record { there = h.there; reads = item_reads_itself d ∙ rw h.is (ap (option_map macro_call) h.reads); exact = h.exact })
+    (λ d h. record { there = h.there; reads = item_reads_itself d ∙ rw (h.object, h.is) (ap (reading_map macro_call) h.reads); exact = h.exact })
 
 -- ---- extern blocks
 
 extern_item_law : (bodies : Bool) (i : ItemView) → IfSome (extern_item_data bodies i) (Holds extern_item (item_kept bodies i))
 unfolding extern_item
-extern_item_law bodies (plain_item fn_kind n) = plain_law extern_item (codes "fn") (plain_item fn_kind) (λ d e. rw e refl) bodies n
-extern_item_law bodies (plain_item static_kind n) = plain_law extern_item (codes "static") (plain_item static_kind) (λ d e. rw e refl) bodies n
-extern_item_law bodies (plain_item type_alias_kind n) = plain_law extern_item (codes "type_alias") (plain_item type_alias_kind) (λ d e. rw e refl) bodies n
+extern_item_law bodies (plain_item fn_kind n) = plain_law extern_item (codes "fn") (plain_item fn_kind) (λ ms e. rw e refl) bodies n
+extern_item_law bodies (plain_item static_kind n) = plain_law extern_item (codes "static") (plain_item static_kind) (λ ms e. rw e refl) bodies n
+extern_item_law bodies (plain_item type_alias_kind n) = plain_law extern_item (codes "type_alias") (plain_item type_alias_kind) (λ ms e. rw e refl) bodies n
 extern_item_law bodies (macro_call c) =
     weaker (call_data bodies c) (CallHolds bodies c) (Holds extern_item (macro_call (call_kept bodies c))) (call_law bodies c)
-    (λ d h. record { there = h.there; reads = rw h.is (ap (option_map macro_call) h.reads); exact = h.exact })
+    (λ d h. record { there = h.there; reads = rw (h.object, h.is) (ap (reading_map macro_call) h.reads); exact = h.exact })
 extern_item_law bodies (plain_item union_kind n) = tt
 extern_item_law bodies (plain_item enum_kind n) = tt
 extern_item_law bodies (plain_item trait_kind n) = tt
@@ -67,14 +68,21 @@ extern_item_law bodies (macro_rules n name) = tt
 extern_item_law bodies (asm_item n) = tt
 
 extern_items_law : (bodies : Bool) (is : ItemViews) → IfSome (extern_items_data bodies is) (HoldEach extern_item (listed (items_kept bodies is)))
-extern_items_law bodies no_items = record { reads = refl; exact = refl }
+extern_items_law bodies no_items = record { reads = λ n. refl; exact = refl }
 extern_items_law bodies (item_and i is) =
     bind (extern_item_data bodies i) _ (Holds extern_item (item_kept bodies i)) (HoldEach extern_item (item_kept bodies i ∷ listed (items_kept bodies is))) (extern_item_law bodies i) (λ d h.
     bind (extern_items_data bodies is) _ (HoldEach extern_item (listed (items_kept bodies is))) (HoldEach extern_item (item_kept bodies i ∷ listed (items_kept bodies is))) (extern_items_law bodies is) (λ ds hs.
-    record { reads = rw (h.reads, hs.reads) refl; exact = rw (h.exact, hs.exact) refl }))
+    record { reads = λ n. rw (h.reads, hs.reads (n + 1)) refl; exact = rw (h.exact, hs.exact) refl }))
+
+-- an extern block, over what was read of the keys of every item
+abbrev extern_block_by : Data → Reading NodeView → Reading ItemView
+extern_block_by d r = do
+  n ← r
+  items ← maybe_at (codes "items") (list_of extern_item) d
+  right (extern_block_from n items)
 
 -- over the reading of the list that is written
-block_law : (bodies : Bool) (n : NodeView) (list : Data) (is : Option (List ItemView)) → maybe (list_of extern_item) (unless_null list) ≡ Some is → has_float list ≡ false
+block_law : (bodies : Bool) (n : NodeView) (list : Data) (is : Option (List ItemView)) → maybe (list_of extern_item) (unless_null list) ≡ right is → has_float list ≡ false
     → IfSome (extern_block_data bodies n list) (Holds item (extern_block_from (node_kept bodies n) is))
 unfolding field
 block_law bodies n list is reads exact =
@@ -82,7 +90,7 @@ block_law bodies n list is reads exact =
     record {
       there = refl;
       reads = item_reads_itself _
-          ∙ ap (λ o. option_and_then (λ m. option_and_then (λ items. Some (extern_block_from m items)) (maybe (list_of extern_item) (unless_null list))) o) (node_reads bodies n nd (extern_block_object nd list) h refl refl refl refl)
+          ∙ ap (extern_block_by (extern_block_object nd list)) (node_reads bodies n nd (extern_block_object nd list) h refl refl refl refl)
           ∙ rw reads refl;
       exact = rw (h.attrs.exact, h.body.exact, h.hash.exact, exact, h.number.exact) refl;
     })
@@ -91,11 +99,19 @@ listed_block_law : (bodies : Bool) (n : NodeView) (is : ItemViews) → IfSome (i
 listed_block_law bodies n is =
     bind (extern_items_data bodies is) _ (HoldEach extern_item (listed (items_kept bodies is))) (Holds item (item_kept bodies (listed_extern_block n is))) (extern_items_law bodies is) (λ ds h.
     subst (λ us. IfSome (extern_block_data bodies n (array ds)) (Holds item (listed_extern_block (node_kept bodies n) us))) (from_listed (items_kept bodies is))
-    (block_law bodies n (array ds) (Some (listed (items_kept bodies is))) (ap (option_map Some) h.reads) h.exact))
+    (block_law bodies n (array ds) (Some (listed (items_kept bodies is))) (ap (reading_map Some) (h.reads 0)) h.exact))
 
 -- ---- modules
 
-module_law : (bodies : Bool) (n : NamedView) (semicolon : Bool) (list : Data) (is : Option (List ItemView)) → maybe (list_of item) (unless_null list) ≡ Some is → has_float list ≡ false
+-- a module, over what was read of the keys of every item
+abbrev module_by : Data → Reading NamedView → Reading ItemView
+module_by d r = do
+  n ← r
+  semicolon ← optional_at false (codes "semicolon") flag d
+  items ← maybe_at (codes "items") (list_of item) d
+  right (module_from n semicolon items)
+
+module_law : (bodies : Bool) (n : NamedView) (semicolon : Bool) (list : Data) (is : Option (List ItemView)) → maybe (list_of item) (unless_null list) ≡ right is → has_float list ≡ false
     → IfSome (module_data bodies n semicolon list) (Holds item (module_from (named_kept bodies n) semicolon is))
 unfolding field
 module_law bodies n semicolon list is reads exact =
@@ -103,7 +119,7 @@ module_law bodies n semicolon list is reads exact =
     record {
       there = refl;
       reads = item_reads_itself _
-          ∙ ap (λ o. option_and_then (λ m. option_and_then (λ items. Some (module_from m semicolon items)) (maybe (list_of item) (unless_null list))) o) (named_reads bodies n nd (module_object nd semicolon list) h refl refl refl refl refl refl)
+          ∙ ap (module_by (module_object nd semicolon list)) (named_reads bodies n nd (module_object nd semicolon list) h refl refl refl refl refl refl)
           ∙ rw reads refl;
       exact = rw (h.node.attrs.exact, h.node.body.exact, h.node.hash.exact, exact, h.name.exact, h.node.number.exact, h.vis.exact) refl;
     })
@@ -117,7 +133,7 @@ mutual
   item_law bodies (listed_module n semicolon is) =
       bind (items_data bodies is) _ (HoldEach item (listed (items_kept bodies is))) (Holds item (item_kept bodies (listed_module n semicolon is))) (items_law bodies is) (λ ds h.
       subst (λ us. IfSome (module_data bodies n semicolon (array ds)) (Holds item (listed_module (named_kept bodies n) semicolon us))) (from_listed (items_kept bodies is))
-      (module_law bodies n semicolon (array ds) (Some (listed (items_kept bodies is))) (ap (option_map Some) h.reads) h.exact))
+      (module_law bodies n semicolon (array ds) (Some (listed (items_kept bodies is))) (ap (reading_map Some) (h.reads 0)) h.exact))
   item_law bodies (use_item u) = use_law bodies u
   item_law bodies (extern_crate n rename) = extern_crate_law bodies n rename
   item_law bodies (bare_extern_block n) = block_law bodies n null None refl refl
@@ -128,8 +144,8 @@ mutual
   item_law bodies (asm_item n) = asm_law bodies n
 
   pub items_law : (bodies : Bool) (is : ItemViews) → IfSome (items_data bodies is) (HoldEach item (listed (items_kept bodies is)))
-  items_law bodies no_items = record { reads = refl; exact = refl }
+  items_law bodies no_items = record { reads = λ n. refl; exact = refl }
   items_law bodies (item_and i is) =
       bind (item_data bodies i) _ (Holds item (item_kept bodies i)) (HoldEach item (item_kept bodies i ∷ listed (items_kept bodies is))) (item_law bodies i) (λ d h.
       bind (items_data bodies is) _ (HoldEach item (listed (items_kept bodies is))) (HoldEach item (item_kept bodies i ∷ listed (items_kept bodies is))) (items_law bodies is) (λ ds hs.
-      record { reads = rw (h.reads, hs.reads) refl; exact = rw (h.exact, hs.exact) refl }))
+      record { reads = λ n. rw (h.reads, hs.reads (n + 1)) refl; exact = rw (h.exact, hs.exact) refl }))

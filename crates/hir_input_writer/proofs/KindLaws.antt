@@ -1,21 +1,20 @@
 -- An item that has no items in it is read again.
-use Rattle.std.proofs.Common.{◌≡◌, ℕ, List, [], ◌∷◌, Bool, false, IfSome, Option, Some, option_map, option_and_then, codes, refl, ap, ◌∙◌}
-use Rattle.serde_json.specs.Data.{Data, string, array, Members}
+use Rattle.std.proofs.Common.{◌≡◌, ℕ, ◌+◌, List, [], ◌∷◌, Bool, false, IfSome, Option, Some, codes, refl, ap, ◌∙◌}
+use Rattle.serde_json.specs.Data.{Data, string, array, object, Members}
 use Rattle.serde_json.specs.Find.{as_object}
 use Rattle.serde_json.specs.Written.{has_float}
 use Rattle.hir_input.specs.declared.ast.Rename.{Rename}
 use Rattle.hir_input.specs.declared.ast.Visibility.{Visibility}
 use Rattle.hir_input.specs.declared.expand_to.ExpandTo.{ExpandTo}
 use Rattle.hir_input.specs.declared.expand_to.ExpandTo.TheVariants as expand_to
-use Rattle.hir_input.specs.declared.edition.EditionYear.TheVariants.{E2024}
-use Rattle.hir_input.specs.declared.ids.SyntaxContext.TheVariants.{Root}
 use Rattle.hir_input.specs.Id.{shown_expand_to}
 use Rattle.hir_input.specs.Syntax.{NodeView, NamedView, UseView, CallView, FieldsView, record_fields, tuple_fields, no_fields, ItemView, struct_item, use_item, extern_crate, impl_item, macro_rules, asm_item}
-use Rattle.hir_input_json.specs.Forms.{field, maybe, name, optional, required, unless_null}
+use Rattle.hir_input_json.specs.Reading.{Reading, right, reading_map, ◌>>=◌}
+use Rattle.hir_input_json.specs.Forms.{field, flag, maybe_at, name, optional_at, required_at, unless_null}
 use Rattle.hir_input_json.specs.Items as forms
 use Rattle.hir_input_json.specs.Items.{named, node, fields, tuple_field, expand_word, expand_to_at, call_form}
-use Rattle.hir_input_json.specs.Literals.{context}
-use Rattle.hir_input_json.specs.Paths.{path, visibility}
+use Rattle.hir_input_json.specs.Literals.{context, context_at}
+use Rattle.hir_input_json.specs.Paths.{path, path_at, visibility}
 use Rattle.hir_input_json.specs.UseTrees.{rename, use_tree}
 use Rattle.hir_input_json.proofs.Items.{item_reads_itself}
 use Rattle.hir_input_writer.specs.Held.{Holds, MayHold, HoldEach}
@@ -31,30 +30,73 @@ use Rattle.hir_input_writer.proofs.NodeLaws.{NamedHolds, NodeHolds, named_law, n
 use Rattle.hir_input_writer.proofs.PathLaws.{path_law, visibility_law}
 use Rattle.hir_input_writer.proofs.UseTreeLaws.{rename_law, use_tree_law}
 
+-- ---- kinds of items, over what was read of the keys of every item
+
+abbrev struct_by : Data → Reading NamedView → Reading ItemView
+struct_by d r = do
+  n ← r
+  kind ← required_at (codes "fields") fields d
+  right (struct_item n kind)
+
+abbrev use_by : Data → Reading NodeView → Reading ItemView
+use_by d r = do
+  n ← r
+  vis ← maybe_at (codes "vis") visibility d
+  tree ← maybe_at (codes "tree") use_tree d
+  right (use_item (record { node = n; visibility = vis; use_tree = tree }))
+
+abbrev extern_crate_by : Data → Reading NamedView → Reading ItemView
+extern_crate_by d r = do
+  n ← r
+  renamed ← maybe_at (codes "rename") rename d
+  right (extern_crate n renamed)
+
+abbrev impl_by : Data → Reading NodeView → Reading ItemView
+impl_by d r = do
+  n ← r
+  of_trait ← optional_at false (codes "trait") flag d
+  right (impl_item n of_trait)
+
+abbrev call_by : Data → Reading NodeView → Reading CallView
+call_by d r = do
+  n ← r
+  p ← path_at d
+  expands ← expand_to_at d
+  ctxt ← context_at d
+  right (record { node = n; path = p; expand_to = expands; ctxt = ctxt })
+
+abbrev macro_rules_by : Data → Reading NodeView → Reading ItemView
+macro_rules_by d r = do
+  n ← r
+  called ← maybe_at (codes "name") name d
+  right (macro_rules n called)
+
+-- ---- what is written is read again
+
 -- an item of this word that is read by its name and visibility
-pub plain_law : (form : Data → Option ItemView) (word : List ℕ) (make : NamedView → ItemView) → ((d : Data) → field (codes "is") d ≡ Some (string word) → form d ≡ option_map make (named d))
+pub plain_law : (form : Data → Reading ItemView) (word : List ℕ) (make : NamedView → ItemView) → ((ms : Members) → field (codes "is") (object ms) ≡ Some (string word) → form (object ms) ≡ reading_map make (named (object ms)))
     → (bodies : Bool) (n : NamedView) → IfSome (plain_data bodies word n) (Holds form (make (named_kept bodies n)))
 unfolding field
 plain_law form word make by bodies n =
     mapped (named_data bodies n) (plain_object word) (NamedHolds bodies n) (Holds form (make (named_kept bodies n))) (named_law bodies n) (λ nd h.
     record {
       there = refl;
-      reads = by (plain_object word nd) refl ∙ ap (option_map make) (named_reads bodies n nd (plain_object word nd) h refl refl refl refl refl refl);
+      reads = by _ refl ∙ ap (reading_map make) (named_reads bodies n nd (plain_object word nd) h refl refl refl refl refl refl);
       exact = rw (h.node.attrs.exact, h.node.body.exact, h.node.hash.exact, h.name.exact, h.node.number.exact, h.vis.exact) refl;
     })
 
 field_each : (fs : List (Option Visibility)) → IfSome (each_data (maybe_data visibility_data) fs) (HoldEach tuple_field fs)
-field_each [] = record { reads = refl; exact = refl }
+field_each [] = record { reads = λ n. refl; exact = refl }
 field_each (f ∷ fs) =
     bind (maybe_data visibility_data f) _ (MayHold visibility f) (HoldEach tuple_field (f ∷ fs)) (maybe_law visibility_data visibility visibility_law f) (λ d h.
     bind (each_data (maybe_data visibility_data) fs) _ (HoldEach tuple_field fs) (HoldEach tuple_field (f ∷ fs)) (field_each fs) (λ ds hs.
-    record { reads = rw (h.reads, hs.reads) refl; exact = rw (h.exact, hs.exact) refl }))
+    record { reads = λ n. rw (h.reads, hs.reads (n + 1)) refl; exact = rw (h.exact, hs.exact) refl }))
 
 fields_law : (f : FieldsView) → IfSome (fields_data f) (Holds fields f)
 fields_law record_fields = record { there = refl; reads = refl; exact = refl }
 fields_law (tuple_fields fs) =
     mapped (each_data (maybe_data visibility_data) fs) array (HoldEach tuple_field fs) (Holds fields (tuple_fields fs)) (field_each fs)
-    (λ ds h. record { there = refl; reads = ap (option_map tuple_fields) h.reads; exact = h.exact })
+    (λ ds h. record { there = refl; reads = ap (reading_map tuple_fields) (h.reads 0); exact = h.exact })
 fields_law no_fields = record { there = refl; reads = refl; exact = refl }
 
 pub struct_law : (bodies : Bool) (n : NamedView) (f : FieldsView) → IfSome (struct_data bodies n f) (Holds forms.item (struct_item (named_kept bodies n) f))
@@ -65,7 +107,7 @@ struct_law bodies n f =
     record {
       there = refl;
       reads = item_reads_itself _
-          ∙ ap (λ o. option_and_then (λ m. option_and_then (λ kind. Some (struct_item m kind)) (required fields (unless_null fd))) o) (named_reads bodies n nd (struct_object nd fd) h refl refl refl refl refl refl)
+          ∙ ap (struct_by (struct_object nd fd)) (named_reads bodies n nd (struct_object nd fd) h refl refl refl refl refl refl)
           ∙ rw (k.there, k.reads) refl;
       exact = rw (h.node.attrs.exact, h.node.body.exact, k.exact, h.node.hash.exact, h.name.exact, h.node.number.exact, h.vis.exact) refl;
     }))
@@ -79,8 +121,7 @@ use_law bodies u =
     record {
       there = refl;
       reads = item_reads_itself _
-          ∙ ap (λ o. option_and_then (λ n. option_and_then (λ vis. option_and_then (λ tree. Some (use_item (record { node = n; visibility = vis; use_tree = tree }))) (maybe use_tree (unless_null td))) (maybe visibility (unless_null vd))) o)
-          (node_reads bodies u.node nd (use_object nd td vd) h refl refl refl refl)
+          ∙ ap (use_by (use_object nd td vd)) (node_reads bodies u.node nd (use_object nd td vd) h refl refl refl refl)
           ∙ rw (k.reads, m.reads) refl;
       exact = rw (h.attrs.exact, h.body.exact, h.hash.exact, h.number.exact, m.exact, k.exact) refl;
     })))
@@ -93,7 +134,7 @@ extern_crate_law bodies n r =
     record {
       there = refl;
       reads = item_reads_itself _
-          ∙ ap (λ o. option_and_then (λ m. option_and_then (λ renamed. Some (extern_crate m renamed)) (maybe rename (unless_null rd))) o) (named_reads bodies n nd (extern_crate_object nd rd) h refl refl refl refl refl refl)
+          ∙ ap (extern_crate_by (extern_crate_object nd rd)) (named_reads bodies n nd (extern_crate_object nd rd) h refl refl refl refl refl refl)
           ∙ rw k.reads refl;
       exact = rw (h.node.attrs.exact, h.node.body.exact, h.node.hash.exact, h.name.exact, h.node.number.exact, k.exact, h.vis.exact) refl;
     }))
@@ -104,11 +145,11 @@ impl_law bodies n of_trait =
     mapped (node_data bodies n) _ (NodeHolds bodies n) (Holds forms.item (impl_item (node_kept bodies n) of_trait)) (node_law bodies n) (λ nd h.
     record {
       there = refl;
-      reads = item_reads_itself _ ∙ ap (λ o. option_and_then (λ m. Some (impl_item m of_trait)) o) (node_reads bodies n nd (impl_object nd of_trait) h refl refl refl refl);
+      reads = item_reads_itself _ ∙ ap (impl_by (impl_object nd of_trait)) (node_reads bodies n nd (impl_object nd of_trait) h refl refl refl refl);
       exact = rw (h.attrs.exact, h.body.exact, h.hash.exact, h.number.exact) refl;
     })
 
-expand_law : (e : ExpandTo) → expand_word (shown_expand_to e) ≡ Some e
+expand_law : (e : ExpandTo) → expand_word (shown_expand_to e) ≡ right e
 expand_law expand_to.Statements = refl
 expand_law expand_to.Items = refl
 expand_law expand_to.Pattern = refl
@@ -121,7 +162,7 @@ pub record CallHolds (bodies : Bool) (c : CallView) (d : Data) : Type 0 where
   pub members : Members
   pub object : as_object d ≡ Some members
   pub there : unless_null d ≡ Some d
-  pub reads : call_form d ≡ Some (call_kept bodies c)
+  pub reads : call_form d ≡ right (call_kept bodies c)
   pub exact : has_float d ≡ false
 
 pub call_law : (bodies : Bool) (c : CallView) → IfSome (call_data bodies c) (CallHolds bodies c)
@@ -136,8 +177,7 @@ call_law bodies c =
       object = refl;
       there = refl;
       reads =
-          ap (λ o. option_and_then (λ n. option_and_then (λ p. option_and_then (λ expands. option_and_then (λ ctxt. Some (record { node = n; path = p; expand_to = expands; ctxt = ctxt })) (optional (Root E2024) context (unless_null cd))) (expand_word (shown_expand_to c.expand_to))) (maybe path (unless_null pd))) o)
-          (node_reads bodies c.node nd (call_object nd pd (string (shown_expand_to c.expand_to)) cd) h refl refl refl refl)
+          ap (call_by (call_object nd pd (string (shown_expand_to c.expand_to)) cd)) (node_reads bodies c.node nd (call_object nd pd (string (shown_expand_to c.expand_to)) cd) h refl refl refl refl)
           ∙ rw (k.reads, expand_law c.expand_to, m.there, m.reads) refl;
       exact = rw (h.attrs.exact, h.body.exact, m.exact, h.hash.exact, h.number.exact, k.exact) refl;
     })))
@@ -149,7 +189,7 @@ macro_rules_law bodies n called =
     bind (maybe_data name_data called) _ (MayHold name called) (Holds forms.item (macro_rules (node_kept bodies n) called)) (maybe_law name_data name name_law called) (λ cd k.
     record {
       there = refl;
-      reads = item_reads_itself _ ∙ ap (λ o. option_and_then (λ m. option_and_then (λ x. Some (macro_rules m x)) (maybe name (unless_null cd))) o) (node_reads bodies n nd (macro_rules_object nd cd) h refl refl refl refl) ∙ rw k.reads refl;
+      reads = item_reads_itself _ ∙ ap (macro_rules_by (macro_rules_object nd cd)) (node_reads bodies n nd (macro_rules_object nd cd) h refl refl refl refl) ∙ rw k.reads refl;
       exact = rw (h.attrs.exact, h.body.exact, h.hash.exact, k.exact, h.number.exact) refl;
     }))
 
@@ -159,6 +199,6 @@ asm_law bodies n =
     mapped (node_data bodies n) _ (NodeHolds bodies n) (Holds forms.item (asm_item (node_kept bodies n))) (node_law bodies n) (λ nd h.
     record {
       there = refl;
-      reads = item_reads_itself _ ∙ ap (option_map asm_item) (node_reads bodies n nd (asm_object nd) h refl refl refl refl);
+      reads = item_reads_itself _ ∙ ap (reading_map asm_item) (node_reads bodies n nd (asm_object nd) h refl refl refl refl);
       exact = rw (h.attrs.exact, h.body.exact, h.hash.exact, h.number.exact) refl;
     })

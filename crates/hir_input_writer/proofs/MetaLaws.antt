@@ -1,9 +1,10 @@
 -- A meta that is written is read again.
-use Rattle.std.proofs.Common.{◌≡◌, ℕ, List, [], ◌∷◌, IfSome, Option, Some, refl, ap, ◌∙◌}
+use Rattle.std.proofs.Common.{◌≡◌, ℕ, ◌+◌, List, [], ◌∷◌, IfSome, Option, refl, ap, ◌∙◌}
 use Rattle.hir_input.specs.declared.ast.PathNode.{PathNode}
 use Rattle.hir_input.specs.declared.ids.SyntaxContext.{SyntaxContext}
 use Rattle.hir_input.specs.Literal.{LiteralView}
 use Rattle.hir_input.specs.Attr.{MetaView, MetaViews, path_meta, key_value_meta, token_tree_meta, cfg_meta, cfg_attr_meta, unsafe_meta, no_metas, meta_and, metas_from}
+use Rattle.hir_input_json.specs.Reading.{right}
 use Rattle.hir_input_json.specs.Forms.{field}
 use Rattle.hir_input_json.specs.Literals.{context, literal}
 use Rattle.hir_input_json.specs.Metas.{meta}
@@ -67,14 +68,14 @@ mutual
   meta_law (cfg_attr_meta c ms) =
       bind (cfg_data c) _ (CfgHolds c) (Holds meta (cfg_attr_meta c ms)) (cfg_law c) (λ d h.
       bind (metas_data ms) _ (HoldEach meta (listed ms)) (Holds meta (cfg_attr_meta c ms)) (metas_law ms) (λ ds hs.
-      record { there = refl; reads = meta_reads_itself _ ∙ rw (h.reads, hs.reads) (ap (λ x. Some (cfg_attr_meta c x)) (from_listed ms)); exact = rw (h.exact, hs.exact) refl }))
+      record { there = refl; reads = meta_reads_itself _ ∙ rw (h.reads, hs.reads 0) (ap (λ x. right (cfg_attr_meta c x)) (from_listed ms)); exact = rw (h.exact, hs.exact) refl }))
   meta_law (unsafe_meta m) =
       mapped (meta_data m) _ (Holds meta m) (Holds meta (unsafe_meta m)) (meta_law m)
       (λ d h. record { there = refl; reads = meta_reads_itself _ ∙ rw (h.there, h.reads) refl; exact = rw h.exact refl })
 
   pub metas_law : (ms : MetaViews) → IfSome (metas_data ms) (HoldEach meta (listed ms))
-  metas_law no_metas = record { reads = refl; exact = refl }
+  metas_law no_metas = record { reads = λ n. refl; exact = refl }
   metas_law (meta_and m ms) =
       bind (meta_data m) _ (Holds meta m) (HoldEach meta (m ∷ listed ms)) (meta_law m) (λ d h.
       bind (metas_data ms) _ (HoldEach meta (listed ms)) (HoldEach meta (m ∷ listed ms)) (metas_law ms) (λ ds hs.
-      record { reads = rw (h.reads, hs.reads) refl; exact = rw (h.exact, hs.exact) refl }))
+      record { reads = λ n. rw (h.reads, hs.reads (n + 1)) refl; exact = rw (h.exact, hs.exact) refl }))

@@ -1,11 +1,11 @@
 -- What items have in common is read again.
-use Rattle.std.proofs.Common.{◌≡◌, ◌^◌, ℕ, List, [], Bool, true, false, IfSome, Some, option_and_then, codes, refl, ap, ◌∙◌}
+use Rattle.std.proofs.Common.{◌≡◌, ◌^◌, ℕ, List, [], Bool, true, false, IfSome, codes, refl, ap, ◌∙◌}
 use Rattle.serde_json.specs.Data.{Data, array, no_items}
-use Rattle.serde_json.specs.Find.{as_array, as_str}
 use Rattle.serde_json.specs.Written.{has_float}
 use Rattle.hir_input.specs.Attr.{MetaView, metas_from}
 use Rattle.hir_input.specs.Syntax.{NodeView, NamedView}
-use Rattle.hir_input_json.specs.Forms.{each, field, maybe, name, optional, unless_null, whole}
+use Rattle.hir_input_json.specs.Reading.{Reading, right, under, ◌>>=◌}
+use Rattle.hir_input_json.specs.Forms.{each, field, items_in, maybe_at, name, optional, text, unless_null, whole}
 use Rattle.hir_input_json.specs.Items.{named, node}
 use Rattle.hir_input_json.specs.Metas.{meta}
 use Rattle.hir_input_json.specs.Paths.{visibility}
@@ -19,22 +19,28 @@ use Rattle.hir_input_writer.proofs.Held.{bind, mapped, maybe_law, name_law, whol
 use Rattle.hir_input_writer.proofs.MetaLaws.{listed, listed_from, metas_law}
 use Rattle.hir_input_writer.proofs.PathLaws.{visibility_law}
 
+-- the metas of a list at their key, which may be a null
+abbrev listed_in : Data → Reading (List MetaView)
+listed_in d = do
+  ds ← under (codes "attrs") (optional no_items items_in (unless_null d))
+  under (codes "attrs") (each meta ds)
+
 pub record AttrsHold (ms : List MetaView) (d : Data) : Type 0 where
-  pub reads : option_and_then (each meta) (optional no_items as_array (unless_null d)) ≡ Some ms
+  pub reads : listed_in d ≡ right ms
   pub exact : has_float d ≡ false
 
 pub attrs_law : (ms : List MetaView) → IfSome (attrs_data ms) (AttrsHold ms)
 attrs_law ms =
     mapped (metas_data (metas_from ms)) array (HoldEach meta (listed (metas_from ms))) (AttrsHold ms) (metas_law (metas_from ms))
-    (λ ds h. record { reads = h.reads ∙ ap Some (listed_from ms); exact = h.exact })
+    (λ ds h. record { reads = ap (under (codes "attrs")) (h.reads 0) ∙ ap right (listed_from ms); exact = h.exact })
 
-pub record BodyHolds (bodies : Bool) (text : List ℕ) (d : Data) : Type 0 where
-  pub reads : optional [] as_str (unless_null d) ≡ Some (body_kept bodies text)
+pub record BodyHolds (bodies : Bool) (body : List ℕ) (d : Data) : Type 0 where
+  pub reads : optional [] text (unless_null d) ≡ right (body_kept bodies body)
   pub exact : has_float d ≡ false
 
-body_law : (bodies : Bool) (text : List ℕ) → BodyHolds bodies text (body_data bodies text)
-body_law true text = record { reads = refl; exact = refl }
-body_law false text = record { reads = refl; exact = refl }
+body_law : (bodies : Bool) (body : List ℕ) → BodyHolds bodies body (body_data bodies body)
+body_law true body = record { reads = refl; exact = refl }
+body_law false body = record { reads = refl; exact = refl }
 
 pub record NodeHolds (bodies : Bool) (n : NodeView) (d : NodeData) : Type 0 where
   pub hash : Holds (whole (2 ^ 16)) n.hash d.hash
@@ -64,13 +70,20 @@ named_law bodies n =
 -- in whatever object these stand
 pub node_reads : (bodies : Bool) (n : NodeView) (nd : NodeData) (d : Data) → NodeHolds bodies n nd
     → field (codes "hash") d ≡ unless_null nd.hash → field (codes "number") d ≡ unless_null nd.number → field (codes "attrs") d ≡ unless_null nd.attrs → field (codes "body") d ≡ unless_null nd.body
-    → node d ≡ Some (node_kept bodies n)
+    → node d ≡ right (node_kept bodies n)
 node_reads bodies n nd d h a b c e = rw (a, b, c, e, h.hash.there, h.hash.reads, h.number.there, h.number.reads, h.attrs.reads, h.body.reads) refl
+
+-- a node that was read, with the name and the visibility beside it
+abbrev named_by : Data → Reading NodeView → Reading NamedView
+named_by d r = do
+  n ← r
+  called ← maybe_at (codes "name") name d
+  vis ← maybe_at (codes "vis") visibility d
+  right (record { node = n; name = called; visibility = vis })
 
 pub named_reads : (bodies : Bool) (n : NamedView) (nd : NamedData) (d : Data) → NamedHolds bodies n nd
     → field (codes "hash") d ≡ unless_null nd.node.hash → field (codes "number") d ≡ unless_null nd.node.number → field (codes "attrs") d ≡ unless_null nd.node.attrs → field (codes "body") d ≡ unless_null nd.node.body
     → field (codes "name") d ≡ unless_null nd.name → field (codes "vis") d ≡ unless_null nd.vis
-    → named d ≡ Some (named_kept bodies n)
+    → named d ≡ right (named_kept bodies n)
 named_reads bodies n nd d h a b c e f g =
-    ap (λ o. option_and_then (λ m. option_and_then (λ called. option_and_then (λ vis. Some (record { node = m; name = called; visibility = vis })) (maybe visibility (field (codes "vis") d))) (maybe name (field (codes "name") d))) o)
-    (node_reads bodies n.node nd.node d h.node a b c e) ∙ rw (f, g, h.name.reads, h.vis.reads) refl
+    ap (named_by d) (node_reads bodies n.node nd.node d h.node a b c e) ∙ rw (f, g, h.name.reads, h.vis.reads) refl

@@ -1,5 +1,5 @@
 -- A path and a visibility that are written are read again.
-use Rattle.std.proofs.Common.{◌≡◌, ◌^◌, ℕ, List, [], ◌∷◌, IfSome, Option, Some, None, option_map, option_and_then, codes, refl}
+use Rattle.std.proofs.Common.{◌≡◌, ◌^◌, ℕ, List, [], ◌∷◌, IfSome, codes, decimal, refl}
 use Rattle.serde_json.specs.Data.{Data, string, array, Items, no_items, item}
 use Rattle.hir_input.specs.declared.mod_path.PathKind.{PathKind}
 use Rattle.hir_input.specs.declared.mod_path.PathKind.TheVariants.{Plain, Super, Crate, Abs, DollarCrate}
@@ -7,36 +7,44 @@ use Rattle.hir_input.specs.declared.ast.PathNode.{PathNode}
 use Rattle.hir_input.specs.declared.ast.PathNode.TheVariants.{Readable, Unreadable}
 use Rattle.hir_input.specs.declared.ast.Visibility.{Visibility}
 use Rattle.hir_input.specs.declared.ast.Visibility.TheVariants.{Pub, PubCrate, PubSuper, PubSelf, InPath}
-use Rattle.hir_input_json.specs.Forms.{each, field, name, whole}
+use Rattle.hir_input_json.specs.Reading.{Reading, right, wrong, under, ◌>>=◌}
+use Rattle.hir_input_json.specs.Forms.{each_from, field, name, whole}
 use Rattle.hir_input_json.specs.Paths.{path, visibility}
 use Rattle.hir_input_writer.specs.Parts.{each_data, name_data, whole_data}
 use Rattle.hir_input_writer.specs.Paths.{kind_data, path_data, visibility_data}
 use Rattle.hir_input_writer.specs.Held.{Holds, HoldEach}
 use Rattle.hir_input_writer.proofs.Held.{bind, mapped, each_law, name_law, whole_law}
 
-not_none : {A : Type 0} (o : Option A) (os : Option (List A)) → option_and_then (λ a. option_map (λ as'. a ∷ as') os) o ≡ Some [] → ⊥
-not_none None os h = absurd cc
-not_none (Some a) None h = absurd cc
-not_none (Some a) (Some as') h = absurd cc
+-- one before others
+abbrev led : {A : Type 0} → Reading A → Reading (List A) → Reading (List A)
+led r rs = do
+  a ← r
+  as' ← rs
+  right (a ∷ as')
+
+not_none : {A : Type 0} (r : Reading A) (rs : Reading (List A)) → led r rs ≡ right [] → ⊥
+not_none (wrong pointer) rs h = absurd cc
+not_none (right a) (wrong pointer) h = absurd cc
+not_none (right a) (right as') h = absurd cc
 
 abbrev node_of : PathKind → List (List ℕ) → PathNode
 node_of kind names = Readable (record { kind = kind; names = names })
 
 plain_law : (names : List (List ℕ)) (d : Data) (ds : Items) → HoldEach name names (item d ds) → Holds path (node_of Plain names) (array (item (string (codes "plain")) (item d ds)))
-plain_law [] d ds h = absurd (not_none (name d) (each name ds) h.reads)
-plain_law (n ∷ ns) d ds h = record { there = refl; reads = rw h.reads refl; exact = h.exact }
+plain_law [] d ds h = absurd (not_none (under (decimal 1) (name d)) (each_from 2 name ds) (h.reads 1))
+plain_law (n ∷ ns) d ds h = record { there = refl; reads = rw (h.reads 1) refl; exact = h.exact }
 
 kind_law : (kind : PathKind) (names : List (List ℕ)) (ds : Items) → HoldEach name names ds → IfSome (kind_data kind ds) (Holds path (node_of kind names))
 kind_law Plain names no_items h = tt
 kind_law Plain names (item d ds) h = plain_law names d ds h
 kind_law (Super n) names ds h =
     mapped (whole_data (2 ^ 32) n) _ (Holds (whole (2 ^ 32)) n) (Holds path (node_of (Super n) names)) (whole_law (2 ^ 32) n)
-    (λ d k. record { there = refl; reads = rw (k.reads, h.reads) refl; exact = rw (k.exact, h.exact) refl })
-kind_law Crate names ds h = record { there = refl; reads = rw h.reads refl; exact = h.exact }
-kind_law Abs names ds h = record { there = refl; reads = rw h.reads refl; exact = h.exact }
+    (λ d k. record { there = refl; reads = rw (k.reads, h.reads 2) refl; exact = rw (k.exact, h.exact) refl })
+kind_law Crate names ds h = record { there = refl; reads = rw (h.reads 1) refl; exact = h.exact }
+kind_law Abs names ds h = record { there = refl; reads = rw (h.reads 1) refl; exact = h.exact }
 kind_law (DollarCrate c) names ds h =
     mapped (whole_data (2 ^ 32) c.0) _ (Holds (whole (2 ^ 32)) c.0) (Holds path (node_of (DollarCrate c) names)) (whole_law (2 ^ 32) c.0)
-    (λ d k. record { there = refl; reads = rw (k.reads, h.reads) refl; exact = rw (k.exact, h.exact) refl })
+    (λ d k. record { there = refl; reads = rw (k.reads, h.reads 2) refl; exact = rw (k.exact, h.exact) refl })
 
 pub path_law : (p : PathNode) → IfSome (path_data p) (Holds path p)
 path_law (Readable p) =

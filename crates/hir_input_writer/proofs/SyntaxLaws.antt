@@ -1,8 +1,9 @@
 -- A syntax that is written is read again.
-use Rattle.std.proofs.Common.{◌≡◌, List, [], ◌∷◌, map, Bool, true, false, IfSome, Some, option_map, refl, ap, subst}
+use Rattle.std.proofs.Common.{◌≡◌, ◌+◌, List, [], ◌∷◌, map, Bool, true, false, IfSome, Some, codes, refl, ap, subst}
 use Rattle.serde_json.specs.Data.{Data}
 use Rattle.hir_input.specs.Bodies.{item_without_bodies, items_without_bodies, stmt_without_bodies, tail_without_body}
 use Rattle.hir_input.specs.Syntax.{ItemView, ItemViews, plain_item, const_item, struct_item, bare_module, listed_module, use_item, extern_crate, bare_extern_block, listed_extern_block, impl_item, macro_call, macro_rules, asm_item, no_items, item_and, StmtView, item_stmt, call_stmt, other_stmt, TailView, no_tail, call_tail, other_tail, SyntaxView, source_file, macro_items, macro_stmts, block_expr, error}
+use Rattle.hir_input_json.specs.Reading.{right, reading_map, under}
 use Rattle.hir_input_json.specs.Forms.{field, optional, unless_null}
 use Rattle.hir_input_json.specs.Items.{item}
 use Rattle.hir_input_json.specs.Syntaxes.{stmt, tail}
@@ -25,18 +26,18 @@ stmt_law bodies (item_stmt i) =
     (λ d h. record { there = refl; reads = rw (h.there, h.reads) refl; exact = rw h.exact refl })
 stmt_law bodies (call_stmt c) =
     mapped (call_data bodies c) _ (CallHolds bodies c) (Holds stmt (call_stmt (call_kept bodies c))) (call_law bodies c)
-    (λ d h. record { there = refl; reads = rw (h.there, h.object, h.is) (ap (option_map call_stmt) h.reads); exact = rw h.exact refl })
+    (λ d h. record { there = refl; reads = rw (h.there, h.object, h.is) (ap (λ r. under (codes "call") (reading_map call_stmt r)) h.reads); exact = rw h.exact refl })
 stmt_law bodies other_stmt = record { there = refl; reads = refl; exact = refl }
 
 stmts_law : (bodies : Bool) (ss : List StmtView) → IfSome (each_data (stmt_data bodies) ss) (HoldEach stmt (map (stmt_kept bodies) ss))
-stmts_law bodies [] = record { reads = refl; exact = refl }
+stmts_law bodies [] = record { reads = λ n. refl; exact = refl }
 stmts_law bodies (s ∷ ss) =
     bind (stmt_data bodies s) _ (Holds stmt (stmt_kept bodies s)) (HoldEach stmt (map (stmt_kept bodies) (s ∷ ss))) (stmt_law bodies s) (λ d h.
     bind (each_data (stmt_data bodies) ss) _ (HoldEach stmt (map (stmt_kept bodies) ss)) (HoldEach stmt (map (stmt_kept bodies) (s ∷ ss))) (stmts_law bodies ss) (λ ds hs.
-    record { reads = rw (h.reads, hs.reads) refl; exact = rw (h.exact, hs.exact) refl }))
+    record { reads = λ n. rw (h.reads, hs.reads (n + 1)) refl; exact = rw (h.exact, hs.exact) refl }))
 
 record TailHolds (t : TailView) (d : Data) : Type 0 where
-  pub reads : optional no_tail tail (unless_null d) ≡ Some t
+  pub reads : optional no_tail tail (unless_null d) ≡ right t
   pub exact : has_float d ≡ false
 
 tail_law : (bodies : Bool) (t : TailView) → IfSome (tail_data bodies t) (TailHolds (tail_kept bodies t))
@@ -44,7 +45,7 @@ unfolding field
 tail_law bodies no_tail = record { reads = refl; exact = refl }
 tail_law bodies (call_tail c) =
     mapped (call_data bodies c) _ (CallHolds bodies c) (TailHolds (call_tail (call_kept bodies c))) (call_law bodies c)
-    (λ d h. record { reads = rw (h.there, h.object, h.is) (ap (option_map call_tail) h.reads); exact = rw h.exact refl })
+    (λ d h. record { reads = rw (h.there, h.object, h.is) (ap (λ r. reading_map call_tail (under (codes "call") r)) h.reads); exact = rw h.exact refl })
 tail_law bodies other_tail = record { reads = refl; exact = refl }
 
 abbrev syntax_kept : Bool → SyntaxView → SyntaxView
@@ -59,14 +60,14 @@ unfolding field
 syntax_law bodies (source_file attrs is) =
     bind (attrs_data attrs) _ (AttrsHold attrs) (IsReadAs (syntax_kept bodies (source_file attrs is))) (attrs_law attrs) (λ a h.
     bind (items_data bodies is) _ (HoldEach item (listed (items_kept bodies is))) (IsReadAs (syntax_kept bodies (source_file attrs is))) (items_law bodies is) (λ ds hs.
-    record { reads = rw (h.reads, hs.reads) (ap (λ us. Some (source_file attrs us)) (from_listed (items_kept bodies is))); no_float = rw (h.exact, hs.exact) refl }))
+    record { reads = rw (h.reads, hs.reads 0) (ap (λ us. right (source_file attrs us)) (from_listed (items_kept bodies is))); no_float = rw (h.exact, hs.exact) refl }))
 syntax_law bodies (macro_items is) =
     mapped (items_data bodies is) _ (HoldEach item (listed (items_kept bodies is))) (IsReadAs (macro_items (items_kept bodies is))) (items_law bodies is)
-    (λ ds hs. record { reads = rw hs.reads (ap (λ us. Some (macro_items us)) (from_listed (items_kept bodies is))); no_float = rw hs.exact refl })
+    (λ ds hs. record { reads = rw (hs.reads 0) (ap (λ us. right (macro_items us)) (from_listed (items_kept bodies is))); no_float = rw hs.exact refl })
 syntax_law bodies (macro_stmts ss t) =
     bind (each_data (stmt_data bodies) ss) _ (HoldEach stmt (map (stmt_kept bodies) ss)) (IsReadAs (syntax_kept bodies (macro_stmts ss t))) (stmts_law bodies ss) (λ ds hs.
     bind (tail_data bodies t) _ (TailHolds (tail_kept bodies t)) (IsReadAs (syntax_kept bodies (macro_stmts ss t))) (tail_law bodies t) (λ d h.
-    record { reads = rw (hs.reads, h.reads) refl; no_float = rw (hs.exact, h.exact) refl }))
+    record { reads = rw (hs.reads 0, h.reads) refl; no_float = rw (hs.exact, h.exact) refl }))
 syntax_law bodies (block_expr attrs stmts t) = tt
 syntax_law bodies error = record { reads = refl; no_float = refl }
 

@@ -1,9 +1,10 @@
 -- A rename and a use tree that are written are read again.
-use Rattle.std.proofs.Common.{◌≡◌, ℕ, List, [], ◌∷◌, Bool, true, false, bytes_eq, IfSome, Option, Some, None, if◌then◌else◌, option_map, codes, refl, ap, subst, ◌∙◌}
+use Rattle.std.proofs.Common.{◌≡◌, ℕ, ◌+◌, List, [], ◌∷◌, Bool, true, false, bytes_eq, IfSome, Option, Some, None, if◌then◌else◌, codes, refl, ap, subst, ◌∙◌}
 use Rattle.serde_json.specs.Data.{Data, null, array}
 use Rattle.serde_json.specs.Written.{has_float}
 use Rattle.hir_input.specs.declared.ast.Rename.{Rename}
 use Rattle.hir_input.specs.UseTreeView.{UseNode, UseTreeView, UseTreeViews, bare_tree, listed_tree, no_trees, tree_and, tree_from, trees_from}
+use Rattle.hir_input_json.specs.Reading.{right, reading_map}
 use Rattle.hir_input_json.specs.Forms.{field, list_of, maybe, unless_null}
 use Rattle.hir_input_json.specs.Paths.{path}
 use Rattle.hir_input_json.specs.UseTrees.{rename, use_tree}
@@ -37,7 +38,7 @@ from_listed no_trees = refl
 from_listed (tree_and t ts) = ap (tree_and t) (from_listed ts)
 
 -- over the reading of the list that is written
-node_law : (node : UseNode) (list : Data) (ts : Option (List UseTreeView)) → maybe (list_of use_tree) (unless_null list) ≡ Some ts → has_float list ≡ false
+node_law : (node : UseNode) (list : Data) (ts : Option (List UseTreeView)) → maybe (list_of use_tree) (unless_null list) ≡ right ts → has_float list ≡ false
     → IfSome (use_node_data node list) (Holds use_tree (tree_from node ts))
 unfolding field
 node_law node list ts is exact =
@@ -50,11 +51,11 @@ mutual
   use_tree_law (bare_tree node) = node_law node null None refl refl
   use_tree_law (listed_tree node ts) =
       bind (use_trees_data ts) _ (HoldEach use_tree (listed ts)) (Holds use_tree (listed_tree node ts)) (use_trees_law ts) (λ ds h.
-      subst (λ us. IfSome (use_node_data node (array ds)) (Holds use_tree (listed_tree node us))) (from_listed ts) (node_law node (array ds) (Some (listed ts)) (ap (option_map Some) h.reads) h.exact))
+      subst (λ us. IfSome (use_node_data node (array ds)) (Holds use_tree (listed_tree node us))) (from_listed ts) (node_law node (array ds) (Some (listed ts)) (ap (reading_map Some) (h.reads 0)) h.exact))
 
   pub use_trees_law : (ts : UseTreeViews) → IfSome (use_trees_data ts) (HoldEach use_tree (listed ts))
-  use_trees_law no_trees = record { reads = refl; exact = refl }
+  use_trees_law no_trees = record { reads = λ n. refl; exact = refl }
   use_trees_law (tree_and t ts) =
       bind (use_tree_data t) _ (Holds use_tree t) (HoldEach use_tree (t ∷ listed ts)) (use_tree_law t) (λ d h.
       bind (use_trees_data ts) _ (HoldEach use_tree (listed ts)) (HoldEach use_tree (t ∷ listed ts)) (use_trees_law ts) (λ ds hs.
-      record { reads = rw (h.reads, hs.reads) refl; exact = rw (h.exact, hs.exact) refl }))
+      record { reads = λ n. rw (h.reads, hs.reads (n + 1)) refl; exact = rw (h.exact, hs.exact) refl }))

@@ -2,8 +2,7 @@
 use Rattle.std.specs.Prelude.{ℕ, List, codes, Option, Some, None, option_map}
 use Rattle.serde_json.specs.Data.{Data, null, string, array, object, Items, no_items, item, no_members, member}
 use Rattle.hir_input.specs.Cfg.{AtomView, CfgView, CfgViews, invalid, atom, all_of, any_of, not_of, no_cfgs, cfg_and}
-use Rattle.hir_input_json.specs.Forms.{◌>>=◌}
-use Rattle.hir_input_writer.specs.Parts.{name_data}
+use Rattle.hir_input_writer.specs.Parts.{name_data, ◌>>=◌}
 
 -- a key and its value
 abbrev pub keyed : Data → List ℕ → Data

@@ -7,10 +7,9 @@ use Rattle.hir_input.specs.Attr.{MetaView, metas_from}
 use Rattle.hir_input.specs.Id.{shown_expand_to}
 use Rattle.hir_input.specs.Syntax.{NodeView, NamedView, UseView, CallView, PlainKind, fn_kind, union_kind, enum_kind, static_kind, trait_kind, type_alias_kind, macro_def_kind, FieldsView, record_fields, tuple_fields, no_fields, ItemView, ItemViews, plain_item, const_item, struct_item, bare_module, listed_module, use_item, extern_crate, bare_extern_block, listed_extern_block, impl_item, macro_call, macro_rules, asm_item, items_from}
 use Rattle.hir_input.specs.Syntax as syntax
-use Rattle.hir_input_json.specs.Forms.{◌>>=◌}
 use Rattle.hir_input_writer.specs.Literals.{context_data}
 use Rattle.hir_input_writer.specs.Metas.{metas_data}
-use Rattle.hir_input_writer.specs.Parts.{list_data, maybe_data, name_data, whole_data}
+use Rattle.hir_input_writer.specs.Parts.{list_data, maybe_data, name_data, whole_data, ◌>>=◌}
 use Rattle.hir_input_writer.specs.Paths.{path_data, visibility_data}
 use Rattle.hir_input_writer.specs.UseTrees.{rename_data, use_tree_data}
 

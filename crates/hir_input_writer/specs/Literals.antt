@@ -7,8 +7,7 @@ use Rattle.hir_input.specs.declared.ids.SyntaxContext.{SyntaxContext}
 use Rattle.hir_input.specs.declared.ids.SyntaxContext.TheVariants.{Root, Expanded}
 use Rattle.hir_input.specs.declared.span.Span.{Span}
 use Rattle.hir_input.specs.Literal.{LiteralView}
-use Rattle.hir_input_json.specs.Forms.{◌>>=◌}
-use Rattle.hir_input_writer.specs.Parts.{text_or_null, whole_data}
+use Rattle.hir_input_writer.specs.Parts.{text_or_null, whole_data, ◌>>=◌}
 
 -- a context
 abbrev pub context_data : SyntaxContext → Option Data

@@ -5,10 +5,9 @@ use Rattle.hir_input.specs.declared.ast.PathNode.{PathNode}
 use Rattle.hir_input.specs.declared.ids.SyntaxContext.{SyntaxContext}
 use Rattle.hir_input.specs.Attr.{MetaView, MetaViews, path_meta, key_value_meta, token_tree_meta, cfg_meta, cfg_attr_meta, unsafe_meta, no_metas, meta_and}
 use Rattle.hir_input.specs.Literal.{LiteralView}
-use Rattle.hir_input_json.specs.Forms.{◌>>=◌}
 use Rattle.hir_input_writer.specs.Cfgs.{cfg_data}
 use Rattle.hir_input_writer.specs.Literals.{context_data, literal_data}
-use Rattle.hir_input_writer.specs.Parts.{maybe_data}
+use Rattle.hir_input_writer.specs.Parts.{maybe_data, ◌>>=◌}
 use Rattle.hir_input_writer.specs.Paths.{path_data}
 
 abbrev pub path_object : (path ctxt : Data) → Data

@@ -8,8 +8,7 @@ use Rattle.hir_input.specs.declared.ast.PathNode.TheVariants.{Readable, Unreadab
 use Rattle.hir_input.specs.declared.ast.Visibility.{Visibility}
 use Rattle.hir_input.specs.declared.ast.Visibility.TheVariants.{Pub, PubCrate, PubSuper, PubSelf, InPath}
 use Rattle.hir_input.specs.Path.{Path}
-use Rattle.hir_input_json.specs.Forms.{◌>>=◌}
-use Rattle.hir_input_writer.specs.Parts.{each_data, name_data, whole_data}
+use Rattle.hir_input_writer.specs.Parts.{each_data, name_data, whole_data, ◌>>=◌}
 
 -- a word, a number where there is one, and names
 abbrev pub behind : List ℕ → Option ℕ → Items → Option Data

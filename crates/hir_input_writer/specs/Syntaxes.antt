@@ -3,9 +3,8 @@ use Rattle.std.specs.Prelude.{List, Bool, codes, Option, Some, None, option_map}
 use Rattle.serde_json.specs.Data.{Data, null, string, array, object, Items, no_members, member}
 use Rattle.hir_input.specs.Attr.{MetaView}
 use Rattle.hir_input.specs.Syntax.{ItemViews, StmtView, item_stmt, call_stmt, other_stmt, TailView, no_tail, call_tail, other_tail, SyntaxView, source_file, macro_items, macro_stmts, block_expr, error}
-use Rattle.hir_input_json.specs.Forms.{◌>>=◌}
 use Rattle.hir_input_writer.specs.Items.{attrs_data, call_data, item_data, items_data}
-use Rattle.hir_input_writer.specs.Parts.{each_data}
+use Rattle.hir_input_writer.specs.Parts.{each_data, ◌>>=◌}
 
 abbrev pub item_object : Data → Data
 item_object d = object (member (codes "item") d no_members)

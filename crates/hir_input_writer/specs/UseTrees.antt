@@ -3,8 +3,7 @@ use Rattle.std.specs.Prelude.{ℕ, List, Bool, codes, bytes_eq, if◌then◌else
 use Rattle.serde_json.specs.Data.{Data, null, boolean, string, array, object, Items, no_items, item, no_members, member}
 use Rattle.hir_input.specs.declared.ast.Rename.{Rename}
 use Rattle.hir_input.specs.UseTreeView.{UseNode, UseTreeView, UseTreeViews, bare_tree, listed_tree, no_trees, tree_and}
-use Rattle.hir_input_json.specs.Forms.{◌>>=◌}
-use Rattle.hir_input_writer.specs.Parts.{maybe_data, name_data}
+use Rattle.hir_input_writer.specs.Parts.{maybe_data, name_data, ◌>>=◌}
 use Rattle.hir_input_writer.specs.Paths.{path_data}
 
 -- `_` is no name for one

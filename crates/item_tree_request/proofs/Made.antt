@@ -1,5 +1,5 @@
 -- What the outcome of all edits says of the sizes of each.
-use Rattle.std.proofs.Common.{◌≡◌, ◌≢◌, ℕ, ◌+◌, ◌<◌, ◌≤◌, eq-or-lt_of_le, inl, inr, List, [], Some, refl, length, take, map, option_map, slice_get, ap, ◌∙◌, subst, arith}
+use Rattle.std.proofs.Common.{◌≡◌, ◌≢◌, ℕ, ◌+◌, ◌<◌, ◌≤◌, eq-or-lt_of_le, inl, inr, List, [], Some, length, take, map, option_map, slice_get, ap, ◌∙◌, subst, arith}
 use Rattle.std.proofs.lemmas.List.{length-take-le}
 use Rattle.std.proofs.lemmas.Option.{slice_get-map, slice_get_within}
 use Rattle.item_tree.specs.declared.fault.EditFault.{EditFault}

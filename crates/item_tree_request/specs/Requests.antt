@@ -1,15 +1,15 @@
 -- The reading of a request.
-use Rattle.std.specs.Prelude.{◌≡◌, ℕ, ◌^◌, List, length, codes, IsUtf8, if◌then◌else◌, Option, Some, None}
+use Rattle.std.specs.Prelude.{◌≡◌, ℕ, ◌^◌, List, [], length, codes, IsUtf8, if◌then◌else◌, Some}
 use Rattle.serde_json.specs.Data.{Data}
-use Rattle.serde_json.specs.Find.{as_object}
 use Rattle.serde_json.specs.Read.{read}
 use Rattle.serde_json.specs.Written.{has_float}
 use Rattle.item_tree.specs.CrateView.{CrateView}
 use Rattle.item_tree_db.specs.Edits.{EditView}
 use Rattle.item_tree_request.specs.declared.request.show.Show.{Show}
+use Rattle.hir_input_json.specs.Reading.{Reading, right, wrong, ◌>>=◌}
 use Rattle.hir_input_json.specs.Editions.{EditionView, edition_at}
 use Rattle.item_tree_request.specs.Edits.{crate_data, edit}
-use Rattle.hir_input_json.specs.Forms.{field, optional, whole, name, list_at, ◌>>=◌}
+use Rattle.hir_input_json.specs.Forms.{optional_at, whole, name, members_in, list_at}
 use Rattle.item_tree_request.specs.Shows.{show}
 
 -- what is asked for
@@ -24,20 +24,20 @@ pub record Request : Type 0 where
   pub shows : List Show
 
 -- each member by its form
-abbrev pub parts : Data → Option Request
+abbrev pub parts : Data → Reading Request
 parts d = do
-  _ ← as_object d
-  start ← optional 0 (whole (2 ^ 64)) (field (codes "start") d)
+  _ ← members_in d
+  start ← optional_at 0 (codes "start") (whole (2 ^ 64)) d
   skipped ← list_at name (codes "skipped") d
   language ← edition_at d
   crates ← list_at crate_data (codes "crates") d
   edits ← list_at (edit (length crates)) (codes "edits") d
   shows ← list_at (show (length crates)) (codes "shows") d
-  Some (record { start = start; skipped = skipped; edition = language; crates = crates; edits = edits; shows = shows })
+  right (record { start = start; skipped = skipped; edition = language; crates = crates; edits = edits; shows = shows })
 
 -- A request: an object without a float, each of whose members has its form.
-unfoldable pub request : Data → Option Request
-request d = if has_float d then None else parts d
+unfoldable pub request : Data → Reading Request
+request d = if has_float d then wrong [] else parts d
 
 -- the bytes are a JSON text of this value, nested to 127 at most
 abbrev pub IsJsonText : List ℕ → Data → Type 0
@@ -45,4 +45,4 @@ IsJsonText bytes d = IsUtf8 bytes × (read bytes ≡ Some d)
 
 -- the bytes are a JSON text of this request
 abbrev pub IsRequest : List ℕ → Request → Type 0
-IsRequest bytes q = (d : Data) × IsJsonText bytes d × (request d ≡ Some q)
+IsRequest bytes q = (d : Data) × IsJsonText bytes d × (request d ≡ right q)

@@ -1,10 +1,11 @@
 -- What a run has read and written when it answers, over what its program writes of shows.
-use Rattle.std.specs.Prelude.{◌≡◌, ℕ, List, length, None, Option, Result, MatchResult}
+use Rattle.std.specs.Prelude.{◌≡◌, ℕ, List, length, Option, Result, MatchResult}
 use Rattle.std.specs.Io.KnownBytes.{Keeps, Appends}
 use Rattle.serde_json.specs.Data.{Data}
 use Rattle.item_tree.specs.declared.fault.EditFault.{EditFault}
 use Rattle.item_tree_request.specs.declared.error.RunError.{RunError}
 use Rattle.item_tree_request.specs.declared.error.RunError.TheVariants.{NotJson, NotRequest, Refused, OutOfMemory, Read, Write}
+use Rattle.hir_input_json.specs.Reading.{wrong}
 use Rattle.item_tree_request.specs.Outputs.{ShowText, first_table, IsOutput, NonePasses, PassesAt}
 use Rattle.item_tree_request.specs.Requests.{Request, request, IsJsonText, IsRequest}
 use Rattle.item_tree_request.specs.Streams.{IsReadToEnd, TakesBeginning}
@@ -26,7 +27,7 @@ pub record IsRefusedAt (bytes : List ℕ) (place : ℕ) (cause : EditFault) : Ty
 -- the bytes are refused for this cause
 abbrev pub IsRefusedFor : List ℕ → RunError → Type 0
 IsRefusedFor bytes NotJson = (d : Data) → ¬ IsJsonText bytes d
-IsRefusedFor bytes NotRequest = (d : Data) × IsJsonText bytes d × (request d ≡ None)
+IsRefusedFor bytes NotRequest = (d : Data) × (pointer : List ℕ) × IsJsonText bytes d × (request d ≡ wrong pointer)
 IsRefusedFor bytes (Refused place cause) = IsRefusedAt bytes place cause
 IsRefusedFor bytes OutOfMemory = Unit {0}
 IsRefusedFor bytes Read = ⊥

@@ -42,7 +42,7 @@ fn read_request(alloc: Global, bytes: &[u8]) -> Result<Request, RunError>
     let value = value_of(alloc, bytes)?;
     match request_of(alloc, value) {
         Ok(request) => Ok(request),
-        Err(Fault::WrongForm) => Err(RunError::NotRequest),
+        Err(Fault::WrongForm { .. }) => Err(RunError::NotRequest),
         Err(Fault::OutOfMemory) => Err(RunError::OutOfMemory),
     }
 }

@@ -1,12 +1,12 @@
 //! The request that a run reads.
-ghost use Rattle.std.specs.Prelude.{◌≡◌, ◌^◌, None, Some, IfOk, OnOk, MatchResult, codes};
+ghost use Rattle.std.specs.Prelude.{◌≡◌, ◌^◌, IfOk, OnOk, MatchResult, codes};
 ghost use Rattle.serde_json.specs.View.{view};
 ghost use Rattle.hir_input.specs.Edition.{edition_view};
 ghost use Rattle.hir_input_json.specs.Editions.{edition_at as edition_at_form};
-ghost use Rattle.hir_input_json.specs.Forms.{field as field_of, optional, whole, name as name_form, list_at as each_at};
+ghost use Rattle.hir_input_json.specs.Reading.{right};
+ghost use Rattle.hir_input_json.specs.Forms.{optional_at, whole, name as name_form, list_at as each_at};
 ghost use Rattle.hir_input_json.specs.Held.{held, without};
-ghost use Rattle.hir_input_json.specs.declared.fault.Fault.TheVariants.{WrongForm};
-ghost use Rattle.hir_input_json.specs.Reads.{Reads};
+ghost use Rattle.hir_input_json.specs.Reads.{Reads, Tells};
 ghost use Rattle.item_tree_request.specs.Inner.RequestView.{request_view, NamesOwnCrates};
 ghost use Rattle.item_tree_request.specs.Requests.{request as request_form, parts as parts_form};
 
@@ -51,13 +51,13 @@ struct Settings {
 #[tactic(auto, using(hir_input_json::proofs::Held::field_without))]
 fn settings_at(alloc: Global, members: &mut Map<String, Value>) -> Result<Settings, Fault>
     ensures reads { MatchResult result
-        (λ s. (optional 0 (whole (2 ^ 64)) (field_of (codes "start") (held members.old)) ≡ Some s.start)
-        × (each_at name_form (codes "skipped") (held members.old) ≡ Some s.skipped.items)
-        × (edition_at_form (held members.old) ≡ Some (edition_view s.edition)))
-        (λ e. e ≡ WrongForm → parts_form (held members.old) ≡ None) }
+        (λ s. (optional_at 0 (codes "start") (whole (2 ^ 64)) (held members.old) ≡ right s.start)
+        × (each_at name_form (codes "skipped") (held members.old) ≡ right s.skipped.items)
+        × (edition_at_form (held members.old) ≡ right (edition_view s.edition)))
+        (Tells (parts_form (held members.old))) }
     ensures left { OnOk result (held members.new ≡ without (codes "edition") (without (codes "skipped") (held members.old))) }
 {
-    let start = u64_at(members, "start")?;
+    let start = u64_at(alloc, members, "start")?;
     let skipped = names_at(alloc, members, "skipped")?;
     let edition = edition_at(alloc, members)?;
     Ok(Settings {
@@ -97,8 +97,8 @@ pub(crate) fn request_of(alloc: Global, value: Value) -> Result<Request, Fault>
     ensures known { IfOk result NamesOwnCrates }
 {
     if has_float(&value) {
-        return Err(Fault::WrongForm);
+        return Err(Fault::here(alloc));
     }
-    let mut members = members_of(value)?;
+    let mut members = members_of(alloc, value)?;
     parts_of(alloc, &mut members)
 }

@@ -167,7 +167,7 @@ fn prints_errors(rt: HostRuntime) -> Result<(), Fail> {
 
 #[test]
 fn prints_faults(rt: HostRuntime) -> Result<(), Fail> {
-    let wrong = Fault::WrongForm.to_string(rt.alloc())?;
+    let wrong = Fault::here(rt.alloc()).to_string(rt.alloc())?;
     assert_eq!(rt; wrong.as_str(), "wrong form");
     let wanting = Fault::OutOfMemory.to_string(rt.alloc())?;
     assert_eq!(rt; wanting.as_str(), "out of memory");

@@ -1,12 +1,13 @@
 -- A request that is written is read again.
-use Rattle.std.proofs.Common.{◌≡◌, ◌+◌, ◌^◌, ◌<◌, ℕ, List, [], ◌∷◌, Bool, true, false, nat_lt, IfSome, Option, Some, None, if◌then◌else◌, option_map, option_and_then, codes, refl, sym, ap, subst, ◌∙◌, arith}
+use Rattle.std.proofs.Common.{◌≡◌, ◌+◌, ◌^◌, ℕ, List, [], ◌∷◌, Bool, true, false, nat_lt, IfSome, Some, None, if◌then◌else◌, refl, sym, ap, subst, ◌∙◌, arith}
 use Rattle.std.proofs.lemmas.Bool.Decides.{nat_tests}
-use Rattle.serde_json.specs.Data.{Data, null, boolean, number, unsigned, string, array, object, Items, no_items, item}
+use Rattle.serde_json.specs.Data.{Data, null, boolean, number, unsigned, string, array, object, Items}
 use Rattle.serde_json.specs.Written.{has_float, items_have_float}
 use Rattle.hir_input.specs.declared.edition.EditionYear.{EditionYear}
 use Rattle.hir_input.specs.declared.edition.EditionYear.TheVariants.{E2015, E2018, E2021, E2024}
 use Rattle.hir_input.specs.Cfg.{AtomView}
 use Rattle.hir_input.specs.Syntax.{SyntaxView}
+use Rattle.hir_input_json.specs.Reading.{right, wrong}
 use Rattle.hir_input_json.specs.Cfgs.{atom}
 use Rattle.hir_input_json.specs.Editions.{EditionView, edition, year}
 use Rattle.hir_input_json.specs.Forms.{below, each, field, name, unless_null, whole}
@@ -23,21 +24,20 @@ use Rattle.hir_input_writer.proofs.SyntaxLaws.{syntax_read}
 use Rattle.item_tree.specs.CrateView.{CrateView}
 use Rattle.item_tree_db.specs.declared.place.Place.{Place}
 use Rattle.item_tree_db.specs.declared.place.Place.TheVariants.{File, Block}
-use Rattle.item_tree_db.specs.Edits.{EditView, set}
+use Rattle.item_tree_db.specs.Edits.{set}
 use Rattle.item_tree_request.specs.declared.request.show.Show.{Show}
 use Rattle.item_tree_request.specs.declared.request.show.Show.TheVariants.{OfTree, Changed}
 use Rattle.item_tree_request.specs.declared.request.show.ShowKind.{ShowKind}
 use Rattle.item_tree_request.specs.declared.request.show.ShowKind.TheVariants.{Page, Tree, Imports}
-use Rattle.item_tree_request.specs.declared.request.show.TreeShow.{TreeShow}
 use Rattle.item_tree_request.specs.Edits.{crate_data, edit}
-use Rattle.item_tree_request.specs.Requests.{Request, request, parts}
-use Rattle.item_tree_request.specs.Shows.{show, tree_show}
+use Rattle.item_tree_request.specs.Requests.{request, parts}
+use Rattle.item_tree_request.specs.Shows.{show}
 use Rattle.request_writer.specs.Meant.{files_set, meant}
 use Rattle.request_writer.specs.Written.{block_object, crate_object, edit_data, edition_data, edition_object, edits_data, file_object, kind_word, place_show, request_data, request_object, show_data}
 
 -- ---- editions
 
-year_law : (y : EditionYear) → year (number (unsigned (year_number y))) ≡ Some y
+year_law : (y : EditionYear) → year (number (unsigned (year_number y))) ≡ right y
 year_law E2015 = refl
 year_law E2018 = refl
 year_law E2021 = refl
@@ -47,20 +47,20 @@ edition_law : (e : EditionView) → IfSome (edition_data e) (Holds edition e)
 unfolding field
 edition_law e =
     mapped (each_data name_data e.1) (edition_object (year_number e.0)) (HoldEach name e.1) (Holds edition e) (each_law name_data name name_law e.1)
-    (λ ds h. record { there = refl; reads = rw (year_law e.0, h.reads) refl; exact = rw h.exact refl })
+    (λ ds h. record { there = refl; reads = rw (year_law e.0, h.reads 0) refl; exact = rw h.exact refl })
 
 -- ---- crates
 
 crate_of : List AtomView → CrateView
 crate_of options = record { root = record { 0 = 0 }; options = options; attrs = [] }
 
-crate_law : (options : List AtomView) (ds : Items) → each atom ds ≡ Some options → crate_data (crate_object ds) ≡ Some (crate_of options)
+crate_law : (options : List AtomView) (ds : Items) → each atom ds ≡ right options → crate_data (crate_object ds) ≡ right (crate_of options)
 unfolding field crate_of
 crate_law options ds h = rw h refl
 
 -- ---- edits
 
-there_by : (s : SyntaxView) (d : Data) → syntax d ≡ Some s → unless_null d ≡ Some d
+there_by : (s : SyntaxView) (d : Data) → syntax d ≡ right s → unless_null d ≡ Some d
 unfolding field
 there_by s null h = absurd cc
 there_by s (boolean b) h = refl
@@ -77,27 +77,36 @@ edit_law count bodies n s =
     record { there = refl; reads = rw (h.there, h.reads, there_by (kept bodies s) d k.reads, k.reads) refl; exact = rw (h.exact, k.no_float) refl }))
 
 edits_law : (count : ℕ) (bodies : Bool) (n : ℕ) (ss : List SyntaxView) → IfSome (edits_data bodies n ss) (HoldEach (edit count) (files_set bodies n ss))
-edits_law count bodies n [] = record { reads = refl; exact = refl }
+edits_law count bodies n [] = record { reads = λ k. refl; exact = refl }
 edits_law count bodies n (s ∷ ss) =
     bind (edit_data bodies n s) _ (Holds (edit count) (set (File (record { 0 = n })) (kept bodies s))) (HoldEach (edit count) (files_set bodies n (s ∷ ss))) (edit_law count bodies n s) (λ d h.
     bind (edits_data bodies (n + 1) ss) _ (HoldEach (edit count) (files_set bodies (n + 1) ss)) (HoldEach (edit count) (files_set bodies n (s ∷ ss))) (edits_law count bodies (n + 1) ss) (λ ds hs.
-    record { reads = rw (h.reads, hs.reads) refl; exact = rw (h.exact, hs.exact) refl }))
+    record { reads = λ k. rw (h.reads, hs.reads (k + 1)) refl; exact = rw (h.exact, hs.exact) refl }))
 
 -- ---- shows
 
-word_law : (kind : ShowKind) (d : Data) → field (codes "show") d ≡ Some (string (kind_word kind)) → show 1 d ≡ tree_show 1 kind d
-word_law Page d e = rw e refl
-word_law Tree d e = rw e refl
-word_law Imports d e = rw e refl
+file_reads : (kind : ShowKind) (n : ℕ) (d : Data) → Holds (whole (2 ^ 32)) n d
+    → show 1 (file_object (kind_word kind) (number (unsigned 0)) d) ≡ right (OfTree (record { kind = kind; krate = record { 0 = 0 }; place = File (record { 0 = n }) }))
+unfolding field
+file_reads Page n d h = rw (h.there, h.reads) refl
+file_reads Tree n d h = rw (h.there, h.reads) refl
+file_reads Imports n d h = rw (h.there, h.reads) refl
+
+block_reads : (kind : ShowKind) (n : ℕ) (d : Data) → Holds (whole (2 ^ 32)) n d
+    → show 1 (block_object (kind_word kind) (number (unsigned 0)) d) ≡ right (OfTree (record { kind = kind; krate = record { 0 = 0 }; place = Block (record { 0 = n }) }))
+unfolding field
+block_reads Page n d h = rw (h.there, h.reads) refl
+block_reads Tree n d h = rw (h.there, h.reads) refl
+block_reads Imports n d h = rw (h.there, h.reads) refl
 
 place_law : (kind : ShowKind) (place : Place) → IfSome (place_show (kind_word kind) (number (unsigned 0)) place) (Holds (show 1) (OfTree (record { kind = kind; krate = record { 0 = 0 }; place = place })))
 unfolding field
 place_law kind (File file) =
     mapped (whole_data (2 ^ 32) file.0) _ (Holds (whole (2 ^ 32)) file.0) (Holds (show 1) (OfTree (record { kind = kind; krate = record { 0 = 0 }; place = File file }))) (whole_law (2 ^ 32) file.0)
-    (λ d h. record { there = refl; reads = word_law kind (file_object (kind_word kind) (number (unsigned 0)) d) refl ∙ rw (h.there, h.reads) refl; exact = rw h.exact refl })
+    (λ d h. record { there = refl; reads = file_reads kind file.0 d h; exact = rw h.exact refl })
 place_law kind (Block block) =
     mapped (whole_data (2 ^ 32) block.0) _ (Holds (whole (2 ^ 32)) block.0) (Holds (show 1) (OfTree (record { kind = kind; krate = record { 0 = 0 }; place = Block block }))) (whole_law (2 ^ 32) block.0)
-    (λ d h. record { there = refl; reads = word_law kind (block_object (kind_word kind) (number (unsigned 0)) d) refl ∙ rw (h.there, h.reads) refl; exact = rw h.exact refl })
+    (λ d h. record { there = refl; reads = block_reads kind block.0 d h; exact = rw h.exact refl })
 
 first_by : (b : Bool) (k : ℕ) → nat_lt k 1 ≡ b → IfSome (if b then Some k else None) (λ n. k ≡ 0)
 first_by true k h = grind (arith, nat_tests)
@@ -124,20 +133,20 @@ exact_law atoms edits shows names language a l e s n = rw (a, l, e, s, n) refl
 
 parts_law : (bodies : Bool) (skipped : List (List ℕ)) (e : EditionView) (options : List AtomView) (files : List SyntaxView) (shows : List Show) (names : Items) (language : Data) (atoms edits shown : Items)
     → HoldEach name skipped names → Holds edition e language → HoldEach atom options atoms → HoldEach (edit 1) (files_set bodies 0 files) edits → HoldEach (show 1) shows shown
-    → parts (request_object (crate_object atoms) language edits shown names) ≡ Some (meant bodies skipped e options files shows)
+    → parts (request_object (crate_object atoms) language edits shown names) ≡ right (meant bodies skipped e options files shows)
 unfolding field crate_of
 parts_law bodies skipped e options files shows names language atoms edits shown n l a d s =
-    rw (n.reads, l.there, l.reads, crate_law options atoms a.reads, d.reads, s.reads) refl
+    rw (n.reads 0, l.there, l.reads, crate_law options atoms (a.reads 0), d.reads 0, s.reads 0) refl
 
 abbrev IsAsked : Bool → List (List ℕ) → EditionView → List AtomView → List SyntaxView → List Show → Data → Type 0
-IsAsked bodies skipped e options files shows d = request d ≡ Some (meant bodies skipped e options files shows)
+IsAsked bodies skipped e options files shows d = request d ≡ right (meant bodies skipped e options files shows)
 
 whole_request : (bodies : Bool) (skipped : List (List ℕ)) (e : EditionView) (options : List AtomView) (files : List SyntaxView) (shows : List Show) (names : Items) (language : Data) (atoms edits shown : Items)
     → HoldEach name skipped names → Holds edition e language → HoldEach atom options atoms → HoldEach (edit 1) (files_set bodies 0 files) edits → HoldEach (show 1) shows shown
     → IsAsked bodies skipped e options files shows (request_object (crate_object atoms) language edits shown names)
 unfolding request
 whole_request bodies skipped e options files shows names language atoms edits shown n l a d s =
-    ap (λ b. if b then None else parts (request_object (crate_object atoms) language edits shown names)) (exact_law atoms edits shown names language a.exact l.exact d.exact s.exact n.exact)
+    ap (λ b. if b then wrong [] else parts (request_object (crate_object atoms) language edits shown names)) (exact_law atoms edits shown names language a.exact l.exact d.exact s.exact n.exact)
     ∙ parts_law bodies skipped e options files shows names language atoms edits shown n l a d s
 
 request_law : (bodies : Bool) (skipped : List (List ℕ)) (e : EditionView) (options : List AtomView) (files : List SyntaxView) (shows : List Show)
@@ -152,5 +161,5 @@ request_law bodies skipped e options files shows =
 
 -- whatever data it is
 pub request_again : (bodies : Bool) (skipped : List (List ℕ)) (e : EditionView) (options : List AtomView) (files : List SyntaxView) (shows : List Show) (d : Data)
-    → request_data bodies skipped e options files shows ≡ Some d → request d ≡ Some (meant bodies skipped e options files shows)
+    → request_data bodies skipped e options files shows ≡ Some d → request d ≡ right (meant bodies skipped e options files shows)
 request_again bodies skipped e options files shows d is = subst (λ o. IfSome o (IsAsked bodies skipped e options files shows)) is (request_law bodies skipped e options files shows)

@@ -2,6 +2,7 @@
 use Rattle.std.proofs.Common.{◌≡◌, ◌≤◌, ◌<◌, ℕ, List, Bool, true, false, IsUtf8, Option, Some, Result, Ok, Err, IfErr, IfOk, String, Global, string_bytes, MatchResult, ◌∙◌, sym}
 use Rattle.serde_json.specs.Data.{Data, depth}
 use Rattle.serde_json.specs.Read.{max_depth, read}
+use Rattle.hir_input_json.specs.Reading.{right}
 use Rattle.item_tree_request.specs.Requests.{IsJsonText, IsRequest, Request, request}
 use Rattle.request_writer.specs.declared.request.RequestFault.{RequestFault}
 use Rattle.request_writer.specs.declared.request.RequestFault.TheVariants.{NoForm, TooDeep, OutOfMemory}
@@ -20,7 +21,7 @@ unread d wanted NoForm w h = absurd h
 unread d wanted TooDeep w h = (d, w, h)
 unread d wanted OutOfMemory w h = h
 
-pub asked_for : (r : Result (String Global) RequestFault) (d : Data) (q : Request) → MatchResult r (λ text. IsJsonText (string_bytes text) d) (IsNoText d) → request d ≡ Some q → IfOk r (λ text. IsRequest (string_bytes text) q)
+pub asked_for : (r : Result (String Global) RequestFault) (d : Data) (q : Request) → MatchResult r (λ text. IsJsonText (string_bytes text) d) (IsNoText d) → request d ≡ right q → IfOk r (λ text. IsRequest (string_bytes text) q)
 asked_for (Ok text) d q h is = (d, h, is)
 asked_for (Err e) d q h is = tt
 

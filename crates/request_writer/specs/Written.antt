@@ -1,13 +1,13 @@
 -- The data of a request.
-use Rattle.std.specs.Prelude.{ℕ, ◌+◌, ◌^◌, List, [], ◌∷◌, Bool, codes, Option, Some, None, option_map}
+use Rattle.std.specs.Prelude.{ℕ, ◌+◌, ◌^◌, List, [], ◌∷◌, Bool, codes, Option, Some, option_map}
 use Rattle.serde_json.specs.Data.{Data, number, unsigned, string, array, object, Items, no_items, item, no_members, member}
 use Rattle.hir_input.specs.Cfg.{AtomView}
 use Rattle.hir_input.specs.Syntax.{SyntaxView}
 use Rattle.hir_input_json.specs.Editions.{EditionView}
-use Rattle.hir_input_json.specs.Forms.{below, ◌>>=◌}
+use Rattle.hir_input_json.specs.Forms.{below}
 use Rattle.hir_input_writer.specs.Cfgs.{atom_data}
 use Rattle.hir_input_writer.specs.Literals.{year_number}
-use Rattle.hir_input_writer.specs.Parts.{each_data, name_data, whole_data}
+use Rattle.hir_input_writer.specs.Parts.{each_data, name_data, whole_data, ◌>>=◌}
 use Rattle.hir_input_writer.specs.Syntaxes.{syntax_data}
 use Rattle.item_tree_db.specs.declared.place.Place.{Place}
 use Rattle.item_tree_db.specs.declared.place.Place.TheVariants.{File, Block}
@@ -15,7 +15,6 @@ use Rattle.item_tree_request.specs.declared.request.show.Show.{Show}
 use Rattle.item_tree_request.specs.declared.request.show.Show.TheVariants.{OfTree, Changed}
 use Rattle.item_tree_request.specs.declared.request.show.ShowKind.{ShowKind}
 use Rattle.item_tree_request.specs.declared.request.show.ShowKind.TheVariants.{Page, Tree, Imports}
-use Rattle.item_tree_request.specs.declared.request.show.TreeShow.{TreeShow}
 
 -- ---- the objects, whose members are in the order of their keys
 

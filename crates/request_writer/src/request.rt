@@ -5,6 +5,7 @@ ghost use Rattle.hir_input.specs.Cfg.{atom_view};
 ghost use Rattle.hir_input.specs.Syntax.{syntax_view};
 ghost use Rattle.hir_input.specs.Edition.{edition_view};
 ghost use Rattle.hir_input_writer.specs.Writes.{Writes};
+ghost use Rattle.hir_input_json.specs.Reading.{right};
 ghost use Rattle.item_tree_request.specs.Requests.{IsJsonText, IsRequest, request as request_form};
 ghost use Rattle.request_writer.specs.Meant.{meant};
 ghost use Rattle.request_writer.specs.Unwritten.{IsNoText, IsUnwritten, fault_of};
@@ -119,7 +120,7 @@ pub fn request_value(
         Writes view result (request_data o.bodies o.skipped.items (edition_view o.edition) (map atom_view o.cfg.items) (map syntax_view files.now) shows.now) }
     ensures reads { let o = options.now in
         let asked = meant o.bodies o.skipped.items (edition_view o.edition) (map atom_view o.cfg.items) (map syntax_view files.now) shows.now in
-        IfOk result (λ v. request_form (view v) ≡ Some asked) }
+        IfOk result (λ v. request_form (view v) ≡ right asked) }
 {
     let value = written(alloc, options, files, shows)?;
     Ok(value)

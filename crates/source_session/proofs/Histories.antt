@@ -14,7 +14,8 @@ use Rattle.line_stream.specs.Served.{IsServed}
 use Rattle.source_session.specs.declared.error.LineError.{LineError}
 use Rattle.source_session.specs.declared.error.LineError.TheVariants.{NotJson, NotRequest, Refused, TooLong, OutOfMemory}
 use Rattle.source_session.specs.Histories.{Makes, Make, IsLedTo, GoesOn}
-use Rattle.source_session.specs.Lines.{Parsed, right, wrong, Asked, later_line}
+use Rattle.hir_input_json.specs.Reading.{Reading, right, wrong}
+use Rattle.source_session.specs.Lines.{Asked, later_line}
 use Rattle.source_session.specs.Replies.{Open, Outcome, Reply, Replies, IsDone, IsOutcome, IsReplyUnless, IsReplyOf, IsReply, of_session, id_of}
 use Rattle.source_session.specs.Sessions.{Session, AreMade, IsUnedited}
 use Rattle.source_session.specs.Texts.{Change, text_in, leaves, AreMeant}
@@ -73,12 +74,12 @@ module _ (s : Session) (line : List ℕ) (d : Data) (text : IsJsonText line d) (
   led_done u (Err e) new o h = led_undone u e new o h
 
 -- what is asked of an open session is asked of it
-led_asked : (s : Session) (line : List ℕ) (d : Data) → IsJsonText line d → (r : Parsed Asked) → later_line s.count d ≡ r → (new : Open) (outcome : Outcome) → IsOutcome (Some s) (of_session s r) new outcome → LedBy s line new
+led_asked : (s : Session) (line : List ℕ) (d : Data) → IsJsonText line d → (r : Reading Asked) → later_line s.count d ≡ r → (new : Open) (outcome : Outcome) → IsOutcome (Some s) (of_session s r) new outcome → LedBy s line new
 led_asked s line d text (right a) e new outcome h = led_done s line d text a e h.0 outcome new h.1 h.2
 led_asked s line d text (wrong pointer) e new outcome h = led_still s line new h.0
 
 led_unless : (s : Session) (line : List ℕ) (d : Data) → IsJsonText line d → (b : Bool) (new : Open) (r : Reply) → IsReplyUnless b (Some s) d new r → LedBy s line new
-led_unless s line d text true new r h = led_still s line new h.0
+led_unless s line d text true new r h = elim h as (λ _. LedBy s line new) [ inl w ↦ led_still s line new w.0 | inr w ↦ led_still s line new w.0 ]
 led_unless s line d text false new r h = elim h.1 as (λ _. LedBy s line new) [ inl w ↦ led_still s line new w.0 | inr o ↦ led_asked s line d text (later_line s.count d) refl new r.outcome o ]
 
 led_value : (s : Session) (line : List ℕ) (d : Data) → IsJsonText line d → (o : Option Members) (new : Open) (r : Reply) → IsReplyOf o (Some s) d new r → LedBy s line new

@@ -1,45 +1,17 @@
--- Items read one after another.
-use Rattle.std.proofs.Common.{◌≡◌, ℕ, false, bytes_eq, ◌+◌, List, [], ◌∷◌, ◌++◌, Option, Some, None, map, length, codes, refl, ap, sym, subst, ◌∙◌}
-use Rattle.std.proofs.lemmas.List.{append_assoc, map-append}
+-- Lines without what is read of them elsewhere.
+use Rattle.std.proofs.Common.{◌≡◌, ℕ, false, bytes_eq, List, Option, Some, None, length, codes, refl, ap, sym, subst, ◌∙◌}
 use Rattle.std.specs.Option.{option_map, unwrap_or}
 use Rattle.serde_json.specs.declared.value.Value.{Value}
-use Rattle.serde_json.specs.Data.{Data, Items, item, null}
+use Rattle.serde_json.specs.Data.{Data, null}
 use Rattle.serde_json.specs.View.{view}
+use Rattle.hir_input_json.specs.declared.fault.Fault.{Fault}
+use Rattle.hir_input_json.specs.Reading.{right, wrong}
+use Rattle.hir_input_json.specs.Reads.{Tells, pointer_in}
 use Rattle.hir_input_json.specs.Forms.{field}
 use Rattle.hir_input_json.specs.Held.{without}
 use Rattle.hir_input_json.proofs.Held.{field_without}
-use Rattle.source_session.specs.declared.error.LineError.{LineError}
-use Rattle.source_session.specs.declared.error.LineError.TheVariants.{NotJson, NotRequest, Refused, TooLong, OutOfMemory}
-use Rattle.source_session.specs.declared.pointer.Pointer.{Pointer}
-use Rattle.source_session.specs.Lines.{Parsed, right, wrong, ◌>>=◌, placed, each_from, Settings, settings, Asked, asked, first_line, later_line, IsMisread}
+use Rattle.source_session.specs.Lines.{Settings, settings, Asked, asked, first_line, later_line}
 use Rattle.source_session.specs.Replies.{Open, asked_of, of_opened, of_session}
-
--- what was read, and then what is left
-abbrev pub after : {A : Type 0} → List A → Parsed (List A) → Parsed (List A)
-after done (right rest) = right (done ++ rest)
-after done (wrong pointer) = wrong pointer
-
-pub after_none : {A : Type 0} (r : Parsed (List A)) → r ≡ after [] r
-after_none (right rest) = refl
-after_none (wrong pointer) = refl
-
--- one more element before a reading
-abbrev pub more : {A : Type 0} → A → Parsed (List A) → Parsed (List A)
-more a r = do
-  as' ← r
-  right (a ∷ as')
-
-pub after_more : {A : Type 0} (done : List A) (a : A) (r : Parsed (List A)) → after done (more a r) ≡ after (done ++ a ∷ []) r
-after_more done a (right rest) = ap right (sym (append_assoc done (a ∷ []) rest))
-after_more done a (wrong pointer) = refl
-
-pub after_push : {T A : Type 0} (view : T → A) (done : List T) (t : T) (r : Parsed (List A)) → after (map view done) (more (view t) r) ≡ after (map view (done ++ t ∷ [])) r
-after_push view done t r = after_more (map view done) (view t) r ∙ ap (λ xs. after xs r) (sym (map-append view done (t ∷ [])))
-
--- the next item, read
-module _ {A : Type 0} (form : Data → Option A) (place : ℕ → Pointer) where
-  pub next_read : (n : ℕ) (d : Data) (ds : Items) (a : A) → placed (place n) (form d) ≡ right a → each_from form place n (item d ds) ≡ more a (each_from form place (n + 1) ds)
-  next_read n d ds a e = rw e refl
 
 -- ---- lines
 
@@ -60,15 +32,11 @@ module _ (d : Data) (s : Settings) (n : ℕ) (opened : settings d ≡ right s) (
   pub first_read : (a : Asked) → asked n (rest_of d) ≡ right a → first_line d ≡ right (s, a)
   first_read a e = rw (opened, subst (λ k. asked k d ≡ right a) count (sym (asked_rest n d) ∙ e)) refl
 
-  wrong_rest : (p : Pointer) → asked n (rest_of d) ≡ wrong p → first_line d ≡ wrong p
+  wrong_rest : (p : List ℕ) → asked n (rest_of d) ≡ wrong p → first_line d ≡ wrong p
   wrong_rest p e = rw (opened, subst (λ k. asked k d ≡ wrong p) count (sym (asked_rest n d) ∙ e)) refl
 
-  pub first_misread : (e : LineError) → IsMisread (asked n (rest_of d)) e → IsMisread (first_line d) e
-  first_misread (NotRequest p) h = wrong_rest p h
-  first_misread OutOfMemory h = tt
-  first_misread (NotJson column) h = absurd h
-  first_misread (Refused place cause) h = absurd h
-  first_misread TooLong h = absurd h
+  pub first_tells : (e : Fault) → Tells (asked n (rest_of d)) e → Tells (first_line d) e
+  first_tells e h = λ w. wrong_rest (pointer_in e) (h w)
 
 -- ---- lines without their ids
 

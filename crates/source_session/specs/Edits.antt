@@ -1,10 +1,9 @@
 -- The edits of a line.
-use Rattle.std.specs.Prelude.{ℕ, ◌^◌, ◌≤◌, nat_lt, List, length, codes, string_bytes, if◌then◌else◌, Option, Some, None}
-use Rattle.std.specs.Option.{option_and_then, option_map}
+use Rattle.std.specs.Prelude.{ℕ, ◌^◌, ◌≤◌, nat_lt, List, [], length, codes, string_bytes, if◌then◌else◌, Option, Some, None}
 use Rattle.serde_json.specs.Data.{Data}
-use Rattle.serde_json.specs.Find.{as_str}
 use Rattle.serde_json.specs.Written.{has_float}
-use Rattle.hir_input_json.specs.Forms.{field, required, on_word, id_at, ◌>>=◌}
+use Rattle.hir_input_json.specs.Reading.{Reading, right, wrong, reading_map, here, ◌>>=◌}
+use Rattle.hir_input_json.specs.Forms.{required_at, on_word, id_at, text, members_in}
 use Rattle.item_tree_db.specs.Edits as table
 use Rattle.item_tree_request.specs.Edits as request
 use Rattle.item_tree_request.specs.Named.{EditNamesCrate}
@@ -25,25 +24,28 @@ abbrev pub if_short : List ℕ → Option (List ℕ)
 if_short text = if nat_lt (2 ^ 32) (length text) then None else Some text
 
 -- a text that is short
-abbrev pub short_text : Data → Option (List ℕ)
-short_text d = option_and_then if_short (as_str d)
+abbrev pub short_text : Data → Reading (List ℕ)
+short_text d = do
+  s ← text d
+  here (if_short s)
 
 -- a file set to a text
-abbrev pub text_edit : Data → Option LineEdit
+abbrev pub text_edit : Data → Reading LineEdit
 text_edit d = do
   file ← id_at (codes "file") d
-  text ← required short_text (field (codes "text") d)
-  Some (set_text file text)
+  written ← required_at (codes "text") short_text d
+  right (set_text file written)
 
 -- an edit of a table of this many crates, by its word
-abbrev pub edit : ℕ → Data → Option LineEdit
+abbrev pub edit : ℕ → Data → Reading LineEdit
 edit count d = do
-  word ← required as_str (field (codes "edit") d)
-  on_word word (codes "set_text") (text_edit d) (option_map of_table (request.edit count d))
+  _ ← members_in d
+  word ← required_at (codes "edit") text d
+  on_word word (codes "set_text") (text_edit d) (reading_map of_table (request.edit count d))
 
 -- the same of a value without a float
-abbrev pub line_edit : ℕ → Data → Option LineEdit
-line_edit count d = if has_float d then None else edit count d
+abbrev pub line_edit : ℕ → Data → Reading LineEdit
+line_edit count d = if has_float d then wrong [] else edit count d
 
 -- ---- what was read
 

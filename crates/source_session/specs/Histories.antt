@@ -4,7 +4,8 @@ use Rattle.serde_json.specs.Data.{Data}
 use Rattle.item_tree_db.specs.Edits.{EditView}
 use Rattle.item_tree_request.specs.Requests.{IsJsonText}
 use Rattle.line_stream.specs.Served.{IsServed}
-use Rattle.source_session.specs.Lines.{right, Asked, later_line}
+use Rattle.hir_input_json.specs.Reading.{right}
+use Rattle.source_session.specs.Lines.{Asked, later_line}
 use Rattle.source_session.specs.Replies.{Open, Replies}
 use Rattle.source_session.specs.Sessions.{Session, AreMade}
 use Rattle.source_session.specs.Texts.{Change, AreMeant}

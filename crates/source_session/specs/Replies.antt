@@ -1,20 +1,20 @@
 -- What a line is answered with, and what it leaves of a session.
-use Rattle.std.specs.Prelude.{◌≡◌, ◌⊎◌, ℕ, ◌++◌, List, codes, decimal, Bool, true, false, Option, Some, None, Result, Ok, Err}
+use Rattle.std.specs.Prelude.{◌≡◌, ◌⊎◌, ℕ, ◌++◌, List, [], codes, decimal, Bool, true, false, Option, Some, None, Result, Ok, Err}
 use Rattle.std.specs.List.{AllZip}
 use Rattle.std.specs.Option.{unwrap_or}
 use Rattle.serde_json.specs.Data.{Data, Members, null, array}
 use Rattle.serde_json.specs.Find.{as_object}
 use Rattle.serde_json.specs.View.{items_of}
 use Rattle.serde_json.specs.Written.{compact_text, has_float}
+use Rattle.hir_input_json.specs.Reading.{Reading, right, wrong, behind, ◌>>=◌}
 use Rattle.hir_input_json.specs.Forms.{field}
 use Rattle.item_tree_request.specs.Requests.{IsJsonText}
 use Rattle.line_stream.specs.Answers.{Answering}
 use Rattle.line_stream.specs.Lines.{Told, whole, too_long, no_memory}
 use Rattle.source_session.specs.declared.error.LineError.{LineError}
 use Rattle.source_session.specs.declared.error.LineError.TheVariants.{NotJson, NotRequest, TooLong, OutOfMemory}
-use Rattle.source_session.specs.declared.pointer.Pointer.TheVariants as at
 use Rattle.source_session.specs.Errors.{error_form}
-use Rattle.source_session.specs.Lines.{Parsed, right, wrong, ◌>>=◌, Settings, Asked, first_line, later_line}
+use Rattle.source_session.specs.Lines.{Settings, Asked, first_line, later_line}
 use Rattle.source_session.specs.Sessions.{Session, new_session, IsEdited, IsUnedited}
 use Rattle.source_session.specs.Shown.{IsShown}
 
@@ -54,19 +54,19 @@ number_of None = None
 number_of (Some u) = Some u.table.number
 
 -- what is asked of a session
-abbrev pub of_session : Session → Parsed Asked → Parsed (Session × Asked)
+abbrev pub of_session : Session → Reading Asked → Reading (Session × Asked)
 of_session s reading = do
   rest ← reading
   right (s, rest)
 
 -- the session that a line opens, and what is asked of it
-abbrev pub of_opened : Parsed (Settings × Asked) → Parsed (Session × Asked)
+abbrev pub of_opened : Reading (Settings × Asked) → Reading (Session × Asked)
 of_opened reading = do
   first ← reading
   right (new_session first.0, first.1)
 
 -- what is asked, and of which session: the open one, or the one that the line opens
-abbrev pub asked_of : Open → Data → Parsed (Session × Asked)
+abbrev pub asked_of : Open → Data → Reading (Session × Asked)
 asked_of None d = of_opened (first_line d)
 asked_of (Some s) d = of_session s (later_line s.count d)
 
@@ -76,7 +76,7 @@ IsDone s a u (Ok values) = IsEdited s a.edits u × AllZip (IsShown u) a.shows va
 IsDone s a u (Err e) = IsUnedited s a.edits u e
 
 -- what is asked is done, or a line of wrong form changes nothing
-abbrev pub IsOutcome : Open → Parsed (Session × Asked) → Open → Outcome → Type 0
+abbrev pub IsOutcome : Open → Reading (Session × Asked) → Open → Outcome → Type 0
 IsOutcome old (wrong pointer) new outcome = (new ≡ old) × (outcome ≡ Err (NotRequest pointer))
 IsOutcome old (right (s, a)) new outcome = (u : Session) × (new ≡ Some u) × IsDone s a u outcome
 
@@ -101,7 +101,7 @@ IsRefusedAs e old new r = (new ≡ old) × (r ≡ record { id = null; outcome = 
 
 -- an object is answered under its id, unless that holds a float
 abbrev pub IsReplyUnless : Bool → Open → Data → Open → Reply → Type 0
-IsReplyUnless true old d new r = IsRefusedAs (NotRequest at.Id) old new r
+IsReplyUnless true old d new r = IsRefusedAs OutOfMemory old new r ⊎ IsRefusedAs (NotRequest (behind (codes "id") [])) old new r
 IsReplyUnless false old d new r = (r.id ≡ id_of d) × (IsWanting old new r.outcome ⊎ IsOutcome old (asked_of old d) new r.outcome)
 
 -- the same, by the id that it gives
@@ -110,7 +110,7 @@ IsReplyTo old d new r = IsReplyUnless (has_float (id_of d)) old d new r
 
 -- a value that is no object is no request
 abbrev pub IsReplyOf : Option Members → Open → Data → Open → Reply → Type 0
-IsReplyOf None old d new r = IsRefusedAs (NotRequest at.Line) old new r
+IsReplyOf None old d new r = IsRefusedAs (NotRequest []) old new r
 IsReplyOf (Some ms) old d new r = IsReplyTo old d new r
 
 -- the same of any value

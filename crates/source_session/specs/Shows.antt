@@ -1,57 +1,57 @@
 -- The shows of a line.
-use Rattle.std.specs.Prelude.{ℕ, ◌^◌, ◌<◌, List, codes, if◌then◌else◌, Option, Some, None}
-use Rattle.std.specs.Option.{option_map}
+use Rattle.std.specs.Prelude.{ℕ, ◌^◌, ◌<◌, List, [], codes, if◌then◌else◌}
 use Rattle.serde_json.specs.Data.{Data}
-use Rattle.serde_json.specs.Find.{as_str}
 use Rattle.serde_json.specs.Written.{has_float}
 use Rattle.hir_input.specs.declared.ids.Crate.{Crate}
 use Rattle.hir_input.specs.declared.ids.HirFileId.{HirFileId}
-use Rattle.hir_input_json.specs.Forms.{field, required, on_word, id_at, below, name, ◌>>=◌}
+use Rattle.hir_input_json.specs.Reading.{Reading, right, wrong, reading_map, here, under, ◌>>=◌}
+use Rattle.hir_input_json.specs.Forms.{required_at, on_word, id_at, below, text, name, members_in}
 use Rattle.item_tree_request.specs.Named as request
 use Rattle.item_tree_request.specs.Shows as request_shows
 use Rattle.source_session.specs.declared.show.LineShow.{LineShow}
 use Rattle.source_session.specs.declared.show.LineShow.TheVariants.{Table, Outline, ImportPlaces, Problems, Find}
 
 -- one of this many crates, which are numbered from 0
-abbrev pub crate_in : ℕ → Data → Option Crate
+abbrev pub crate_in : ℕ → Data → Reading Crate
 crate_in count d = do
   number ← id_at (codes "crate") d
-  known ← below count number
-  Some (record { 0 = known })
+  known ← under (codes "crate") (here (below count number))
+  right (record { 0 = known })
 
 -- a file
-abbrev pub file_in : Data → Option HirFileId
-file_in d = option_map (λ number. record { 0 = number }) (id_at (codes "file") d)
+abbrev pub file_in : Data → Reading HirFileId
+file_in d = reading_map (λ number. record { 0 = number }) (id_at (codes "file") d)
 
 -- a name, which is required
-abbrev pub name_in : Data → Option (List ℕ)
-name_in d = required name (field (codes "name") d)
+abbrev pub name_in : Data → Reading (List ℕ)
+name_in = required_at (codes "name") name
 
 -- a show of a crate's tree of a file
-abbrev pub tree_show : (Crate → HirFileId → LineShow) → ℕ → Data → Option LineShow
+abbrev pub tree_show : (Crate → HirFileId → LineShow) → ℕ → Data → Reading LineShow
 tree_show of count d = do
   krate ← crate_in count d
   file ← file_in d
-  Some (of krate file)
+  right (of krate file)
 
 -- by the word for what is shown
-abbrev pub show_by : ℕ → List ℕ → Data → Option LineShow
+abbrev pub show_by : ℕ → List ℕ → Data → Reading LineShow
 show_by count word d =
     on_word word (codes "outline") (tree_show Outline count d)
     (on_word word (codes "import_places") (tree_show ImportPlaces count d)
-    (on_word word (codes "problems") (option_map Problems (file_in d))
-    (on_word word (codes "find") (option_map Find (name_in d))
-    (option_map Table (request_shows.show count d)))))
+    (on_word word (codes "problems") (reading_map Problems (file_in d))
+    (on_word word (codes "find") (reading_map Find (name_in d))
+    (reading_map Table (request_shows.show count d)))))
 
 -- a show after edits of a table of this many crates, by its word
-abbrev pub show : ℕ → Data → Option LineShow
+abbrev pub show : ℕ → Data → Reading LineShow
 show count d = do
-  word ← required as_str (field (codes "show") d)
+  _ ← members_in d
+  word ← required_at (codes "show") text d
   show_by count word d
 
 -- the same of a value without a float
-abbrev pub line_show : ℕ → Data → Option LineShow
-line_show count d = if has_float d then None else show count d
+abbrev pub line_show : ℕ → Data → Reading LineShow
+line_show count d = if has_float d then wrong [] else show count d
 
 -- ---- crates
 

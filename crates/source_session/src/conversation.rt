@@ -11,9 +11,9 @@ ghost use Rattle.source_session.specs.Replies.{IsDone, IsOutcome, IsReply, IsRep
 
 use crate::error::LineError;
 use crate::line::{Asked, first_line, later_line};
-use crate::pointer::Pointer;
 use crate::reply::{Outcome, Reply, reply_text};
 use crate::session::Session;
+use hir_input_json::Fault;
 use hir_input_json::float::has_float;
 use hir_input_json::member::{members_of, taken};
 use line_stream::{Answer, Line, Service};
@@ -98,7 +98,7 @@ impl Conversation {
         };
         let outcome = match later_line(alloc, members, session.count) {
             Ok(asked) => session.perform(alloc, asked),
-            Err(error) => Err(error),
+            Err(fault) => Err(fault.into()),
         };
         self.session = Some(session);
         outcome
@@ -112,9 +112,7 @@ impl Conversation {
     {
         let id = taken(&mut members, "id").unwrap_or(Value::Null);
         if has_float(&id) {
-            return refused(LineError::NotRequest {
-                pointer: Pointer::Id,
-            });
+            return refused(Fault::at(alloc, "id").into());
         }
         let outcome = self.ask(alloc, members);
         Reply { id, outcome }
@@ -126,11 +124,9 @@ impl Conversation {
         ensures id { has_float (view result.id) ≡ false }
         ensures outcome { IsUnfloating result.outcome }
     {
-        match members_of(value) {
+        match members_of(alloc, value) {
             Ok(members) => self.reply_to(alloc, members),
-            Err(_) => refused(LineError::NotRequest {
-                pointer: Pointer::Line,
-            }),
+            Err(fault) => refused(fault.into()),
         }
     }
 

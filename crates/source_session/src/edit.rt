@@ -1,7 +1,7 @@
 //! Edits of a line, read from their forms.
 ghost use Rattle.std.specs.Prelude.{◌≡◌, ℕ, IfOk, codes, string_bytes};
 ghost use Rattle.serde_json.specs.View.{view};
-ghost use Rattle.hir_input_json.specs.Forms.{field as field_of, required};
+ghost use Rattle.hir_input_json.specs.Forms.{required_at as required_form};
 ghost use Rattle.hir_input_json.specs.Held.{held};
 ghost use Rattle.hir_input_json.specs.Reads.{Reads};
 ghost use Rattle.source_session.specs.Edits.{edit as edit_form, line_edit, text_edit, short_text, edit_view, IsUsable, IsShort};
@@ -27,27 +27,27 @@ pub enum LineEdit {
 const MOST_BYTES: usize = 0x1_0000_0000;
 
 // Takes a text of at most 2^32 bytes out.
-fn text_at(members: &mut Map<String, Value>) -> Result<String, Fault>
-    ensures reads { Reads string_bytes result (required short_text (field_of (codes "text") (held members.old))) }
+fn text_at(alloc: Global, members: &mut Map<String, Value>) -> Result<String, Fault>
+    ensures reads { Reads string_bytes result (required_form (codes "text") short_text (held members.old)) }
     ensures short { IfOk result (λ text. IsShort (string_bytes text)) }
 {
     match taken(members, "text") {
         Some(Value::String(text)) => {
             if text.len() > MOST_BYTES {
-                return Err(Fault::WrongForm);
+                return Err(Fault::at(alloc, "text"));
             }
             Ok(text)
         }
-        _ => Err(Fault::WrongForm),
+        _ => Err(Fault::at(alloc, "text")),
     }
 }
 
-fn set_text_of(members: &mut Map<String, Value>) -> Result<LineEdit, Fault>
+fn set_text_of(alloc: Global, members: &mut Map<String, Value>) -> Result<LineEdit, Fault>
     ensures reads { Reads edit_view result (text_edit (held members.old)) }
     ensures usable { (count : ℕ) → IfOk result (IsUsable count) }
 {
-    let file = HirFileId(id_at(members, "file")?);
-    let text = text_at(members)?;
+    let file = HirFileId(id_at(alloc, members, "file")?);
+    let text = text_at(alloc, members)?;
     Ok(LineEdit::SetText { file, text })
 }
 
@@ -60,8 +60,8 @@ fn members_edit(
     ensures reads { Reads edit_view result (edit_form count (held members.old)) }
     ensures usable { IfOk result (IsUsable count) }
 {
-    match word_at(members, "edit")? {
-        "set_text" => set_text_of(members),
+    match word_at(alloc, members, "edit")? {
+        "set_text" => set_text_of(alloc, members),
         _ => Ok(LineEdit::Table(edit_in(alloc, members, count)?)),
     }
 }
@@ -75,8 +75,8 @@ pub(crate) fn edit_of(alloc: Global, value: Value, count: usize) -> Result<LineE
     ensures usable { IfOk result (IsUsable count) }
 {
     if has_float(&value) {
-        return Err(Fault::WrongForm);
+        return Err(Fault::here(alloc));
     }
-    let mut members = members_of(value)?;
+    let mut members = members_of(alloc, value)?;
     members_edit(alloc, &mut members, count)
 }

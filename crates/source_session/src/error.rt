@@ -3,18 +3,18 @@ ghost use Rattle.std.specs.Prelude.{◌≡◌, IfOk};
 ghost use Rattle.serde_json.specs.View.{view};
 ghost use Rattle.source_session.specs.Errors.{cause_text, error_form};
 
-use crate::pointer::Pointer;
+use hir_input_json::{Fault, Pointer};
 use item_tree::{EditFault, LowerError};
 use serde_json::{Value, json};
 use std::alloc::{AllocError, AllocFailed, Global};
 
 /// Why a line is answered with an error.
-#[derive(Clone, Copy, Debug, PartialEq, Eq)]
+#[derive(Debug, Drop)]
 pub enum LineError {
     /// It is no JSON text in UTF-8, or one that nests deeper than 127 or holds a number past the floats of 64 bits. The column
     /// is the one that serde_json tells.
     NotJson { column: usize },
-    /// It is JSON, but no request: the first value that is not of its form.
+    /// It is JSON, but no request: where the first value stands that is not of its form.
     NotRequest { pointer: Pointer },
     /// An edit of it passes a size: its place in the list, counted from 0, and the size.
     Refused { place: usize, cause: EditFault },
@@ -46,6 +46,20 @@ impl<T: Drop> From<AllocFailed<T>> for LineError {
     }
 }
 
+impl From<Fault> for LineError {
+    ghost use Rattle.std.specs.Prelude.{◌≡◌};
+    ghost use Rattle.source_session.specs.Errors.{line_error};
+
+    ghost from_gives = { λ fault e. e ≡ line_error fault };
+
+    fn from(fault: Fault) -> LineError {
+        match fault {
+            Fault::WrongForm { pointer } => LineError::NotRequest { pointer },
+            Fault::OutOfMemory => LineError::OutOfMemory,
+        }
+    }
+}
+
 // The size that an edit passes, in words.
 fn cause_text(cause: EditFault) -> &'static str
     ensures { result.now ≡ cause_text cause }
@@ -61,13 +75,6 @@ fn cause_text(cause: EditFault) -> &'static str
     }
 }
 
-fn misread_value(alloc: Global, pointer: Pointer) -> Result<Value, AllocError>
-    ensures { IfOk result (λ value. view value ≡ error_form (LineError.NotRequest pointer)) }
-{
-    let text = pointer.text(alloc)?;
-    json!(in alloc; {"kind": "not a request", "pointer": text})
-}
-
 /// The object of an error.
 ///
 /// The only error is want of memory.
@@ -76,7 +83,10 @@ pub(crate) fn error_value(alloc: Global, error: LineError) -> Result<Value, Allo
 {
     match error {
         LineError::NotJson { column } => json!(in alloc; {"column": column, "kind": "not JSON"}),
-        LineError::NotRequest { pointer } => misread_value(alloc, pointer),
+        LineError::NotRequest { pointer } => {
+            let pointer = pointer.text();
+            json!(in alloc; {"kind": "not a request", "pointer": pointer})
+        }
         LineError::Refused { place, cause } => {
             let cause = cause_text(cause);
             json!(in alloc; {"cause": cause, "kind": "edit refused", "place": place})

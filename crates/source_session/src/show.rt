@@ -1,7 +1,6 @@
 //! Shows of a line, read from their forms.
 ghost use Rattle.std.specs.Prelude.{◌≡◌, IfOk, codes};
 ghost use Rattle.serde_json.specs.View.{view};
-ghost use Rattle.hir_input_json.specs.Forms.{field as field_of, required, name as name_form};
 ghost use Rattle.hir_input_json.specs.Held.{held};
 ghost use Rattle.hir_input_json.specs.Reads.{Reads};
 ghost use Rattle.source_session.specs.Shows.{NamesCrate, IsNamed, crate_in, file_in, name_in, show as show_form, show_by, line_show};
@@ -9,7 +8,7 @@ ghost use Rattle.source_session.specs.Shows.{NamesCrate, IsNamed, crate_in, file
 use hir_input::{Crate, HirFileId, Name};
 use hir_input_json::Fault;
 use hir_input_json::float::has_float;
-use hir_input_json::member::{id_at, members_of, taken, word_at};
+use hir_input_json::member::{id_at, members_of, required_at, word_at};
 use hir_input_json::name::name_of;
 use item_tree_request::request::show::{Show, show_in};
 use serde_json::{Map, Value};
@@ -31,54 +30,58 @@ pub enum LineShow {
 }
 
 // One of this many crates.
-fn crate_at(members: &Map<String, Value>, count: usize) -> Result<Crate, Fault>
+fn crate_at(alloc: Global, members: &Map<String, Value>, count: usize) -> Result<Crate, Fault>
     ensures reads { Reads (λ krate. krate) result (crate_in count (held members.now)) }
     ensures known { IfOk result (IsNamed count) }
 {
-    let krate = id_at(members, "crate")?;
+    let krate = id_at(alloc, members, "crate")?;
     if krate as usize >= count {
-        return Err(Fault::WrongForm);
+        return Err(Fault::at(alloc, "crate"));
     }
     Ok(Crate(krate))
 }
 
-fn file_at(members: &Map<String, Value>) -> Result<HirFileId, Fault>
+fn file_at(alloc: Global, members: &Map<String, Value>) -> Result<HirFileId, Fault>
     ensures { Reads (λ file. file) result (file_in (held members.now)) }
 {
-    Ok(HirFileId(id_at(members, "file")?))
+    Ok(HirFileId(id_at(alloc, members, "file")?))
 }
 
 // Takes a name out.
-fn name_at(members: &mut Map<String, Value>) -> Result<Name, Fault>
+fn name_at(alloc: Global, members: &mut Map<String, Value>) -> Result<Name, Fault>
     ensures { Reads (λ name. name) result (name_in (held members.old)) }
 {
-    let name = taken(members, "name").ok_or(Fault::WrongForm)?;
-    name_of(name)
+    let name = required_at(alloc, members, "name")?;
+    name_of(alloc, name).map_err(|fault| fault.in_member(alloc, "name"))
 }
 
 // A show after edits of a table of this many crates, whose members are taken out.
-fn members_show(members: &mut Map<String, Value>, count: usize) -> Result<LineShow, Fault>
+fn members_show(
+    alloc: Global,
+    members: &mut Map<String, Value>,
+    count: usize,
+) -> Result<LineShow, Fault>
     ensures reads { Reads (λ show. show) result (show_form count (held members.old)) }
     ensures known { IfOk result (NamesCrate count) }
 {
-    match word_at(members, "show")? {
+    match word_at(alloc, members, "show")? {
         "outline" => {
-            let krate = crate_at(members, count)?;
-            let file = file_at(members)?;
+            let krate = crate_at(alloc, members, count)?;
+            let file = file_at(alloc, members)?;
             Ok(LineShow::Outline { krate, file })
         }
         "import_places" => {
-            let krate = crate_at(members, count)?;
-            let file = file_at(members)?;
+            let krate = crate_at(alloc, members, count)?;
+            let file = file_at(alloc, members)?;
             Ok(LineShow::ImportPlaces { krate, file })
         }
         "problems" => Ok(LineShow::Problems {
-            file: file_at(members)?,
+            file: file_at(alloc, members)?,
         }),
         "find" => Ok(LineShow::Find {
-            name: name_at(members)?,
+            name: name_at(alloc, members)?,
         }),
-        _ => Ok(LineShow::Table(show_in(members, count)?)),
+        _ => Ok(LineShow::Table(show_in(alloc, members, count)?)),
     }
 }
 
@@ -86,13 +89,13 @@ fn members_show(members: &mut Map<String, Value>, count: usize) -> Result<LineSh
 ///
 /// `WrongForm` comes only where it has no reading (`Shows.line_show`).
 #[tactic(auto, using(hir_input_json::proofs::Held::no_field))]
-pub(crate) fn show_of(value: Value, count: usize) -> Result<LineShow, Fault>
+pub(crate) fn show_of(alloc: Global, value: Value, count: usize) -> Result<LineShow, Fault>
     ensures reads { Reads (λ show. show) result (line_show count (view value)) }
     ensures known { IfOk result (NamesCrate count) }
 {
     if has_float(&value) {
-        return Err(Fault::WrongForm);
+        return Err(Fault::here(alloc));
     }
-    let mut members = members_of(value)?;
-    members_show(&mut members, count)
+    let mut members = members_of(alloc, value)?;
+    members_show(alloc, &mut members, count)
 }

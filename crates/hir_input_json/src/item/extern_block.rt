@@ -1,8 +1,8 @@
 //! Extern blocks, read from their forms.
-ghost use Rattle.std.specs.Prelude.{◌≡◌, codes, map, option_map};
+ghost use Rattle.std.specs.Prelude.{◌≡◌, map, option_map};
 ghost use Rattle.serde_json.specs.View.{view, items_view};
 ghost use Rattle.hir_input.specs.Syntax.{extern_item_view, item_view};
-ghost use Rattle.hir_input_json.specs.Forms.{each, field as field_of, list_of, maybe};
+ghost use Rattle.hir_input_json.specs.Forms.{each, list_of, maybe};
 ghost use Rattle.hir_input_json.specs.Held.{held};
 ghost use Rattle.hir_input_json.specs.Items.{extern_block_form, extern_item as extern_item_form};
 ghost use Rattle.hir_input_json.specs.Reads.{Reads};
@@ -19,7 +19,7 @@ use std::alloc::Global;
 fn extern_item_of(alloc: Global, value: Value) -> Result<ExternItem, Fault>
     ensures { Reads extern_item_view result (extern_item_form (view value)) }
 {
-    let mut members = members_of(value)?;
+    let mut members = members_of(alloc, value)?;
     extern_item_in(alloc, &mut members)
 }
 
@@ -27,12 +27,12 @@ fn extern_item_of(alloc: Global, value: Value) -> Result<ExternItem, Fault>
 fn extern_item_in(alloc: Global, members: &mut Map<String, Value>) -> Result<ExternItem, Fault>
     ensures { Reads extern_item_view result (extern_item_form (held members.old)) }
 {
-    match word_at(members, "is")? {
+    match word_at(alloc, members, "is")? {
         "fn" => Ok(ExternItem::Fn(with_name!(Fn, named_at(alloc, members)?))),
         "static" => Ok(ExternItem::Static(with_name!(Static, named_at(alloc, members)?))),
         "type_alias" => Ok(ExternItem::TypeAlias(with_name!(TypeAlias, named_at(alloc, members)?))),
         "macro_call" => Ok(ExternItem::MacroCall(macro_call_of(alloc, members)?)),
-        _ => Err(Fault::WrongForm),
+        _ => Err(Fault::at(alloc, "is")),
     }
 }
 
@@ -41,21 +41,20 @@ fn extern_items_of(alloc: Global, values: Vec<Value>) -> Result<Vec<ExternItem>,
 {
     let mut items = Vec::with_capacity(alloc, values.len())?;
     for item in values {
-        items.push(extern_item_of(alloc, item)?)?;
+        let place = items.len();
+        let read = extern_item_of(alloc, item).map_err(|fault| fault.in_item(alloc, place))?;
+        items.push(read)?;
     }
     Ok(items)
 }
 
-fn extern_items_at(
-    alloc: Global,
-    members: &mut Map<String, Value>,
-) -> Result<Option<Vec<ExternItem>>, Fault>
-    ensures { Reads (option_map (λ v. map extern_item_view v.items)) result (maybe (list_of extern_item_form) (field_of (codes "items") (held members.old))) }
+fn extern_items_in(alloc: Global, list: Option<Value>) -> Result<Option<Vec<ExternItem>>, Fault>
+    ensures { Reads (option_map (λ v. map extern_item_view v.items)) result (maybe (list_of extern_item_form) (option_map view list)) }
 {
-    let Some(list) = taken(members, "items") else {
+    let Some(list) = list else {
         return Ok(None);
     };
-    let values = array_of(list)?;
+    let values = array_of(alloc, list)?;
     Ok(Some(extern_items_of(alloc, values)?))
 }
 
@@ -67,6 +66,7 @@ pub(crate) fn extern_block_of(
     ensures { Reads item_view result (extern_block_form (held members.old)) }
 {
     let node = node_at(alloc, members)?;
-    let items = extern_items_at(alloc, members)?;
+    let list = taken(members, "items");
+    let items = extern_items_in(alloc, list).map_err(|fault| fault.in_member(alloc, "items"))?;
     Ok(Item::ExternBlock(with_node!(ExternBlock, node, items)))
 }

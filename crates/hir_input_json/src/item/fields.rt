@@ -2,13 +2,13 @@
 ghost use Rattle.std.specs.Prelude.{◌≡◌, codes, map};
 ghost use Rattle.serde_json.specs.View.{view, items_view};
 ghost use Rattle.hir_input.specs.Syntax.{fields_view};
-ghost use Rattle.hir_input_json.specs.Forms.{field as field_of, required, each};
+ghost use Rattle.hir_input_json.specs.Forms.{each, required_at as required_form};
 ghost use Rattle.hir_input_json.specs.Held.{held};
 ghost use Rattle.hir_input_json.specs.Items.{fields as fields_form, tuple_field};
 ghost use Rattle.hir_input_json.specs.Reads.{Reads};
 
 use crate::fault::Fault;
-use crate::member::{array_of, taken};
+use crate::member::{array_of, required_at};
 use crate::visibility::visibility_of;
 use hir_input::ast::{StructKind, TupleField};
 use serde_json::{Map, Value};
@@ -30,7 +30,9 @@ fn tuple_fields_of(alloc: Global, items: Vec<Value>) -> Result<Vec<TupleField>, 
 {
     let mut fields = Vec::with_capacity(alloc, items.len())?;
     for item in items {
-        fields.push(tuple_field_of(alloc, item)?)?;
+        let place = fields.len();
+        let read = tuple_field_of(alloc, item).map_err(|fault| fault.in_item(alloc, place))?;
+        fields.push(read)?;
     }
     Ok(fields)
 }
@@ -41,9 +43,9 @@ fn struct_kind_of(alloc: Global, value: Value) -> Result<StructKind, Fault>
     match value.as_str() {
         Some("record") => Ok(StructKind::Record),
         Some("unit") => Ok(StructKind::Unit),
-        Some(_) => Err(Fault::WrongForm),
+        Some(_) => Err(Fault::here(alloc)),
         None => {
-            let items = array_of(value)?;
+            let items = array_of(alloc, value)?;
             Ok(StructKind::Tuple(tuple_fields_of(alloc, items)?))
         }
     }
@@ -53,8 +55,8 @@ pub(crate) fn struct_kind_at(
     alloc: Global,
     members: &mut Map<String, Value>,
 ) -> Result<StructKind, Fault>
-    ensures { Reads fields_view result (required fields_form (field_of (codes "fields") (held members.old))) }
+    ensures { Reads fields_view result (required_form (codes "fields") fields_form (held members.old)) }
 {
-    let found = taken(members, "fields").ok_or(Fault::WrongForm)?;
-    struct_kind_of(alloc, found)
+    let found = required_at(alloc, members, "fields")?;
+    struct_kind_of(alloc, found).map_err(|fault| fault.in_member(alloc, "fields"))
 }

@@ -17,19 +17,20 @@ use serde_json::{Map, Value};
 use std::alloc::Global;
 
 // Items where it is absent.
-fn expand_to_at(members: &Map<String, Value>) -> Result<ExpandTo, Fault>
+fn expand_to_at(alloc: Global, members: &Map<String, Value>) -> Result<ExpandTo, Fault>
     ensures { Reads (λ expand_to. expand_to) result (expand_to_form (held members.now)) }
 {
     let Some(found) = field(members, "expand_to") else {
         return Ok(ExpandTo::Items);
     };
-    match found.as_str().ok_or(Fault::WrongForm)? {
+    let word = found.as_str().ok_or_else(|| Fault::at(alloc, "expand_to"))?;
+    match word {
         "Statements" => Ok(ExpandTo::Statements),
         "Items" => Ok(ExpandTo::Items),
         "Pattern" => Ok(ExpandTo::Pattern),
         "Type" => Ok(ExpandTo::Ty),
         "Expr" => Ok(ExpandTo::Expr),
-        _ => Err(Fault::WrongForm),
+        _ => Err(Fault::at(alloc, "expand_to")),
     }
 }
 
@@ -42,8 +43,8 @@ pub(crate) fn macro_call_of(
 {
     let node = node_at(alloc, members)?;
     let path = path_at(alloc, members)?;
-    let expand_to = expand_to_at(members)?;
-    let ctxt = context_at(members)?;
+    let expand_to = expand_to_at(alloc, members)?;
+    let ctxt = context_at(alloc, members)?;
     Ok(with_node!(MacroCall, node, path, expand_to, ctxt))
 }
 
@@ -52,6 +53,6 @@ pub(crate) fn macro_rules_of(alloc: Global, members: &mut Map<String, Value>) ->
     ensures { Reads item_view result (macro_rules_form (held members.old)) }
 {
     let node = node_at(alloc, members)?;
-    let name = name_at(members, "name")?;
+    let name = name_at(alloc, members, "name")?;
     Ok(Item::MacroRules(with_node!(MacroRules, node, name)))
 }

@@ -70,8 +70,8 @@ pub(crate) fn node_at(alloc: Global, members: &mut Map<String, Value>) -> Result
     ensures reads { Reads node_view result (node_form (held members.old)) }
     ensures left { OnOk result (held members.new ≡ without (codes "body") (without (codes "attrs") (held members.old))) }
 {
-    let hash = u16_at(members, "hash")?;
-    let number = u32_at(members, "number")?;
+    let hash = u16_at(alloc, members, "hash")?;
+    let number = u32_at(alloc, members, "number")?;
     let attrs = attrs_at(alloc, members)?;
     let body = text_at(alloc, members, "body")?;
     Ok(Node {
@@ -88,7 +88,7 @@ pub(crate) fn named_at(alloc: Global, members: &mut Map<String, Value>) -> Resul
     ensures left { OnOk result (held members.new ≡ without (codes "vis") (without (codes "name") (without (codes "body") (without (codes "attrs") (held members.old))))) }
 {
     let node = node_at(alloc, members)?;
-    let name = name_at(members, "name")?;
+    let name = name_at(alloc, members, "name")?;
     let visibility = visibility_at(alloc, members)?;
     Ok(Named {
         node,

@@ -20,8 +20,8 @@ use std::alloc::Global;
 fn crate_of(alloc: Global, value: Value) -> Result<CrateData, Fault>
     ensures { Reads crate_view result (crate_form (view value)) }
 {
-    let mut members = members_of(value)?;
-    let root = HirFileId(id_at(&members, "root")?);
+    let mut members = members_of(alloc, value)?;
+    let root = HirFileId(id_at(alloc, &members, "root")?);
     let cfg = CfgOptions::new(atoms_at(alloc, &mut members, "cfg")?);
     let attrs = attrs_at(alloc, &mut members)?;
     Ok(CrateData { root, cfg, attrs })
@@ -32,7 +32,9 @@ fn crates_of(alloc: Global, items: Vec<Value>) -> Result<Vec<CrateData>, Fault>
 {
     let mut crates = Vec::with_capacity(alloc, items.len())?;
     for item in items {
-        crates.push(crate_of(alloc, item)?)?;
+        let place = crates.len();
+        let read = crate_of(alloc, item).map_err(|fault| fault.in_item(alloc, place))?;
+        crates.push(read)?;
     }
     Ok(crates)
 }
@@ -46,5 +48,5 @@ pub fn crates_at(alloc: Global, members: &mut Map<String, Value>) -> Result<Vec<
     ensures left { OnOk result (held members.new ≡ without (codes "crates") (held members.old)) }
 {
     let items = list_at(alloc, members, "crates")?;
-    crates_of(alloc, items)
+    crates_of(alloc, items).map_err(|fault| fault.in_member(alloc, "crates"))
 }

@@ -6,7 +6,7 @@ ghost use Rattle.item_tree_db.specs.Edits.{edit_view};
 ghost use Rattle.item_tree.specs.CrateView.{crate_view};
 ghost use Rattle.item_tree_request.specs.Edits.{edit as edit_form, set_cfg_edit};
 ghost use Rattle.item_tree_request.specs.Named.{EditNamesCrate};
-ghost use Rattle.hir_input_json.specs.Forms.{each, field as field_of, required, list_at as each_at};
+ghost use Rattle.hir_input_json.specs.Forms.{each, required_at as required_form, list_at as each_at};
 ghost use Rattle.hir_input_json.specs.Syntaxes.{syntax as syntax_form};
 ghost use Rattle.hir_input_json.specs.Held.{held, without};
 ghost use Rattle.hir_input_json.specs.Reads.{Reads};
@@ -15,7 +15,7 @@ use hir_input::ast::Syntax;
 use hir_input::{BlockId, CfgOptions, Crate, HirFileId};
 use hir_input_json::Fault;
 use hir_input_json::atom::atoms_at;
-use hir_input_json::member::{id_at, list_at, members_of, taken, word_at};
+use hir_input_json::member::{id_at, list_at, members_of, required_at, word_at};
 use hir_input_json::syntax::{block_in, syntax_of};
 use item_tree::CrateData;
 use item_tree_db::Edit;
@@ -23,10 +23,10 @@ use serde_json::{Map, Value};
 use std::alloc::Global;
 
 fn syntax_at(alloc: Global, members: &mut Map<String, Value>) -> Result<Syntax, Fault>
-    ensures { Reads syntax_view result (required syntax_form (field_of (codes "syntax") (held members.old))) }
+    ensures { Reads syntax_view result (required_form (codes "syntax") syntax_form (held members.old)) }
 {
-    let syntax = taken(members, "syntax").ok_or(Fault::WrongForm)?;
-    syntax_of(alloc, syntax)
+    let syntax = required_at(alloc, members, "syntax")?;
+    syntax_of(alloc, syntax).map_err(|fault| fault.in_member(alloc, "syntax"))
 }
 
 #[tactic(auto, using(hir_input_json::proofs::Held::field_without))]
@@ -34,9 +34,9 @@ fn set_cfg_of(alloc: Global, members: &mut Map<String, Value>, count: usize) -> 
     ensures reads { Reads edit_view result (set_cfg_edit count (held members.old)) }
     ensures known { IfOk result (EditNamesCrate count) }
 {
-    let krate = id_at(members, "crate")?;
+    let krate = id_at(alloc, members, "crate")?;
     if krate as usize >= count {
-        return Err(Fault::WrongForm);
+        return Err(Fault::at(alloc, "crate"));
     }
     let options = CfgOptions::new(atoms_at(alloc, members, "cfg")?);
     Ok(Edit::SetCfg {
@@ -52,27 +52,27 @@ pub fn edit_in(alloc: Global, members: &mut Map<String, Value>, count: usize) ->
     ensures reads { Reads edit_view result (edit_form count (held members.old)) }
     ensures known { IfOk result (EditNamesCrate count) }
 {
-    match word_at(members, "edit")? {
+    match word_at(alloc, members, "edit")? {
         "set_file" => {
-            let file = HirFileId(id_at(members, "file")?);
+            let file = HirFileId(id_at(alloc, members, "file")?);
             let syntax = syntax_at(alloc, members)?;
             Ok(Edit::SetFile { file, syntax })
         }
         "remove_file" => {
-            let file = HirFileId(id_at(members, "file")?);
+            let file = HirFileId(id_at(alloc, members, "file")?);
             Ok(Edit::RemoveFile { file })
         }
         "set_block" => {
-            let block = BlockId(id_at(members, "block")?);
+            let block = BlockId(id_at(alloc, members, "block")?);
             let syntax = block_in(alloc, members)?;
             Ok(Edit::SetBlock { block, syntax })
         }
         "remove_block" => {
-            let block = BlockId(id_at(members, "block")?);
+            let block = BlockId(id_at(alloc, members, "block")?);
             Ok(Edit::RemoveBlock { block })
         }
         "set_cfg" => set_cfg_of(alloc, members, count),
-        _ => Err(Fault::WrongForm),
+        _ => Err(Fault::at(alloc, "edit")),
     }
 }
 
@@ -81,7 +81,7 @@ fn edit_of(alloc: Global, value: Value, count: usize) -> Result<Edit, Fault>
     ensures reads { Reads edit_view result (edit_form count (view value)) }
     ensures known { IfOk result (EditNamesCrate count) }
 {
-    let mut members = members_of(value)?;
+    let mut members = members_of(alloc, value)?;
     edit_in(alloc, &mut members, count)
 }
 
@@ -91,7 +91,9 @@ fn edits_of(alloc: Global, items: Vec<Value>, count: usize) -> Result<Vec<Edit>,
 {
     let mut edits = Vec::with_capacity(alloc, items.len())?;
     for item in items {
-        edits.push(edit_of(alloc, item, count)?)?;
+        let place = edits.len();
+        let read = edit_of(alloc, item, count).map_err(|fault| fault.in_item(alloc, place))?;
+        edits.push(read)?;
     }
     Ok(edits)
 }
@@ -107,5 +109,5 @@ pub(crate) fn edits_at(
     ensures left { OnOk result (held members.new ≡ without (codes "edits") (held members.old)) }
 {
     let items = list_at(alloc, members, "edits")?;
-    edits_of(alloc, items, crates.len())
+    edits_of(alloc, items, crates.len()).map_err(|fault| fault.in_member(alloc, "edits"))
 }

@@ -2,7 +2,7 @@
 ghost use Rattle.std.specs.Prelude.{◌≡◌, ◌^◌, All, IfOk, codes, length, map};
 ghost use Rattle.serde_json.specs.View.{view, items_view};
 ghost use Rattle.item_tree.specs.CrateView.{crate_view};
-ghost use Rattle.hir_input_json.specs.Forms.{each, field as field_of, required, whole, list_at as each_at};
+ghost use Rattle.hir_input_json.specs.Forms.{each, required_at as required_form, whole, list_at as each_at};
 ghost use Rattle.hir_input_json.specs.Held.{held};
 ghost use Rattle.hir_input_json.specs.Reads.{Reads};
 ghost use Rattle.item_tree_request.specs.Named.{NamesCrate};
@@ -43,25 +43,30 @@ pub enum Show {
     Changed { since: u64 },
 }
 
-fn place_at(members: &Map<String, Value>) -> Result<Place, Fault>
+fn place_at(alloc: Global, members: &Map<String, Value>) -> Result<Place, Fault>
     ensures { Reads (λ place. place) result (place_form (held members.now)) }
 {
     match field(members, "file") {
-        Some(_) => Ok(Place::File(HirFileId(id_at(members, "file")?))),
-        None => Ok(Place::Block(BlockId(id_at(members, "block")?))),
+        Some(_) => Ok(Place::File(HirFileId(id_at(alloc, members, "file")?))),
+        None => Ok(Place::Block(BlockId(id_at(alloc, members, "block")?))),
     }
 }
 
 // A show of a tree of one of this many crates.
-fn tree_show_of(members: &Map<String, Value>, kind: ShowKind, count: usize) -> Result<Show, Fault>
+fn tree_show_of(
+    alloc: Global,
+    members: &Map<String, Value>,
+    kind: ShowKind,
+    count: usize,
+) -> Result<Show, Fault>
     ensures reads { Reads (λ show. show) result (tree_show count kind (held members.now)) }
     ensures known { IfOk result (NamesCrate count) }
 {
-    let krate = id_at(members, "crate")?;
+    let krate = id_at(alloc, members, "crate")?;
     if krate as usize >= count {
-        return Err(Fault::WrongForm);
+        return Err(Fault::at(alloc, "crate"));
     }
-    let place = place_at(members)?;
+    let place = place_at(alloc, members)?;
     Ok(Show::OfTree(TreeShow {
         kind,
         krate: Crate(krate),
@@ -69,39 +74,40 @@ fn tree_show_of(members: &Map<String, Value>, kind: ShowKind, count: usize) -> R
     }))
 }
 
-fn since_at(members: &Map<String, Value>) -> Result<u64, Fault>
-    ensures { Reads (λ since. since) result (required (whole (2 ^ 64)) (field_of (codes "since") (held members.now))) }
+fn since_at(alloc: Global, members: &Map<String, Value>) -> Result<u64, Fault>
+    ensures { Reads (λ since. since) result (required_form (codes "since") (whole (2 ^ 64)) (held members.now)) }
 {
-    let since = field(members, "since").ok_or(Fault::WrongForm)?;
-    since.as_u64().ok_or(Fault::WrongForm)
+    field(members, "since")
+        .and_then(Value::as_u64)
+        .ok_or_else(|| Fault::at(alloc, "since"))
 }
 
 /// A show after edits of a table of this many crates, of these members.
 ///
 /// `WrongForm` comes only where it has no reading (`Shows.show`).
-pub fn show_in(members: &Map<String, Value>, count: usize) -> Result<Show, Fault>
+pub fn show_in(alloc: Global, members: &Map<String, Value>, count: usize) -> Result<Show, Fault>
     ensures reads { Reads (λ show. show) result (show_form count (held members.now)) }
     ensures known { IfOk result (NamesCrate count) }
 {
-    match word_at(members, "show")? {
-        "page" => tree_show_of(members, ShowKind::Page, count),
-        "tree" => tree_show_of(members, ShowKind::Tree, count),
-        "imports" => tree_show_of(members, ShowKind::Imports, count),
+    match word_at(alloc, members, "show")? {
+        "page" => tree_show_of(alloc, members, ShowKind::Page, count),
+        "tree" => tree_show_of(alloc, members, ShowKind::Tree, count),
+        "imports" => tree_show_of(alloc, members, ShowKind::Imports, count),
         "changed" => {
-            let since = since_at(members)?;
+            let since = since_at(alloc, members)?;
             Ok(Show::Changed { since })
         }
-        _ => Err(Fault::WrongForm),
+        _ => Err(Fault::at(alloc, "show")),
     }
 }
 
 #[tactic(auto, using(hir_input_json::proofs::Held::no_field))]
-fn show_of(value: Value, count: usize) -> Result<Show, Fault>
+fn show_of(alloc: Global, value: Value, count: usize) -> Result<Show, Fault>
     ensures reads { Reads (λ show. show) result (show_form count (view value)) }
     ensures known { IfOk result (NamesCrate count) }
 {
-    let members = members_of(value)?;
-    show_in(&members, count)
+    let members = members_of(alloc, value)?;
+    show_in(alloc, &members, count)
 }
 
 fn shows_of(alloc: Global, items: Vec<Value>, count: usize) -> Result<Vec<Show>, Fault>
@@ -110,7 +116,9 @@ fn shows_of(alloc: Global, items: Vec<Value>, count: usize) -> Result<Vec<Show>,
 {
     let mut shows = Vec::with_capacity(alloc, items.len())?;
     for item in items {
-        shows.push(show_of(item, count)?)?;
+        let place = shows.len();
+        let read = show_of(alloc, item, count).map_err(|fault| fault.in_item(alloc, place))?;
+        shows.push(read)?;
     }
     Ok(shows)
 }
@@ -125,5 +133,5 @@ pub(crate) fn shows_at(
     ensures known { IfOk result (λ v. All (NamesCrate (length crates.now.items)) v.items) }
 {
     let items = list_at(alloc, members, "shows")?;
-    shows_of(alloc, items, crates.len())
+    shows_of(alloc, items, crates.len()).map_err(|fault| fault.in_member(alloc, "shows"))
 }

@@ -51,14 +51,8 @@ cfg_by-returns-in_err-keyed_atom_of t c = grind (arith, field_without, cfg_views
 pub cfg_by-returns-in-Some : goal.cfg_by-returns-in-Some
 cfg_by-returns-in-Some t c = grind (arith, field_without, cfg_views)
 
-pub cfg_by-returns-in_err-cfgs_in : goal.cfg_by-returns-in_err-cfgs_in
-cfg_by-returns-in_err-cfgs_in t c = grind (arith, field_without, cfg_views)
-
 pub cfg_by-returns-in-Some-taken : goal.cfg_by-returns-in-Some-taken
 cfg_by-returns-in-Some-taken t c = grind (arith, field_without, cfg_views)
-
-pub cfg_by-returns-in_err-cfgs_in-2 : goal.cfg_by-returns-in_err-cfgs_in-2
-cfg_by-returns-in_err-cfgs_in-2 t c = grind (arith, field_without, cfg_views)
 
 pub cfg_by-returns-in-Some-taken-2 : goal.cfg_by-returns-in-Some-taken-2
 cfg_by-returns-in-Some-taken-2 t c = grind (arith, field_without, cfg_views)

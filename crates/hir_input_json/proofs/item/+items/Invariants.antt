@@ -1,10 +1,10 @@
 -- the reading is what was read, and then the reading of what is left
-use Rattle.std.proofs.Common.{◌≡◌, ◌≤◌, map, ◌+◌, ◌*◌, option_map}
+use Rattle.std.proofs.Common.{◌≡◌, ◌≤◌, map, ◌+◌, ◌*◌, option_map, length}
 use Rattle.serde_json.specs.Data.{depth, items_depth}
 use Rattle.serde_json.specs.View.{view, items_view}
 use Rattle.hir_input.specs.Syntax.{item_view}
 use Rattle.hir_input_json.specs.Items.{item}
-use Rattle.hir_input_json.specs.Forms.{each}
+use Rattle.hir_input_json.specs.Forms.{each, each_from}
 use Rattle.hir_input_json.specs.Held.{held}
 use Rattle.hir_input_json.proofs.Inside.{depth_of}
 use Rattle.hir_input_json.proofs.Lists.{joined}
@@ -27,5 +27,5 @@ decreases-items_of l = 4 * items_depth (items_view l.values.items) + 4
 
 abbrev pub invariant-items_of-loop-item : goal.invariant-items_of-loop-item
 invariant-items_of-loop-item l =
-    (each item (items_view l.fn.values.items) ≡ joined (map item_view l.items.items) (each item (items_view l.item-iterator.rest.items)))
+    (each item (items_view l.fn.values.items) ≡ joined (map item_view l.items.items) (each_from (length l.items.items) item (items_view l.item-iterator.rest.items)))
     × (items_depth (items_view l.item-iterator.rest.items) ≤ items_depth (items_view l.fn.values.items))

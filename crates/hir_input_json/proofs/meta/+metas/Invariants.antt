@@ -1,12 +1,11 @@
 -- the reading is what was read, and then the reading of what is left
-use Rattle.std.proofs.Common.{◌≡◌, ◌≤◌, map, ◌+◌, ◌*◌, option_map}
+use Rattle.std.proofs.Common.{◌≡◌, ◌≤◌, map, ◌+◌, ◌*◌, length}
 use Rattle.serde_json.specs.Data.{depth, items_depth}
 use Rattle.serde_json.specs.View.{view, items_view}
 use Rattle.hir_input.specs.Attr.{meta_view}
 use Rattle.hir_input_json.specs.Metas.{meta}
-use Rattle.hir_input_json.specs.Forms.{each}
+use Rattle.hir_input_json.specs.Forms.{each, each_from}
 use Rattle.hir_input_json.specs.Held.{held}
-use Rattle.hir_input_json.proofs.Inside.{depth_of}
 use Rattle.hir_input_json.proofs.Lists.{joined}
 use Rattle.hir_input_json.proofs.meta.+metas.Given as goal
 
@@ -27,5 +26,5 @@ decreases-metas_of l = 4 * items_depth (items_view l.items.items) + 4
 
 abbrev pub invariant-metas_of-loop-item : goal.invariant-metas_of-loop-item
 invariant-metas_of-loop-item l =
-    (each meta (items_view l.fn.items.items) ≡ joined (map meta_view l.metas.items) (each meta (items_view l.item-iterator.rest.items)))
+    (each meta (items_view l.fn.items.items) ≡ joined (map meta_view l.metas.items) (each_from (length l.metas.items) meta (items_view l.item-iterator.rest.items)))
     × (items_depth (items_view l.item-iterator.rest.items) ≤ items_depth (items_view l.fn.items.items))

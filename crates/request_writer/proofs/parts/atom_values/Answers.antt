@@ -1,5 +1,5 @@
 -- one more, and the last
-use Rattle.std.proofs.Common.{ℕ, List, rules, refl, ap, ◌∙◌, ◌+◌, sym, map, drop}
+use Rattle.std.proofs.Common.{List, rules, refl, ap, ◌∙◌, ◌+◌, sym, map, drop}
 use Rattle.serde_json.specs.View.{view}
 use Rattle.hir_input.specs.declared.cfg.CfgAtom.{CfgAtom}
 use Rattle.hir_input.specs.Cfg.{atom_view}

@@ -1,7 +1,6 @@
 -- what is to be written is what was made, and behind it what is left
 use Rattle.std.proofs.Common.{◌≡◌, map, drop}
 use Rattle.serde_json.specs.View.{view}
-use Rattle.hir_input.specs.declared.cfg.CfgAtom.{CfgAtom}
 use Rattle.hir_input.specs.Cfg.{atom_view}
 use Rattle.hir_input_writer.specs.Cfgs.{atom_data}
 use Rattle.hir_input_writer.specs.Parts.{each_data}

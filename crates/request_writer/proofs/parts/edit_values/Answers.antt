@@ -1,5 +1,5 @@
 -- one more, and the last
-use Rattle.std.proofs.Common.{rules, refl, ap, ◌∙◌, ◌+◌, sym, map, drop}
+use Rattle.std.proofs.Common.{rules, ap, ◌∙◌, ◌+◌, sym, map, drop}
 use Rattle.serde_json.specs.View.{view}
 use Rattle.hir_input.specs.Syntax.{syntax_view}
 use Rattle.hir_input_writer.specs.Lists.{joined}

@@ -2,7 +2,6 @@
 use Rattle.std.proofs.Common.{◌≡◌, map, drop}
 use Rattle.serde_json.specs.View.{view}
 use Rattle.hir_input_writer.specs.Parts.{each_data}
-use Rattle.item_tree_request.specs.declared.request.show.Show.{Show}
 use Rattle.request_writer.specs.Written.{show_data}
 use Rattle.hir_input_writer.specs.Lists.{joined}
 use Rattle.request_writer.proofs.parts.show_values.Given as goal

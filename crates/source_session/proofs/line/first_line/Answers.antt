@@ -2,9 +2,11 @@ use Rattle.std.proofs.Common.{◌≡◌, Err, length, rules, sym, ◌∙◌, sub
 use Rattle.std.proofs.lemmas.List.{length-map}
 use Rattle.item_tree.specs.CrateView.{crate_view}
 use Rattle.hir_input_json.specs.Held.{held}
+use Rattle.hir_input_json.specs.Reading.{right}
+use Rattle.hir_input_json.specs.Reads.{Reads, Tells}
 use Rattle.source_session.specs.LineViews.{asked_view, first_view, settings_view}
-use Rattle.source_session.specs.Lines.{asked, first_line, right, IsMisread, Reads}
-use Rattle.source_session.proofs.Readings.{first_misread, first_read}
+use Rattle.source_session.specs.Lines.{asked, first_line}
+use Rattle.source_session.proofs.Readings.{first_read, first_tells}
 use Rattle.source_session.proofs.line.first_line.Goals as goal
 
 pub returns-in_err-asked-clause-reads : goal.returns-in_err-asked-clause-reads
@@ -15,8 +17,8 @@ returns-in_err-asked-clause-reads c =
     let count = here ∙ sym (length-map s.crates.items crate_view) in
     let e = c.in_err-asked.field-0.0 in
     let is : c.from_residual-in_err-asked.result ≡ Err e = search rules in
-    let misread = first_misread (held c.args.members) (settings_view s) n c.in_ok-settings.ensures.reads count e (subst (λ d. IsMisread (asked n d) e) c.in_ok-settings.ensures.left c.in_err-asked.ensures.reads) in
-    subst (λ r. Reads first_view r (first_line (held c.args.members))) (sym is) misread
+    let told = first_tells (held c.args.members) (settings_view s) n c.in_ok-settings.ensures.reads count e (subst (λ d. Tells (asked n d) e) c.in_ok-settings.ensures.left c.in_err-asked.ensures.reads) in
+    subst (λ r. Reads first_view r (first_line (held c.args.members))) (sym is) told
 
 pub returns-clause-reads : goal.returns-clause-reads
 returns-clause-reads c =

@@ -1,0 +1,31 @@
+-- What a form reads of a value.
+use Rattle.std.specs.Prelude.{ℕ, List, [], ◌++◌, codes, Option, Some, None}
+
+-- what a value is read as, or where in it the first value stands that is not of its form: a JSON Pointer (RFC 6901)
+pub data Reading (A : Type 0) : Type 0 where
+  right : A → Reading A
+  wrong : List ℕ → Reading A
+
+-- one reading after another
+abbrev pub ◌>>=◌ : {A B : Type 0} → Reading A → (A → Reading B) → Reading B
+◌>>=◌ (right a) f = f a
+◌>>=◌ (wrong pointer) f = wrong pointer
+
+-- what is made of what is read
+abbrev pub reading_map : {A B : Type 0} → (A → B) → Reading A → Reading B
+reading_map f (right a) = right (f a)
+reading_map f (wrong pointer) = wrong pointer
+
+-- what there is, or else the value itself is not of its form
+abbrev pub here : {A : Type 0} → Option A → Reading A
+here (Some a) = right a
+here None = wrong []
+
+-- the pointer of what stands behind a step: at a key, none of which is escaped since none holds a `~` or a `/`, or at the number of an item
+abbrev pub behind : (step pointer : List ℕ) → List ℕ
+behind step pointer = codes "/" ++ step ++ pointer
+
+-- a reading of what stands behind a step
+abbrev pub under : {A : Type 0} → List ℕ → Reading A → Reading A
+under step (right a) = right a
+under step (wrong pointer) = wrong (behind step pointer)
