@@ -7,7 +7,7 @@ use Rattle.std.specs.Map.{set_value}
 use Rattle.std.specs.Ordering.{match_ordering}
 use Rattle.std.specs.BTreeMap.{is_at}
 use Rattle.serde_json.specs.Data.{Data, null, boolean, number, string, array, object, Members, no_members, member}
-use Rattle.serde_json.specs.Find.{get, get_member, as_object}
+use Rattle.serde_json.specs.Find.{get, get_member}
 use Rattle.serde_json.specs.View.{view, members_view}
 use Rattle.serde_json.specs.declared.value.Value.{Value}
 use Rattle.hir_input_json.specs.Forms.{field}
@@ -67,21 +67,3 @@ get_other k key (array ds) other = refl
 pub field_without : (k key : List ℕ) (d : Data) → bytes_eq k key ≡ false → field k (without key d) ≡ field k d
 unfolding field
 field_without k key d other = rw (get_other k key d other) refl
-
--- what is no object has no member
-pub no_field : (key : List ℕ) (d : Data) → as_object d ≡ None → field key d ≡ None
-unfolding field
-no_field key (object ms) h = absurd cc
-no_field key null h = refl
-no_field key (boolean b) h = refl
-no_field key (number n) h = refl
-no_field key (string s) h = refl
-no_field key (array ds) h = refl
-
-pub no_get : (key : List ℕ) (d : Data) → as_object d ≡ None → get key d ≡ None
-no_get key (object ms) h = absurd cc
-no_get key null h = refl
-no_get key (boolean b) h = refl
-no_get key (number n) h = refl
-no_get key (string s) h = refl
-no_get key (array ds) h = refl

@@ -28,7 +28,7 @@ pub(crate) fn keyed_atom_of(
     Ok(CfgAtom::KeyValue { key, value })
 }
 
-#[tactic(auto, using(crate::proofs::Held::field_without, crate::proofs::Held::no_field))]
+#[tactic(auto, using(crate::proofs::Held::field_without))]
 pub(crate) fn atom_of(alloc: Global, value: Value) -> Result<CfgAtom, Fault>
     ensures { Reads atom_view result (atom_form (view value)) }
 {
@@ -54,7 +54,7 @@ fn atoms_of(alloc: Global, items: Vec<Value>) -> Result<Vec<CfgAtom>, Fault>
 
 /// Takes a list of atoms out, none where it is absent: the options that are set in a crate.
 ///
-/// `WrongForm` comes only where the list has no reading (`Cfgs.atom`).
+/// `WrongForm` comes only where the list is not of its form (`Cfgs.atom`), and tells where.
 pub fn atoms_at(
     alloc: Global,
     members: &mut Map<String, Value>,

@@ -24,7 +24,7 @@ fn cfg_of(alloc: Global, value: Value) -> Result<CfgExpr, Fault>
 }
 
 #[cycle(cfgs)]
-#[tactic(auto, using(crate::proofs::Held::no_field, crate::proofs::Held::no_get, hir_input::proofs::CfgLemmas::cfg_views))]
+#[tactic(auto, using(hir_input::proofs::CfgLemmas::cfg_views))]
 fn cfg_in(alloc: Global, value: Value) -> Result<CfgExpr, Fault>
     ensures { Reads cfg_view result (cfg_with cfg_form (view value)) }
 {

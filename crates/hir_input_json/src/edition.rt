@@ -43,7 +43,7 @@ fn edition_of(alloc: Global, value: Value) -> Result<Edition, Fault>
 
 /// Takes the edition out: the latest, without reserved words, where it is absent.
 ///
-/// `WrongForm` comes only where it is there and has no reading (`Editions.edition`).
+/// `WrongForm` comes only where it is there and not of its form (`Editions.edition`), and tells where.
 pub fn edition_at(alloc: Global, members: &mut Map<String, Value>) -> Result<Edition, Fault>
     ensures reads { Reads edition_view result (edition_at_form (held members.old)) }
     ensures left { OnOk result (held members.new ≡ without (codes "edition") (held members.old)) }

@@ -1,4 +1,4 @@
-//! Why a value has no reading.
+//! Why a value is not read.
 ghost use Rattle.std.specs.Prelude.{◌≡◌, decimal};
 ghost use Rattle.hir_input_json.specs.Reads.{IsAt, IsHere, IsUnder};
 ghost use Rattle.hir_input_json.specs.declared.fault.Fault.TheVariants.{OutOfMemory};

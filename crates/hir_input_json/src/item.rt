@@ -99,7 +99,7 @@ fn named_item_of(alloc: Global, members: &mut Map<String, Value>) -> Result<Item
 }
 
 #[cycle(items)]
-#[tactic(auto, using(crate::proofs::Items::item_reads_itself, crate::proofs::Held::no_field))]
+#[tactic(auto, using(crate::proofs::Items::item_reads_itself))]
 pub(crate) fn item_of(alloc: Global, value: Value) -> Result<Item, Fault>
     ensures { Reads item_view result (item_form (view value)) }
 {

@@ -70,7 +70,7 @@ fn span_at(alloc: Global, members: &Map<String, Value>, ctxt: SyntaxContext) -> 
     }
 }
 
-#[tactic(auto, using(crate::proofs::Held::field_without, crate::proofs::Held::no_field))]
+#[tactic(auto, using(crate::proofs::Held::field_without))]
 fn literal_of(alloc: Global, value: Value, ctxt: SyntaxContext) -> Result<Literal, Fault>
     ensures { Reads (λ literal. literal) result (literal_form ctxt (view value)) }
 {
@@ -95,10 +95,8 @@ pub(crate) fn literal_at(
 {
     match taken(members, "value") {
         Some(found) => {
-            let literal = literal_of(alloc, found, ctxt).map_err(|fault| fault.in_member(
-                alloc, "value",
-            ))?;
-            Ok(Some(literal))
+            let literal = literal_of(alloc, found, ctxt);
+            Ok(Some(literal.map_err(|fault| fault.in_member(alloc, "value"))?))
         }
         None => Ok(None),
     }

@@ -58,7 +58,7 @@ fn cfg_meta_of(alloc: Global, members: &mut Map<String, Value>) -> Result<Meta, 
 }
 
 #[cycle(metas)]
-#[tactic(auto, using(crate::proofs::Attrs::meta_reads_itself, crate::proofs::Held::no_field))]
+#[tactic(auto, using(crate::proofs::Attrs::meta_reads_itself))]
 fn meta_of(alloc: Global, value: Value) -> Result<Meta, Fault>
     ensures { Reads meta_view result (meta_form (view value)) }
 {
@@ -119,7 +119,7 @@ fn metas_of(alloc: Global, items: Vec<Value>) -> Result<Vec<Meta>, Fault>
 
 /// Takes the metas of an owner out, none where they are absent.
 ///
-/// `WrongForm` comes only where they have no reading (`Metas.attrs_at`).
+/// `WrongForm` comes only where they are not of their form (`Metas.attrs_at`), and tells where.
 pub fn attrs_at(alloc: Global, members: &mut Map<String, Value>) -> Result<Vec<Meta>, Fault>
     ensures reads { Reads (λ v. map meta_view v.items) result (attrs_form (held members.old)) }
     ensures left { OnOk result (held members.new ≡ without (codes "attrs") (held members.old)) }

@@ -25,7 +25,6 @@ fn kind_at<'v>(alloc: Global, members: &'v Map<String, Value>) -> Result<&'v str
     }
 }
 
-#[tactic(auto, using(crate::proofs::Held::no_field))]
 fn call_of(alloc: Global, value: Value) -> Result<MacroCall, Fault>
     ensures { Reads call_view result (call_form (view value)) }
 {
@@ -36,7 +35,6 @@ fn call_of(alloc: Global, value: Value) -> Result<MacroCall, Fault>
     }
 }
 
-#[tactic(auto, using(crate::proofs::Held::no_field))]
 fn stmt_of(alloc: Global, value: Value) -> Result<Stmt, Fault>
     ensures { Reads stmt_view result (stmt_form (view value)) }
 {
@@ -85,7 +83,6 @@ pub(crate) fn stmts_at(alloc: Global, members: &mut Map<String, Value>) -> Resul
     stmts_of(alloc, stmts).map_err(|fault| fault.in_member(alloc, "stmts"))
 }
 
-#[tactic(auto, using(crate::proofs::Held::no_field))]
 fn tail_of(alloc: Global, value: Value) -> Result<Tail, Fault>
     ensures { Reads tail_view result (tail_form (view value)) }
 {

@@ -44,8 +44,7 @@ fn macro_stmts_of(alloc: Global, members: &mut Map<String, Value>) -> Result<Syn
 
 /// The syntax of a file or of a macro's result, by its root.
 ///
-/// `WrongForm` comes only where the value has no reading (`Syntaxes.syntax`).
-#[tactic(auto, using(crate::proofs::Held::no_field))]
+/// `WrongForm` comes only where the value is not of its form (`Syntaxes.syntax`), and tells where.
 pub fn syntax_of(alloc: Global, value: Value) -> Result<Syntax, Fault>
     ensures { Reads syntax_view result (syntax_form (view value)) }
 {
@@ -67,7 +66,7 @@ fn syntax_in(alloc: Global, members: &mut Map<String, Value>) -> Result<Syntax, 
 
 /// A block, whose members are those of an object that may hold others too. They are taken out and leave nulls.
 ///
-/// `WrongForm` comes only where the object has no reading (`Syntaxes.block`).
+/// `WrongForm` comes only where the object is not of its form (`Syntaxes.block`), and tells where.
 #[tactic(auto, using(crate::proofs::Held::field_without))]
 pub fn block_in(alloc: Global, members: &mut Map<String, Value>) -> Result<BlockExpr, Fault>
     ensures reads { Reads block_view result (block_form (held members.old)) }

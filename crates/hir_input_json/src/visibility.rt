@@ -26,7 +26,6 @@ fn visibility_by(alloc: Global, word: &str) -> Result<Visibility, Fault>
     }
 }
 
-#[tactic(auto, using(crate::proofs::Held::no_field))]
 pub(crate) fn visibility_of(alloc: Global, value: Value) -> Result<Visibility, Fault>
     ensures { Reads (λ visibility. visibility) result (visibility_form (view value)) }
 {

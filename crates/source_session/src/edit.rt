@@ -68,8 +68,7 @@ fn members_edit(
 
 /// An edit of a table of this many crates.
 ///
-/// `WrongForm` comes only where it has no reading (`Edits.line_edit`).
-#[tactic(auto, using(hir_input_json::proofs::Held::no_field))]
+/// `WrongForm` comes only where it is not of its form (`Edits.line_edit`), and tells where.
 pub(crate) fn edit_of(alloc: Global, value: Value, count: usize) -> Result<LineEdit, Fault>
     ensures reads { Reads edit_view result (line_edit count (view value)) }
     ensures usable { IfOk result (IsUsable count) }

@@ -87,8 +87,7 @@ fn members_show(
 
 /// A show after edits of a table of this many crates.
 ///
-/// `WrongForm` comes only where it has no reading (`Shows.line_show`).
-#[tactic(auto, using(hir_input_json::proofs::Held::no_field))]
+/// `WrongForm` comes only where it is not of its form (`Shows.line_show`), and tells where.
 pub(crate) fn show_of(alloc: Global, value: Value, count: usize) -> Result<LineShow, Fault>
     ensures reads { Reads (λ show. show) result (line_show count (view value)) }
     ensures known { IfOk result (NamesCrate count) }

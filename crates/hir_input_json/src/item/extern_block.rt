@@ -15,7 +15,7 @@ use hir_input::ast::{ExternBlock, ExternItem, Fn, Item, Static, TypeAlias};
 use serde_json::{Map, Value};
 use std::alloc::Global;
 
-#[tactic(auto, unfolding(crate::specs::Items::extern_item), using(crate::proofs::Held::no_field))]
+#[tactic(auto, unfolding(crate::specs::Items::extern_item))]
 fn extern_item_of(alloc: Global, value: Value) -> Result<ExternItem, Fault>
     ensures { Reads extern_item_view result (extern_item_form (view value)) }
 {

@@ -16,7 +16,7 @@ use item_tree::CrateData;
 use serde_json::{Map, Value};
 use std::alloc::Global;
 
-#[tactic(auto, using(hir_input_json::proofs::Held::field_without, hir_input_json::proofs::Held::no_field))]
+#[tactic(auto, using(hir_input_json::proofs::Held::field_without))]
 fn crate_of(alloc: Global, value: Value) -> Result<CrateData, Fault>
     ensures { Reads crate_view result (crate_form (view value)) }
 {
@@ -41,7 +41,7 @@ fn crates_of(alloc: Global, items: Vec<Value>) -> Result<Vec<CrateData>, Fault>
 
 /// Takes the crates out, none where they are absent.
 ///
-/// `WrongForm` comes only where they have no reading (`Edits.crate_data`).
+/// `WrongForm` comes only where they are not of their form (`Edits.crate_data`), and tells where.
 pub fn crates_at(alloc: Global, members: &mut Map<String, Value>) -> Result<Vec<CrateData>, Fault>
     ensures reads { Reads (λ v. map crate_view v.items) result
         (each_at crate_form (codes "crates") (held members.old)) }

@@ -47,7 +47,7 @@ fn set_cfg_of(alloc: Global, members: &mut Map<String, Value>, count: usize) -> 
 
 /// An edit of a table of this many crates, whose members are taken out.
 ///
-/// `WrongForm` comes only where it has no reading (`Edits.edit`).
+/// `WrongForm` comes only where it is not of its form (`Edits.edit`), and tells where.
 pub fn edit_in(alloc: Global, members: &mut Map<String, Value>, count: usize) -> Result<Edit, Fault>
     ensures reads { Reads edit_view result (edit_form count (held members.old)) }
     ensures known { IfOk result (EditNamesCrate count) }
@@ -76,7 +76,6 @@ pub fn edit_in(alloc: Global, members: &mut Map<String, Value>, count: usize) ->
     }
 }
 
-#[tactic(auto, using(hir_input_json::proofs::Held::no_field))]
 fn edit_of(alloc: Global, value: Value, count: usize) -> Result<Edit, Fault>
     ensures reads { Reads edit_view result (edit_form count (view value)) }
     ensures known { IfOk result (EditNamesCrate count) }

@@ -84,7 +84,7 @@ fn since_at(alloc: Global, members: &Map<String, Value>) -> Result<u64, Fault>
 
 /// A show after edits of a table of this many crates, of these members.
 ///
-/// `WrongForm` comes only where it has no reading (`Shows.show`).
+/// `WrongForm` comes only where it is not of its form (`Shows.show`), and tells where.
 pub fn show_in(alloc: Global, members: &Map<String, Value>, count: usize) -> Result<Show, Fault>
     ensures reads { Reads (λ show. show) result (show_form count (held members.now)) }
     ensures known { IfOk result (NamesCrate count) }
@@ -101,7 +101,6 @@ pub fn show_in(alloc: Global, members: &Map<String, Value>, count: usize) -> Res
     }
 }
 
-#[tactic(auto, using(hir_input_json::proofs::Held::no_field))]
 fn show_of(alloc: Global, value: Value, count: usize) -> Result<Show, Fault>
     ensures reads { Reads (λ show. show) result (show_form count (view value)) }
     ensures known { IfOk result (NamesCrate count) }

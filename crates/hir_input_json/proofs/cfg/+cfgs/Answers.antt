@@ -3,7 +3,7 @@ use Rattle.std.proofs.Common.{arith, codes, refl, sym}
 use Rattle.serde_json.specs.View.{view}
 use Rattle.hir_input_json.specs.Held.{held}
 use Rattle.hir_input_json.proofs.Inside.{depth_field, depth_get, field_before}
-use Rattle.hir_input_json.proofs.Held.{field_without, no_field, no_get}
+use Rattle.hir_input_json.proofs.Held.{field_without}
 use Rattle.hir_input_json.proofs.Attrs.{cfg_reads_itself}
 use Rattle.hir_input.proofs.CfgLemmas.{cfg_views}
 use Rattle.hir_input_json.proofs.cfg.+cfgs.Goals as goal
@@ -37,13 +37,13 @@ pub cfg_of-returns : goal.cfg_of-returns
 cfg_of-returns t c = grind (arith, cfg_reads_itself)
 
 pub cfg_in-returns-in_err-members : goal.cfg_in-returns-in_err-members
-cfg_in-returns-in_err-members t c = grind (arith, no_field, no_get, cfg_views)
+cfg_in-returns-in_err-members t c = grind (arith, cfg_views)
 
 pub cfg_in-returns-then-is_string : goal.cfg_in-returns-then-is_string
-cfg_in-returns-then-is_string t c = grind (arith, no_field, no_get, cfg_views)
+cfg_in-returns-then-is_string t c = grind (arith, cfg_views)
 
 pub cfg_in-returns-in_err-atom_of : goal.cfg_in-returns-in_err-atom_of
-cfg_in-returns-in_err-atom_of t c = grind (arith, no_field, no_get, cfg_views)
+cfg_in-returns-in_err-atom_of t c = grind (arith, cfg_views)
 
 pub cfg_by-returns-in_err-keyed_atom_of : goal.cfg_by-returns-in_err-keyed_atom_of
 cfg_by-returns-in_err-keyed_atom_of t c = grind (arith, field_without, cfg_views)

@@ -1,7 +1,7 @@
 -- each return by the forms of those inside
 use Rattle.std.proofs.Common.{arith}
 use Rattle.hir_input.proofs.SyntaxViews.{item_views}
-use Rattle.hir_input_json.proofs.Held.{field_without, no_field}
+use Rattle.hir_input_json.proofs.Held.{field_without}
 use Rattle.hir_input_json.proofs.Inside.{depth_found_in}
 use Rattle.hir_input_json.proofs.Items.{item_reads_itself}
 use Rattle.hir_input_json.proofs.item.+items.Goals as goal
@@ -37,10 +37,10 @@ pub item_in-returns-in-asm : goal.item_in-returns-in-asm
 item_in-returns-in-asm t c = grind (arith, item_views)
 
 pub item_of-returns-in_err-members : goal.item_of-returns-in_err-members
-item_of-returns-in_err-members t c = grind (arith, item_reads_itself, no_field)
+item_of-returns-in_err-members t c = grind (arith, item_reads_itself)
 
 pub item_of-returns : goal.item_of-returns
-item_of-returns t c = grind (arith, item_reads_itself, no_field)
+item_of-returns t c = grind (arith, item_reads_itself)
 
 pub module_of-returns-in_err-named : goal.module_of-returns-in_err-named
 module_of-returns-in_err-named t c = grind (arith, field_without, depth_found_in, item_views)

@@ -3,7 +3,7 @@ use Rattle.std.proofs.Common.{arith, codes, sym}
 use Rattle.serde_json.specs.View.{view}
 use Rattle.hir_input_json.specs.Held.{held}
 use Rattle.hir_input_json.proofs.Inside.{depth_field}
-use Rattle.hir_input_json.proofs.Held.{field_without, no_field}
+use Rattle.hir_input_json.proofs.Held.{field_without}
 use Rattle.hir_input_json.proofs.Attrs.{meta_reads_itself}
 use Rattle.hir_input.proofs.MetaLemmas.{meta_views}
 use Rattle.hir_input_json.proofs.meta.+metas.Goals as goal
@@ -14,10 +14,10 @@ unsafe_of-meta_of-requires t c =
     (omega (arith, less), tt)
 
 pub meta_of-returns-in_err-members : goal.meta_of-returns-in_err-members
-meta_of-returns-in_err-members t c = grind (arith, meta_reads_itself, no_field)
+meta_of-returns-in_err-members t c = grind (arith, meta_reads_itself)
 
 pub meta_of-returns : goal.meta_of-returns
-meta_of-returns t c = grind (arith, meta_reads_itself, no_field)
+meta_of-returns t c = grind (arith, meta_reads_itself)
 
 pub cfg_attr_of-returns-in_err-items : goal.cfg_attr_of-returns-in_err-items
 cfg_attr_of-returns-in_err-items t c = grind (arith, field_without, meta_views)
