@@ -175,15 +175,6 @@ pub(crate) fn u32_of(alloc: Global, value: &Value) -> Result<u32, Fault>
     u32::try_from(number).ok().ok_or_else(|| Fault::here(alloc))
 }
 
-/// An integer of 64 bits.
-///
-/// `WrongForm` comes only where the value is no such number, as where it is below 0 or held as a float.
-pub fn u64_of(alloc: Global, value: &Value) -> Result<u64, Fault>
-    ensures { Reads (λ n. n) result (whole (2 ^ 64) (view value.now)) }
-{
-    value.as_u64().ok_or_else(|| Fault::here(alloc))
-}
-
 // A whole number of 16 bits, 0 where it is absent.
 pub(crate) fn u16_at(alloc: Global, members: &Map<String, Value>, key: &str) -> Result<u16, Fault>
     ensures { Reads (λ n. n) result (optional_at 0 key.now (whole (2 ^ 16)) (held members.now)) }
@@ -211,7 +202,7 @@ pub fn u64_at(alloc: Global, members: &Map<String, Value>, key: &str) -> Result<
     ensures { Reads (λ n. n) result (optional_at 0 key.now (whole (2 ^ 64)) (held members.now)) }
 {
     match field(members, key) {
-        Some(found) => u64_of(alloc, found).map_err(|fault| fault.in_member(alloc, key)),
+        Some(found) => found.as_u64().ok_or_else(|| Fault::at(alloc, key)),
         None => Ok(0),
     }
 }
