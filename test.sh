@@ -1,8 +1,12 @@
 #!/usr/bin/env bash
-# Runs every test: the merge gate (proofs, wrong bodies, tests, the stored runs), and what the gate does not run. It prints the
-# seconds of each part as it ends, and its last line is `N passed, M failed`, whatever happens.
+# Runs every test: what reads the sources alone, the merge gate (proofs, wrong bodies, tests, the stored runs), and what the gate does
+# not run, over the programs that it built.
 #
-# The status is 0 where nothing failed, 69 where something that the tests need is missing, and otherwise 1.
+#   test.sh           all of it
+#   test.sh --quick   what needs no proof, with fewer cases, over the programs that are built already
+#
+# It prints the time of each part as it ends, and its last line is `N passed, M failed`, whatever happens. The status is 0 where
+# nothing failed, 69 where something that the tests need is missing, and otherwise 1.
 set -uo pipefail
 cd "$(dirname "$(realpath "${BASH_SOURCE[0]}")")" || exit 1
 program=crates/item_tree_tool/out/item_tree_tool
@@ -13,13 +17,23 @@ for name in hir_input_tests item_tree_tests item_tree_db_tests rust_items_tests;
     tests+=("crates/$name/out/${name}_tests")
 done
 log=$(mktemp)
-planned=0 is_missing=
+planned=1 is_missing=
+
+# Finds the processor seconds that all that has ended so far has taken. (In `$(times)` they would be those of the inner shell.)
+count_spent() {
+    times > "$log.times"
+    [[ $(tail -n 1 "$log.times") =~ ^([0-9]+)m([0-9]+).*\ ([0-9]+)m([0-9]+) ]]
+    spent=$((60 * (BASH_REMATCH[1] + BASH_REMATCH[3]) + BASH_REMATCH[2] + BASH_REMATCH[4]))
+}
+
+tell_time() { echo "time: $1 took $2 s, and $(($3 / 60)).$(($3 % 60 / 6)) minutes of processors"; }
 
 # Adds up the counts of all parts. A part that ended without them, or was never begun, is a failure.
 close() {
     local parts
+    count_spent
     sed -n '/^time: /p' "$log"
-    echo "time: all took $SECONDS s"
+    tell_time 'all' "$SECONDS" "$spent"
     sed -nE '/^[a-z_]+: [0-9]+ passed, [0-9]+ failed$/p' "$log"
     sed -nE 's/^([a-z_]+: )?([0-9]+) passed, ([0-9]+) failed$/\2 \3/p' "$log" |
         awk -v planned="$planned" '
@@ -31,7 +45,7 @@ close() {
                 exit failed > 0
             }'
     parts=$?
-    rm -f "$log"
+    rm -f "$log" "$log.times"
     exit "${is_missing:-$parts}"
 }
 trap close EXIT
@@ -40,19 +54,16 @@ trap 'exit 143' TERM HUP
 
 lack() {
     echo "test.sh: $1" >&2
-    planned=1 is_missing=69
+    is_missing=69
     exit
 }
 
-[ "$(uname -sm)" = 'Linux x86_64' ] || lack "the tests need Linux on x86-64, and this is $(uname -sm)"
-for needed in rt python3 cc; do
-    command -v "$needed" > /dev/null || lack "$needed is not on the path, and the tests need it"
-done
-
 # Runs a part, and prints the second at which each of its crates was done, and how long it took.
 part() {
-    local name=$1 start=$SECONDS line status
+    local name=$1 start=$SECONDS before line status
     shift
+    count_spent
+    before=$spent
     "$@" 2>&1 | while IFS= read -r line; do
         printf '%s\n' "$line"
         case $line in
@@ -61,23 +72,50 @@ part() {
         esac
     done | tee -a "$log"
     status=${PIPESTATUS[0]}
-    echo "time: $name took $((SECONDS - start)) s" | tee -a "$log"
+    count_spent
+    tell_time "$name" $((SECONDS - start)) $((spent - before)) | tee -a "$log"
     return "$status"
 }
 
-planned=11
-part 'the closed words' tests/closed_words.sh
-# The gate leaves the programs and the tests as it built them; after a failure they would be those of earlier sources.
-if part 'the merge gate' rt ci; then
+# Tries the programs; the parts that take longest come last.
+try_programs() {
     part 'the requests' tests/requests.sh "$program"
     part 'the outlines' tests/requests.sh "$outlines" outlines
-    part 'the command line' tests/itemtree.py
-    part 'requests line by line' tests/serve.py "$itemtree" "$program"
-    part 'refused memory' tests/refused_memory.sh "$program" "$outlines" "$itemtree" "${tests[@]}"
-    part 'what must not compile' tests/must_not_compile.sh
-    part 'damaged requests' tests/hostile_bytes.py "$program" --seconds 60 --count 8000
     part 'streams' tests/streams.sh "$program"
+    part 'the command line' tests/itemtree.py
+    part 'the reader' tests/reader.sh "$itemtree"
     part 'deep and wide requests' tests/deep_and_wide.py "$program"
+    part 'damaged requests' tests/hostile_bytes.py "$program" --seconds 60 --count "$1"
+    part 'requests line by line' tests/serve.py "$itemtree" "$program" --sessions "$2"
+    part 'refused memory' tests/refused_memory.sh "$program" "$outlines" "$itemtree" "${tests[@]}"
+}
+
+[ "$(uname -sm)" = 'Linux x86_64' ] || lack "the tests need Linux on x86-64, and this is $(uname -sm)"
+needed_ones=(python3 cc) is_quick=
+case $* in
+    '') needed_ones+=(rt) ;;
+    --quick) is_quick=1 ;;
+    *) echo 'usage: test.sh [--quick]' >&2 && exit 1 ;;
+esac
+for needed in "${needed_ones[@]}"; do
+    command -v "$needed" > /dev/null || lack "$needed is not on the path, and the tests need it"
+done
+if [ -n "$is_quick" ]; then
+    for built in "$program" "$outlines" "$itemtree"; do
+        [ -x "$built" ] || lack "$built is not built yet: ./run.sh $(basename "$built") builds it"
+    done
+    mapfile -t tests < <(find "${tests[@]}" -executable 2> /dev/null)
+fi
+
+planned=$((is_quick ? 11 : 13))
+part 'the closed words' tests/closed_words.sh
+part 'where wrong bodies are planted' tests/wrong_bodies.sh --check
+if [ -n "$is_quick" ]; then
+    try_programs 2000 100
+elif part 'the merge gate' rt ci; then
+    part 'what must not compile' tests/must_not_compile.sh
+    try_programs 8000 1000
 else
+    # The gate leaves the programs and the tests as it built them; after a failure they would be those of earlier sources.
     echo 'test.sh: the gate failed, so the programs were not tried'
 fi

@@ -2,7 +2,7 @@
 # Refuses each request for memory in turn, one a run, until a run makes no further request; and from a mark on all of them, in
 # tests of what takes no memory. As many subjects are tried at once as there are processors.
 #
-#   refused_memory.sh PROGRAM OUTLINES ITEMTREE TESTS ..
+#   refused_memory.sh PROGRAM OUTLINES ITEMTREE [TESTS ..]
 #
 # The program on each request of tests/requests that it answers, and OUTLINES on each of tests/outlines, has to end with status 5,
 # the line `out of memory` and nothing written. ITEMTREE with each of its commands on a small file has to end with status 1, a line
@@ -16,7 +16,8 @@ program=$(realpath "$1")
 outlines=$(realpath "$2")
 itemtree=$(realpath "$3")
 shift 3
-mapfile -t binaries < <(realpath "$@")
+binaries=()
+[ $# = 0 ] || mapfile -t binaries < <(realpath "$@")
 here=$(cd "$(dirname "${BASH_SOURCE[0]}")" && pwd)
 for needed in "$program" "$outlines" "$itemtree" "${binaries[@]}" cc; do
     if ! command -v "$needed" > /dev/null; then
