@@ -100,7 +100,7 @@ try_bodies() {
             *': refused, as it must be'*) verdict=refused ;;
             *': NOT REFUSED: '*) verdict='NOT REFUSED' ;;
             *': BAD EDIT: '*) verdict='BAD EDIT' ;;
-            *) verdict='NOT TRIED' said=$(tail -n 3 "$room/said") ;;
+            *) verdict='NOT TRIED' said=$(grep -v 'must-fail' "$room/said" | tail -n 1) ;;
         esac
         if [ "$verdict" = refused ]; then passed=$((passed + 1)); else failed=$((failed + 1)); fi
         echo "$verdict: $name: ${said#*"$name: "}"
