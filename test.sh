@@ -1,12 +1,12 @@
 #!/usr/bin/env bash
-# Runs every test: what reads the sources alone, the merge gate (proofs, wrong bodies, tests, the stored runs), and what the gate does
-# not run, over the programs that it built.
+# Runs every test: what reads the sources alone, the merge gate (proofs, wrong bodies, tests, the stored runs), and what the
+# gate does not run, over the programs that it built.
 #
 #   test.sh           all of it
 #   test.sh --quick   what needs no proof, with fewer cases, over the programs that are built already
 #
-# It prints the time of each part as it ends, and its last line is `N passed, M failed`, whatever happens. The status is 0 where
-# nothing failed, 69 where something that the tests need is missing, and otherwise 1.
+# It prints the time of each part as it ends, and its last line is `N passed, M failed`, whatever happens. The status is 0
+# where nothing failed, 69 where something that the tests need is missing, and otherwise 1.
 set -uo pipefail
 cd "$(dirname "$(realpath "${BASH_SOURCE[0]}")")" || exit 1
 program=crates/item_tree_tool/out/item_tree_tool

@@ -1,7 +1,7 @@
 #!/usr/bin/env bash
-# Plants wrong bodies one by one: edits that turn the meaning of a public call, each of which the prover has to refuse, so that it is
-# seen that the contracts say enough. They are those of tests/wrong_bodies, and those of crates/*/must-fail, the few that the merge
-# gate tries too. A file has a line `file:`, and pairs of lines `old:` and `new:`, as `rt` reads them.
+# Plants wrong bodies one by one: edits that turn the meaning of a public call, each of which the prover has to refuse, so that
+# it is seen that the contracts say enough. They are those of tests/wrong_bodies, and those of crates/*/must-fail, the few that
+# the merge gate tries too. A file has a line `file:`, and pairs of lines `old:` and `new:`, as `rt` reads them.
 #
 #   wrong_bodies.sh [CRATE ..]           tries those of all crates, or of these, in a copy of the crates; all take hours
 #   wrong_bodies.sh --check [CRATE ..]   proves nothing: whether each `old:` text stands exactly once in its file
