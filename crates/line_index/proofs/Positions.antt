@@ -7,7 +7,7 @@ use Rattle.std.specs.Prelude.{if◌then◌else◌, slice_index_or}
 use Rattle.std.proofs.lemmas.Bool.{cases_Bool, ne_eqb}
 use Rattle.std.proofs.lemmas.List.Recursion.{is_count_by}
 use Rattle.line_index.specs.declared.Position.{Position}
-use Rattle.line_index.specs.Positions.{is_continuation, behind, behind_byte, start, position_of}
+use Rattle.line_index.specs.Positions.{is_continuation, behind, behind_byte, start, shown_at, mark_length, position_of}
 
 behind_both : (p : Position) (a b : List ℕ) → behind p (a ++ b) ≡ behind (behind p a) b
 behind_both p [] b = refl
@@ -76,8 +76,8 @@ sum_of from at e = omega arith
 take_on : (from at : ℕ) (z : List ℕ) → from ≤ at → take from z ++ take (at - from) (drop from z) ≡ take at z
 take_on from at z e = sym (take-add from (at - from) z) ∙ ap (λ n. take n z) (sum_of from at e)
 
-pub onward : (text : List ℕ) (from at : ℕ) → from ≤ at → behind (position_of text from) (take (at - from) (drop from text)) ≡ position_of text at
-unfolding position_of
+pub onward : (text : List ℕ) (from at : ℕ) → from ≤ at → behind (shown_at text from) (take (at - from) (drop from text)) ≡ shown_at text at
+unfolding shown_at
 onward text from at e = sym (behind_both start (take from text) (take (at - from) (drop from text))) ∙ ap (λ z. behind start z) (take_on from at text e)
 
 byte_line : (p : Position) (b : ℕ) → (behind_byte p b).line ≤ p.line + 1
@@ -94,18 +94,23 @@ column_from : (p : Position) (z : List ℕ) → (behind p z).column ≤ p.column
 column_from p [] = omega arith
 column_from p (b ∷ z) = let first = byte_column p b in let rest = column_from (behind_byte p b) z in omega arith
 
-pub line_within : (text : List ℕ) (at : ℕ) → at ≤ length text → (position_of text at).line ≤ 1 + at
-unfolding position_of
+pub line_within : (text : List ℕ) (at : ℕ) → at ≤ length text → (shown_at text at).line ≤ 1 + at
+unfolding shown_at
 line_within text at e = let within = line_from start (take at text) in let short = length-take at text in omega arith
 
-pub column_within : (text : List ℕ) (at : ℕ) → at ≤ length text → (position_of text at).column ≤ 1 + at
-unfolding position_of
+pub column_within : (text : List ℕ) (at : ℕ) → at ≤ length text → (shown_at text at).column ≤ 1 + at
+unfolding shown_at
 column_within text at e = let within = column_from start (take at text) in let short = length-take at text in omega arith
 
-pub at_end : (text : List ℕ) (at : ℕ) → position_of text (min at (length text)) ≡ position_of text at
-unfolding position_of
+at_end : (text : List ℕ) (at : ℕ) → shown_at text (min at (length text)) ≡ shown_at text at
+unfolding shown_at
 at_end text at = ap (λ z. behind start z) (take_min at text)
 
-pub at_start : (text : List ℕ) → position_of text 0 ≡ start
+-- a place of what is shown of a text is one of the text
+pub place_is : (text : List ℕ) (mark at end : ℕ) (here : Position) → mark ≡ mark_length text → end ≡ min (at - mark) (length (drop mark text)) → here ≡ shown_at (drop mark text) end → here ≡ position_of text at
 unfolding position_of
+place_is text mark at end here m e h = h ∙ ap (shown_at (drop mark text)) e ∙ at_end (drop mark text) (at - mark) ∙ ap (λ n. shown_at (drop n text) (at - n)) m
+
+pub at_start : (text : List ℕ) → shown_at text 0 ≡ start
+unfolding shown_at
 at_start text = refl

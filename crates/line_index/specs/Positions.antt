@@ -1,5 +1,6 @@
 -- Lines and columns.
-use Rattle.std.specs.Prelude.{ℕ, Bool, ◌+◌, ◌==◌, ◌&&◌, if◌then◌else◌, List, [], ◌∷◌, take, nat_le, nat_lt}
+use Rattle.std.specs.Prelude.{ℕ, Bool, ◌+◌, ◌-◌, ◌==◌, ◌&&◌, if◌then◌else◌, List, [], ◌∷◌, take, drop, nat_eq, nat_le, nat_lt}
+use Rattle.std.specs.List.{starts_with}
 use Rattle.line_index.specs.declared.Position.{Position}
 
 -- a byte behind the first of a character
@@ -19,6 +20,14 @@ behind p (b ∷ bs) = behind (behind_byte p b) bs
 abbrev pub start : Position
 start = record { line = 1; column = 1 }
 
--- where a place in a text stands; one past the text stands at its end
+-- where a place stands in what is shown of a text; one past it stands at its end
+unfoldable pub shown_at : List ℕ → ℕ → Position
+shown_at shown at = behind start (take at shown)
+
+-- how many bytes the byte order mark at the beginning of a text has, if one stands there
+abbrev pub mark_length : List ℕ → ℕ
+mark_length text = if starts_with nat_eq text (239 ∷ 187 ∷ 191 ∷ []) then 3 else 0
+
+-- where a place in a text stands: all but the mark is shown
 unfoldable pub position_of : List ℕ → ℕ → Position
-position_of text at = behind start (take at text)
+position_of text at = shown_at (drop (mark_length text) text) (at - mark_length text)

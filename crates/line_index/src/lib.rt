@@ -1,13 +1,14 @@
 //! Lines and columns of places in a text.
 #![tactic(auto)]
 
-ghost use Rattle.std.specs.Prelude.{◌≡◌, ◌≤◌, ◌<◌, ◌+◌, ◌^◌, ◌==◌, length, List, ℕ};
+ghost use Rattle.std.specs.Prelude.{◌≡◌, ◌≤◌, ◌<◌, ◌+◌, ◌^◌, ◌==◌, drop, length, List, ℕ};
 ghost use Rattle.std.specs.List.{count_by};
 ghost use Rattle.line_index.specs.Positions as spec;
 
 use std::marker::Model;
 
-/// A line and a column, both from 1. Columns count characters, as the messages of rustc do.
+/// A line and a column, both from 1. Columns count characters, as the messages of rustc do; a byte order mark at the
+/// beginning of a text is none.
 #[derive(Clone, Copy, Debug, PartialEq, Eq)]
 pub struct Position {
     pub line: usize,
@@ -20,14 +21,17 @@ pub struct Position {
 #[derive(Drop)]
 pub struct LineIndex<'t> {
     text: &'t [u8],
+    /// How many bytes the byte order mark has, if one begins the text: it is not shown, so it takes no column.
+    mark: usize,
+    /// A place behind the mark, counted from there.
     at: usize,
     here: Position,
 }
 
 impl<'t> Model for LineIndex<'t> {
-    ghost use Rattle.std.specs.Prelude.{ℕ, List, ◌≡◌, ◌≤◌, length};
+    ghost use Rattle.std.specs.Prelude.{ℕ, List, ◌≡◌, ◌≤◌, drop, length};
     ghost use Rattle.std.specs.Coded.{coded_list, coded_ℕ};
-    ghost use Rattle.line_index.specs.Positions.{position_of};
+    ghost use Rattle.line_index.specs.Positions.{mark_length, shown_at};
 
     ghost Value = { List ℕ };
 
@@ -35,7 +39,8 @@ impl<'t> Model for LineIndex<'t> {
 
     ghost view = { λ i. i.text.now };
 
-    ghost invariant = { λ i. (i.here ≡ position_of i.text.now i.at) × (i.at ≤ length i.text.now) };
+    ghost invariant = { λ i. let shown = drop i.mark i.text.now in
+        (i.mark ≡ mark_length i.text.now) × (i.here ≡ shown_at shown i.at) × (i.at ≤ length shown) };
 }
 
 const START: Position = Position { line: 1, column: 1 };
@@ -91,43 +96,75 @@ fn behind(start: Position, text: &[u8]) -> Position
 }
 
 /// From one place of a text to a later one.
-#[tactic(auto, unfolding(crate::specs::Positions::position_of), using(crate::proofs::Positions::onward, crate::proofs::Positions::line_within, crate::proofs::Positions::column_within))]
+#[tactic(auto, unfolding(crate::specs::Positions::shown_at), using(crate::proofs::Positions::onward, crate::proofs::Positions::line_within, crate::proofs::Positions::column_within))]
 fn onward(text: &[u8], from: usize, here: Position, at: usize) -> Position
-    requires here { here ≡ spec.position_of text.now from }
+    requires here { here ≡ spec.shown_at text.now from }
     requires later { from ≤ at }
     requires within { at ≤ length text.now }
     requires small { length text.now < 2 ^ 63 }
-    ensures { result ≡ spec.position_of text.now at }
+    ensures { result ≡ spec.shown_at text.now at }
 {
     behind(here, &text[from..at])
 }
 
+/// From one place of a text to any other.
+#[tactic(auto, using(crate::proofs::Positions::at_start))]
+fn moved(text: &[u8], from: usize, here: Position, at: usize) -> Position
+    requires here { here ≡ spec.shown_at text.now from }
+    requires within { at ≤ length text.now }
+    requires small { length text.now < 2 ^ 63 }
+    ensures { result ≡ spec.shown_at text.now at }
+{
+    if from <= at {
+        onward(text, from, here, at)
+    } else {
+        onward(text, 0, START, at)
+    }
+}
+
+fn mark_length(text: &[u8]) -> usize
+    ensures length { result ≡ spec.mark_length text.now }
+    ensures within { result ≤ length text.now }
+{
+    if text.starts_with(b"\xEF\xBB\xBF") {
+        3
+    } else {
+        0
+    }
+}
+
+/// A text behind its first bytes.
+fn without(text: &[u8], count: usize) -> &[u8]
+    requires { count ≤ length text.now }
+    ensures { result.now ≡ drop count text.now }
+{
+    &text[count..]
+}
+
 impl<'t> LineIndex<'t> {
-    #[tactic(auto, unfolding(crate::specs::Positions::position_of))]
+    #[tactic(auto, using(crate::proofs::Positions::at_start))]
     pub fn new(text: &'t str) -> Self
         ensures { result ≡ text.now }
     {
+        let text = text.as_bytes();
         LineIndex {
-            text: text.as_bytes(),
+            text,
+            mark: mark_length(text),
             at: 0,
             here: START,
         }
     }
 
     /// Where a place of the text stands, by its byte; one past the text stands at its end.
-    #[tactic(auto, using(crate::proofs::Positions::at_start, crate::proofs::Positions::at_end))]
+    #[tactic(auto, using(crate::proofs::Positions::place_is))]
     pub fn position(&mut self, at: usize) -> Position
         ensures value { result ≡ spec.position_of self.old at }
         ensures same { self.new ≡ self.old }
     {
-        let end = at.min(self.text.len());
-        let here = if self.at <= end {
-            onward(self.text, self.at, self.here, end)
-        } else {
-            onward(self.text, 0, START, end)
-        };
+        let shown = without(self.text, self.mark);
+        let end = at.saturating_sub(self.mark).min(shown.len());
+        self.here = moved(shown, self.at, self.here, end);
         self.at = end;
-        self.here = here;
-        here
+        self.here
     }
 }
