@@ -1,18 +1,19 @@
 -- No two items of a tree are the same item.
-use Rattle.std.proofs.Common.{◌≡◌, ℕ, ◌+◌, ◌≤◌, Bool, true, false, List, [], ◌∷◌, ◌++◌, map, Option, Some, None, refl, ap, sym, ◌∙◌, arith, ⊎_elim, cond}
-use Rattle.std.specs.Prelude.{nat_eq}
+use Rattle.std.proofs.Common.{◌≡◌, ℕ, ◌+◌, ◌≤◌, Bool, true, false, List, [], ◌∷◌, ◌++◌, map, Option, Some, None, option_map, refl, ap, sym, subst, ◌∙◌, arith, ⊎_elim, cond}
+use Rattle.std.specs.Prelude.{nat_eq, ◌&&◌}
 use Rattle.std.specs.Bool.{Decides}
 use Rattle.std.specs.Cmp.Lexicographic.{pointwise, pointwise_decides}
 use Rattle.std.specs.List.{count_by, find, flat_map, zip}
 use Rattle.std.proofs.lemmas.Bool.{cases_Bool, false≢true}
 use Rattle.std.proofs.lemmas.Bool.Decides.{Decides-eqb, Decides-and, Decides-like, nat_tests}
-use Rattle.std.proofs.lemmas.List.Sums.{sum_by-append}
-use Rattle.item_tree.specs.Node.{Node, Forest}
+use Rattle.std.proofs.lemmas.List.{map-append}
+use Rattle.std.proofs.lemmas.List.Sums.{sum_by-append, sum_by-cons}
+use Rattle.item_tree.specs.Node.{Node, leaf, parent, Forest, empty, more, Unfolding}
 use Rattle.item_tree.specs.Same.{same_itself}
 use Rattle.rust_ids.specs.Ids.{kind_place}
 use Rattle.tree_walk.specs.Preorder.{preorder}
-use Rattle.item_rows.specs.Rows.{RowView, rows}
-use Rattle.item_changes.specs.Changes.{is_name, Key, key, has_key, is_like, Item, items_behind, is_same, ChangeView, left_change, came_change, changes_between, changes}
+use Rattle.item_rows.specs.Rows.{Around, RowView, scope_below, is_enabled, is_file_enabled, row, node_rows, forest_rows}
+use Rattle.item_changes.specs.Changes.{is_name, Key, key, has_key, is_like, Item, items_behind, is_same, ChangeView, change_of, left_as, came_as, left_change, came_change, changes_between, items, changes}
 use Rattle.item_changes.specs.Own.{own, node_code}
 
 -- ---- what makes items alike
@@ -108,25 +109,106 @@ found before (p ∷ ps) =
           (λ i a q. rw (apart s before n i a) q) is (places s (before ++ s ∷ []) ps) (found (before ++ s ∷ []) ps),
     )
 
--- ---- so a tree has no changes to itself
+-- ---- whether a cfg disables items is no part of what they are
 
-nothing_left : (is : List Item) (i : Item) → find (is_same i) is ≡ Some i → left_change is i ≡ []
-nothing_left is i e = rw e refl
+abbrev enabled : RowView → RowView
+enabled r = record { level = r.level; scope = r.scope; id = r.id; name = r.name; visibility = r.visibility; is_active = true }
 
-nothing_came : (is : List Item) (i : Item) → find (is_same i) is ≡ Some i → came_change is i ≡ []
-nothing_came is i e = rw (e, same_itself node_code i.own) refl
+abbrev enabled_pair : RowView × Node → RowView × Node
+enabled_pair p = (enabled p.0, p.1)
 
-pub no_changes : (ps : List (RowView × Node)) → changes_between (items_behind [] ps) (items_behind [] ps) ≡ []
-no_changes ps =
-    let is = items_behind [] ps in
-    let all = found [] ps in
-    ap (λ cs. cs ++ flat_map (came_change is) is) (none_from (left_change is) is (each_is _ _ (nothing_left is) is all)) ∙ none_from (came_change is) is (each_is _ _ (nothing_came is) is all)
+abbrev enabled_item : Item → Item
+enabled_item i = record { row = enabled i.row; place = i.place; own = i.own }
 
-pub none_itself : (f : Forest) → changes f f ≡ []
-none_itself f = no_changes (zip (rows f) (map own (preorder f)))
+abbrev around : ℕ → List (List ℕ) → Bool → Around
+around level scope a = record { level = level; scope = scope; is_active = a }
 
-pub no_items : {C : Type 0} (view : C → ChangeView) (cs : List C) (f g : Forest) → f ≡ g → map view cs ≡ changes f g → cs ≡ []
-no_items view [] f g e h = refl
-no_items view (c ∷ cs) f g e h =
-    let none : view c ∷ map view cs ≡ [] = h ∙ ap (changes f) (sym e) ∙ none_itself f in
-    absurd (cc)
+mutual
+  node_alike : (level : ℕ) (scope : List (List ℕ)) (a b : Bool) (n : Node) → map enabled (node_rows (around level scope a) n) ≡ map enabled (node_rows (around level scope b) n)
+  node_alike level scope a b (leaf h l) = refl
+  node_alike level scope a b (parent h t f) =
+      let own : RowView = enabled (row (around level scope true) (parent h t f)) in
+      ap (λ (rs : List RowView). own ∷ rs) (forest_alike (level + 1) (scope_below scope own.id.kind own.name) (a && is_enabled (parent h t f)) (b && is_enabled (parent h t f)) f)
+
+  forest_alike : (level : ℕ) (scope : List (List ℕ)) (a b : Bool) (f : Forest) → map enabled (forest_rows (around level scope a) f) ≡ map enabled (forest_rows (around level scope b) f)
+  forest_alike level scope a b empty = refl
+  forest_alike level scope a b (more n f) =
+      map-append enabled (node_rows (around level scope a) n) (forest_rows (around level scope a) f) ∙ (λ k. node_alike level scope a b n k ++ forest_alike level scope a b f k)
+      ∙ sym (map-append enabled (node_rows (around level scope b) n) (forest_rows (around level scope b) f))
+
+count_enabled : (p : RowView → Bool) (rs : List RowView) → count_by p (map enabled rs) ≡ count_by (λ r. p (enabled r)) rs
+count_enabled p [] = refl
+count_enabled p (r ∷ rs) =
+    let one : ℕ = cond (p (enabled r)) 1 0 in
+    sum_by-cons (λ x. cond (p x) 1 0) (enabled r) (map enabled rs) ∙ ap (λ n. one + n) (count_enabled p rs) ∙ sym (sum_by-cons (λ x. cond (p (enabled x)) 1 0) r rs)
+
+items_enabled : (before : List RowView) (ps : List (RowView × Node)) → map enabled_item (items_behind before ps) ≡ items_behind (map enabled before) (map enabled_pair ps)
+items_enabled before [] = refl
+items_enabled before (p ∷ ps) =
+    let place : count_by (is_like p.0) before ≡ count_by (is_like (enabled p.0)) (map enabled before) = sym (count_enabled (is_like (enabled p.0)) before) in
+    let rest = items_enabled (before ++ p.0 ∷ []) ps ∙ ap (λ rs. items_behind rs (map enabled_pair ps)) (map-append enabled before (p.0 ∷ [])) in
+    λ k. record { row = enabled p.0; place = place k; own = p.1 } ∷ rest k
+
+zip_enabled : (rs : List RowView) (ns : List Node) → map enabled_pair (zip rs ns) ≡ zip (map enabled rs) ns
+zip_enabled [] ns = refl
+zip_enabled (r ∷ rs) [] = refl
+zip_enabled (r ∷ rs) (n ∷ ns) = ap (λ (ps : List (RowView × Node)). (enabled r, n) ∷ ps) (zip_enabled rs ns)
+
+abbrev owns : Forest → List Node
+owns f = map own (preorder f)
+
+-- the items of a forest in a file that a cfg disables or not
+abbrev items_in : Bool → Forest → List Item
+items_in a f = items_behind [] (zip (forest_rows (around 0 [] a) f) (owns f))
+
+abbrev pairs : Bool → Forest → List (RowView × Node)
+pairs a f = zip (map enabled (forest_rows (around 0 [] a) f)) (owns f)
+
+items_alike : (a b : Bool) (f : Forest) → map enabled_item (items_in a f) ≡ items_behind [] (pairs b f)
+items_alike a b f =
+    items_enabled [] (zip (forest_rows (around 0 [] a) f) (owns f))
+    ∙ ap (items_behind []) (zip_enabled (forest_rows (around 0 [] a) f) (owns f) ∙ ap (λ rs. zip rs (owns f)) (forest_alike 0 [] a b f))
+
+find_enabled : (x : Item) (ys : List Item) → find (is_same (enabled_item x)) (map enabled_item ys) ≡ option_map enabled_item (find (is_same x) ys)
+find_enabled x [] = refl
+find_enabled x (y ∷ ys) = ⊎_elim (λ (t : is_same x y ≡ true). rw t refl) (λ (t : is_same x y ≡ false). rw t (find_enabled x ys)) (cases_Bool (is_same x y))
+
+-- ---- so a tree has no changes to one of the same items
+
+nothing_left : (o : Option Item) (i : Item) (r : RowView) → option_map enabled_item o ≡ Some i → change_of (left_as o) r ≡ []
+nothing_left None i r e = absurd (cc)
+nothing_left (Some j) i r e = refl
+
+nothing_came : (o : Option Item) (i : Item) → option_map enabled_item o ≡ Some (enabled_item i) → change_of (came_as i.own o) i.row ≡ []
+nothing_came None i e = absurd (cc)
+nothing_came (Some j) i e =
+    let same : enabled_item j ≡ enabled_item i = cc in
+    let own : j.own ≡ i.own = ap (λ (x : Item). x.own) same in rw (own, same_itself node_code i.own) refl
+
+each_back : (P : Item → Type 0) (is : List Item) → Each P (map enabled_item is) → Each (λ i. P (enabled_item i)) is
+each_back P [] p = tt
+each_back P (i ∷ is) p = (p.0, each_back P is p.1)
+
+-- each of the items is found among the others
+each_found : (all is js : List Item) → map enabled_item is ≡ all → map enabled_item js ≡ all → Each (λ i. find (is_same i) all ≡ Some i) all → Each (λ i. option_map enabled_item (find (is_same i) js) ≡ Some (enabled_item i)) is
+each_found all is js e f h =
+    each_is _ _ (λ i q. sym (find_enabled i js) ∙ ap (find (is_same (enabled_item i))) f ∙ q) is (each_back (λ i. find (is_same i) all ≡ Some i) is (subst (Each (λ i. find (is_same i) all ≡ Some i)) (sym e) h))
+
+none_between : (a b : Bool) (f : Forest) → changes_between (items_in a f) (items_in b f) ≡ []
+none_between a b f =
+    let all = found [] (pairs b f) in
+    let olds = each_found (items_behind [] (pairs b f)) (items_in a f) (items_in b f) (items_alike a b f) (items_alike b b f) all in
+    let news = each_found (items_behind [] (pairs b f)) (items_in b f) (items_in a f) (items_alike b b f) (items_alike a b f) all in
+    ap (λ cs. cs ++ flat_map (came_change (items_in a f)) (items_in b f))
+        (none_from (left_change (items_in b f)) (items_in a f) (each_is _ _ (λ i q. nothing_left (find (is_same i) (items_in b f)) (enabled_item i) i.row q) (items_in a f) olds))
+    ∙ none_from (came_change (items_in a f)) (items_in b f) (each_is _ _ (λ i q. nothing_came (find (is_same i) (items_in a f)) i q) (items_in b f) news)
+
+none_alike : (u w : Unfolding) → u.forest ≡ w.forest → changes u w ≡ []
+none_alike u w e = ap (λ f. changes_between (items_in (is_file_enabled u) f) (items w)) e ∙ none_between (is_file_enabled u) (is_file_enabled w) w.forest
+
+pub none_itself : (u : Unfolding) → changes u u ≡ []
+none_itself u = none_alike u u refl
+
+pub no_items : {C : Type 0} (view : C → ChangeView) (cs : List C) (u w : Unfolding) → u.forest ≡ w.forest → map view cs ≡ changes u w → cs ≡ []
+no_items view [] u w e h = refl
+no_items view (c ∷ cs) u w e h = let none : view c ∷ map view cs ≡ [] = h ∙ none_alike u w e in absurd (cc)

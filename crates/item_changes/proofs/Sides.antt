@@ -3,7 +3,7 @@ use Rattle.std.proofs.Common.{◌≡◌, List, [], ◌∷◌, ◌++◌, length, 
 use Rattle.std.specs.List.{zip}
 use Rattle.std.proofs.lemmas.List.{length-map, map-append}
 use Rattle.hir_input.specs.declared.ids.FileAstId.{FileAstId}
-use Rattle.item_tree.specs.Node.{Node, leaf, parent, Forest, empty, more, node_ast}
+use Rattle.item_tree.specs.Node.{Node, leaf, parent, Forest, empty, more, node_ast, Unfolding}
 use Rattle.tree_walk.specs.Preorder.{node_preorder, preorder}
 use Rattle.item_rows.specs.Rows.{Around, RowView, row, below, node_rows, forest_rows, rows, top}
 use Rattle.item_changes.specs.Changes.{Item, items_behind, items}
@@ -21,11 +21,11 @@ mutual
   forest_sides a empty = refl
   forest_sides a (more n f) = map-append id_of (node_rows a n) (forest_rows a f) ∙ (λ k. node_sides a n k ++ forest_sides a f k) ∙ sym (map-append node_ast (node_preorder n) (preorder f))
 
-pub same_ids : (f : Forest) → map (λ r. r.id) (rows f) ≡ map node_ast (preorder f)
-same_ids f = forest_sides top f
+pub same_ids : (u : Unfolding) → map (λ r. r.id) (rows u) ≡ map node_ast (preorder u.forest)
+same_ids u = forest_sides (top u) u.forest
 
-as_many : (f : Forest) → length (rows f) ≡ length (map own (preorder f))
-as_many f = sym (length-map (rows f) id_of) ∙ ap length (forest_sides top f) ∙ length-map (preorder f) node_ast ∙ sym (length-map (preorder f) own)
+as_many : (u : Unfolding) → length (rows u) ≡ length (map own (preorder u.forest))
+as_many u = sym (length-map (rows u) id_of) ∙ ap length (same_ids u) ∙ length-map (preorder u.forest) node_ast ∙ sym (length-map (preorder u.forest) own)
 
 rows_behind : (before rs : List RowView) (ns : List Node) → length rs ≡ length ns → map (λ (i : Item). i.row) (items_behind before (zip rs ns)) ≡ rs
 rows_behind before [] ns e = refl
@@ -38,8 +38,8 @@ owns_behind before [] (n ∷ ns) e = absurd (omega arith)
 owns_behind before (r ∷ rs) [] e = absurd (omega arith)
 owns_behind before (r ∷ rs) (n ∷ ns) e = ap (λ (xs : List Node). n ∷ xs) (owns_behind (before ++ r ∷ []) rs ns (omega arith))
 
-pub all_rows : (f : Forest) → map (λ (i : Item). i.row) (items f) ≡ rows f
-all_rows f = rows_behind [] (rows f) (map own (preorder f)) (as_many f)
+pub all_rows : (u : Unfolding) → map (λ (i : Item). i.row) (items u) ≡ rows u
+all_rows u = rows_behind [] (rows u) (map own (preorder u.forest)) (as_many u)
 
-pub all_owns : (f : Forest) → map (λ (i : Item). i.own) (items f) ≡ map own (preorder f)
-all_owns f = owns_behind [] (rows f) (map own (preorder f)) (as_many f)
+pub all_owns : (u : Unfolding) → map (λ (i : Item). i.own) (items u) ≡ map own (preorder u.forest)
+all_owns u = owns_behind [] (rows u) (map own (preorder u.forest)) (as_many u)

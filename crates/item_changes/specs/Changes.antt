@@ -3,7 +3,7 @@ use Rattle.std.specs.Prelude.{ℕ, Bool, true, false, ◌==◌, ◌&&◌, nat_eq
 use Rattle.std.specs.Cmp.Lexicographic.{pointwise}
 use Rattle.std.specs.List.{count_by, find, flat_map, zip}
 use Rattle.rust_ids.specs.Ids.{kind_place}
-use Rattle.item_tree.specs.Node.{Node, Forest}
+use Rattle.item_tree.specs.Node.{Node, Unfolding}
 use Rattle.tree_walk.specs.Preorder.{preorder}
 use Rattle.item_rows.specs.Rows.{RowView, rows}
 use Rattle.item_changes.specs.declared.compare.ChangeKind.{ChangeKind}
@@ -44,8 +44,8 @@ items_behind before [] = []
 items_behind before (p ∷ rest) = record { row = p.0; place = count_by (is_like p.0) before; own = p.1 } ∷ items_behind (before ++ p.0 ∷ []) rest
 
 -- the items of a tree
-abbrev pub items : Forest → List Item
-items f = items_behind [] (zip (rows f) (map own (preorder f)))
+abbrev pub items : Unfolding → List Item
+items u = items_behind [] (zip (rows u) (map own (preorder u.forest)))
 
 -- two items of two trees are the same item: they are alike, and have the same place among those that are
 abbrev pub is_same : Item → Item → Bool
@@ -80,5 +80,5 @@ came_change olds i = change_of (came_as i.own (find (is_same i) olds)) i.row
 abbrev pub changes_between : List Item → List Item → List ChangeView
 changes_between olds news = flat_map (left_change news) olds ++ flat_map (came_change olds) news
 
-abbrev pub changes : Forest → Forest → List ChangeView
+abbrev pub changes : Unfolding → Unfolding → List ChangeView
 changes old new = changes_between (items old) (items new)

@@ -121,7 +121,7 @@ pub fn changes<'tree>(
     old: &'tree ItemTree,
     new: &'tree ItemTree,
 ) -> Result<Vec<Change<'tree>>, AllocError>
-    ensures exact { IfOk result (λ v. map change_view v.items ≡ spec.changes old.now.forest new.now.forest) }
+    ensures exact { IfOk result (λ v. map change_view v.items ≡ spec.changes old.now new.now) }
     ensures none { old.now.forest ≡ new.now.forest → IfOk result (λ v. v.items ≡ []) }
 {
     let (old_rows, new_rows) = (item_rows(alloc, old)?, item_rows(alloc, new)?);

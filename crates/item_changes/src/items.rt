@@ -57,8 +57,8 @@ pub(crate) fn items<'r, 'tree>(
     tree: &'r ItemTree,
     rows: &'r [Row<'tree>],
 ) -> Result<Vec<Item<'r, 'tree>>, AllocError>
-    requires { map row_view rows.now ≡ all_rows.rows tree.now.forest }
-    ensures { IfOk result (λ v. map item_view v.items ≡ spec.items tree.now.forest) }
+    requires { map row_view rows.now ≡ all_rows.rows tree.now }
+    ensures { IfOk result (λ v. map item_view v.items ≡ spec.items tree.now) }
 {
     let ids = preorder(alloc, tree)?;
     items_behind(alloc, tree, rows, &ids)

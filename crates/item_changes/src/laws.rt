@@ -1,7 +1,7 @@
 //! What holds of the definitions of changes.
 ghost use Rattle.std.specs.Prelude.{◌≡◌, [], map};
 ghost use Rattle.item_tree.specs.Items.{IsByValue};
-ghost use Rattle.item_tree.specs.Node.{Forest, node_ast};
+ghost use Rattle.item_tree.specs.Node.{Unfolding, node_ast};
 ghost use Rattle.tree_walk.specs.Preorder.{preorder};
 ghost use Rattle.item_rows.specs.Rows.{rows};
 ghost use Rattle.item_changes.specs.Changes.{changes, items};
@@ -13,15 +13,15 @@ use crate::compare::ChangeKind;
 // order.
 #[tactic(auto, using(crate::proofs::Sides::same_ids, crate::proofs::Sides::all_rows, crate::proofs::Sides::all_owns))]
 fn sides()
-    ensures ids { (f : Forest) → map (λ r. r.id) (rows f) ≡ map node_ast (preorder f) }
-    ensures rows { (f : Forest) → map (λ i. i.row) (items f) ≡ rows f }
-    ensures owns { (f : Forest) → map (λ i. i.own) (items f) ≡ map own (preorder f) }
+    ensures ids { (u : Unfolding) → map (λ r. r.id) (rows u) ≡ map node_ast (preorder u.forest) }
+    ensures rows { (u : Unfolding) → map (λ i. i.row) (items u) ≡ rows u }
+    ensures owns { (u : Unfolding) → map (λ i. i.own) (items u) ≡ map own (preorder u.forest) }
 {}
 
 // A tree has no changes to itself.
 #[tactic(auto, using(crate::proofs::Once::none_itself))]
 fn itself()
-    ensures { (f : Forest) → changes f f ≡ [] }
+    ensures { (u : Unfolding) → changes u u ≡ [] }
 {}
 
 // `==` of kinds is true exactly where the two are one, and a copy is its source.

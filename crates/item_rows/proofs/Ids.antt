@@ -18,8 +18,8 @@ forest_is a (more n f) = ap (λ rs. node_rows a n ++ rs) (forest_is a f)
 pub ids_rows : (u : Unfolding) (a : Around) (is : List ℕ) (f : Forest) → StandFor u is f → flat_map (rows_at u a) is ≡ forest_rows a f
 ids_rows u a is f e = flat_map_of_id u (node_rows a) is (nodes f) e ∙ forest_is a f
 
-pub top_rows : (u : Unfolding) (is : List ℕ) → StandFor u is u.forest → flat_map (rows_at u top) is ≡ rows u.forest
-top_rows u is e = ids_rows u top is u.forest e
+pub top_rows : (u : Unfolding) (a : Around) (is : List ℕ) → a ≡ top u → StandFor u is u.forest → flat_map (rows_at u a) is ≡ rows u
+top_rows u a is t e = ap (λ b. flat_map (rows_at u b) is) t ∙ ids_rows u (top u) is u.forest e
 
 -- of an item: its row, and those of its children
 node_is : (a : Around) (n : Node) → node_rows a n ≡ row a n ∷ forest_rows (below (row a n)) (children n)

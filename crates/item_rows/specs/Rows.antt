@@ -1,19 +1,20 @@
 -- The items of a tree in the order in which they are written, each with what stands around it.
-use Rattle.std.specs.Prelude.{ℕ, ◌+◌, Bool, true, not, ◌&&◌, List, [], ◌∷◌, ◌++◌, Option, Some, None, is_some}
+use Rattle.std.specs.Prelude.{ℕ, ◌+◌, Bool, not, ◌&&◌, List, [], ◌∷◌, ◌++◌, Option, Some, None, is_some}
 use Rattle.hir_input.specs.declared.ids.AstIdKind.{AstIdKind}
 use Rattle.hir_input.specs.declared.ids.AstIdKind.TheVariants as kind
 use Rattle.hir_input.specs.declared.ids.FileAstId.{FileAstId}
 use Rattle.item_tree.specs.declared.visibility.RawVisibility.{RawVisibility}
-use Rattle.item_tree.specs.Node.{Node, leaf, parent, Forest, empty, more, node_ast, node_head, node_kind}
+use Rattle.item_tree_attrs.specs.Collected.{Collected}
+use Rattle.item_tree.specs.Node.{Node, leaf, parent, Forest, empty, more, node_ast, node_head, node_kind, Unfolding}
 use Rattle.def_collector.specs.Declarations.{node_name, node_visibility}
 
--- what items stand in: how many items, the names of the modules among them from the top on down, and whether no cfg disables these
+-- what items stand in: how many items, the names of the modules among them from the top on down, and whether no cfg disables these, nor the file
 pub record Around : Type 0 where
   pub level : ℕ
   pub scope : List (List ℕ)
   pub is_active : Bool
 
--- an item, what it stands in, and whether no cfg disables it
+-- an item, what it stands in, and whether no cfg disables it, nor what it stands in
 pub record RowView : Type 0 where
   pub level : ℕ
   pub scope : List (List ℕ)
@@ -22,16 +23,25 @@ pub record RowView : Type 0 where
   pub visibility : Option RawVisibility
   pub is_active : Bool
 
-abbrev pub top : Around
-top = record { level = 0; scope = []; is_active = true }
-
 abbrev pub scope_below : List (List ℕ) → AstIdKind → Option (List ℕ) → List (List ℕ)
 scope_below scope kind.Module (Some name) = scope ++ name ∷ []
 scope_below scope _ _ = scope
 
--- an item's own attributes hold no false cfg
+-- attributes hold no false cfg
+abbrev pub hold_no_false : Collected → Bool
+hold_no_false attrs = not (is_some attrs.false_cfg)
+
+-- an item's own do
 abbrev pub is_enabled : Node → Bool
-is_enabled n = not (is_some (node_head n).attrs.false_cfg)
+is_enabled n = hold_no_false (node_head n).attrs
+
+-- those of a file do, as `#![cfg(..)]`: a false one disables the file as a whole
+abbrev pub is_file_enabled : Unfolding → Bool
+is_file_enabled u = hold_no_false u.top_attrs
+
+-- what the items of a file stand in
+abbrev pub top : Unfolding → Around
+top u = record { level = 0; scope = []; is_active = is_file_enabled u }
 
 abbrev pub row : Around → Node → RowView
 row a n = record { level = a.level; scope = a.scope; id = node_ast n; name = node_name n; visibility = node_visibility n; is_active = a.is_active && is_enabled n }
@@ -51,5 +61,5 @@ abbrev mutual
   forest_rows around (more n f) = node_rows around n ++ forest_rows around f
 
 -- the rows of a whole tree
-abbrev pub rows : Forest → List RowView
-rows = forest_rows top
+abbrev pub rows : Unfolding → List RowView
+rows u = forest_rows (top u) u.forest

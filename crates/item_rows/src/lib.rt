@@ -3,4 +3,4 @@
 
 mod rows;
 
-pub use rows::{Row, item_rows};
+pub use rows::{Row, is_enabled, is_file_enabled, item_rows};

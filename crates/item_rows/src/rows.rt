@@ -24,7 +24,7 @@ pub struct Row<'tree> {
     pub id: FileAstId,
     pub name: Option<&'tree Name>,
     pub visibility: Option<&'tree RawVisibility>,
-    /// Whether no cfg disables it, nor an item that it stands in.
+    /// Whether no cfg disables it, nor an item that it stands in, nor the file.
     pub is_active: bool,
 }
 
@@ -41,16 +41,23 @@ struct Around<'tree> {
 /// The only error is want of memory.
 #[tactic(auto, using(item_tree::proofs::Walking::ids_contained, item_tree::proofs::Walking::ids_count, crate::proofs::Ids::top_rows))]
 pub fn item_rows(alloc: Global, tree: &ItemTree) -> Result<Vec<Row<'_>>, AllocError>
-    ensures { IfOk result (λ v. map row_view v.items ≡ spec.rows tree.now.forest) }
+    ensures { IfOk result (λ v. map row_view v.items ≡ spec.rows tree.now) }
 {
     let mut rows = Vec::new(alloc);
-    let around = Around {
-        level: 0,
-        scope: Vec::new(alloc),
-        is_active: true,
-    };
+    let around = top(alloc, tree);
     push_all(alloc, tree, tree.top_level_items(), &around, &mut rows)?;
     Ok(rows)
+}
+
+/// What stands around the items of a file.
+fn top<'tree>(alloc: Global, tree: &ItemTree) -> Around<'tree>
+    ensures { around_view result ≡ spec.top tree.now }
+{
+    Around {
+        level: 0,
+        scope: Vec::new(alloc),
+        is_active: is_file_enabled(tree),
+    }
 }
 
 /// The rows of items, and of all that stand in them.
@@ -91,7 +98,18 @@ fn push_one<'tree>(
     push_all(alloc, tree, children(tree, id), &below, rows)
 }
 
-fn is_enabled(tree: &ItemTree, id: ModItemId) -> bool
+/// Whether no cfg among the attributes of a file disables it as a whole. Takes no memory.
+pub fn is_file_enabled(tree: &ItemTree) -> bool
+    ensures { result ≡ spec.is_file_enabled tree.now }
+{
+    match tree.top_level_attrs() {
+        Some(AttrsOrCfg::CfgDisabled(_)) => false,
+        _ => true,
+    }
+}
+
+/// Whether no cfg among the attributes of an item itself disables it. Takes no memory.
+pub fn is_enabled(tree: &ItemTree, id: ModItemId) -> bool
     requires { IsContained tree.now id }
     ensures { result ≡ enabled_at tree.now id }
 {

@@ -31,12 +31,12 @@ choice o depth = record { depth = depth; only_active = o.only_active }
 -- the lines of the listed items
 abbrev pub IsOutline : Options → Option ℕ → Source → List ℕ → Type 0
 IsOutline o depth s out =
-    (t : SourceTree) × HasTree o s.text t × (out ≡ outline_text s o.edition.reserved.items t.places.items (choice o depth) (rows t.tree.forest))
+    (t : SourceTree) × HasTree o s.text t × (out ≡ outline_text s o.edition.reserved.items t.places.items (choice o depth) (rows t.tree))
 
 -- their objects, on one line
 abbrev pub IsJson : Options → Option ℕ → Source → List ℕ → Type 0
 IsJson o depth s out =
-    (t : SourceTree) × HasTree o s.text t × (out ≡ json_line s o.edition.reserved.items t.places.items (choice o depth) t.tree.forest)
+    (t : SourceTree) × HasTree o s.text t × (out ≡ json_line s o.edition.reserved.items t.places.items (choice o depth) t.tree)
 
 -- the lines of the imports
 abbrev pub AreImports : Options → Source → List ℕ → Type 0
@@ -49,12 +49,12 @@ AreRepeated o s out = (t : SourceTree) × HasTree o s.text t × (out ≡ repeate
 -- the lines of the items that are looked for
 abbrev pub AreFound : Options → Query → Source → List ℕ → Type 0
 AreFound o q s out =
-    (t : SourceTree) × HasTree o s.text t × (out ≡ found_lines s o.edition.reserved.items t.places.items q (rows t.tree.forest))
+    (t : SourceTree) × HasTree o s.text t × (out ≡ found_lines s o.edition.reserved.items t.places.items q (rows t.tree))
 
 -- tags behind others
 abbrev pub AddsTags : Options → Source → List (List ℕ) → List (List ℕ) → Type 0
 AddsTags o s old new =
-    (t : SourceTree) × HasTree o s.text t × (new ≡ old ++ tags s t.places.items (choice o None) (rows t.tree.forest))
+    (t : SourceTree) × HasTree o s.text t × (new ≡ old ++ tags s t.places.items (choice o None) (rows t.tree))
 
 -- the debug page, with or without the lines of ids
 abbrev pub if_ids : Bool → List ℕ → List ℕ
@@ -80,7 +80,7 @@ side s t = record { source = s; places = t.places.items }
 abbrev pub AreCompared : Options → Source → Source → Compared → Type 0
 AreCompared o old new c =
     (before after : SourceTree) × HasTree o old.text before × HasTree o new.text after
-    × (string_bytes c.text ≡ change_lines o.edition.reserved.items (side old before) (side new after) (changes before.tree.forest after.tree.forest))
+    × (string_bytes c.text ≡ change_lines o.edition.reserved.items (side old before) (side new after) (changes before.tree after.tree))
     × (IsTrue c.is_same ↔ (before.tree ≡ after.tree))
 
 -- the text that is said to have no tree has none, and a new one is said so only where the old one has a tree

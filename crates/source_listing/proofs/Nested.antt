@@ -7,12 +7,13 @@ use Rattle.serde_json.specs.View.{items_of}
 use Rattle.item_tree.specs.Layout.{node_at}
 use Rattle.item_tree.specs.Node.{Node, leaf, parent, Forest, empty, more, nodes, Unfolding}
 use Rattle.item_tree.specs.Shown.{StandFor}
+use Rattle.item_rows.specs.Rows.{is_file_enabled}
 use Rattle.item_tree.specs.Walk.{children, children_at}
 use Rattle.item_tree.proofs.Walking.{flat_map_of_id}
 use Rattle.rust_items.specs.declared.source_file.ItemPlace.{ItemPlace}
 use Rattle.source_listing.specs.Lines.{Choice, Source, is_chosen}
 use Rattle.source_listing.specs.Places.{spot_of}
-use Rattle.source_listing.specs.Objects.{ItemView, item_in, object_form, own_objects, node_objects, forest_objects}
+use Rattle.source_listing.specs.Objects.{ItemView, item_in, object_form, own_objects, node_objects, forest_objects, tree_objects}
 use Rattle.hir_input.specs.declared.edition.Edition.{Edition}
 use Rattle.source_listing.specs.declared.finder.Finder.{Finder}
 use Rattle.source_listing.specs.declared.lines.Printer.{Printer}
@@ -86,10 +87,11 @@ objects_kept p f c u level a is ds h e =
     ∙ ap (λ places. flat_map (objects_at (file_of p) (reserved_of p) places c u level a) is) h.1
 
 -- and of all ids by one that is made for a file
-pub objects_are : (s : Source) (places : List ItemPlace) (edition : Edition) (p : Printer) (c : Choice) (u : Unfolding) (is : List ℕ) (ds : List Data) → IsPrinterOf s places edition p
-    → StandFor u is u.forest → ds ≡ flat_map (objects_at (file_of p) (reserved_of p) (places_of p) c u 0 true) is → ds ≡ forest_objects s edition.reserved.items places c 0 true u.forest
-objects_are s places edition p c u is ds h f e =
-    e ∙ ids_objects (file_of p) (reserved_of p) (places_of p) c u 0 true is u.forest f
-    ∙ ap (λ file. forest_objects file (reserved_of p) (places_of p) c 0 true u.forest) (file_is s places edition p h)
-    ∙ ap (λ (x : Edition). forest_objects s x.reserved.items (places_of p) c 0 true u.forest) h.1
-    ∙ ap (λ ps. forest_objects s edition.reserved.items ps c 0 true u.forest) h.2.1
+pub objects_are : (s : Source) (places : List ItemPlace) (edition : Edition) (p : Printer) (c : Choice) (u : Unfolding) (a : Bool) (is : List ℕ) (ds : List Data) → IsPrinterOf s places edition p
+    → StandFor u is u.forest → a ≡ is_file_enabled u → ds ≡ flat_map (objects_at (file_of p) (reserved_of p) (places_of p) c u 0 a) is → ds ≡ tree_objects s edition.reserved.items places c u
+objects_are s places edition p c u a is ds h f t e =
+    e ∙ ids_objects (file_of p) (reserved_of p) (places_of p) c u 0 a is u.forest f
+    ∙ ap (λ b. forest_objects (file_of p) (reserved_of p) (places_of p) c 0 b u.forest) t
+    ∙ ap (λ file. tree_objects file (reserved_of p) (places_of p) c u) (file_is s places edition p h)
+    ∙ ap (λ (x : Edition). tree_objects s x.reserved.items (places_of p) c u) h.1
+    ∙ ap (λ ps. tree_objects s edition.reserved.items ps c u) h.2.1

@@ -11,7 +11,8 @@ use Rattle.item_tree.specs.declared.visibility.RawVisibility.{RawVisibility}
 use Rattle.item_tree.specs.declared.visibility.RawVisibility.TheVariants.{Module, PubSelf, PubCrate, Public}
 use Rattle.item_tree.specs.declared.visibility.VisibilityExplicitness.TheVariants.{Explicit, Implicit}
 use Rattle.item_tree.specs.Imports.{Import}
-use Rattle.item_tree.specs.Node.{Node, leaf, parent, Forest, empty, more, node_ast}
+use Rattle.item_tree.specs.Node.{Node, leaf, parent, Forest, empty, more, node_ast, Unfolding}
+use Rattle.item_rows.specs.Rows.{is_file_enabled}
 use Rattle.rust_items.specs.declared.log.Problem.{Problem}
 use Rattle.rust_items.specs.declared.source_file.ItemPlace.{ItemPlace}
 use Rattle.source_listing.specs.declared.finder.Spot.{Spot}
@@ -19,7 +20,7 @@ use Rattle.source_listing.specs.ImportObjects.{alias_form, import_form, import_o
 use Rattle.source_listing.specs.Imports.{of_declared, spots_of_any}
 use Rattle.source_listing.specs.Lines.{Choice, Source, is_chosen}
 use Rattle.source_listing.specs.Places.{spot_of}
-use Rattle.source_listing.specs.Objects.{ItemView, item_in, name_form, visibility_form, line_form, column_form, range_form, object_form, file_form, own_objects, node_objects, forest_objects, problem_objects}
+use Rattle.source_listing.specs.Objects.{ItemView, item_in, name_form, visibility_form, line_form, column_form, range_form, object_form, file_form, own_objects, node_objects, forest_objects, tree_objects, problem_objects}
 
 -- ---- lists
 
@@ -98,12 +99,12 @@ module _ (s : Source) (reserved : List (List ℕ)) (places : List ItemPlace) (c 
     forest_none level a (more n f) = both_none (node_objects s reserved places c level a n) (forest_objects s reserved places c level a f) (node_none level a n) (forest_none level a f)
 
   -- the values of an outline hold no float
-  pub no_float_in_outline : (f : Forest) → items_have_float (items_of (forest_objects s reserved places c 0 true f)) ≡ false
-  no_float_in_outline f = forest_none 0 true f
+  pub no_float_in_outline : (u : Unfolding) → items_have_float (items_of (tree_objects s reserved places c u)) ≡ false
+  no_float_in_outline u = forest_none 0 (is_file_enabled u) u.forest
 
   -- nor does the object of a file
-  pub file_none : (f : Forest) → has_float (file_form s.path (items_of (forest_objects s reserved places c 0 true f))) ≡ false
-  file_none f = or_none (items_have_float (items_of (forest_objects s reserved places c 0 true f))) false (no_float_in_outline f) refl
+  pub file_none : (u : Unfolding) → has_float (file_form s.path (items_of (tree_objects s reserved places c u))) ≡ false
+  file_none u = or_none (items_have_float (items_of (tree_objects s reserved places c u))) false (no_float_in_outline u) refl
 
 -- ---- problems
 

@@ -1,5 +1,5 @@
 -- The objects of an outline, and of problems.
-use Rattle.std.specs.Prelude.{ℕ, ◌+◌, Bool, true, ◌&&◌, if◌then◌else◌, List, [], ◌∷◌, ◌++◌, codes, map, Option, Some, None}
+use Rattle.std.specs.Prelude.{ℕ, ◌+◌, Bool, ◌&&◌, if◌then◌else◌, List, [], ◌∷◌, ◌++◌, codes, map, Option, Some, None}
 use Rattle.serde_json.specs.Data.{Data, unsigned, null, boolean, number, string, array, object, Items, no_items, item, no_members, member}
 use Rattle.serde_json.specs.View.{items_of}
 use Rattle.serde_json.specs.Written.{compact_text}
@@ -9,9 +9,9 @@ use Rattle.hir_input.specs.Path.{shown_path}
 use Rattle.item_tree.specs.declared.visibility.RawVisibility.{RawVisibility}
 use Rattle.item_tree.specs.declared.visibility.RawVisibility.TheVariants.{Module, PubSelf, PubCrate, Public}
 use Rattle.item_tree.specs.declared.visibility.VisibilityExplicitness.TheVariants.{Explicit, Implicit}
-use Rattle.item_tree.specs.Node.{Node, leaf, parent, Forest, empty, more, node_ast}
+use Rattle.item_tree.specs.Node.{Node, leaf, parent, Forest, empty, more, node_ast, Unfolding}
 use Rattle.def_collector.specs.Declarations.{node_name, node_visibility}
-use Rattle.item_rows.specs.Rows.{is_enabled}
+use Rattle.item_rows.specs.Rows.{is_enabled, is_file_enabled}
 use Rattle.line_index.specs.declared.Position.{Position}
 use Rattle.line_index.specs.Positions.{position_of}
 use Rattle.rust_items.specs.declared.log.Problem.{Problem}
@@ -21,7 +21,7 @@ use Rattle.source_listing.specs.declared.finder.Spot.{Spot}
 use Rattle.source_listing.specs.Lines.{Choice, Source, is_chosen, message, word}
 use Rattle.source_listing.specs.Places.{spot_of}
 
--- an item, and whether no cfg disables it nor an item that it stands in
+-- an item, and whether no cfg disables it, nor an item that it stands in, nor the file
 pub record ItemView : Type 0 where
   pub id : FileAstId
   pub name : Option (List ℕ)
@@ -94,9 +94,13 @@ module _ (s : Source) (reserved : List (List ℕ)) (places : List ItemPlace) (c 
     forest_objects level is_active empty = []
     forest_objects level is_active (more n f) = node_objects level is_active n ++ forest_objects level is_active f
 
+  -- those of a whole tree
+  abbrev pub tree_objects : Unfolding → List Data
+  tree_objects u = forest_objects 0 (is_file_enabled u) u.forest
+
   -- the object of a file, on one line
-  abbrev pub json_line : Forest → List ℕ
-  json_line f = compact_text (file_form s.path (items_of (forest_objects 0 true f))) ++ codes "\n"
+  abbrev pub json_line : Unfolding → List ℕ
+  json_line u = compact_text (file_form s.path (items_of (tree_objects u))) ++ codes "\n"
 
 -- ---- problems
 

@@ -80,7 +80,7 @@ pub fn change_lines(
 ) -> Result<String, AllocError>
     requires old { AreDistinct old.places.now }
     requires new { AreDistinct new.places.now }
-    ensures { let found = changes.changes old.entry.tree.now.forest new.entry.tree.now.forest in
+    ensures { let found = changes.changes old.entry.tree.now new.entry.tree.now in
         let lines = spec.change_lines edition.now.reserved.items (side_view old.entry) (side_view new.entry) found in
         IfOk result (λ text. string_bytes text ≡ lines) }
 {

@@ -1,10 +1,9 @@
 //! Outlines as JSON.
-ghost use Rattle.std.specs.Prelude.{◌≡◌, ◌+◌, ◌<◌, ◌^◌, ◌++◌, ◌∷◌, [], true, false, codes, map, IfOk, OnOk, option_copied, string_bytes};
+ghost use Rattle.std.specs.Prelude.{◌≡◌, ◌+◌, ◌<◌, ◌^◌, ◌++◌, ◌∷◌, [], false, codes, map, IfOk, OnOk, option_copied, string_bytes};
 ghost use Rattle.std.specs.List.{flat_map, sum_by};
 ghost use Rattle.serde_json.specs.Data.{string};
 ghost use Rattle.serde_json.specs.View.{items_view, view};
 ghost use Rattle.serde_json.specs.Written.{compact_text, has_float};
-ghost use Rattle.item_rows.specs.Inner.{enabled_at};
 ghost use Rattle.item_tree.specs.Shown.{IsContained};
 ghost use Rattle.item_tree.specs.Walk.{AreContained, count_at};
 ghost use Rattle.source_listing.specs.Inner.{IsSameFile, file_of, item_at, item_view, objects_at, places_of, reserved_of};
@@ -16,14 +15,14 @@ use crate::finder::Spot;
 use crate::lines::{Choice, Printer, Source, word};
 use def_collector::{name_at, visibility_at};
 use hir_input::{Edition, FileAstId, Name};
+use item_rows::{is_enabled, is_file_enabled};
 use item_tree::{ItemTree, ModItemId, RawVisibility, VisibilityExplicitness};
-use item_tree_attrs::AttrsOrCfg;
 use rust_items::ItemPlace;
 use serde_json::{Number, Value, json};
 use std::alloc::{AllocError, Global};
 use tree_walk::children;
 
-/// An item, and whether no cfg disables it nor an item that it stands in.
+/// An item, and whether no cfg disables it, nor an item that it stands in, nor the file.
 #[derive(Drop)]
 pub(crate) struct Item<'tree> {
     id: FileAstId,
@@ -142,16 +141,6 @@ fn object(
     })
 }
 
-fn is_enabled(tree: &ItemTree, id: ModItemId) -> bool
-    requires { IsContained tree.now id }
-    ensures { result ≡ enabled_at tree.now id }
-{
-    match tree.attrs(id) {
-        Some(AttrsOrCfg::CfgDisabled(_)) => false,
-        _ => true,
-    }
-}
-
 fn item_of(tree: &ItemTree, id: ModItemId, is_active: bool) -> Item<'_>
     requires { IsContained tree.now id }
     ensures { item_view result ∷ [] ≡ item_at tree.now is_active id }
@@ -255,13 +244,13 @@ pub fn outline_items(
     choice: Choice,
 ) -> Result<Vec<Value>, AllocError>
     requires { AreDistinct places.now }
-    ensures { let objects = spec.forest_objects (source_view source.entry) edition.now.reserved.items places.now in
-        IfOk result (λ items. map view items.items ≡ objects (choice_view choice) 0 true tree.now.forest) }
+    ensures { let objects = spec.tree_objects (source_view source.entry) edition.now.reserved.items places.now in
+        IfOk result (λ items. map view items.items ≡ objects (choice_view choice) tree.now) }
 {
     let mut printer = Printer::new(source, places, edition);
     let top = Around {
         level: 0,
-        is_active: true,
+        is_active: is_file_enabled(tree),
     };
     let ids = tree.top_level_items();
     objects(alloc, &mut printer, tree, ids, top, choice)
@@ -281,7 +270,7 @@ pub fn outline_json(
 ) -> Result<String, AllocError>
     requires { AreDistinct places.now }
     ensures { let line = spec.json_line (source_view source.entry) edition.now.reserved.items places.now in
-        IfOk result (λ text. string_bytes text ≡ line (choice_view choice) tree.now.forest) }
+        IfOk result (λ text. string_bytes text ≡ line (choice_view choice) tree.now) }
 {
     let items = outline_items(alloc, source, places, tree, edition, choice)?;
     let file = file_value(alloc, source.path, items)?;

@@ -251,7 +251,7 @@ pub fn outline(
 ) -> Result<String, AllocError>
     requires { AreDistinct places.now }
     ensures { let lines = spec.outline_text (source_view source.entry) edition.now.reserved.items places.now in
-        IfOk result (λ text. string_bytes text ≡ lines (choice_view choice) (rows.rows tree.now.forest)) }
+        IfOk result (λ text. string_bytes text ≡ lines (choice_view choice) (rows.rows tree.now)) }
 {
     let mut printer = Printer::new(source, places, edition);
     let mut out = String::new(alloc);

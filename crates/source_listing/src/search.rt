@@ -121,7 +121,7 @@ pub fn found_lines(
 ) -> Result<String, AllocError>
     requires { AreDistinct places.now }
     ensures { let lines = spec.found_lines (source_view source.entry) edition.now.reserved.items places.now in
-        IfOk result (λ text. string_bytes text ≡ lines (query_view query.entry) (rows.rows tree.now.forest)) }
+        IfOk result (λ text. string_bytes text ≡ lines (query_view query.entry) (rows.rows tree.now)) }
 {
     let mut printer = Printer::new(source, places, edition);
     let mut out = String::new(alloc);

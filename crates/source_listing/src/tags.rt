@@ -138,7 +138,7 @@ pub fn push_tags(
 ) -> Result<(), AllocError>
     requires { AreDistinct places.now }
     ensures { let added = spec.tags (source_view source.entry) places.now (choice_view choice) in
-        OnOk result (map string_bytes tags.new.items ≡ map string_bytes tags.old.items ++ added (rows.rows tree.now.forest)) }
+        OnOk result (map string_bytes tags.new.items ≡ map string_bytes tags.old.items ++ added (rows.rows tree.now)) }
 {
     let mut finder = Finder::new(source.text, places);
     let rows = item_rows(alloc, tree)?;

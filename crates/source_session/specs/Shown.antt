@@ -1,12 +1,12 @@
 -- What is shown of a session.
-use Rattle.std.specs.Prelude.{◌≡◌, ℕ, true, false, List, [], codes, filter, map, string_bytes, Option, None}
+use Rattle.std.specs.Prelude.{◌≡◌, ℕ, false, List, [], codes, filter, map, string_bytes, Option, None}
 use Rattle.std.specs.Option.{option_map_or}
 use Rattle.serde_json.specs.Data.{Data, null, string, array, object, no_members, member}
 use Rattle.serde_json.specs.View.{items_of}
 use Rattle.hir_input.specs.declared.ids.Crate.{Crate}
 use Rattle.hir_input.specs.declared.ids.HirFileId.{HirFileId}
 use Rattle.hir_input.specs.Id.{shown_id}
-use Rattle.item_tree.specs.Node.{node_ast, Forest}
+use Rattle.item_tree.specs.Node.{node_ast, Unfolding}
 use Rattle.item_tree.specs.Walk.{of_id}
 use Rattle.item_tree_db.specs.declared.place.Place.{Place}
 use Rattle.item_tree_db.specs.declared.place.Place.TheVariants.{File, Block}
@@ -19,7 +19,7 @@ use Rattle.rust_items.specs.declared.source_file.ItemPlace.{ItemPlace}
 use Rattle.rust_items.specs.declared.log.Problem.{Problem}
 use Rattle.source_listing.specs.ImportObjects.{import_objects}
 use Rattle.source_listing.specs.Lines.{Choice}
-use Rattle.source_listing.specs.Objects.{count_form, forest_objects, problem_objects}
+use Rattle.source_listing.specs.Objects.{count_form, tree_objects, problem_objects}
 use Rattle.source_session.specs.declared.show.LineShow.{LineShow}
 use Rattle.source_session.specs.declared.show.LineShow.TheVariants.{Table, Outline, ImportPlaces, Problems, Find}
 use Rattle.source_session.specs.declared.texts.SourceText.{SourceText}
@@ -37,9 +37,9 @@ text_places t = option_map_or (λ x. x.places.items) t []
 abbrev pub text_problems : Option SourceText → List Problem
 text_problems t = option_map_or (λ x. x.problems.items) t []
 
--- what a crate's tree of a file holds
-abbrev pub forest_of : Session → Crate → HirFileId → Forest
-forest_of u krate file = (unfolding_at u.table (File file) krate.0).forest
+-- a crate's tree of a file
+abbrev pub tree_of : Session → Crate → HirFileId → Unfolding
+tree_of u krate file = unfolding_at u.table (File file) krate.0
 
 -- all items, at every depth, also those that a cfg disables
 abbrev pub all_items : Choice
@@ -49,11 +49,11 @@ all_items = record { depth = None; only_active = false }
 abbrev pub outline_form : Session → Crate → HirFileId → Data
 outline_form u krate file =
     let t = text_in u.texts file.0 in
-    array (items_of (forest_objects (record { path = []; text = text_bytes t }) u.edition.1 (text_places t) all_items 0 true (forest_of u krate file)))
+    array (items_of (tree_objects (record { path = []; text = text_bytes t }) u.edition.1 (text_places t) all_items (tree_of u krate file)))
 
 -- the objects of its imports
 abbrev pub imports_form : Session → Crate → HirFileId → Data
-imports_form u krate file = let t = text_in u.texts file.0 in array (items_of (import_objects (text_bytes t) u.edition.1 (text_places t) (forest_of u krate file)))
+imports_form u krate file = let t = text_in u.texts file.0 in array (items_of (import_objects (text_bytes t) u.edition.1 (text_places t) (tree_of u krate file).forest))
 
 -- the objects of the problems of its text
 abbrev pub problems_form : Session → HirFileId → Data

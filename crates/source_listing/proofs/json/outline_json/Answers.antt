@@ -10,7 +10,7 @@ pub line_of-requires : goal.line_of-requires
 line_of-requires c =
     let s = source_view c.args.source in
     ap has_float (c.in_ok-file.ensures ∙ ap (λ ds. file_form s.path (items_of ds)) c.in_ok-items.ensures)
-    ∙ file_none s c.args.edition.now.reserved.items c.args.places.now (choice_view c.args.choice) c.args.tree.now.forest
+    ∙ file_none s c.args.edition.now.reserved.items c.args.places.now (choice_view c.args.choice) c.args.tree.now
 
 pub returns : goal.returns
 returns c =
