@@ -4,6 +4,7 @@
 ghost use Rattle.std.specs.Prelude.{◌≡◌, ◌≤◌, ◌^◌, length, map, IfOk, IfErr, OnOk, string_bytes};
 ghost use Rattle.itemtree_commands.specs.Answers as spec;
 ghost use Rattle.itemtree_commands.specs.Typing.{IsSameWhereTyped};
+ghost use Rattle.source_listing.specs.Ends.{IsBeginOf};
 ghost use Rattle.source_listing.specs.Views.{choice_view, query_view, source_view};
 ghost use Rattle.source_tree.specs.Trees.{HasOwnIds};
 
@@ -200,10 +201,11 @@ pub fn duplicates(
     Ok(text)
 }
 
-/// `itemtree tags`: adds the tags of the file.
+/// `itemtree tags`: adds the tags of the file. The tags before stay as they are, also at an error, where some of those of the
+/// file may stand behind them.
 ///
 /// Its errors are those of `source_tree`.
-#[tactic(auto, using(source_tree::proofs::Refused::no_memory))]
+#[tactic(auto, using(source_tree::proofs::Refused::no_memory, source_listing::proofs::Begins::begin_itself))]
 pub fn push_tags(
     alloc: Global,
     source: Source<'_>,
@@ -212,6 +214,7 @@ pub fn push_tags(
 ) -> Result<(), SourceError>
     ensures tags { let added = spec.AddsTags options.now (source_view source.entry) in
         OnOk result (added (map string_bytes tags.old.items) (map string_bytes tags.new.items)) }
+    ensures kept { IsBeginOf tags.old.items tags.new.items }
     ensures refused { IfErr result (spec.HasNoTree options.now source.entry.text.now) }
 {
     let file = read(alloc, source.text, options)?;

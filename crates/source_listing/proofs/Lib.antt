@@ -9,3 +9,4 @@ pub mod Printers
 pub mod Between
 pub mod Firsts
 pub mod AsMany
+pub mod Begins

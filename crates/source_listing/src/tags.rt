@@ -2,6 +2,7 @@
 ghost use Rattle.std.specs.Prelude.{◌≡◌, ◌++◌, ◌∷◌, [], IfOk, OnOk, map, option_map, string_bytes};
 ghost use Rattle.item_rows.specs.Rows as rows;
 ghost use Rattle.item_rows.specs.Views.{row_view};
+ghost use Rattle.source_listing.specs.Ends.{IsBeginOf};
 ghost use Rattle.source_listing.specs.Inner.{IsSameFinder};
 ghost use Rattle.source_listing.specs.Lines as lines;
 ghost use Rattle.source_listing.specs.Places.{AreDistinct};
@@ -99,6 +100,7 @@ fn tag(
 }
 
 /// Adds the tag of an item, if it is chosen and has one.
+#[tactic(auto, using(crate::proofs::Begins::begin_itself, crate::proofs::Begins::begin_one_more))]
 fn push_tag(
     alloc: Global,
     finder: &mut Finder<'_>,
@@ -111,6 +113,7 @@ fn push_tag(
     ensures tags { let s : lines.Source = record { path = path.now; text = finder.old.lines } in
         let added = spec.tags s finder.old.places.all.now (choice_view choice) (row_view row.now ∷ []) in
         OnOk result (map string_bytes tags.new.items ≡ map string_bytes tags.old.items ++ added) }
+    ensures kept { IsBeginOf tags.old.items tags.new.items }
     ensures same { IsSameFinder finder.old finder.new }
 {
     if !choice.lists(row) {
@@ -126,8 +129,9 @@ fn push_tag(
 /// Adds the tags of a file: for each chosen item with a name of a kind that has a letter its name, the file, the line, the
 /// letter and the modules that it stands in, as Universal Ctags writes them, in the order of the items.
 ///
-/// The places are those that the reader gave with the syntax of the tree. The only error is want of memory.
-#[tactic(auto, using(crate::proofs::Pushed::one_more_tag))]
+/// The tags before stay as they are, also at an error, where some of those of the file may stand behind them. The places are
+/// those that the reader gave with the syntax of the tree. The only error is want of memory.
+#[tactic(auto, using(crate::proofs::Pushed::one_more_tag, crate::proofs::Begins::begin_itself, crate::proofs::Begins::begin_later))]
 pub fn push_tags(
     alloc: Global,
     source: Source<'_>,
@@ -137,8 +141,9 @@ pub fn push_tags(
     tags: &mut Vec<String>,
 ) -> Result<(), AllocError>
     requires { AreDistinct places.now }
-    ensures { let added = spec.tags (source_view source.entry) places.now (choice_view choice) in
+    ensures tags { let added = spec.tags (source_view source.entry) places.now (choice_view choice) in
         OnOk result (map string_bytes tags.new.items ≡ map string_bytes tags.old.items ++ added (rows.rows tree.now)) }
+    ensures kept { IsBeginOf tags.old.items tags.new.items }
 {
     let mut finder = Finder::new(source.text, places);
     let rows = item_rows(alloc, tree)?;
