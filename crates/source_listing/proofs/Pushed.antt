@@ -8,7 +8,7 @@ use Rattle.item_rows.specs.Rows.{RowView}
 use Rattle.rust_items.specs.declared.source_file.ItemPlace.{ItemPlace}
 use Rattle.source_listing.specs.Lines.{Source, Choice, is_listed, item_line, outline_text}
 use Rattle.std.proofs.lemmas.List.Folds.{flat_map-map}
-use Rattle.source_listing.specs.Tags.{if_any, scope_field, tag, tags}
+use Rattle.source_listing.specs.Tags.{if_any, scope_field, tag, tags_under}
 use Rattle.source_listing.specs.Search.{Query, segment, is_found, found_line, found_lines}
 
 pub six_pushed : (o p i v w n e o1 o2 o3 o4 o5 o6 : List ℕ) → o1 ≡ o ++ p → o2 ≡ o1 ++ i → o3 ≡ o2 ++ v → o4 ≡ o3 ++ w → o5 ≡ o4 ++ n → o6 ≡ o5 ++ e
@@ -29,9 +29,11 @@ pub segments_of : {A : Type 0} (f : A → List ℕ) (xs : List A) → flat_map s
 segments_of f xs = flat_map-map segment f xs
 
 -- the tags of one more item
-pub one_more_tag : (s : Source) (places : List ItemPlace) (c : Choice) (rs : List RowView) (r : RowView)
-    → tags s places c (rs ++ r ∷ []) ≡ tags s places c rs ++ tags s places c (r ∷ [])
-one_more_tag s places c rs r = ap (flat_map (λ x. if_any (tag s places x))) (filter-append (is_listed c) rs (r ∷ [])) ∙ flat_map-append (λ x. if_any (tag s places x)) (filter (is_listed c) rs) (filter (is_listed c) (r ∷ []))
+pub one_more_tag : (path text : List ℕ) (places : List ItemPlace) (c : Choice) (rs : List RowView) (r : RowView)
+    → tags_under path text places c (rs ++ r ∷ []) ≡ tags_under path text places c rs ++ tags_under path text places c (r ∷ [])
+one_more_tag path text places c rs r =
+    ap (flat_map (λ x. if_any (tag path text places x))) (filter-append (is_listed c) rs (r ∷ []))
+    ∙ flat_map-append (λ x. if_any (tag path text places x)) (filter (is_listed c) rs) (filter (is_listed c) (r ∷ []))
 
 -- the modules of an item, pushed one after another
 pub modules_pushed : {A : Type 0} (f : A → List ℕ) (xs : List A) (first : A) (rest : List A) (o o1 o2 o3 : List ℕ)
