@@ -284,6 +284,10 @@ fn compare(
         }
         Err(CompareError::Old(error)) => unread(rt, old_path, error),
         Err(CompareError::New(error)) => unread(rt, new_path, error),
+        Err(CompareError::OutOfMemory) => {
+            let _ = eprintln!(rt; "itemtree: {old_path} and {new_path}: out of memory");
+            Ok(2)
+        }
     }
 }
 

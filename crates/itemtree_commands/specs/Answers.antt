@@ -18,7 +18,7 @@ use Rattle.itemtree_commands.specs.declared.Options.{Options}
 use Rattle.itemtree_commands.specs.declared.Checked.{Checked}
 use Rattle.itemtree_commands.specs.declared.Compared.{Compared}
 use Rattle.itemtree_commands.specs.declared.CompareError.{CompareError}
-use Rattle.itemtree_commands.specs.declared.CompareError.TheVariants.{Old, New}
+use Rattle.itemtree_commands.specs.declared.CompareError.TheVariants.{Old, New, OutOfMemory}
 
 -- the tree of a text under the options
 abbrev pub HasTree : Options → List ℕ → SourceTree → Type 0
@@ -83,7 +83,8 @@ AreCompared o old new c =
     × (string_bytes c.text ≡ change_lines o.edition.reserved.items (side old before) (side new after) (changes before.tree after.tree))
     × (IsTrue c.is_same ↔ (before.tree ≡ after.tree))
 
--- the text that is said to have no tree has none, and a new one is said so only where the old one has a tree
+-- the text that is said to have no tree has none, and a new one is said so only where the old one has a tree; where neither is, both have trees
 abbrev pub IsUncompared : Options → List ℕ → List ℕ → CompareError → Type 0
 IsUncompared o old new (Old e) = HasNoTree o old e
 IsUncompared o old new (New e) = HasNoTree o new e × ((t : SourceTree) × HasTree o old t)
+IsUncompared o old new OutOfMemory = ((t : SourceTree) × HasTree o old t) × ((t : SourceTree) × HasTree o new t)

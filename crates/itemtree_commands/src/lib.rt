@@ -54,11 +54,15 @@ pub struct Compared {
     pub is_same: bool,
 }
 
-/// Why two texts have no answer: which of them has no tree, and why.
+/// Why two texts have no answer.
 #[derive(Debug, Drop)]
 pub enum CompareError {
+    /// The old one has no tree.
     Old(SourceError),
+    /// The old one has a tree, and the new one has none.
     New(SourceError),
+    /// Both have trees, and there is no memory to compare them.
+    OutOfMemory,
 }
 
 /// The tree of a text under the options.
@@ -226,9 +230,7 @@ pub fn push_tags(
 /// `itemtree changed`: a line for each item that was removed, added or changed, and whether the trees are equal, as
 /// where only bodies, comments or layout became others.
 ///
-/// Trees that differ in the order of their items or in the attributes of the file alone have no such line. Its errors are
-/// those of `source_tree`: of the old text, or of the new one where the old one has a tree. Want of memory behind both is
-/// told of the new one.
+/// Trees that differ in the order of their items or in the attributes of the file alone have no such line.
 pub fn changed(
     alloc: Global,
     old: Source<'_>,
@@ -258,9 +260,8 @@ pub fn changed(
         places: &after.places,
         tree: &after.tree,
     };
-    let text = match source_listing::change_lines(alloc, olds, news, &options.edition) {
-        Ok(text) => text,
-        Err(error) => return Err(CompareError::New(SourceError::from(error))),
+    let Ok(text) = source_listing::change_lines(alloc, olds, news, &options.edition) else {
+        return Err(CompareError::OutOfMemory);
     };
     Ok(Compared {
         text,

@@ -1,5 +1,4 @@
 use Rattle.std.proofs.Common.{rules}
-use Rattle.source_tree.proofs.Refused.{no_memory}
 use Rattle.itemtree_commands.proofs.Typed.{same_tree}
 use Rattle.itemtree_commands.proofs.changed.Goals as goal
 
@@ -10,7 +9,3 @@ pub returns-clause-typing : goal.returns-clause-typing
 returns-clause-typing c =
     same_tree c.args.options.now.krate c.args.options.now.skipped.items c.args.old.text.now c.args.new.text.now c.in-Ok.before c.in-Ok-read.after c.eq.result c.in-Ok.ensures.tree c.in-Ok-read.ensures.tree
     c.eq.ensures.decides
-
-pub returns-in-Err-change_lines-clause-refused : goal.returns-in-Err-change_lines-clause-refused
-returns-in-Err-change_lines-clause-refused c =
-    (rw c.from.ensures (no_memory c.args.options.now.krate c.args.options.now.skipped.items c.args.new.text.now c.in-Ok-read.ensures.short), (c.in-Ok.before, c.in-Ok.ensures.tree))
