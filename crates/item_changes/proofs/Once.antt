@@ -112,7 +112,7 @@ found before (p ∷ ps) =
 -- ---- whether a cfg disables items is no part of what they are
 
 abbrev enabled : RowView → RowView
-enabled r = record { level = r.level; scope = r.scope; id = r.id; name = r.name; visibility = r.visibility; is_active = true }
+enabled r = record { level = r.level; scope = r.scope; id = r.id; name = r.name; subject = r.subject; visibility = r.visibility; is_active = true }
 
 abbrev enabled_pair : RowView × Node → RowView × Node
 enabled_pair p = (enabled p.0, p.1)

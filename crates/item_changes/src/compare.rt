@@ -70,6 +70,7 @@ fn push_change<'tree>(
         scope: Vec::from_slice(alloc, &row.scope)?,
         id: row.id,
         name: row.name,
+        subject: row.subject,
         visibility: row.visibility,
         is_active: row.is_active,
     };

@@ -3,9 +3,11 @@ use Rattle.std.specs.Prelude.{ℕ, ◌+◌, Bool, not, ◌&&◌, List, [], ◌�
 use Rattle.hir_input.specs.declared.ids.AstIdKind.{AstIdKind}
 use Rattle.hir_input.specs.declared.ids.AstIdKind.TheVariants as kind
 use Rattle.hir_input.specs.declared.ids.FileAstId.{FileAstId}
+use Rattle.hir_input.specs.Path.{Path}
 use Rattle.item_tree.specs.declared.visibility.RawVisibility.{RawVisibility}
 use Rattle.item_tree_attrs.specs.Collected.{Collected}
-use Rattle.item_tree.specs.Node.{Node, leaf, parent, Forest, empty, more, node_ast, node_head, node_kind, Unfolding}
+use Rattle.item_tree.specs.Node.{Leaf, use_item, macro_call, Node, leaf, parent, Forest, empty, more, node_ast, node_head, node_kind, Unfolding}
+use Rattle.item_tree.specs.Tree.{Tree}
 use Rattle.def_collector.specs.Declarations.{node_name, node_visibility}
 
 -- what items stand in: how many items, the names of the modules among them from the top on down, and whether no cfg disables these, nor the file
@@ -14,12 +16,28 @@ pub record Around : Type 0 where
   pub scope : List (List ℕ)
   pub is_active : Bool
 
+-- what an item without a name is told by: the tree of a use, the path of a macro call, or nothing
+pub data Subject : Type 0 where
+  no_subject : Subject
+  used : Tree → Subject
+  called : Path → Subject
+
+abbrev pub leaf_subject : {V : Type 0} → Leaf V → Subject
+leaf_subject (use_item v t) = used t
+leaf_subject (macro_call path expand_to ctxt) = called path
+leaf_subject _ = no_subject
+
+abbrev pub node_subject : Node → Subject
+node_subject (leaf h l) = leaf_subject l
+node_subject (parent h t f) = no_subject
+
 -- an item, what it stands in, and whether no cfg disables it, nor what it stands in
 pub record RowView : Type 0 where
   pub level : ℕ
   pub scope : List (List ℕ)
   pub id : FileAstId
   pub name : Option (List ℕ)
+  pub subject : Subject
   pub visibility : Option RawVisibility
   pub is_active : Bool
 
@@ -44,7 +62,7 @@ abbrev pub top : Unfolding → Around
 top u = record { level = 0; scope = []; is_active = is_file_enabled u }
 
 abbrev pub row : Around → Node → RowView
-row a n = record { level = a.level; scope = a.scope; id = node_ast n; name = node_name n; visibility = node_visibility n; is_active = a.is_active && is_enabled n }
+row a n = record { level = a.level; scope = a.scope; id = node_ast n; name = node_name n; subject = node_subject n; visibility = node_visibility n; is_active = a.is_active && is_enabled n }
 
 -- around what stands in an item
 abbrev pub below : RowView → Around

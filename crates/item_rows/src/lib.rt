@@ -2,5 +2,7 @@
 #![tactic(auto)]
 
 mod rows;
+mod subject;
 
 pub use rows::{Row, is_enabled, is_file_enabled, item_rows};
+pub use subject::{Subject, subject_at};

@@ -7,6 +7,7 @@ ghost use Rattle.item_rows.specs.Rows as spec;
 ghost use Rattle.item_rows.specs.Inner.{around_view, enabled_at, rows_at};
 ghost use Rattle.item_rows.specs.Views.{row_view};
 
+use crate::subject::{Subject, subject_at};
 use def_collector::{name_at, visibility_at};
 use hir_input::{AstIdKind, FileAstId, Name};
 use item_tree::{ItemTree, ModItemId, RawVisibility};
@@ -23,6 +24,8 @@ pub struct Row<'tree> {
     pub scope: Vec<&'tree Name>,
     pub id: FileAstId,
     pub name: Option<&'tree Name>,
+    /// What it is told by if it has no name.
+    pub subject: Subject<'tree>,
     pub visibility: Option<&'tree RawVisibility>,
     /// Whether no cfg disables it, nor an item that it stands in, nor the file.
     pub is_active: bool,
@@ -133,6 +136,7 @@ fn row_of<'tree>(
         scope: Vec::from_slice(alloc, &around.scope)?,
         id: id.ast_id(tree),
         name: name_at(tree, id),
+        subject: subject_at(tree, id),
         visibility: visibility_at(tree, id),
         is_active: around.is_active && is_enabled(tree, id),
     })

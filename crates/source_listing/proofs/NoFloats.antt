@@ -12,7 +12,7 @@ use Rattle.item_tree.specs.declared.visibility.RawVisibility.TheVariants.{Module
 use Rattle.item_tree.specs.declared.visibility.VisibilityExplicitness.TheVariants.{Explicit, Implicit}
 use Rattle.item_tree.specs.Imports.{Import}
 use Rattle.item_tree.specs.Node.{Node, leaf, parent, Forest, empty, more, node_ast, Unfolding}
-use Rattle.item_rows.specs.Rows.{is_file_enabled}
+use Rattle.item_rows.specs.Rows.{Subject, no_subject, used, called, is_file_enabled}
 use Rattle.rust_items.specs.declared.log.Problem.{Problem}
 use Rattle.rust_items.specs.declared.source_file.ItemPlace.{ItemPlace}
 use Rattle.source_listing.specs.declared.finder.Spot.{Spot}
@@ -20,7 +20,7 @@ use Rattle.source_listing.specs.ImportObjects.{alias_form, import_form, import_o
 use Rattle.source_listing.specs.Imports.{of_declared, spots_of_any}
 use Rattle.source_listing.specs.Lines.{Choice, Source, is_chosen}
 use Rattle.source_listing.specs.Places.{spot_of}
-use Rattle.source_listing.specs.Objects.{ItemView, item_in, name_form, visibility_form, line_form, column_form, range_form, object_form, file_form, own_objects, node_objects, forest_objects, tree_objects, problem_objects}
+use Rattle.source_listing.specs.Objects.{ItemView, item_in, name_form, subject_form, visibility_form, line_form, column_form, range_form, object_form, file_form, own_objects, node_objects, forest_objects, tree_objects, problem_objects}
 
 -- ---- lists
 
@@ -55,6 +55,11 @@ name_none : (o : Option (List ℕ)) → has_float (name_form o) ≡ false
 name_none None = refl
 name_none (Some name) = refl
 
+subject_none : (reserved : List (List ℕ)) (x : Subject) → has_float (subject_form reserved x) ≡ false
+subject_none reserved no_subject = refl
+subject_none reserved (used tree) = refl
+subject_none reserved (called path) = refl
+
 visibility_none : (reserved : List (List ℕ)) (o : Option RawVisibility) → has_float (visibility_form reserved o) ≡ false
 visibility_none reserved None = refl
 visibility_none reserved (Some Public) = refl
@@ -82,7 +87,7 @@ alias_none reserved (Some alias) = refl
 -- ---- outlines
 
 object_none : (reserved : List (List ℕ)) (x : ItemView) (spot : Option Spot) (ds : Items) → items_have_float ds ≡ false → has_float (object_form reserved x spot ds) ≡ false
-object_none reserved x spot ds e = rw (e, column_none spot, line_none spot, name_none x.name, range_none spot, visibility_none reserved x.visibility) refl
+object_none reserved x spot ds e = rw (e, column_none spot, line_none spot, name_none x.name, subject_none reserved x.subject, range_none spot, visibility_none reserved x.visibility) refl
 
 module _ (s : Source) (reserved : List (List ℕ)) (places : List ItemPlace) (c : Choice) where
   own_none : (level : ℕ) (x : ItemView) (ds : List Data) → items_have_float (items_of ds) ≡ false → items_have_float (items_of (own_objects s reserved places c level x ds)) ≡ false

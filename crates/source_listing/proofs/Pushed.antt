@@ -11,9 +11,9 @@ use Rattle.std.proofs.lemmas.List.Folds.{flat_map-map}
 use Rattle.source_listing.specs.Tags.{if_any, scope_field, tag, tags_under}
 use Rattle.source_listing.specs.Search.{Query, segment, is_found, found_line, found_lines}
 
-pub six_pushed : (o p i v w n e o1 o2 o3 o4 o5 o6 : List ℕ) → o1 ≡ o ++ p → o2 ≡ o1 ++ i → o3 ≡ o2 ++ v → o4 ≡ o3 ++ w → o5 ≡ o4 ++ n → o6 ≡ o5 ++ e
-    → o6 ≡ o ++ (p ++ i ++ v ++ w ++ n ++ e)
-six_pushed o p i v w n e o1 o2 o3 o4 o5 o6 a b c d f g = rw (g, f, d, c, b, a) (simp append_assoc)
+pub seven_pushed : (o p i v w n s e o1 o2 o3 o4 o5 o6 o7 : List ℕ) → o1 ≡ o ++ p → o2 ≡ o1 ++ i → o3 ≡ o2 ++ v → o4 ≡ o3 ++ w → o5 ≡ o4 ++ n → o6 ≡ o5 ++ s → o7 ≡ o6 ++ e
+    → o7 ≡ o ++ (p ++ i ++ v ++ w ++ n ++ s ++ e)
+seven_pushed o p i v w n s e o1 o2 o3 o4 o5 o6 o7 a b c d f g h = rw (h, g, f, d, c, b, a) (simp append_assoc)
 
 -- the lines of one more item
 pub one_more : (s : Source) (reserved : List (List ℕ)) (places : List ItemPlace) (c : Choice) (rs : List RowView) (r : RowView)

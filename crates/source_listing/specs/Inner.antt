@@ -13,6 +13,7 @@ use Rattle.hir_input.specs.declared.ids.FileAstId.{FileAstId}
 use Rattle.item_tree.specs.Node.{Node, leaf, parent, node_ast, Unfolding}
 use Rattle.item_tree.specs.Shown.{Lent, lent_leaf, lent_parent}
 use Rattle.item_tree.specs.Walk.{of_id}
+use Rattle.item_rows.specs.Views.{subject_view}
 use Rattle.rust_ids.specs.Ids.{kind_place}
 use Rattle.rust_items.specs.declared.source_file.ItemPlace.{ItemPlace}
 use Rattle.source_listing.specs.declared.json.Item as code_item
@@ -61,7 +62,7 @@ IsSameFile old new = (new.path ≡ old.path) × (new.edition ≡ old.edition) ×
 -- ---- objects by the ids of items
 
 abbrev pub item_view : code_item.Item → ItemView
-item_view x = record { id = x.id; name = option_copied x.name; visibility = option_copied x.visibility; is_active = x.is_active }
+item_view x = record { id = x.id; name = option_copied x.name; subject = subject_view x.subject; visibility = option_copied x.visibility; is_active = x.is_active }
 
 -- the item of an id, alone in a list
 abbrev pub item_at : Unfolding → Bool → ℕ → List ItemView

@@ -4,11 +4,14 @@ use Rattle.std.specs.List.{flat_map}
 use Rattle.hir_input.specs.declared.ids.AstIdKind.{AstIdKind}
 use Rattle.hir_input.specs.declared.ids.AstIdKind.TheVariants as kind
 use Rattle.hir_input.specs.Name.{shown_name}
+use Rattle.hir_input.specs.Path.{shown_path}
 use Rattle.item_tree.specs.declared.visibility.RawVisibility.{RawVisibility}
 use Rattle.item_tree.specs.declared.visibility.RawVisibility.TheVariants.{PubSelf}
 use Rattle.item_tree.specs.declared.visibility.VisibilityExplicitness.TheVariants.{Implicit}
 use Rattle.item_tree.specs.Page.{shown_visibility}
-use Rattle.item_rows.specs.Rows.{RowView}
+use Rattle.item_tree.specs.Tree.{Tree, single, glob, prefixed}
+use Rattle.item_tree.specs.UseText.{shown_prefix, shown_rename}
+use Rattle.item_rows.specs.Rows.{RowView, Subject, no_subject, used, called}
 use Rattle.line_index.specs.Positions.{position_of}
 use Rattle.rust_items.specs.declared.source_file.ItemPlace.{ItemPlace}
 use Rattle.rust_items.specs.declared.log.Problem.{Problem}
@@ -72,6 +75,18 @@ abbrev pub name_text : List (List ℕ) → Option (List ℕ) → List ℕ
 name_text reserved None = []
 name_text reserved (Some name) = codes " " ++ shown_name reserved name
 
+-- a use tree in short: the trees of a list are left out
+abbrev pub short_tree : List (List ℕ) → Tree → List ℕ
+short_tree reserved (single path alias) = shown_path reserved path ++ shown_rename reserved alias
+short_tree reserved (glob path) = shown_prefix reserved path ++ codes "*"
+short_tree reserved (prefixed path trees) = shown_prefix reserved path ++ codes "{..}"
+
+-- what a use or a macro call is told by
+abbrev pub subject_text : List (List ℕ) → Subject → List ℕ
+subject_text reserved no_subject = []
+subject_text reserved (used tree) = codes " " ++ short_tree reserved tree
+subject_text reserved (called path) = codes " " ++ shown_path reserved path ++ codes "!"
+
 abbrev pub line_end : Bool → List ℕ
 line_end is_active = if is_active then codes "\n" else codes " (inactive)\n"
 
@@ -79,10 +94,10 @@ line_end is_active = if is_active then codes "\n" else codes " (inactive)\n"
 abbrev pub indent : ℕ → List ℕ
 indent level = replicate (4 * level) 32
 
--- the line of an item: its place, four blanks for each item that it stands in, its visibility, the word of its kind, its name, and whether a cfg disables it
+-- the line of an item: its place, four blanks for each item that it stands in, its visibility, the word of its kind, its name or what else it is told by, and whether a cfg disables it
 abbrev pub item_line : Source → List (List ℕ) → List ItemPlace → RowView → List ℕ
 item_line s reserved places r =
-    item_place s.path (spot_of s.text places r.id) ++ indent r.level ++ visibility_text reserved r.visibility ++ word r.id.kind ++ name_text reserved r.name ++ line_end r.is_active
+    item_place s.path (spot_of s.text places r.id) ++ indent r.level ++ visibility_text reserved r.visibility ++ word r.id.kind ++ name_text reserved r.name ++ subject_text reserved r.subject ++ line_end r.is_active
 
 abbrev pub outline_text : Source → List (List ℕ) → List ItemPlace → Choice → List RowView → List ℕ
 outline_text s reserved places c rs = flat_map (item_line s reserved places) (filter (is_listed c) rs)

@@ -11,25 +11,26 @@ use Rattle.item_tree.specs.declared.visibility.RawVisibility.TheVariants.{Module
 use Rattle.item_tree.specs.declared.visibility.VisibilityExplicitness.TheVariants.{Explicit, Implicit}
 use Rattle.item_tree.specs.Node.{Node, leaf, parent, Forest, empty, more, node_ast, Unfolding}
 use Rattle.def_collector.specs.Declarations.{node_name, node_visibility}
-use Rattle.item_rows.specs.Rows.{is_enabled, is_file_enabled}
+use Rattle.item_rows.specs.Rows.{Subject, no_subject, used, called, node_subject, is_enabled, is_file_enabled}
 use Rattle.line_index.specs.declared.Position.{Position}
 use Rattle.line_index.specs.Positions.{position_of}
 use Rattle.rust_items.specs.declared.log.Problem.{Problem}
 use Rattle.rust_items.specs.declared.log.ProblemKind.{ProblemKind}
 use Rattle.rust_items.specs.declared.source_file.ItemPlace.{ItemPlace}
 use Rattle.source_listing.specs.declared.finder.Spot.{Spot}
-use Rattle.source_listing.specs.Lines.{Choice, Source, is_chosen, message, word}
+use Rattle.source_listing.specs.Lines.{Choice, Source, is_chosen, message, short_tree, word}
 use Rattle.source_listing.specs.Places.{spot_of}
 
 -- an item, and whether no cfg disables it, nor an item that it stands in, nor the file
 pub record ItemView : Type 0 where
   pub id : FileAstId
   pub name : Option (List ℕ)
+  pub subject : Subject
   pub visibility : Option RawVisibility
   pub is_active : Bool
 
 abbrev pub item_in : Bool → Node → ItemView
-item_in is_active n = record { id = node_ast n; name = node_name n; visibility = node_visibility n; is_active = is_active && is_enabled n }
+item_in is_active n = record { id = node_ast n; name = node_name n; subject = node_subject n; visibility = node_visibility n; is_active = is_active && is_enabled n }
 
 -- ---- members
 
@@ -39,6 +40,12 @@ count_form n = number (unsigned n)
 abbrev pub name_form : Option (List ℕ) → Data
 name_form None = null
 name_form (Some name) = string name
+
+-- a use tree in short, or the path of a macro
+abbrev pub subject_form : List (List ℕ) → Subject → Data
+subject_form reserved no_subject = null
+subject_form reserved (used tree) = string (short_tree reserved tree)
+subject_form reserved (called path) = string (shown_path reserved path)
 
 abbrev pub visibility_form : List (List ℕ) → Option RawVisibility → Data
 visibility_form reserved None = null
@@ -72,8 +79,9 @@ object_form reserved x spot children =
     (member (codes "kind") (string (word x.id.kind))
     (member (codes "line") (line_form spot)
     (member (codes "name") (name_form x.name)
+    (member (codes "path") (subject_form reserved x.subject)
     (member (codes "range") (range_form spot)
-    (member (codes "visibility") (visibility_form reserved x.visibility) no_members)))))))))
+    (member (codes "visibility") (visibility_form reserved x.visibility) no_members))))))))))
 
 abbrev pub file_form : List ℕ → Items → Data
 file_form path items = object (member (codes "items") (array items) (member (codes "path") (string path) no_members))

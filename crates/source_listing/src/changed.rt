@@ -8,6 +8,7 @@ ghost use Rattle.source_listing.specs.Places.{AreDistinct};
 ghost use Rattle.source_listing.specs.Views.{side_view};
 
 use crate::lines::{Printer, Source, push_name, word};
+use crate::subjects::push_subject;
 use hir_input::Edition;
 use item_changes::{Change, ChangeKind, changes};
 use item_tree::ItemTree;
@@ -43,6 +44,7 @@ impl Printer<'_> {
         out.push_str(change_word(change.kind))?;
         out.push_str(word(change.row.id.kind))?;
         push_name(self.edition, change.row.name, out)?;
+        push_subject(self.edition, change.row.subject, out)?;
         out.push_str("\n")
     }
 }
@@ -69,7 +71,8 @@ fn push_between(
 
 /// A line for each change of an item between two files: first the removed, in the order of the old file, and then the
 /// added and the changed, in the order of the new one. It has file, line and column, in the old file where the item was
-/// removed and else in the new one, then what became of the item, the word of its kind, and its name.
+/// removed and else in the new one, then what became of the item, the word of its kind, and its name or what else `outline`
+/// tells it by.
 ///
 /// The places are those that the reader gave with the syntax of each tree. The only error is want of memory.
 pub fn change_lines(

@@ -20,7 +20,7 @@ use item_tree::{ImportAlias, ImportKind, ItemTree};
 use rust_items::ItemPlace;
 use std::alloc::{AllocError, Global};
 
-fn push_rename(
+pub(crate) fn push_rename(
     edition: &Edition,
     alias: &Option<ImportAlias>,
     out: &mut String,

@@ -4,6 +4,7 @@ ghost use Rattle.std.specs.List.{flat_map, sum_by};
 ghost use Rattle.serde_json.specs.Data.{string};
 ghost use Rattle.serde_json.specs.View.{items_view, view};
 ghost use Rattle.serde_json.specs.Written.{compact_text, has_float};
+ghost use Rattle.item_rows.specs.Views.{subject_view};
 ghost use Rattle.item_tree.specs.Shown.{IsContained};
 ghost use Rattle.item_tree.specs.Walk.{AreContained, count_at};
 ghost use Rattle.source_listing.specs.Inner.{IsSameFile, file_of, item_at, item_view, objects_at, places_of, reserved_of};
@@ -13,9 +14,10 @@ ghost use Rattle.source_listing.specs.Views.{choice_view, source_view};
 
 use crate::finder::Spot;
 use crate::lines::{Choice, Printer, Source, word};
+use crate::subjects::push_short_tree;
 use def_collector::{name_at, visibility_at};
 use hir_input::{Edition, FileAstId, Name};
-use item_rows::{is_enabled, is_file_enabled};
+use item_rows::{Subject, is_enabled, is_file_enabled, subject_at};
 use item_tree::{ItemTree, ModItemId, RawVisibility, VisibilityExplicitness};
 use rust_items::ItemPlace;
 use serde_json::{Number, Value, json};
@@ -27,6 +29,7 @@ use tree_walk::children;
 pub(crate) struct Item<'tree> {
     id: FileAstId,
     name: Option<&'tree Name>,
+    subject: Subject<'tree>,
     visibility: Option<&'tree RawVisibility>,
     is_active: bool,
 }
@@ -58,6 +61,30 @@ fn name_value(alloc: Global, name: Option<&Name>) -> Result<Value, AllocError>
     match name {
         None => Ok(Value::Null),
         Some(name) => text_value(alloc, name.text()),
+    }
+}
+
+/// What an item is told by if it has no name.
+fn subject_value(
+    alloc: Global,
+    edition: &Edition,
+    subject: Subject<'_>,
+) -> Result<Value, AllocError>
+    ensures { let form = spec.subject_form edition.now.reserved.items (subject_view subject.entry) in
+        IfOk result (λ value. view value ≡ form) }
+{
+    match subject {
+        Subject::Nothing => Ok(Value::Null),
+        Subject::Use(tree) => {
+            let mut text = String::new(alloc);
+            push_short_tree(edition, tree, &mut text)?;
+            Ok(Value::String(text))
+        }
+        Subject::Call(path) => {
+            let path = path.display(edition);
+            let text = path.to_string(alloc)?;
+            Ok(Value::String(text))
+        }
     }
 }
 
@@ -133,11 +160,12 @@ fn object(
     let id = item.id.to_string(alloc)?;
     let kind = word(item.id.kind);
     let name = name_value(alloc, item.name)?;
+    let path = subject_value(alloc, edition, item.subject)?;
     let range = range_value(alloc, spot)?;
     let visibility = visibility_value(alloc, edition, item.visibility)?;
     json!(in alloc; {
         "active": active, "children": children, "column": column, "id": id, "kind": kind, "line": line, "name": name,
-        "range": range, "visibility": visibility
+        "path": path, "range": range, "visibility": visibility
     })
 }
 
@@ -148,6 +176,7 @@ fn item_of(tree: &ItemTree, id: ModItemId, is_active: bool) -> Item<'_>
     Item {
         id: id.ast_id(tree),
         name: name_at(tree, id),
+        subject: subject_at(tree, id),
         visibility: visibility_at(tree, id),
         is_active: is_active && is_enabled(tree, id),
     }
@@ -228,8 +257,8 @@ fn line_of(alloc: Global, value: &Value) -> Result<String, AllocError>
     Ok(line)
 }
 
-/// The chosen items of a file's tree as values, each an object with its `id`, the word of its `kind`, its `name`, its
-/// `visibility` as it was written, the `line` and the `column` at which it stands, its bytes with its attributes as a `range`
+/// The chosen items of a file's tree as values, each an object with its `id`, the word of its `kind`, its `name`, the `path` of
+/// a use, where `{..}` stands for a list, or of the macro of a macro call, its `visibility` as it was written, the `line` and the `column` at which it stands, its bytes with its attributes as a `range`
 /// (where they begin and where they end), whether no cfg disables it (`active`), and the objects of the items in it as
 /// `children`. What an item has not is null; names are without `r#`.
 ///

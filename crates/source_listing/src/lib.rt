@@ -13,6 +13,7 @@ mod places;
 mod problems;
 mod repeated;
 mod search;
+mod subjects;
 mod tags;
 mod use_reader;
 mod uses;

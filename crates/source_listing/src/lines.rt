@@ -9,6 +9,7 @@ ghost use Rattle.source_listing.specs.Search.{found_line};
 ghost use Rattle.source_listing.specs.Views.{choice_view, source_view};
 
 use crate::finder::{Finder, Spot};
+use crate::subjects::push_subject;
 use hir_input::{AstIdKind, Edition, FileAstId, Name};
 use item_rows::{Row, item_rows};
 use item_tree::{ItemTree, RawVisibility, VisibilityExplicitness};
@@ -200,6 +201,7 @@ impl Printer<'_> {
         push_visibility(self.edition, row.visibility, out)?;
         out.push_str(word(row.id.kind))?;
         push_name(self.edition, row.name, out)?;
+        push_subject(self.edition, row.subject, out)?;
         push_end(row.is_active, out)
     }
 
@@ -237,7 +239,7 @@ impl Printer<'_> {
 
 /// A line for each chosen item of a file's tree, before those of the items in it: file, line and column, four blanks for
 /// each item that it stands in, its visibility as it was written, the word of its kind, its name, and whether a cfg
-/// disables it.
+/// disables it. A use has its tree in place of a name, where `{..}` stands for a list, and a macro call the macro's path.
 ///
 /// The places are those that the reader gave with the syntax of the tree. The only error is want of memory.
 #[tactic(auto, using(crate::proofs::Pushed::one_more))]
