@@ -1,11 +1,11 @@
-//! A copy is equal to its source, or refused, and of two requests never both are refused; the source is as it was.
+//! A copy is equal to its source, or refused, and of two requests never both are refused.
 use hir_input::{Attr, AttrInput, CfgAtom, Edition, EditionYear, PathKind, SyntaxContext};
 use item_tree_samples::attributes::{flag, literal, nested, options, tokens};
-use item_tree_samples::words;
+use item_tree_samples::words::{name, path};
 use std::alloc::{AllocError, Global};
 
-// Whether a copy is made, of two requests at least once, and equal to its source, which is still equal to its twin.
-fn is_copied<T: Clone + PartialEq + Drop>(source: &T, twin: &T) -> bool {
+// Whether a copy is made, of two requests at least once, and equal to its source.
+fn is_copied<T: Clone + PartialEq + Drop>(source: &T) -> bool {
     let mut is_made = false;
     for _ in 0..2 {
         if let Ok(copy) = source.clone() {
@@ -15,12 +15,29 @@ fn is_copied<T: Clone + PartialEq + Drop>(source: &T, twin: &T) -> bool {
             is_made = true;
         }
     }
-    is_made && *source == *twin
+    is_made
+}
+
+// The same, or the source was not made for want of memory.
+fn copies<T: Clone + PartialEq + Drop>(source: Result<T, AllocError>) -> bool {
+    match source {
+        Ok(source) => is_copied(&source),
+        Err(AllocError) => true,
+    }
+}
+
+// The same of what is there.
+fn copies_some<T: Clone + PartialEq + Drop>(source: Result<Option<T>, AllocError>) -> bool {
+    match source {
+        Ok(Some(source)) => is_copied(&source),
+        Ok(None) => false,
+        Err(AllocError) => true,
+    }
 }
 
 fn edition(alloc: Global) -> Result<Edition, AllocError> {
     let mut reserved = Vec::new(alloc);
-    if let Some(word) = words::name(alloc, "type")? {
+    if let Some(word) = name(alloc, "type")? {
         reserved.push(word)?;
     }
     Ok(Edition {
@@ -29,21 +46,15 @@ fn edition(alloc: Global) -> Result<Edition, AllocError> {
     })
 }
 
-fn is_edition_copied(alloc: Global) -> Result<bool, AllocError> {
-    let source = edition(alloc)?;
-    let twin = edition(alloc)?;
-    Ok(is_copied(&source, &twin))
-}
-
 #[test]
 fn copies_of_editions_are_whole_or_refused_when_memory_is_refused(rt: HostRuntime) {
-    assert!(rt; is_edition_copied(rt.alloc()).unwrap_or(true));
+    assert!(rt; copies(edition(rt.alloc())));
 }
 
 // `#[super::a = "a"]`
 fn attr(alloc: Global) -> Result<Option<Attr>, AllocError> {
     let input = Some(AttrInput::Literal(literal(alloc)?));
-    match words::path(alloc, PathKind::Super(1), "a")? {
+    match path(alloc, PathKind::Super(1), "a")? {
         Some(path) => Ok(Some(Attr {
             path,
             input,
@@ -53,75 +64,33 @@ fn attr(alloc: Global) -> Result<Option<Attr>, AllocError> {
     }
 }
 
-fn is_attr_copied(alloc: Global) -> Result<bool, AllocError> {
-    match (attr(alloc)?, attr(alloc)?) {
-        (Some(source), Some(twin)) => Ok(is_copied(&source, &twin)),
-        _ => Ok(false),
-    }
-}
-
-fn is_literal_copied(alloc: Global) -> Result<bool, AllocError> {
-    let source = literal(alloc)?;
-    let twin = literal(alloc)?;
-    Ok(is_copied(&source, &twin))
-}
-
-fn is_token_tree_copied(alloc: Global) -> Result<bool, AllocError> {
-    let source = tokens(alloc)?;
-    let twin = tokens(alloc)?;
-    Ok(is_copied(&source, &twin))
-}
-
-fn are_tokens_copied(alloc: Global) -> Result<bool, AllocError> {
-    let source = AttrInput::TokenTree(tokens(alloc)?);
-    let twin = AttrInput::TokenTree(tokens(alloc)?);
-    Ok(is_copied(&source, &twin))
+fn token_input(alloc: Global) -> Result<AttrInput, AllocError> {
+    Ok(AttrInput::TokenTree(tokens(alloc)?))
 }
 
 #[test]
 fn copies_of_attributes_are_whole_or_refused_when_memory_is_refused(rt: HostRuntime) {
-    assert!(rt; is_attr_copied(rt.alloc()).unwrap_or(true));
-    assert!(rt; is_literal_copied(rt.alloc()).unwrap_or(true));
-    assert!(rt; is_token_tree_copied(rt.alloc()).unwrap_or(true));
-    assert!(rt; are_tokens_copied(rt.alloc()).unwrap_or(true));
-}
-
-fn is_meta_copied(alloc: Global) -> Result<bool, AllocError> {
-    let source = nested(alloc)?;
-    let twin = nested(alloc)?;
-    Ok(is_copied(&source, &twin))
+    assert!(rt; copies_some(attr(rt.alloc())));
+    assert!(rt; copies(literal(rt.alloc())));
+    assert!(rt; copies(tokens(rt.alloc())));
+    assert!(rt; copies(token_input(rt.alloc())));
 }
 
 #[test]
 fn copies_of_metas_are_whole_or_refused_when_memory_is_refused(rt: HostRuntime) {
-    assert!(rt; is_meta_copied(rt.alloc()).unwrap_or(true));
+    assert!(rt; copies(nested(rt.alloc())));
 }
 
-fn is_atom_copied(alloc: Global) -> Result<bool, AllocError> {
-    match (words::name(alloc, "test")?, words::name(alloc, "test")?) {
-        (Some(source), Some(twin)) => {
-            let (source, twin) = (CfgAtom::Flag(source), CfgAtom::Flag(twin));
-            Ok(is_copied(&source, &twin))
-        }
-        _ => Ok(false),
+fn atom(alloc: Global) -> Result<Option<CfgAtom>, AllocError> {
+    match name(alloc, "test")? {
+        Some(name) => Ok(Some(CfgAtom::Flag(name))),
+        None => Ok(None),
     }
-}
-
-fn is_condition_copied(alloc: Global) -> Result<bool, AllocError> {
-    let source = flag(alloc, "test")?;
-    let twin = flag(alloc, "test")?;
-    Ok(is_copied(&source, &twin))
-}
-
-fn are_options_copied(alloc: Global) -> Result<bool, AllocError> {
-    let source = options(alloc, "test")?;
-    let twin = options(alloc, "test")?;
-    Ok(is_copied(&source, &twin))
 }
 
 #[test]
 fn copies_of_options_are_whole_or_refused_when_memory_is_refused(rt: HostRuntime) {
-    assert!(rt; is_atom_copied(rt.alloc()).unwrap_or(true));
-    assert!(rt; is_condition_copied(rt.alloc()).unwrap_or(true));
-    assert!(rt; are_options_copied(rt.alloc()).unwrap_or(true));
+    assert!(rt; copies_some(atom(rt.alloc())));
+    assert!(rt; copies(flag(rt.alloc(), "test")));
+    assert!(rt; copies(options(rt.alloc(), "test")));
 }

@@ -3,13 +3,13 @@ use crate::lowered::{first_use, is_right, tree_of_all_kinds};
 use hir_input::PathKind;
 use hir_input::ast::Visibility;
 use item_tree::{
-    ImportAlias, ItemTree, LowerError, RawVisibility, VisibilityExplicitness, visibility_from_ast,
+    ImportAlias, LowerError, RawVisibility, VisibilityExplicitness, visibility_from_ast,
 };
 use item_tree_samples::words::{name, path, within};
 use std::alloc::{AllocError, Global};
 
-// Whether a copy is made, of two requests at least once, and equal to its source, which is still equal to its twin.
-fn is_copied<T: Clone + PartialEq + Drop>(source: &T, twin: &T) -> bool {
+// Whether a copy is made, of two requests at least once, and equal to its source.
+pub fn is_copied<T: Clone + PartialEq + Drop>(source: &T) -> bool {
     let mut is_made = false;
     for _ in 0..2 {
         if let Ok(copy) = source.clone() {
@@ -19,60 +19,45 @@ fn is_copied<T: Clone + PartialEq + Drop>(source: &T, twin: &T) -> bool {
             is_made = true;
         }
     }
-    is_made && *source == *twin
+    is_made
 }
 
-fn is_path_copied(alloc: Global) -> Result<bool, LowerError> {
-    let source = path(alloc, PathKind::Super(2), "a")?;
-    let twin = path(alloc, PathKind::Super(2), "a")?;
-    Ok(is_copied(&source, &twin))
-}
-
-fn is_name_copied(alloc: Global) -> Result<bool, LowerError> {
-    let source = name(alloc, "g")?;
-    let twin = name(alloc, "g")?;
-    Ok(is_copied(&source, &twin))
+// The same of what is there, or it was not made for want of memory.
+fn copies<T: Clone + PartialEq + Drop>(source: Result<Option<T>, AllocError>) -> bool {
+    match source {
+        Ok(Some(source)) => is_copied(&source),
+        Ok(None) => false,
+        Err(AllocError) => true,
+    }
 }
 
 #[test]
 fn copies_of_words_are_whole_or_refused_when_memory_is_refused(rt: HostRuntime) {
-    assert!(rt; is_right(is_path_copied(rt.alloc())));
-    assert!(rt; is_right(is_name_copied(rt.alloc())));
+    assert!(rt; copies(path(rt.alloc(), PathKind::Super(2), "a")));
+    assert!(rt; copies(name(rt.alloc(), "g")));
 }
 
-fn alias(alloc: Global) -> Result<ImportAlias, AllocError> {
+fn alias(alloc: Global) -> Result<Option<ImportAlias>, AllocError> {
     match name(alloc, "g")? {
-        Some(name) => Ok(ImportAlias::Alias(name)),
-        None => Ok(ImportAlias::Underscore),
+        Some(name) => Ok(Some(ImportAlias::Alias(name))),
+        None => Ok(None),
     }
 }
 
-fn is_alias_copied(alloc: Global) -> Result<bool, LowerError> {
-    let source = alias(alloc)?;
-    let twin = alias(alloc)?;
-    Ok(is_copied(&source, &twin))
-}
-
 // Whether the first use is copied, and its parts.
-fn is_use_copied(source: &ItemTree, twin: &ItemTree) -> Option<bool> {
-    let (source, twin) = (first_use(source)?, first_use(twin)?);
-    let (source_tree, twin_tree) = (source.use_tree(), twin.use_tree());
-    Some(
-        is_copied(source, twin)
-            && is_copied(source_tree, twin_tree)
-            && is_copied(source_tree.kind(), twin_tree.kind()),
-    )
-}
-
 fn are_uses_copied(alloc: Global) -> Result<bool, LowerError> {
-    let source = tree_of_all_kinds(alloc)?;
-    let twin = tree_of_all_kinds(alloc)?;
-    Ok(is_use_copied(&source, &twin) == Some(true))
+    let tree = tree_of_all_kinds(alloc)?;
+    match first_use(&tree) {
+        Some(item) => Ok(
+            is_copied(item) && is_copied(item.use_tree()) && is_copied(item.use_tree().kind()),
+        ),
+        None => Ok(false),
+    }
 }
 
 #[test]
 fn copies_of_uses_are_whole_or_refused_when_memory_is_refused(rt: HostRuntime) {
-    assert!(rt; is_right(is_alias_copied(rt.alloc())));
+    assert!(rt; copies(alias(rt.alloc())));
     assert!(rt; is_right(are_uses_copied(rt.alloc())));
 }
 
@@ -81,7 +66,7 @@ fn is_read(alloc: Global, written: &Visibility, wanted: &RawVisibility) -> bool 
     let mut is_read = false;
     for _ in 0..2 {
         if let Ok(read) = visibility_from_ast(alloc, Some(written)) {
-            if !is_copied(&read, wanted) {
+            if !is_copied(&read) || read != *wanted {
                 return false;
             }
             is_read = true;

@@ -1,22 +1,9 @@
 //! A copy of each item, of a module's kind and of a constructor is its source, or refused, and of two requests never both are refused.
+use crate::copies::is_copied;
 use crate::lowered::{is_right, tree_of_all_kinds};
 use item_tree::{ItemTree, LowerError, ModItemId, ModItemKind};
 use std::alloc::{AllocError, Global};
 use tree_walk::preorder;
-
-// Whether a copy is made, of two requests at least once, and is its source.
-fn is_copied<T: Clone + PartialEq + Drop>(source: &T) -> bool {
-    let mut is_made = false;
-    for _ in 0..2 {
-        if let Ok(copy) = source.clone() {
-            if copy != *source {
-                return false;
-            }
-            is_made = true;
-        }
-    }
-    is_made
-}
 
 fn is_item_copied(tree: &ItemTree, id: ModItemId) -> bool {
     if !tree.contains(id) {

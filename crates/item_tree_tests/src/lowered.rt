@@ -1,7 +1,7 @@
 //! Trees that the tests read, of a crate without options and attributes.
 use hir_input::ast::Syntax;
 use hir_input::{CfgOptions, HirFileId};
-use item_tree::{CrateData, ItemTree, LowerError, Mod, ModItemKind, Use, lower_syntax};
+use item_tree::{CrateData, ItemTree, LowerError, ModItemKind, Use, lower_syntax};
 use item_tree_samples::file::file;
 use std::alloc::Global;
 
@@ -30,18 +30,6 @@ pub fn first_use(tree: &ItemTree) -> Option<&Use> {
         if tree.contains(*id) {
             if let ModItemKind::Use(_, item) = tree.index(*id) {
                 return Some(item);
-            }
-        }
-    }
-    None
-}
-
-// The first module at the top of a tree.
-pub fn first_module(tree: &ItemTree) -> Option<&Mod> {
-    for id in tree.top_level_items() {
-        if tree.contains(*id) {
-            if let ModItemKind::Mod(_, module) = tree.index(*id) {
-                return Some(module);
             }
         }
     }

@@ -1,11 +1,20 @@
 //! A tree of items of all kinds, read where no memory is left.
 use crate::lowered::tree_of_all_kinds;
 use item_tree::{
-    ItemTree, LowerError, ModItemId, ModItemKind, RawVisibility, Struct, Use, UseTreeKind,
+    ItemTree, ItemTreeDataStats, LowerError, ModItemId, ModItemKind, RawVisibility, Struct, Use,
+    UseTreeKind,
 };
 use item_tree_samples::memory::{leave_again, leave_none};
 use std::alloc::Global;
 use tree_walk::{children, count_items};
+
+const STATS: ItemTreeDataStats = ItemTreeDataStats {
+    traits: 1,
+    impls: 1,
+    mods: 3,
+    macro_calls: 1,
+    macro_rules: 1,
+};
 
 // Whether the use's visibility is lent, and the list below its prefix.
 fn is_use_lent(tree: &ItemTree, item: &Use) -> bool {
@@ -59,7 +68,7 @@ fn is_read(tree: &ItemTree, twin: &ItemTree) -> bool {
         && !top.is_empty()
         && is_module_lent(tree, top[0])
         && tree.top_level_attrs().is_some()
-        && tree.item_tree_stats().mods == 3
+        && tree.item_tree_stats() == STATS
         && *tree == *twin
 }
 

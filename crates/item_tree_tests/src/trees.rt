@@ -1,11 +1,11 @@
-//! The file with an item of each kind: its page, its tables, its counts and the walks over it.
-use crate::lowered::{bare_crate, first_module, is_right, tree_of, tree_of_all_kinds};
+//! The file with an item of each kind: its page, its tables and a walk over it.
+use crate::lowered::{bare_crate, is_right, tree_of, tree_of_all_kinds};
 use hir_input::{Edition, EditionYear};
-use item_tree::{ItemTree, ItemTreeDataStats, LowerError};
+use item_tree::{ItemTree, LowerError};
 use item_tree_samples::{file, items, use_trees, words};
 use std::alloc::{AllocError, Global};
 use std::test::Fail;
-use tree_walk::{count_items, is_same_tree, outline};
+use tree_walk::{is_same_tree, outline};
 
 const PAGE: &str = "#![t]
 
@@ -145,39 +145,6 @@ fn tables_stand_in_order(rt: HostRuntime) -> Result<(), Fail> {
     Ok(())
 }
 
-// The visibility of the first module at the top, as it is shown.
-fn shown_visibility(alloc: Global, tree: &ItemTree) -> Result<String, Fail> {
-    let visibility = first_module(tree).ok_or("no module")?.visibility;
-    if !tree.has_visibility(visibility) {
-        return Err(Fail::new("no visibility"));
-    }
-    Ok(format!(in alloc; "{:?}", tree[visibility])?)
-}
-
-#[test]
-fn an_id_lends_its_visibility(rt: HostRuntime) -> Result<(), Fail> {
-    let tree = tree_of_all_kinds(rt.alloc())?;
-    let shown = shown_visibility(rt.alloc(), &tree)?;
-    assert_eq!(rt;
-        shown.as_str(),
-        "Module(ModPath { kind: Super(1), segments: [] }, Explicit)"
-    );
-    Ok(())
-}
-
-#[test]
-fn items_are_counted_at_every_depth(rt: HostRuntime) -> Result<(), Fail> {
-    let wanted = ItemTreeDataStats {
-        traits: 1,
-        impls: 1,
-        mods: 3,
-        macro_calls: 1,
-        macro_rules: 1,
-    };
-    assert_eq!(rt; tree_of_all_kinds(rt.alloc())?.item_tree_stats(), wanted);
-    Ok(())
-}
-
 // Whether a tree has any of the other's top items, or attributes of them.
 fn has_any_of(tree: &ItemTree, other: &ItemTree) -> bool {
     for id in other.top_level_items() {
@@ -213,30 +180,20 @@ fn ids_of_other_trees(rt: HostRuntime) -> Result<(), Fail> {
     Ok(())
 }
 
-// The hashes of the outline.
-fn hashes(alloc: Global, tree: &ItemTree) -> Result<Vec<u16>, AllocError> {
-    let mut hashes = Vec::new(alloc);
-    for ast_id in &outline(alloc, tree)? {
-        hashes.push(ast_id.hash)?;
-    }
-    Ok(hashes)
-}
-
 // Whether the outline goes through the items in order.
 fn is_outlined(alloc: Global, tree: &ItemTree) -> Result<bool, AllocError> {
-    let hashes = hashes(alloc, tree)?;
-    for (place, hash) in hashes.as_slice().iter().enumerate() {
-        if *hash as usize != place + 1 {
+    let ast_ids = outline(alloc, tree)?;
+    for (place, ast_id) in ast_ids.as_slice().iter().enumerate() {
+        if ast_id.hash as usize != place + 1 {
             return Ok(false);
         }
     }
-    Ok(hashes.len() == 18)
+    Ok(ast_ids.len() == 18)
 }
 
 #[test]
-fn walks_meet_every_item(rt: HostRuntime) -> Result<(), Fail> {
+fn a_walk_meets_every_item(rt: HostRuntime) -> Result<(), Fail> {
     let tree = tree_of_all_kinds(rt.alloc())?;
-    assert_eq!(rt; count_items(&tree), 18);
     assert!(rt; is_outlined(rt.alloc(), &tree)?);
     Ok(())
 }

@@ -2,15 +2,8 @@
 use crate::lowered::is_right;
 use hir_input::ast::UseTree;
 use item_tree::{LowerError, lower_use_tree};
-use item_tree_samples::use_trees::{partly_kept, two_names, unreadable};
+use item_tree_samples::use_trees::{partly_kept, two_names};
 use std::alloc::Global;
-use std::test::Fail;
-
-#[test]
-fn an_unreadable_use_tree_is_not_kept(rt: HostRuntime) -> Result<(), Fail> {
-    assert!(rt; lower_use_tree(rt.alloc(), &unreadable())?.is_none());
-    Ok(())
-}
 
 // Whether a use tree is kept as another, at these places, of two requests at least once.
 fn is_kept(alloc: Global, written: &UseTree, kept: &item_tree::UseTree, wanted: &[u32]) -> bool {

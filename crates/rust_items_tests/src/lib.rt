@@ -1,24 +1,16 @@
-//! Tests of what the definitions of the reader's crates mean, by what they read from texts. They call what is public and stand
-//! in a crate of their own, so that no library is proved twice for its tests.
+//! Tests of what only a call can show of the reader's crates: tokens, words and places of a cursor, blocks, and reading where a
+//! request for memory is refused. What a program shows of texts is in `tests/reader`.
+//!
+//! They call what is public and stand in a crate of their own, so that no library is proved twice for its tests.
 #![tactic(auto)]
 
 #[cfg(test)]
 mod blocks;
 #[cfg(test)]
-mod cursor;
-#[cfg(test)]
-mod ids;
-#[cfg(test)]
-mod items;
-#[cfg(test)]
-mod metas;
+mod calls;
 #[cfg(test)]
 mod pages;
 #[cfg(test)]
-mod paths;
-#[cfg(test)]
 mod refusals;
-#[cfg(test)]
-mod spans;
 #[cfg(test)]
 mod tokens;

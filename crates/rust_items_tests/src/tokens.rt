@@ -56,138 +56,94 @@ fn shown(alloc: Global, text: &str) -> Result<String, AllocError> {
     Ok(out)
 }
 
-#[test]
-fn lifetimes_are_told_from_characters(rt: HostRuntime) -> Result<(), Fail> {
-    for (text, want) in [
-        (
-            "'a 'b' 'ab 'cd' 'r#e '0",
-            "lifetime('a)char('b')lifetime('ab)char('cd')raw lifetime('r#e)lifetime('0)",
-        ),
-        (
-            "<'a>('\\'', '\\u{1F600}', 'é', '{', ''')",
-            "punct(<)lifetime('a)punct(>)open(()char('\\'')punct(,)char('\\u{1F600}')punct(,)char('é')punct(,)char('{')punct(,)char(''')close())",
-        ),
-        (
-            "b'x' b'\\'' b 'a'u8",
-            "byte(b'x')byte(b'\\'')ident(b)char('a'u8)",
-        ),
-    ] {
-        assert_eq!(rt; shown(rt.alloc(), text)?.as_str(), want);
-    }
-    Ok(())
-}
+// Texts and what they are cut into.
+const CUTS: [(&str, &str); 22] = [
+    // Lifetimes and characters.
+    (
+        "'a 'b' 'ab 'cd' 'r#e '0",
+        "lifetime('a)char('b')lifetime('ab)char('cd')raw lifetime('r#e)lifetime('0)",
+    ),
+    (
+        "<'a>('\\'', '\\u{1F600}', 'é', '{', ''')",
+        "punct(<)lifetime('a)punct(>)open(()char('\\'')punct(,)char('\\u{1F600}')punct(,)char('é')punct(,)char('{')punct(,)char(''')close())",
+    ),
+    (
+        "b'x' b'\\'' b 'a'u8",
+        "byte(b'x')byte(b'\\'')ident(b)char('a'u8)",
+    ),
+    // Strings of each kind, and raw identifiers.
+    (
+        "\"a\\\"b\"suffix b\"c\" c\"d\"1",
+        "str(\"a\\\"b\"suffix)byte str(b\"c\")c str(c\"d\")int(1)",
+    ),
+    (
+        "r\"a\\\" r#\"b\"c\"# br##\"d\"#\"## cr\"e\"f",
+        "raw str(r\"a\\\")raw str(r#\"b\"c\"#)raw byte str(br##\"d\"#\"##)raw c str(cr\"e\"f)",
+    ),
+    (
+        "r#fn r# br#x crate",
+        "raw(r#fn)ident(r)punct(#)ident(br)punct(#)ident(x)ident(crate)",
+    ),
+    // Comments.
+    (
+        "/* a /* b */ c */ d /*/ e */ f",
+        "comment(/* a /* b */ c */)ident(d)comment(/*/ e */)ident(f)",
+    ),
+    (
+        "/**/ /***/ /*** a */ /** b */ /*! c */",
+        "comment(/**/)comment(/***/)comment(/*** a */)outer(/** b */)inner(/*! c */)",
+    ),
+    (
+        "// a\n/// b\n//// c\n//! d\n/ e",
+        "comment(// a)outer(/// b)comment(//// c)inner(//! d)punct(/)ident(e)",
+    ),
+    // Numbers.
+    (
+        "1..2 1.foo 1.e5 1.0 1. 2.5f64 3f32",
+        "int(1)punct(.)punct(.)int(2)int(1)punct(.)ident(foo)int(1)punct(.)ident(e5)float(1.0)float(1.)float(2.5f64)int(3f32)",
+    ),
+    (
+        "1e5 1e-5 1E+3 1.5e-7 1_000u32",
+        "float(1e5)float(1e-5)float(1E+3)float(1.5e-7)int(1_000u32)",
+    ),
+    (
+        "0x1F 0xe+1 0x 0b1e3 0o17.0",
+        "int(0x1F)int(0xe)punct(+)int(1)int(0x)float(0b1e3)float(0o17.0)",
+    ),
+    // What stands in front of a text.
+    (
+        "\u{FEFF}#!/bin/sh [\n#!x",
+        "mark(\u{FEFF})shebang(#!/bin/sh [)punct(#)punct(!)ident(x)",
+    ),
+    (
+        "#! // a\n/* b */ [c]",
+        "punct(#)punct(!)comment(// a)comment(/* b */)open([)ident(c)close(])",
+    ),
+    ("#!/// [\n[a]", "shebang(#!/// [)open([)ident(a)close(])"),
+    (" #!a\u{FEFF}", "punct(#)punct(!)ident(a)unknown(\u{FEFF})"),
+    // What is not ended.
+    ("a \"b\\\"\n} c", "ident(a)str(\"b\\\"\n} c)!"),
+    ("r##\"a\"# b", "raw str(r##\"a\"# b)!"),
+    ("/* a /* b */ c", "comment(/* a /* b */ c)!"),
+    (
+        "' a\nb '(/c b'",
+        "char(' a)!ident(b)char('()!punct(/)ident(c)byte(b')!",
+    ),
+    // Characters past ASCII.
+    (
+        "é\u{85}_x\u{2028}中2·ñ\u{200E}'ß r#ü",
+        "ident(é)ident(_x)ident(中2·ñ)lifetime('ß)raw(r#ü)",
+    ),
+    (
+        "a→b ·c 😀 \\ `",
+        "ident(a)unknown(→)ident(b)unknown(·)ident(c)unknown(😀)unknown(\\)unknown(`)",
+    ),
+];
 
 #[test]
-fn strings_of_each_kind(rt: HostRuntime) -> Result<(), Fail> {
-    for (text, want) in [
-        (
-            "\"a\\\"b\"suffix b\"c\" c\"d\"1",
-            "str(\"a\\\"b\"suffix)byte str(b\"c\")c str(c\"d\")int(1)",
-        ),
-        (
-            "r\"a\\\" r#\"b\"c\"# br##\"d\"#\"## cr\"e\"f",
-            "raw str(r\"a\\\")raw str(r#\"b\"c\"#)raw byte str(br##\"d\"#\"##)raw c str(cr\"e\"f)",
-        ),
-        (
-            "r#fn r# br#x crate",
-            "raw(r#fn)ident(r)punct(#)ident(br)punct(#)ident(x)ident(crate)",
-        ),
-    ] {
-        assert_eq!(rt; shown(rt.alloc(), text)?.as_str(), want);
-    }
-    Ok(())
-}
-
-#[test]
-fn comments_nest_and_document(rt: HostRuntime) -> Result<(), Fail> {
-    for (text, want) in [
-        (
-            "/* a /* b */ c */ d /*/ e */ f",
-            "comment(/* a /* b */ c */)ident(d)comment(/*/ e */)ident(f)",
-        ),
-        (
-            "/**/ /***/ /*** a */ /** b */ /*! c */",
-            "comment(/**/)comment(/***/)comment(/*** a */)outer(/** b */)inner(/*! c */)",
-        ),
-        (
-            "// a\n/// b\n//// c\n//! d\n/ e",
-            "comment(// a)outer(/// b)comment(//// c)inner(//! d)punct(/)ident(e)",
-        ),
-    ] {
-        assert_eq!(rt; shown(rt.alloc(), text)?.as_str(), want);
-    }
-    Ok(())
-}
-
-#[test]
-fn numbers_end_where_they_do(rt: HostRuntime) -> Result<(), Fail> {
-    for (text, want) in [
-        (
-            "1..2 1.foo 1.e5 1.0 1. 2.5f64 3f32",
-            "int(1)punct(.)punct(.)int(2)int(1)punct(.)ident(foo)int(1)punct(.)ident(e5)float(1.0)float(1.)float(2.5f64)int(3f32)",
-        ),
-        (
-            "1e5 1e-5 1E+3 1.5e-7 1_000u32",
-            "float(1e5)float(1e-5)float(1E+3)float(1.5e-7)int(1_000u32)",
-        ),
-        (
-            "0x1F 0xe+1 0x 0b1e3 0o17.0",
-            "int(0x1F)int(0xe)punct(+)int(1)int(0x)float(0b1e3)float(0o17.0)",
-        ),
-    ] {
-        assert_eq!(rt; shown(rt.alloc(), text)?.as_str(), want);
-    }
-    Ok(())
-}
-
-#[test]
-fn what_stands_in_front(rt: HostRuntime) -> Result<(), Fail> {
-    for (text, want) in [
-        (
-            "\u{FEFF}#!/bin/sh [\n#!x",
-            "mark(\u{FEFF})shebang(#!/bin/sh [)punct(#)punct(!)ident(x)",
-        ),
-        (
-            "#! // a\n/* b */ [c]",
-            "punct(#)punct(!)comment(// a)comment(/* b */)open([)ident(c)close(])",
-        ),
-        ("#!/// [\n[a]", "shebang(#!/// [)open([)ident(a)close(])"),
-        (" #!a\u{FEFF}", "punct(#)punct(!)ident(a)unknown(\u{FEFF})"),
-    ] {
-        assert_eq!(rt; shown(rt.alloc(), text)?.as_str(), want);
-    }
-    Ok(())
-}
-
-#[test]
-fn what_is_not_ended(rt: HostRuntime) -> Result<(), Fail> {
-    for (text, want) in [
-        ("a \"b\\\"\n} c", "ident(a)str(\"b\\\"\n} c)!"),
-        ("r##\"a\"# b", "raw str(r##\"a\"# b)!"),
-        ("/* a /* b */ c", "comment(/* a /* b */ c)!"),
-        (
-            "' a\nb '(/c b'",
-            "char(' a)!ident(b)char('()!punct(/)ident(c)byte(b')!",
-        ),
-    ] {
-        assert_eq!(rt; shown(rt.alloc(), text)?.as_str(), want);
-    }
-    Ok(())
-}
-
-#[test]
-fn characters_past_ascii(rt: HostRuntime) -> Result<(), Fail> {
-    for (text, want) in [
-        (
-            "é\u{85}_x\u{2028}中2·ñ\u{200E}'ß r#ü",
-            "ident(é)ident(_x)ident(中2·ñ)lifetime('ß)raw(r#ü)",
-        ),
-        (
-            "a→b ·c 😀 \\ `",
-            "ident(a)unknown(→)ident(b)unknown(·)ident(c)unknown(😀)unknown(\\)unknown(`)",
-        ),
-    ] {
-        assert_eq!(rt; shown(rt.alloc(), text)?.as_str(), want);
+fn texts_are_cut_into_tokens(rt: HostRuntime) -> Result<(), Fail> {
+    for (text, want) in CUTS {
+        assert_eq!(rt; shown(rt.alloc(), text)?.as_str(), want, "of {text}");
     }
     Ok(())
 }

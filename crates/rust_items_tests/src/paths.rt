@@ -1,6 +1,0 @@
-//! Names, paths, visibilities and use trees, as they are read from texts.
-
-mod names;
-mod shown;
-mod use_trees;
-mod visibilities;

@@ -1,0 +1,175 @@
+#!/usr/bin/env python3
+"""Reads the Rust texts of tests/reader with itemtree, and compares what it writes with what stands beside them.
+
+    reader.py ITEMTREE
+
+tests/reader/README.md says how the cases are written.
+"""
+import glob
+import json
+import os
+import re
+import subprocess
+import sys
+import tempfile
+
+FOLDER = os.path.join(os.path.dirname(os.path.realpath(__file__)), 'reader')
+DAMAGE = ['"', "'", '{', '}', '(', ')', '[', ']', ';', '#', '!', '/', '*', '\\', 'r', '0', ' ', '\n', ':', '=']
+TEXTS = ['outline', 'check', 'ids', 'count', 'items']
+passed = failed = 0
+
+
+def tell(is_right, name, got='', wanted=''):
+    global passed, failed
+    if is_right:
+        passed += 1
+        return
+    failed += 1
+    print(f'reader: {name}\n--- wanted\n{wanted}\n--- got\n{got}', file=sys.stderr)
+
+
+def run(command, text):
+    """What a command of itemtree writes of a text."""
+    done = subprocess.run([sys.argv[1], *command, '-'], input=text.encode(), timeout=600,
+                          stdout=subprocess.PIPE, stderr=subprocess.STDOUT)
+    return done.stdout.decode('utf-8', 'backslashreplace')
+
+
+def lines(command, text):
+    """The lines that a command writes, without the name of the file and what indents them, as one line."""
+    return '; '.join(re.sub(r'^-:(\d+:\d+:) +', r'\1 ', line) for line in run(command, text).splitlines())
+
+
+def walked(items, below):
+    """Items, each with those in it."""
+    for item in items:
+        yield item
+        yield from walked(item.get(below) or [], below)
+
+
+def without_defaults(value):
+    """A value of a request, without the members that have their defaults."""
+    if isinstance(value, list):
+        return [without_defaults(part) for part in value]
+    if isinstance(value, dict):
+        return {key: without_defaults(part) for key, part in value.items()
+                if not (part is None or part is False or (key, part) == ('ctxt', 'ROOT2024'))}
+    return value
+
+
+def syntax(text):
+    """The syntax of a text, as the JSON of a request."""
+    return json.loads(run(['request'], text))['edits'][0]['syntax']
+
+
+def outline(text):
+    return json.loads(run(['outline', '--json'], text))['items']
+
+
+def part(value, steps):
+    for step in steps:
+        value = value[int(step)] if isinstance(value, list) else value.get(step)
+    return without_defaults(value)
+
+
+def answer(word, text):
+    """What is compared with the line of a case that begins with a word."""
+    if word in ('outline', 'check'):
+        return lines([word], text)
+    if word == 'items':
+        return '; '.join(' '.join(filter(None, [item['is'], item.get('name')])) for item in walked(syntax(text)['items'], 'items'))
+    if word == 'ids':
+        return '; '.join(item['id'] for item in walked(outline(text), 'children'))
+    if word == 'count':
+        return str(len(run(['outline'], text).splitlines()))
+    steps = word.split('.')
+    if steps[0] == 'outline':
+        return part(outline(text), steps[1:])
+    return part(syntax(text), steps)
+
+
+def text_of(case):
+    """The text of a case: the lines behind `> `, or what the parts of a sum behind `= ` are."""
+    shown = re.findall(r'^>(?: (.*))?$', case, re.M)
+    summed = re.search(r'^= (.*)$', case, re.M)
+    if not summed:
+        return '\n'.join(shown)
+    parts = re.findall(r'("(?:[^"\\]|\\.)*")(?: \* (\d+))?', summed[1])
+    return ''.join(json.loads(text) * int(count or 1) for text, count in parts)
+
+
+def check_case(name, case):
+    text = text_of(case)
+    wanted = dict(re.findall(r'^([\w.]+):(?: (.*))?$', case, re.M))
+    wanted.setdefault('check', '')
+    for word, want in wanted.items():
+        got = answer(word, text)
+        if word not in TEXTS:
+            want = without_defaults(json.loads(want))
+        tell(got == want, f'{name}: {word} of\n{text[:500]}', got, want)
+
+
+def check_pages(name, blocks):
+    """Each text, and behind it what commands write of it."""
+    text = ''
+    for words, block in blocks:
+        if words == 'rust':
+            text = block
+            tell(run(['check'], text) == '', f'{name}: check of\n{text}')
+        else:
+            got = run(words.split(), text)
+            tell(got == block, f'{name}: {words} of\n{text}', got, block)
+
+
+def check_page(path):
+    name = os.path.basename(path)
+    blocks = re.findall(r'^```([^\n]*)\n(.*?)^```$', open(path, encoding='utf-8').read(), re.M | re.S)
+    for words, block in blocks:
+        if words == 'cases':
+            for case in block.strip('\n').split('\n\n'):
+                check_case(name, case)
+    check_pages(name, [block for block in blocks if block[0] != 'cases'])
+
+
+def places(folder):
+    """The items of each file of a folder, by the file's name: where each stands, its name and its id, without what stands in it."""
+    done = subprocess.run([sys.argv[1], 'outline', '--json', folder], timeout=300, stdout=subprocess.PIPE)
+    for line in done.stdout.splitlines():
+        file = json.loads(line)
+        found = [tuple(json.dumps(item[key]) for key in ('id', 'name', 'range', 'line', 'column')) for item in walked(file['items'], 'children')]
+        yield os.path.basename(file['path'])[:-3], [(item, json.loads(item[2])[1]) for item in found]
+
+
+def check_damage():
+    """What ends before a cut, or on the lines before one that was damaged, is read as it was."""
+    text = open(os.path.join(FOLDER, 'damaged.rs'), encoding='utf-8').read()
+    texts = {'whole': (text, len(text))}
+    for at in range(len(text)):
+        texts[f'cut.{at}'] = (text[:at], at)
+        for byte in DAMAGE:
+            texts[f'{ord(byte)}.{at}'] = (text[:at] + byte + text[at + 1:], max(text.rfind('\n', 0, at), 0))
+    with tempfile.TemporaryDirectory() as folder:
+        for name, (damaged, _) in texts.items():
+            with open(os.path.join(folder, name + '.rs'), 'w', encoding='utf-8', newline='') as file:
+                file.write(damaged)
+        found = dict(places(folder))
+    for name, (_, end) in texts.items():
+        got = {item for item, _ in found[name]}
+        missing = [item for item, item_end in found['whole'] if item_end <= end and item not in got]
+        tell(not missing, f'damaged.rs, {name}: not read as it was', missing)
+
+
+def main():
+    if len(sys.argv) != 2 or not os.access(sys.argv[1], os.X_OK):
+        print('reader: the program itemtree is not where the argument says', file=sys.stderr)
+        print('reader: 0 passed, 1 failed')
+        return 69
+    for path in sorted(glob.glob(os.path.join(FOLDER, '*.md'))):
+        check_page(path)
+    check_damage()
+    print(f'reader: {passed} passed, {failed} failed')
+    return failed > 0
+
+
+if __name__ == '__main__':
+    sys.exit(main())
