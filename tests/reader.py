@@ -30,7 +30,7 @@ def tell(is_right, name, got='', wanted=''):
 
 def run(command, text):
     """What a command of itemtree writes of a text."""
-    done = subprocess.run([sys.argv[1], *command, '-'], input=text.encode(), timeout=600,
+    done = subprocess.run([sys.argv[1], *command, '-'], input=text.encode(), timeout=60,
                           stdout=subprocess.PIPE, stderr=subprocess.STDOUT)
     return done.stdout.decode('utf-8', 'backslashreplace')
 
@@ -103,7 +103,10 @@ def check_case(name, case):
     wanted = dict(re.findall(r'^([\w.]+):(?: (.*))?$', case, re.M))
     wanted.setdefault('check', '')
     for word, want in wanted.items():
-        got = answer(word, text)
+        try:
+            got = answer(word, text)
+        except (AttributeError, LookupError, ValueError) as error:
+            got = f'no such value: {error!r}'
         if word not in TEXTS:
             want = without_defaults(json.loads(want))
         tell(got == want, f'{name}: {word} of\n{text[:500]}', got, want)
