@@ -1,5 +1,5 @@
 -- What a reading function answers beside the reading that a form has.
-use Rattle.std.specs.Prelude.{◌≡◌, ℕ, List, [], Bool, true, false, Result, MatchResult}
+use Rattle.std.specs.Prelude.{◌≡◌, ℕ, List, [], Bool, true, false, Result, Ok, Err, IfErr, MatchResult}
 use Rattle.hir_input_json.specs.declared.fault.Fault.{Fault}
 use Rattle.hir_input_json.specs.declared.fault.Fault.TheVariants.{WrongForm, OutOfMemory}
 use Rattle.hir_input_json.specs.Reading.{Reading, right, wrong, behind}
@@ -33,3 +33,13 @@ IsAt step e = is_wrong_form e ≡ true → pointer_in e ≡ behind step []
 -- if the second tells of a form, it is the first, told from before the step to where it stands
 abbrev pub IsUnder : List ℕ → Fault → Fault → Type 0
 IsUnder step e f = is_wrong_form f ≡ true → (is_wrong_form e ≡ true) × (pointer_in f ≡ behind step (pointer_in e))
+
+-- it is a fault of this kind
+abbrev pub IsErrWith : {T : Type 0} → (Fault → Type 0) → Result T Fault → Type 0
+IsErrWith P (Ok t) = ⊥
+IsErrWith P (Err e) = P e
+
+-- what was read of a part, or its fault told from before the step to where the part stands
+abbrev pub IsReadIn : {T : Type 0} → List ℕ → Result T Fault → Result T Fault → Type 0
+IsReadIn step (Ok t) r = r ≡ Ok t
+IsReadIn step (Err e) r = IsErrWith (IsUnder step e) r

@@ -7,7 +7,7 @@ ghost use Rattle.hir_input_json.specs.Forms.{each, list_at as each_at};
 ghost use Rattle.hir_input_json.specs.Held.{held, without};
 ghost use Rattle.hir_input_json.specs.Reads.{Reads};
 
-use crate::fault::Fault;
+use crate::fault::{Fault, ReadIn};
 use crate::literal::required_text_at;
 use crate::member::{list_at, members_of, required_at};
 use crate::name::name_of;
@@ -23,7 +23,7 @@ pub(crate) fn keyed_atom_of(
 ) -> Result<CfgAtom, Fault>
     ensures { Reads atom_view result (keyed_by (view key) (held members.old)) }
 {
-    let key = name_of(alloc, key).map_err(|fault| fault.in_member(alloc, "key"))?;
+    let key = name_of(alloc, key).in_member(alloc, "key")?;
     let value = required_text_at(alloc, members, "value")?;
     Ok(CfgAtom::KeyValue { key, value })
 }
@@ -46,7 +46,7 @@ fn atoms_of(alloc: Global, items: Vec<Value>) -> Result<Vec<CfgAtom>, Fault>
     let mut atoms = Vec::with_capacity(alloc, items.len())?;
     for item in items {
         let place = atoms.len();
-        let read = atom_of(alloc, item).map_err(|fault| fault.in_item(alloc, place))?;
+        let read = atom_of(alloc, item).in_item(alloc, place)?;
         atoms.push(read)?;
     }
     Ok(atoms)
@@ -64,5 +64,5 @@ pub fn atoms_at(
     ensures left { OnOk result (held members.new ≡ without key.now (held members.old)) }
 {
     let items = list_at(alloc, members, key)?;
-    atoms_of(alloc, items).map_err(|fault| fault.in_member(alloc, key))
+    atoms_of(alloc, items).in_member(alloc, key)
 }

@@ -9,7 +9,7 @@ ghost use Rattle.hir_input_json.specs.Metas.{condition_at as condition_form};
 ghost use Rattle.hir_input_json.specs.Reads.{Reads};
 
 use crate::atom::{atom_of, keyed_atom_of};
-use crate::fault::Fault;
+use crate::fault::{Fault, ReadIn};
 use crate::member::{array_of, members_of, removed, taken};
 use hir_input::CfgExpr;
 use serde_json::{Map, Value};
@@ -49,16 +49,16 @@ fn cfg_by(alloc: Global, members: &mut Map<String, Value>) -> Result<CfgExpr, Fa
         return Ok(CfgExpr::Atom(keyed_atom_of(alloc, key, members)?));
     }
     if let Some(list) = taken(members, "all") {
-        let cfgs = cfgs_in(alloc, list).map_err(|fault| fault.in_member(alloc, "all"))?;
+        let cfgs = cfgs_in(alloc, list).in_member(alloc, "all")?;
         return Ok(CfgExpr::All(cfgs));
     }
     if let Some(list) = taken(members, "any") {
-        let cfgs = cfgs_in(alloc, list).map_err(|fault| fault.in_member(alloc, "any"))?;
+        let cfgs = cfgs_in(alloc, list).in_member(alloc, "any")?;
         return Ok(CfgExpr::Any(cfgs));
     }
     match inner {
         Some(inner) => {
-            let inner = cfg_of(alloc, inner).map_err(|fault| fault.in_member(alloc, "not"))?;
+            let inner = cfg_of(alloc, inner).in_member(alloc, "not")?;
             Ok(CfgExpr::Not(Box::new(alloc, inner)?))
         }
         None => Err(Fault::here(alloc)),
@@ -81,7 +81,7 @@ fn cfgs_of(alloc: Global, items: Vec<Value>) -> Result<Vec<CfgExpr>, Fault>
     let mut members = Vec::with_capacity(alloc, items.len())?;
     for item in items {
         let place = members.len();
-        let read = cfg_of(alloc, item).map_err(|fault| fault.in_item(alloc, place))?;
+        let read = cfg_of(alloc, item).in_item(alloc, place)?;
         members.push(read)?;
     }
     Ok(members)
@@ -96,7 +96,7 @@ pub(crate) fn condition_at(
     ensures left { OnOk result (held members.new ≡ without (codes "cfg") (held members.old)) }
 {
     match removed(members, "cfg") {
-        Some(found) => cfg_of(alloc, found).map_err(|fault| fault.in_member(alloc, "cfg")),
+        Some(found) => cfg_of(alloc, found).in_member(alloc, "cfg"),
         None => Ok(CfgExpr::Invalid),
     }
 }

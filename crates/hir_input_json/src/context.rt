@@ -5,7 +5,7 @@ ghost use Rattle.hir_input_json.specs.Held.{held};
 ghost use Rattle.hir_input_json.specs.Literals.{context as context_form, context_at as context_at_form, root_word};
 ghost use Rattle.hir_input_json.specs.Reads.{Reads};
 
-use crate::fault::Fault;
+use crate::fault::{Fault, ReadIn};
 use crate::member::{field, u32_of};
 use hir_input::{EditionYear, SyntaxContext};
 use serde_json::{Map, Value};
@@ -41,7 +41,7 @@ pub(crate) fn context_at(
     ensures { Reads (λ ctxt. ctxt) result (context_at_form (held members.now)) }
 {
     match field(members, "ctxt") {
-        Some(found) => context_of(alloc, found).map_err(|fault| fault.in_member(alloc, "ctxt")),
+        Some(found) => context_of(alloc, found).in_member(alloc, "ctxt"),
         None => Ok(SyntaxContext::Root(EditionYear::E2024)),
     }
 }

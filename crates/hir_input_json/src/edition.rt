@@ -8,7 +8,7 @@ ghost use Rattle.hir_input_json.specs.Forms.{optional_at};
 ghost use Rattle.hir_input_json.specs.Held.{held, without};
 ghost use Rattle.hir_input_json.specs.Reads.{Reads};
 
-use crate::fault::Fault;
+use crate::fault::{Fault, ReadIn};
 use crate::member::{field, members_of, taken};
 use crate::name::names_at;
 use hir_input::{Edition, EditionYear};
@@ -49,9 +49,7 @@ pub fn edition_at(alloc: Global, members: &mut Map<String, Value>) -> Result<Edi
     ensures left { OnOk result (held members.new ≡ without (codes "edition") (held members.old)) }
 {
     match taken(members, "edition") {
-        Some(edition) => {
-            edition_of(alloc, edition).map_err(|fault| fault.in_member(alloc, "edition"))
-        }
+        Some(edition) => { edition_of(alloc, edition).in_member(alloc, "edition") }
         None => Ok(Edition {
             year: EditionYear::E2024,
             reserved: Vec::new(alloc),

@@ -1,6 +1,6 @@
 //! Why a value is not read.
 ghost use Rattle.std.specs.Prelude.{◌≡◌, decimal};
-ghost use Rattle.hir_input_json.specs.Reads.{IsAt, IsHere, IsUnder};
+ghost use Rattle.hir_input_json.specs.Reads.{IsAt, IsHere, IsReadIn, IsUnder};
 ghost use Rattle.hir_input_json.specs.declared.fault.Fault.TheVariants.{OutOfMemory};
 
 use crate::pointer::Pointer;
@@ -80,6 +80,35 @@ impl Fault {
                 Err(_) => Fault::OutOfMemory,
             },
             Fault::OutOfMemory => Fault::OutOfMemory,
+        }
+    }
+}
+
+/// What was read of a part of a value, told of that value.
+pub trait ReadIn: Sized {
+    /// As it is; a fault is told of the object that holds the part at this key, as by [`Fault::in_member`].
+    fn in_member(self, alloc: Global, key: &str) -> Self;
+
+    /// As it is; a fault is told of the array that holds the part at this place, as by [`Fault::in_item`].
+    fn in_item(self, alloc: Global, place: usize) -> Self;
+}
+
+impl<T: Drop> ReadIn for Result<T, Fault> {
+    fn in_member(self, alloc: Global, key: &str) -> Result<T, Fault>
+        ensures { IsReadIn key.now self result }
+    {
+        match self {
+            Ok(read) => Ok(read),
+            Err(fault) => Err(fault.in_member(alloc, key)),
+        }
+    }
+
+    fn in_item(self, alloc: Global, place: usize) -> Result<T, Fault>
+        ensures { IsReadIn (decimal place) self result }
+    {
+        match self {
+            Ok(read) => Ok(read),
+            Err(fault) => Err(fault.in_item(alloc, place)),
         }
     }
 }

@@ -13,7 +13,7 @@ mod fields;
 pub(crate) mod macros;
 mod node;
 
-use crate::fault::Fault;
+use crate::fault::{Fault, ReadIn};
 use crate::item::extern_block::extern_block_of;
 use crate::item::fields::struct_kind_at;
 use crate::item::macros::{macro_call_of, macro_rules_of};
@@ -134,7 +134,7 @@ fn module_of(alloc: Global, members: &mut Map<String, Value>) -> Result<Item, Fa
     let named = named_at(alloc, members)?;
     let semicolon = flag_at(alloc, members, "semicolon")?;
     let list = taken(members, "items");
-    let items = items_in(alloc, list).map_err(|fault| fault.in_member(alloc, "items"))?;
+    let items = items_in(alloc, list).in_member(alloc, "items")?;
     Ok(Item::Module(with_name!(Module, named, semicolon, items)))
 }
 
@@ -157,7 +157,7 @@ pub(crate) fn items_of(alloc: Global, values: Vec<Value>) -> Result<Vec<Item>, F
     let mut items = Vec::with_capacity(alloc, values.len())?;
     for item in values {
         let place = items.len();
-        let read = item_of(alloc, item).map_err(|fault| fault.in_item(alloc, place))?;
+        let read = item_of(alloc, item).in_item(alloc, place)?;
         items.push(read)?;
     }
     Ok(items)

@@ -23,5 +23,5 @@ pub mod syntax;
 mod use_tree;
 mod visibility;
 
-pub use fault::Fault;
+pub use fault::{Fault, ReadIn};
 pub use pointer::Pointer;

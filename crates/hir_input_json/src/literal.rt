@@ -6,7 +6,7 @@ ghost use Rattle.hir_input_json.specs.Held.{held, without};
 ghost use Rattle.hir_input_json.specs.Literals.{literal as literal_form, span as span_form, span_of as span_from};
 ghost use Rattle.hir_input_json.specs.Reads.{Reads};
 
-use crate::fault::Fault;
+use crate::fault::{Fault, ReadIn};
 use crate::member::{field, members_of, required_at, taken, text_of, u32_of};
 use hir_input::{Literal, Span, SyntaxContext};
 use serde_json::{Map, Value};
@@ -22,7 +22,7 @@ pub(crate) fn required_text_at(
     ensures left { OnOk result (held members.new ≡ without key.now (held members.old)) }
 {
     let found = required_at(alloc, members, key)?;
-    text_of(alloc, found).map_err(|fault| fault.in_member(alloc, key))
+    text_of(alloc, found).in_member(alloc, key)
 }
 
 fn string_at(alloc: Global, members: &mut Map<String, Value>) -> Result<Option<String>, Fault>
@@ -31,7 +31,7 @@ fn string_at(alloc: Global, members: &mut Map<String, Value>) -> Result<Option<S
 {
     match taken(members, "string") {
         Some(found) => {
-            let text = text_of(alloc, found).map_err(|fault| fault.in_member(alloc, "string"))?;
+            let text = text_of(alloc, found).in_member(alloc, "string")?;
             Ok(Some(text))
         }
         None => Ok(None),
@@ -46,8 +46,8 @@ fn span_of(alloc: Global, value: &Value, ctxt: SyntaxContext) -> Result<Span, Fa
     };
     match items.as_slice() {
         [start, end] => {
-            let start = u32_of(alloc, start).map_err(|fault| fault.in_item(alloc, 0))?;
-            let end = u32_of(alloc, end).map_err(|fault| fault.in_item(alloc, 1))?;
+            let start = u32_of(alloc, start).in_item(alloc, 0)?;
+            let end = u32_of(alloc, end).in_item(alloc, 1)?;
             Ok(Span { start, end, ctxt })
         }
         _ => Err(Fault::here(alloc)),
@@ -59,9 +59,7 @@ fn span_at(alloc: Global, members: &Map<String, Value>, ctxt: SyntaxContext) -> 
     ensures { Reads (λ span. span) result (optional_at (span_from ctxt 0 0) (codes "span") (span_form ctxt) (held members.now)) }
 {
     match field(members, "span") {
-        Some(found) => {
-            span_of(alloc, found, ctxt).map_err(|fault| fault.in_member(alloc, "span"))
-        }
+        Some(found) => { span_of(alloc, found, ctxt).in_member(alloc, "span") }
         None => Ok(Span {
             start: 0,
             end: 0,
@@ -96,7 +94,7 @@ pub(crate) fn literal_at(
     match taken(members, "value") {
         Some(found) => {
             let literal = literal_of(alloc, found, ctxt);
-            Ok(Some(literal.map_err(|fault| fault.in_member(alloc, "value"))?))
+            Ok(Some(literal.in_member(alloc, "value")?))
         }
         None => Ok(None),
     }

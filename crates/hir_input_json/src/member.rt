@@ -7,7 +7,7 @@ ghost use Rattle.hir_input_json.specs.Forms.{field as field_of, required_at as r
 ghost use Rattle.hir_input_json.specs.Held.{held, without};
 ghost use Rattle.hir_input_json.specs.Reads.{IsHere, Reads};
 
-use crate::fault::Fault;
+use crate::fault::{Fault, ReadIn};
 use serde_json::{Map, Value};
 use std::alloc::Global;
 
@@ -137,7 +137,7 @@ pub(crate) fn text_at(
     ensures left { OnOk result (held members.new ≡ without key.now (held members.old)) }
 {
     match taken(members, key) {
-        Some(found) => text_of(alloc, found).map_err(|fault| fault.in_member(alloc, key)),
+        Some(found) => text_of(alloc, found).in_member(alloc, key),
         None => Ok(String::new(alloc)),
     }
 }
@@ -154,7 +154,7 @@ pub fn list_at(
     ensures left { OnOk result (held members.new ≡ without key.now (held members.old)) }
 {
     match taken(members, key) {
-        Some(list) => array_of(alloc, list).map_err(|fault| fault.in_member(alloc, key)),
+        Some(list) => array_of(alloc, list).in_member(alloc, key),
         None => Ok(Vec::new(alloc)),
     }
 }
@@ -180,7 +180,7 @@ pub(crate) fn u16_at(alloc: Global, members: &Map<String, Value>, key: &str) -> 
     ensures { Reads (λ n. n) result (optional_at 0 key.now (whole (2 ^ 16)) (held members.now)) }
 {
     match field(members, key) {
-        Some(found) => u16_of(alloc, found).map_err(|fault| fault.in_member(alloc, key)),
+        Some(found) => u16_of(alloc, found).in_member(alloc, key),
         None => Ok(0),
     }
 }
@@ -190,7 +190,7 @@ pub(crate) fn u32_at(alloc: Global, members: &Map<String, Value>, key: &str) -> 
     ensures { Reads (λ n. n) result (optional_at 0 key.now (whole (2 ^ 32)) (held members.now)) }
 {
     match field(members, key) {
-        Some(found) => u32_of(alloc, found).map_err(|fault| fault.in_member(alloc, key)),
+        Some(found) => u32_of(alloc, found).in_member(alloc, key),
         None => Ok(0),
     }
 }
@@ -214,7 +214,7 @@ pub fn id_at(alloc: Global, members: &Map<String, Value>, key: &str) -> Result<u
     ensures { Reads (λ n. n) result (id_form key.now (held members.now)) }
 {
     match field(members, key) {
-        Some(found) => u32_of(alloc, found).map_err(|fault| fault.in_member(alloc, key)),
+        Some(found) => u32_of(alloc, found).in_member(alloc, key),
         None => Err(Fault::at(alloc, key)),
     }
 }

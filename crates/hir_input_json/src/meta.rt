@@ -9,7 +9,7 @@ ghost use Rattle.hir_input_json.specs.Reads.{Reads};
 
 use crate::cfg::condition_at;
 use crate::context::context_at;
-use crate::fault::Fault;
+use crate::fault::{Fault, ReadIn};
 use crate::literal::{literal_at, required_text_at};
 use crate::member::{list_at, members_of, taken, word_at};
 use crate::path::path_at;
@@ -88,7 +88,7 @@ fn cfg_attr_of(alloc: Global, members: &mut Map<String, Value>) -> Result<Meta, 
 {
     let condition = condition_at(alloc, members)?;
     let items = list_at(alloc, members, "metas")?;
-    let metas = metas_of(alloc, items).map_err(|fault| fault.in_member(alloc, "metas"))?;
+    let metas = metas_of(alloc, items).in_member(alloc, "metas")?;
     Ok(Meta::CfgAttr { condition, metas })
 }
 
@@ -100,7 +100,7 @@ fn unsafe_of(alloc: Global, members: &mut Map<String, Value>) -> Result<Meta, Fa
     let Some(inner) = taken(members, "inner") else {
         return Err(Fault::at(alloc, "inner"));
     };
-    let inner = meta_of(alloc, inner).map_err(|fault| fault.in_member(alloc, "inner"))?;
+    let inner = meta_of(alloc, inner).in_member(alloc, "inner")?;
     Ok(Meta::Unsafe(Box::new(alloc, inner)?))
 }
 
@@ -111,7 +111,7 @@ fn metas_of(alloc: Global, items: Vec<Value>) -> Result<Vec<Meta>, Fault>
     let mut metas = Vec::with_capacity(alloc, items.len())?;
     for item in items {
         let place = metas.len();
-        let read = meta_of(alloc, item).map_err(|fault| fault.in_item(alloc, place))?;
+        let read = meta_of(alloc, item).in_item(alloc, place)?;
         metas.push(read)?;
     }
     Ok(metas)
@@ -125,5 +125,5 @@ pub fn attrs_at(alloc: Global, members: &mut Map<String, Value>) -> Result<Vec<M
     ensures left { OnOk result (held members.new ≡ without (codes "attrs") (held members.old)) }
 {
     let items = list_at(alloc, members, "attrs")?;
-    metas_of(alloc, items).map_err(|fault| fault.in_member(alloc, "attrs"))
+    metas_of(alloc, items).in_member(alloc, "attrs")
 }

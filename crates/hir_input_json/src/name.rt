@@ -7,7 +7,7 @@ ghost use Rattle.hir_input_json.specs.Forms.{maybe_at, name as name_form, name_i
 ghost use Rattle.hir_input_json.specs.Held.{held, without};
 ghost use Rattle.hir_input_json.specs.Reads.{Reads};
 
-use crate::fault::Fault;
+use crate::fault::{Fault, ReadIn};
 use crate::member::{list_at, taken, text_of};
 use hir_input::Name;
 use serde_json::{Map, Value};
@@ -42,7 +42,7 @@ pub(crate) fn name_at(
 {
     match taken(members, key) {
         Some(found) => {
-            let name = name_of(alloc, found).map_err(|fault| fault.in_member(alloc, key))?;
+            let name = name_of(alloc, found).in_member(alloc, key)?;
             Ok(Some(name))
         }
         None => Ok(None),
@@ -61,7 +61,7 @@ pub(crate) fn names_of(
     let mut names = Vec::with_capacity(alloc, items.len())?;
     for item in items {
         let place = first + names.len();
-        let read = name_of(alloc, item).map_err(|fault| fault.in_item(alloc, place))?;
+        let read = name_of(alloc, item).in_item(alloc, place)?;
         names.push(read)?;
     }
     Ok(names)
@@ -79,5 +79,5 @@ pub fn names_at(
     ensures left { OnOk result (held members.new ≡ without key.now (held members.old)) }
 {
     let items = list_at(alloc, members, key)?;
-    names_of(alloc, items.into_iter(), 0).map_err(|fault| fault.in_member(alloc, key))
+    names_of(alloc, items.into_iter(), 0).in_member(alloc, key)
 }

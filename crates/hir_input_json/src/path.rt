@@ -6,7 +6,7 @@ ghost use Rattle.hir_input_json.specs.Held.{held, without};
 ghost use Rattle.hir_input_json.specs.Paths.{path as path_form, path_at as path_at_form, listed_path as listed_form, names_behind, super_path as super_form, dollar_path as dollar_form, path_by as by_word};
 ghost use Rattle.hir_input_json.specs.Reads.{Reads};
 
-use crate::fault::Fault;
+use crate::fault::{Fault, ReadIn};
 use crate::member::{array_of, taken, text_of, u32_of};
 use crate::name::names_of;
 use hir_input::ast::PathNode;
@@ -37,7 +37,7 @@ fn super_path(alloc: Global, mut items: IntoIter<Value>) -> Result<PathNode, Fau
     ensures { Reads (λ path. path) result (super_form (items_view (into_iter_items items))) }
 {
     let count = items.next().ok_or_else(|| Fault::here(alloc))?;
-    let count = u32_of(alloc, &count).map_err(|fault| fault.in_item(alloc, 1))?;
+    let count = u32_of(alloc, &count).in_item(alloc, 1)?;
     path_with(alloc, PathKind::Super(count), items, 2)
 }
 
@@ -46,7 +46,7 @@ fn dollar_path(alloc: Global, mut items: IntoIter<Value>) -> Result<PathNode, Fa
     ensures { Reads (λ path. path) result (dollar_form (items_view (into_iter_items items))) }
 {
     let number = items.next().ok_or_else(|| Fault::here(alloc))?;
-    let number = u32_of(alloc, &number).map_err(|fault| fault.in_item(alloc, 1))?;
+    let number = u32_of(alloc, &number).in_item(alloc, 1)?;
     path_with(alloc, PathKind::DollarCrate(Crate(number)), items, 2)
 }
 
@@ -69,7 +69,7 @@ fn listed_path(alloc: Global, mut items: IntoIter<Value>) -> Result<PathNode, Fa
     ensures { Reads (λ path. path) result (listed_form (items_view (into_iter_items items))) }
 {
     let word = items.next().ok_or_else(|| Fault::here(alloc))?;
-    let word = text_of(alloc, word).map_err(|fault| fault.in_item(alloc, 0))?;
+    let word = text_of(alloc, word).in_item(alloc, 0)?;
     path_by(alloc, word.as_str(), items)
 }
 
@@ -96,7 +96,7 @@ pub(crate) fn path_at(
 {
     match taken(members, "path") {
         Some(found) => {
-            let path = path_of(alloc, found).map_err(|fault| fault.in_member(alloc, "path"))?;
+            let path = path_of(alloc, found).in_member(alloc, "path")?;
             Ok(Some(path))
         }
         None => Ok(None),

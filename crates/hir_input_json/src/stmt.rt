@@ -7,7 +7,7 @@ ghost use Rattle.hir_input_json.specs.Held.{held, without};
 ghost use Rattle.hir_input_json.specs.Syntaxes.{call as call_form, stmt as stmt_form, stmt_by, tail as tail_form, tail_at as tail_at_form};
 ghost use Rattle.hir_input_json.specs.Reads.{Reads};
 
-use crate::fault::Fault;
+use crate::fault::{Fault, ReadIn};
 use crate::item::item_of;
 use crate::item::macros::macro_call_of;
 use crate::member::{field, list_at, members_of, required_at, taken};
@@ -54,11 +54,11 @@ fn stmt_in(alloc: Global, members: &mut Map<String, Value>) -> Result<Stmt, Faul
     ensures { Reads stmt_view result (stmt_by (held members.old)) }
 {
     if let Some(item) = taken(members, "item") {
-        let item = item_of(alloc, item).map_err(|fault| fault.in_member(alloc, "item"))?;
+        let item = item_of(alloc, item).in_member(alloc, "item")?;
         return Ok(Stmt::Item(item));
     }
     let call = taken(members, "call").ok_or_else(|| Fault::here(alloc))?;
-    let call = call_of(alloc, call).map_err(|fault| fault.in_member(alloc, "call"))?;
+    let call = call_of(alloc, call).in_member(alloc, "call")?;
     Ok(Stmt::MacroCall(call))
 }
 
@@ -68,7 +68,7 @@ fn stmts_of(alloc: Global, values: Vec<Value>) -> Result<Vec<Stmt>, Fault>
     let mut stmts = Vec::with_capacity(alloc, values.len())?;
     for stmt in values {
         let place = stmts.len();
-        let read = stmt_of(alloc, stmt).map_err(|fault| fault.in_item(alloc, place))?;
+        let read = stmt_of(alloc, stmt).in_item(alloc, place)?;
         stmts.push(read)?;
     }
     Ok(stmts)
@@ -80,7 +80,7 @@ pub(crate) fn stmts_at(alloc: Global, members: &mut Map<String, Value>) -> Resul
     ensures left { OnOk result (held members.new ≡ without (codes "stmts") (held members.old)) }
 {
     let stmts = list_at(alloc, members, "stmts")?;
-    stmts_of(alloc, stmts).map_err(|fault| fault.in_member(alloc, "stmts"))
+    stmts_of(alloc, stmts).in_member(alloc, "stmts")
 }
 
 fn tail_of(alloc: Global, value: Value) -> Result<Tail, Fault>
@@ -94,7 +94,7 @@ fn tail_of(alloc: Global, value: Value) -> Result<Tail, Fault>
     }
     let mut members = members_of(alloc, value)?;
     let call = required_at(alloc, &mut members, "call")?;
-    let call = call_of(alloc, call).map_err(|fault| fault.in_member(alloc, "call"))?;
+    let call = call_of(alloc, call).in_member(alloc, "call")?;
     Ok(Tail::MacroCall(call))
 }
 
@@ -104,7 +104,7 @@ pub(crate) fn tail_at(alloc: Global, members: &mut Map<String, Value>) -> Result
     ensures left { held members.new ≡ without (codes "tail") (held members.old) }
 {
     match taken(members, "tail") {
-        Some(tail) => tail_of(alloc, tail).map_err(|fault| fault.in_member(alloc, "tail")),
+        Some(tail) => tail_of(alloc, tail).in_member(alloc, "tail"),
         None => Ok(Tail::Nothing),
     }
 }

@@ -6,7 +6,7 @@ ghost use Rattle.hir_input_json.specs.Held.{held, without};
 ghost use Rattle.hir_input_json.specs.Syntaxes.{source_form, macro_items_form, macro_stmts_form, syntax as syntax_form, block as block_form};
 ghost use Rattle.hir_input_json.specs.Reads.{Reads};
 
-use crate::fault::Fault;
+use crate::fault::{Fault, ReadIn};
 use crate::item::items_of;
 use crate::member::{list_at, members_of, word_at};
 use crate::meta::attrs_at;
@@ -21,7 +21,7 @@ fn source_file_of(alloc: Global, members: &mut Map<String, Value>) -> Result<Syn
 {
     let attrs = attrs_at(alloc, members)?;
     let items = list_at(alloc, members, "items")?;
-    let items = items_of(alloc, items).map_err(|fault| fault.in_member(alloc, "items"))?;
+    let items = items_of(alloc, items).in_member(alloc, "items")?;
     Ok(Syntax::SourceFile { attrs, items })
 }
 
@@ -29,7 +29,7 @@ fn macro_items_of(alloc: Global, members: &mut Map<String, Value>) -> Result<Syn
     ensures { Reads syntax_view result (macro_items_form (held members.old)) }
 {
     let items = list_at(alloc, members, "items")?;
-    let items = items_of(alloc, items).map_err(|fault| fault.in_member(alloc, "items"))?;
+    let items = items_of(alloc, items).in_member(alloc, "items")?;
     Ok(Syntax::MacroItems { items })
 }
 

@@ -7,7 +7,7 @@ ghost use Rattle.hir_input_json.specs.Held.{held, without};
 ghost use Rattle.hir_input_json.specs.Reads.{Reads};
 ghost use Rattle.hir_input_json.specs.UseTrees.{rename as rename_form, use_tree as use_tree_form, use_tree_with};
 
-use crate::fault::Fault;
+use crate::fault::{Fault, ReadIn};
 use crate::member::{array_of, flag_at, members_of, taken, text_of};
 use crate::name::name_from;
 use crate::path::path_at;
@@ -38,7 +38,7 @@ pub(crate) fn rename_at(
 {
     match taken(members, "rename") {
         Some(found) => {
-            let rename = rename_of(alloc, found).map_err(|fault| fault.in_member(alloc, "rename"))?;
+            let rename = rename_of(alloc, found).in_member(alloc, "rename")?;
             Ok(Some(rename))
         }
         None => Ok(None),
@@ -63,7 +63,7 @@ fn use_tree_in(alloc: Global, members: &mut Map<String, Value>) -> Result<UseTre
     let star = flag_at(alloc, members, "star")?;
     let rename = rename_at(alloc, members)?;
     let list = taken(members, "list");
-    let list = use_trees_in(alloc, list).map_err(|fault| fault.in_member(alloc, "list"))?;
+    let list = use_trees_in(alloc, list).in_member(alloc, "list")?;
     Ok(UseTree {
         path,
         star,
@@ -91,7 +91,7 @@ fn use_trees_of(alloc: Global, items: Vec<Value>) -> Result<Vec<UseTree>, Fault>
     let mut trees = Vec::with_capacity(alloc, items.len())?;
     for item in items {
         let place = trees.len();
-        let read = use_tree_of(alloc, item).map_err(|fault| fault.in_item(alloc, place))?;
+        let read = use_tree_of(alloc, item).in_item(alloc, place)?;
         trees.push(read)?;
     }
     Ok(trees)
@@ -106,7 +106,7 @@ pub(crate) fn use_tree_at(
 {
     match taken(members, "tree") {
         Some(found) => {
-            let tree = use_tree_of(alloc, found).map_err(|fault| fault.in_member(alloc, "tree"))?;
+            let tree = use_tree_of(alloc, found).in_member(alloc, "tree")?;
             Ok(Some(tree))
         }
         None => Ok(None),

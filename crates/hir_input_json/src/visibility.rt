@@ -6,7 +6,7 @@ ghost use Rattle.hir_input_json.specs.Held.{held, without};
 ghost use Rattle.hir_input_json.specs.Paths.{visibility as visibility_form, visibility_word};
 ghost use Rattle.hir_input_json.specs.Reads.{Reads};
 
-use crate::fault::Fault;
+use crate::fault::{Fault, ReadIn};
 use crate::member::{members_of, required_at, taken};
 use crate::path::path_of;
 use hir_input::ast::Visibility;
@@ -34,7 +34,7 @@ pub(crate) fn visibility_of(alloc: Global, value: Value) -> Result<Visibility, F
     }
     let mut members = members_of(alloc, value)?;
     let path = required_at(alloc, &mut members, "in")?;
-    let path = path_of(alloc, path).map_err(|fault| fault.in_member(alloc, "in"))?;
+    let path = path_of(alloc, path).in_member(alloc, "in")?;
     Ok(Visibility::InPath(path))
 }
 
@@ -48,9 +48,7 @@ pub(crate) fn visibility_at(
 {
     match taken(members, "vis") {
         Some(found) => {
-            let visibility = visibility_of(alloc, found).map_err(|fault| fault.in_member(
-                alloc, "vis",
-            ))?;
+            let visibility = visibility_of(alloc, found).in_member(alloc, "vis")?;
             Ok(Some(visibility))
         }
         None => Ok(None),

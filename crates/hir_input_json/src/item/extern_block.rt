@@ -7,7 +7,7 @@ ghost use Rattle.hir_input_json.specs.Held.{held};
 ghost use Rattle.hir_input_json.specs.Items.{extern_block_form, extern_item as extern_item_form};
 ghost use Rattle.hir_input_json.specs.Reads.{Reads};
 
-use crate::fault::Fault;
+use crate::fault::{Fault, ReadIn};
 use crate::item::macros::macro_call_of;
 use crate::item::node::{named_at, node_at, with_name, with_node};
 use crate::member::{array_of, members_of, taken, word_at};
@@ -42,7 +42,7 @@ fn extern_items_of(alloc: Global, values: Vec<Value>) -> Result<Vec<ExternItem>,
     let mut items = Vec::with_capacity(alloc, values.len())?;
     for item in values {
         let place = items.len();
-        let read = extern_item_of(alloc, item).map_err(|fault| fault.in_item(alloc, place))?;
+        let read = extern_item_of(alloc, item).in_item(alloc, place)?;
         items.push(read)?;
     }
     Ok(items)
@@ -67,6 +67,6 @@ pub(crate) fn extern_block_of(
 {
     let node = node_at(alloc, members)?;
     let list = taken(members, "items");
-    let items = extern_items_in(alloc, list).map_err(|fault| fault.in_member(alloc, "items"))?;
+    let items = extern_items_in(alloc, list).in_member(alloc, "items")?;
     Ok(Item::ExternBlock(with_node!(ExternBlock, node, items)))
 }

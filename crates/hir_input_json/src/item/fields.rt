@@ -7,7 +7,7 @@ ghost use Rattle.hir_input_json.specs.Held.{held};
 ghost use Rattle.hir_input_json.specs.Items.{fields as fields_form, tuple_field};
 ghost use Rattle.hir_input_json.specs.Reads.{Reads};
 
-use crate::fault::Fault;
+use crate::fault::{Fault, ReadIn};
 use crate::member::{array_of, required_at};
 use crate::visibility::visibility_of;
 use hir_input::ast::{StructKind, TupleField};
@@ -31,7 +31,7 @@ fn tuple_fields_of(alloc: Global, items: Vec<Value>) -> Result<Vec<TupleField>, 
     let mut fields = Vec::with_capacity(alloc, items.len())?;
     for item in items {
         let place = fields.len();
-        let read = tuple_field_of(alloc, item).map_err(|fault| fault.in_item(alloc, place))?;
+        let read = tuple_field_of(alloc, item).in_item(alloc, place)?;
         fields.push(read)?;
     }
     Ok(fields)
@@ -58,5 +58,5 @@ pub(crate) fn struct_kind_at(
     ensures { Reads fields_view result (required_form (codes "fields") fields_form (held members.old)) }
 {
     let found = required_at(alloc, members, "fields")?;
-    struct_kind_of(alloc, found).map_err(|fault| fault.in_member(alloc, "fields"))
+    struct_kind_of(alloc, found).in_member(alloc, "fields")
 }
