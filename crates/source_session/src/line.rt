@@ -13,10 +13,10 @@ ghost use Rattle.source_session.specs.Shows.{NamesCrate, line_show};
 use crate::edit::{LineEdit, edit_of};
 use crate::show::{LineShow, show_of};
 use hir_input::{Edition, Name};
-use hir_input_json::Fault;
 use hir_input_json::edition::edition_at;
 use hir_input_json::member::{field, list_at, u64_at};
 use hir_input_json::name::names_at;
+use hir_input_json::{Fault, ReadIn};
 use item_tree::CrateData;
 use item_tree_request::request::crates::crates_at;
 use serde_json::{Map, Value};
@@ -93,7 +93,7 @@ fn edits_of(alloc: Global, items: Vec<Value>, count: usize) -> Result<Vec<LineEd
     let mut edits = Vec::with_capacity(alloc, items.len())?;
     for item in items {
         let place = edits.len();
-        let read = edit_of(alloc, item, count).map_err(|fault| fault.in_item(alloc, place))?;
+        let read = edit_of(alloc, item, count).in_item(alloc, place)?;
         edits.push(read)?;
     }
     Ok(edits)
@@ -106,7 +106,7 @@ fn shows_of(alloc: Global, items: Vec<Value>, count: usize) -> Result<Vec<LineSh
     let mut shows = Vec::with_capacity(alloc, items.len())?;
     for item in items {
         let place = shows.len();
-        let read = show_of(alloc, item, count).map_err(|fault| fault.in_item(alloc, place))?;
+        let read = show_of(alloc, item, count).in_item(alloc, place)?;
         shows.push(read)?;
     }
     Ok(shows)
@@ -122,7 +122,7 @@ fn edits_in(
     ensures left { OnOk result (held members.new ≡ without (codes "edits") (held members.old)) }
 {
     let items = list_at(alloc, members, "edits")?;
-    edits_of(alloc, items, count).map_err(|fault| fault.in_member(alloc, "edits"))
+    edits_of(alloc, items, count).in_member(alloc, "edits")
 }
 
 fn shows_in(
@@ -134,7 +134,7 @@ fn shows_in(
     ensures known { IfOk result (λ v. All (NamesCrate count) v.items) }
 {
     let items = list_at(alloc, members, "shows")?;
-    shows_of(alloc, items, count).map_err(|fault| fault.in_member(alloc, "shows"))
+    shows_of(alloc, items, count).in_member(alloc, "shows")
 }
 
 #[tactic(auto, using(hir_input_json::proofs::Held::field_without))]

@@ -6,10 +6,10 @@ ghost use Rattle.hir_input_json.specs.Reads.{Reads};
 ghost use Rattle.source_session.specs.Shows.{NamesCrate, IsNamed, crate_in, file_in, name_in, show as show_form, show_by, line_show};
 
 use hir_input::{Crate, HirFileId, Name};
-use hir_input_json::Fault;
 use hir_input_json::float::has_float;
 use hir_input_json::member::{id_at, members_of, required_at, word_at};
 use hir_input_json::name::name_of;
+use hir_input_json::{Fault, ReadIn};
 use item_tree_request::request::show::{Show, show_in};
 use serde_json::{Map, Value};
 use std::alloc::Global;
@@ -52,7 +52,7 @@ fn name_at(alloc: Global, members: &mut Map<String, Value>) -> Result<Name, Faul
     ensures { Reads (λ name. name) result (name_in (held members.old)) }
 {
     let name = required_at(alloc, members, "name")?;
-    name_of(alloc, name).map_err(|fault| fault.in_member(alloc, "name"))
+    name_of(alloc, name).in_member(alloc, "name")
 }
 
 // A show after edits of a table of this many crates, whose members are taken out.

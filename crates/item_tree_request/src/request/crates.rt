@@ -8,10 +8,10 @@ ghost use Rattle.hir_input_json.specs.Held.{held, without};
 ghost use Rattle.hir_input_json.specs.Reads.{Reads};
 
 use hir_input::{CfgOptions, HirFileId};
-use hir_input_json::Fault;
 use hir_input_json::atom::atoms_at;
 use hir_input_json::member::{id_at, list_at, members_of};
 use hir_input_json::meta::attrs_at;
+use hir_input_json::{Fault, ReadIn};
 use item_tree::CrateData;
 use serde_json::{Map, Value};
 use std::alloc::Global;
@@ -33,7 +33,7 @@ fn crates_of(alloc: Global, items: Vec<Value>) -> Result<Vec<CrateData>, Fault>
     let mut crates = Vec::with_capacity(alloc, items.len())?;
     for item in items {
         let place = crates.len();
-        let read = crate_of(alloc, item).map_err(|fault| fault.in_item(alloc, place))?;
+        let read = crate_of(alloc, item).in_item(alloc, place)?;
         crates.push(read)?;
     }
     Ok(crates)
@@ -48,5 +48,5 @@ pub fn crates_at(alloc: Global, members: &mut Map<String, Value>) -> Result<Vec<
     ensures left { OnOk result (held members.new ≡ without (codes "crates") (held members.old)) }
 {
     let items = list_at(alloc, members, "crates")?;
-    crates_of(alloc, items).map_err(|fault| fault.in_member(alloc, "crates"))
+    crates_of(alloc, items).in_member(alloc, "crates")
 }

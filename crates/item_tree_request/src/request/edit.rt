@@ -13,10 +13,10 @@ ghost use Rattle.hir_input_json.specs.Reads.{Reads};
 
 use hir_input::ast::Syntax;
 use hir_input::{BlockId, CfgOptions, Crate, HirFileId};
-use hir_input_json::Fault;
 use hir_input_json::atom::atoms_at;
 use hir_input_json::member::{id_at, list_at, members_of, required_at, word_at};
 use hir_input_json::syntax::{block_in, syntax_of};
+use hir_input_json::{Fault, ReadIn};
 use item_tree::CrateData;
 use item_tree_db::Edit;
 use serde_json::{Map, Value};
@@ -26,7 +26,7 @@ fn syntax_at(alloc: Global, members: &mut Map<String, Value>) -> Result<Syntax, 
     ensures { Reads syntax_view result (required_form (codes "syntax") syntax_form (held members.old)) }
 {
     let syntax = required_at(alloc, members, "syntax")?;
-    syntax_of(alloc, syntax).map_err(|fault| fault.in_member(alloc, "syntax"))
+    syntax_of(alloc, syntax).in_member(alloc, "syntax")
 }
 
 #[tactic(auto, using(hir_input_json::proofs::Held::field_without))]
@@ -91,7 +91,7 @@ fn edits_of(alloc: Global, items: Vec<Value>, count: usize) -> Result<Vec<Edit>,
     let mut edits = Vec::with_capacity(alloc, items.len())?;
     for item in items {
         let place = edits.len();
-        let read = edit_of(alloc, item, count).map_err(|fault| fault.in_item(alloc, place))?;
+        let read = edit_of(alloc, item, count).in_item(alloc, place)?;
         edits.push(read)?;
     }
     Ok(edits)
@@ -108,5 +108,5 @@ pub(crate) fn edits_at(
     ensures left { OnOk result (held members.new ≡ without (codes "edits") (held members.old)) }
 {
     let items = list_at(alloc, members, "edits")?;
-    edits_of(alloc, items, crates.len()).map_err(|fault| fault.in_member(alloc, "edits"))
+    edits_of(alloc, items, crates.len()).in_member(alloc, "edits")
 }

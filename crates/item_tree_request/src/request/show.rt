@@ -9,8 +9,8 @@ ghost use Rattle.item_tree_request.specs.Named.{NamesCrate};
 ghost use Rattle.item_tree_request.specs.Shows.{show as show_form, place_at as place_form, tree_show};
 
 use hir_input::{BlockId, Crate, HirFileId};
-use hir_input_json::Fault;
 use hir_input_json::member::{field, id_at, list_at, members_of, word_at};
+use hir_input_json::{Fault, ReadIn};
 use item_tree::CrateData;
 use item_tree_db::Place;
 use serde_json::{Map, Value};
@@ -116,7 +116,7 @@ fn shows_of(alloc: Global, items: Vec<Value>, count: usize) -> Result<Vec<Show>,
     let mut shows = Vec::with_capacity(alloc, items.len())?;
     for item in items {
         let place = shows.len();
-        let read = show_of(alloc, item, count).map_err(|fault| fault.in_item(alloc, place))?;
+        let read = show_of(alloc, item, count).in_item(alloc, place)?;
         shows.push(read)?;
     }
     Ok(shows)
@@ -132,5 +132,5 @@ pub(crate) fn shows_at(
     ensures known { IfOk result (λ v. All (NamesCrate (length crates.now.items)) v.items) }
 {
     let items = list_at(alloc, members, "shows")?;
-    shows_of(alloc, items, crates.len()).map_err(|fault| fault.in_member(alloc, "shows"))
+    shows_of(alloc, items, crates.len()).in_member(alloc, "shows")
 }
