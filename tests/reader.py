@@ -15,6 +15,8 @@ import tempfile
 
 FOLDER = os.path.join(os.path.dirname(os.path.realpath(__file__)), 'reader')
 DAMAGE = ['"', "'", '{', '}', '(', ')', '[', ']', ';', '#', '!', '/', '*', '\\', 'r', '0', ' ', '\n', ':', '=']
+LINE = r'^([\w.]+):(?: (.*))?$'
+# The lines that are compared as they stand; others hold JSON.
 TEXTS = ['outline', 'check', 'ids', 'count', 'items']
 passed = failed = 0
 
@@ -77,7 +79,8 @@ def answer(word, text):
     if word in ('outline', 'check'):
         return lines([word], text)
     if word == 'items':
-        return '; '.join(' '.join(filter(None, [item['is'], item.get('name')])) for item in walked(syntax(text)['items'], 'items'))
+        items = walked(syntax(text)['items'], 'items')
+        return '; '.join(' '.join(filter(None, [item['is'], item.get('name')])) for item in items)
     if word == 'ids':
         return '; '.join(item['id'] for item in walked(outline(text), 'children'))
     if word == 'count':
@@ -100,12 +103,14 @@ def text_of(case):
 
 def check_case(name, case):
     text = text_of(case)
-    wanted = dict(re.findall(r'^([\w.]+):(?: (.*))?$', case, re.M))
+    wanted = dict(re.findall(LINE, case, re.M))
     wanted.setdefault('check', '')
+    if not all(re.match(r'[>=]', line) or re.match(LINE, line) for line in case.splitlines()):
+        tell(False, f'{name}: a line of a case that means nothing', case)
     for word, want in wanted.items():
         try:
             got = answer(word, text)
-        except (AttributeError, LookupError, ValueError) as error:
+        except (AttributeError, LookupError, ValueError, subprocess.TimeoutExpired) as error:
             got = f'no such value: {error!r}'
         if word not in TEXTS:
             want = without_defaults(json.loads(want))
@@ -124,9 +129,13 @@ def check_pages(name, blocks):
             tell(got == block, f'{name}: {words} of\n{text}', got, block)
 
 
+def blocks_of(path):
+    with open(path, encoding='utf-8') as file:
+        return re.findall(r'^```([^\n]*)\n(.*?)^```$', file.read(), re.M | re.S)
+
+
 def check_page(path):
-    name = os.path.basename(path)
-    blocks = re.findall(r'^```([^\n]*)\n(.*?)^```$', open(path, encoding='utf-8').read(), re.M | re.S)
+    name, blocks = os.path.basename(path), blocks_of(path)
     for words, block in blocks:
         if words == 'cases':
             for case in block.strip('\n').split('\n\n'):
@@ -135,17 +144,18 @@ def check_page(path):
 
 
 def places(folder):
-    """The items of each file of a folder, by the file's name: where each stands, its name and its id, without what stands in it."""
+    """The items of each file of a folder, by the file's name: id, name and places of each."""
     done = subprocess.run([sys.argv[1], 'outline', '--json', folder], timeout=300, stdout=subprocess.PIPE)
     for line in done.stdout.splitlines():
         file = json.loads(line)
-        found = [tuple(json.dumps(item[key]) for key in ('id', 'name', 'range', 'line', 'column')) for item in walked(file['items'], 'children')]
-        yield os.path.basename(file['path'])[:-3], [(item, json.loads(item[2])[1]) for item in found]
+        items = walked(file['items'], 'children')
+        found = [(item['id'], item['name'], *item['range'], item['line'], item['column']) for item in items]
+        yield os.path.basename(file['path'])[:-3], found
 
 
 def check_damage():
     """What ends before a cut, or on the lines before one that was damaged, is read as it was."""
-    text = open(os.path.join(FOLDER, 'damaged.rs'), encoding='utf-8').read()
+    text = dict(blocks_of(os.path.join(FOLDER, 'damaged.md')))['rust']
     texts = {'whole': (text, len(text))}
     for at in range(len(text)):
         texts[f'cut.{at}'] = (text[:at], at)
@@ -156,10 +166,12 @@ def check_damage():
             with open(os.path.join(folder, name + '.rs'), 'w', encoding='utf-8', newline='') as file:
                 file.write(damaged)
         found = dict(places(folder))
+    if found.keys() != texts.keys():
+        tell(False, 'damaged.md: not each text has an outline', len(found), len(texts))
+        return
     for name, (_, end) in texts.items():
-        got = {item for item, _ in found[name]}
-        missing = [item for item, item_end in found['whole'] if item_end <= end and item not in got]
-        tell(not missing, f'damaged.rs, {name}: not read as it was', missing)
+        missing = [item for item in found['whole'] if item[3] <= end and item not in found[name]]
+        tell(not missing, f'damaged.md, {name}: not read as it was', missing)
 
 
 def main():
