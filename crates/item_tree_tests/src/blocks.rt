@@ -1,6 +1,6 @@
 //! The items of a block: those of its statements, and a macro call in its tail.
-use crate::lowered::{bare_crate, is_right};
-use hir_input::{Edition, EditionYear};
+use crate::lowered::{bare_crate, edition, is_right};
+use hir_input::ast::BlockExpr;
 use item_tree::{ItemTree, LowerError, lower_block};
 use item_tree_samples::blocks::block;
 use std::alloc::Global;
@@ -15,18 +15,19 @@ m!(...);
 n!(...);
 ";
 
-fn block_tree(alloc: Global) -> Result<Box<ItemTree>, LowerError> {
-    let tree = lower_block(alloc, &block(alloc)?, &bare_crate(alloc), &[])?;
+fn tree_of_block(alloc: Global, block: &BlockExpr) -> Result<Box<ItemTree>, LowerError> {
+    let tree = lower_block(alloc, block, &bare_crate(alloc), &[])?;
     Ok(Box::new(alloc, tree)?)
 }
 
+// The page of a block in a crate without options.
+pub fn page_of(alloc: Global, block: &BlockExpr) -> Result<String, LowerError> {
+    let tree = tree_of_block(alloc, block)?;
+    Ok(tree.pretty_print(alloc, &edition(alloc))?)
+}
+
 fn is_block_printed(alloc: Global) -> Result<bool, LowerError> {
-    let tree = block_tree(alloc)?;
-    let edition = Edition {
-        year: EditionYear::E2024,
-        reserved: Vec::new(alloc),
-    };
-    let page = tree.pretty_print(alloc, &edition)?;
+    let page = page_of(alloc, &block(alloc)?)?;
     Ok(page.as_str() == PAGE)
 }
 

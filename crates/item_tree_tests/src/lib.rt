@@ -1,5 +1,5 @@
-//! Tests of what only a call can show, of `item_tree` and of what stands on it alone: pages, copies, uses, what stands where
-//! a request for memory is refused, ids of other trees, and tables as `Debug` shows them.
+//! Tests of what only a call can show, of `item_tree`, of what stands on it alone and of `rust_items`: pages, copies, uses, blocks of
+//! Rust texts, what stands where a request for memory is refused, ids of other trees, and tables as `Debug` shows them.
 //!
 //! A crate with tests is proved twice; these call what is public, so no library has any.
 //!
@@ -26,6 +26,12 @@ mod lowered;
 mod no_memory;
 #[cfg(test)]
 mod outlines;
+#[cfg(test)]
+mod pages;
+#[cfg(test)]
+mod read_blocks;
+#[cfg(test)]
+mod read_texts;
 #[cfg(test)]
 mod refusals;
 #[cfg(test)]

@@ -1,6 +1,6 @@
 //! Trees that the tests read, of a crate without options and attributes.
 use hir_input::ast::Syntax;
-use hir_input::{CfgOptions, HirFileId};
+use hir_input::{CfgOptions, Edition, EditionYear, HirFileId};
 use item_tree::{CrateData, ItemTree, LowerError, ModItemKind, Use, lower_syntax};
 use item_tree_samples::file::file;
 use std::alloc::Global;
@@ -10,6 +10,14 @@ pub fn bare_crate(alloc: Global) -> CrateData {
         root: HirFileId(0),
         cfg: CfgOptions::new(Vec::new(alloc)),
         attrs: Vec::new(alloc),
+    }
+}
+
+// The edition 2024 without its reserved words.
+pub fn edition(alloc: Global) -> Edition {
+    Edition {
+        year: EditionYear::E2024,
+        reserved: Vec::new(alloc),
     }
 }
 

@@ -1,16 +1,11 @@
-//! Tests of what only a call can show of the reader's crates: tokens, words and places of a cursor, blocks, and reading where a
-//! request for memory is refused. What a program shows of texts is in `tests/reader`.
+//! Tests of what only a call can show of the crates that the reader stands on: tokens, and words and places of a cursor. What a program
+//! shows of texts is in `tests/reader`, and what else a call shows of the reader in `item_tree_tests`.
 //!
-//! They call what is public and stand in a crate of their own, so that no library is proved twice for its tests.
+//! They call what is public and stand in a crate of their own, so that no library is proved twice for its tests. No tree and no
+//! syntax is made here: whoever drops one proves anew how each of its parts is dropped.
 #![tactic(auto)]
 
 #[cfg(test)]
-mod blocks;
-#[cfg(test)]
 mod calls;
-#[cfg(test)]
-mod pages;
-#[cfg(test)]
-mod refusals;
 #[cfg(test)]
 mod tokens;

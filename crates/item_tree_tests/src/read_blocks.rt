@@ -1,7 +1,6 @@
-//! Blocks: which parts are items and macro calls, and which ids they have.
+//! Blocks of Rust texts: which parts are items and macro calls, and which ids they have.
+use crate::blocks::page_of;
 use hir_input::ast::{BlockExpr, Stmt, Tail};
-use hir_input::{CfgOptions, Edition, EditionYear, HirFileId};
-use item_tree::{CrateData, lower_block};
 use rust_items::read_block;
 use std::alloc::Global;
 use std::test::Fail;
@@ -118,18 +117,8 @@ m!(...);
 #[test]
 fn a_block_has_its_page(rt: HostRuntime) -> Result<(), Fail> {
     let alloc = rt.alloc();
-    let krate = CrateData {
-        root: HirFileId(0),
-        cfg: CfgOptions::new(Vec::new(alloc)),
-        attrs: Vec::new(alloc),
-    };
-    let edition = Edition {
-        year: EditionYear::E2024,
-        reserved: Vec::new(alloc),
-    };
     let block = read_block(alloc, BLOCK)?;
-    let tree = lower_block(alloc, &block, &krate, &[])?;
-    assert_eq!(rt; tree.pretty_print(alloc, &edition)?.as_str(), PAGE);
+    assert_eq!(rt; page_of(alloc, &block)?.as_str(), PAGE);
     Ok(())
 }
 

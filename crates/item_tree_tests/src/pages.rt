@@ -1,6 +1,5 @@
 //! A Rust text and the page of its tree, ids and all, as rust-analyzer prints it.
-use hir_input::{CfgOptions, Edition, EditionYear, HirFileId};
-use item_tree::{CrateData, lower_syntax};
+use crate::lowered::{edition, tree_of};
 use rust_items::read_source_file;
 use std::alloc::Global;
 use std::test::Fail;
@@ -26,18 +25,9 @@ pub(self) mod inline {
 
 // The page of a text in a crate without options.
 fn page(alloc: Global, text: &str) -> Result<String, Fail> {
-    let krate = CrateData {
-        root: HirFileId(0),
-        cfg: CfgOptions::new(Vec::new(alloc)),
-        attrs: Vec::new(alloc),
-    };
-    let edition = Edition {
-        year: EditionYear::E2024,
-        reserved: Vec::new(alloc),
-    };
     let file = read_source_file(alloc, text)?;
-    let tree = lower_syntax(alloc, &file.syntax, false, &krate, &[])?;
-    Ok(tree.pretty_print(alloc, &edition)?)
+    let tree = tree_of(alloc, &file.syntax)?;
+    Ok(tree.pretty_print(alloc, &edition(alloc))?)
 }
 
 #[test]
