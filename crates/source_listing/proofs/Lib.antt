@@ -8,5 +8,5 @@ pub mod Repeats
 pub mod Printers
 pub mod Between
 pub mod Firsts
-pub mod AsMany
+pub mod AtStarts
 pub mod Begins

@@ -2,7 +2,8 @@
 ghost use Rattle.rust_cursor.specs.Tokens.{Tokens};
 ghost use Rattle.source_listing.specs.Told.{AreToldFor};
 
-// Where use trees begin is told of as many trees as are kept, so that each import's number has a place.
+// Where use trees begin is told of the trees that are kept, in their order: reading from the place of a number gives the tree
+// of that number, so each import stands at its own.
 fn starts_are_told()
     ensures { (ts : Tokens) → AreToldFor ts }
 {}

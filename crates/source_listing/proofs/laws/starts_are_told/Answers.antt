@@ -1,4 +1,4 @@
-use Rattle.source_listing.proofs.AsMany.{all_told}
+use Rattle.source_listing.proofs.AtStarts.{all_told}
 use Rattle.source_listing.proofs.laws.starts_are_told.Goals as goal
 
 pub returns : goal.returns

@@ -1,0 +1,244 @@
+-- At the first bytes that are told, the trees that are kept are read.
+use Rattle.std.proofs.Common.{◌≡◌, ◌==◌, ◌||◌, ℕ, zero, suc, Bool, true, false, Option, Some, None, List, [], ◌∷◌, ◌++◌, refl, sym, ap, ◌∙◌, subst, append-nil, append_assoc}
+use Rattle.std.specs.Prelude.{is_none, option_to_list}
+use Rattle.std.specs.List.{AllZip}
+use Rattle.std.specs.Option.{option_and_then}
+use Rattle.hir_input.specs.declared.ast.PathNode.{PathNode}
+use Rattle.hir_input.specs.declared.ast.PathNode.TheVariants.{Readable, Unreadable}
+use Rattle.hir_input.specs.declared.ast.Rename.{Rename}
+use Rattle.hir_input.specs.UseTreeView.{UseTreeView, trees_from}
+use Rattle.item_tree.specs.KeptUse.{kept_tree, kept_trees, with_kept}
+use Rattle.item_tree.specs.Tree.{Tree, branches_from, branch_nodes}
+use Rattle.rust_cursor.specs.Tokens.{Tokens}
+use Rattle.rust_cursor.specs.Reader.{Reader}
+use Rattle.rust_cursor.specs.Words.{symbol, at, bumped, is_at_end, eat_colons}
+use Rattle.rust_cursor.specs.Brackets.{behind_closed}
+use Rattle.rust_cursor.specs.Elements.{most, beyond, turns_from, turns, elements, one}
+use Rattle.rust_cursor.proofs.Leads.{LeadsTo, here, further, through, when, bumped_leads, eat_pair_leads, behind_closed_leads, behind_tree_leads, beyond_leads}
+use Rattle.rust_paths.specs.Paths.{use_path}
+use Rattle.rust_paths.specs.UseTrees.{Found, values, bare, comma_from, behind_comma, use_tree}
+use Rattle.rust_paths.specs.UseTrees as trees
+use Rattle.rust_paths.specs.UseStarts.{begun, begun_list, use_tree_starts}
+use Rattle.rust_paths.specs.UseStarts as starts
+use Rattle.rust_paths.proofs.Leads.{use_path_leads, rename_leads}
+use Rattle.source_listing.specs.Told.{nodes_of, kept_nodes, left_behind, IsReadAt, AreToldFor}
+
+-- ---- lists side by side
+
+both_zip : {A B : Type 0} (R : A → B → Type 0) (xs us : List A) (ys ws : List B) → AllZip R xs ys → AllZip R us ws → AllZip R (xs ++ us) (ys ++ ws)
+both_zip R [] us [] ws p q = q
+both_zip R (x ∷ xs) us (y ∷ ys) ws p q = (p.0, both_zip R xs us ys ws p.1 q)
+both_zip R [] us (y ∷ ys) ws p q = absurd p
+both_zip R (x ∷ xs) us [] ws p q = absurd p
+
+zip_is : {A B : Type 0} (R S : A → B → Type 0) → ((x : A) (y : B) → R x y → S x y) → (xs : List A) (ys : List B) → AllZip R xs ys → AllZip S xs ys
+zip_is R S f [] [] p = tt
+zip_is R S f (x ∷ xs) (y ∷ ys) p = (f x y p.0, zip_is R S f xs ys p.1)
+zip_is R S f [] (y ∷ ys) p = absurd p
+zip_is R S f (x ∷ xs) [] p = absurd p
+
+-- ---- the trees that are kept
+
+nodes_in : List UseTreeView → List Tree
+nodes_in [] = []
+nodes_in (w ∷ ws) = nodes_of (kept_tree w) ++ nodes_in ws
+
+nodes_both : (a b : List UseTreeView) → nodes_in (a ++ b) ≡ nodes_in a ++ nodes_in b
+unfolding nodes_in
+nodes_both [] b = refl
+nodes_both (w ∷ a) b = ap (λ ns. nodes_of (kept_tree w) ++ ns) (nodes_both a b) ∙ sym (append_assoc (nodes_of (kept_tree w)) (nodes_in a) (nodes_in b))
+
+with_one : (o : Option Tree) (ts : List Tree) → branch_nodes (branches_from (with_kept o ts)) ≡ nodes_of o ++ branch_nodes (branches_from ts)
+with_one None ts = refl
+with_one (Some t) ts = refl
+
+list_nodes : (ws : List UseTreeView) → branch_nodes (branches_from (kept_trees (trees_from ws))) ≡ nodes_in ws
+unfolding nodes_in
+list_nodes [] = refl
+list_nodes (w ∷ ws) = with_one (kept_tree w) (kept_trees (trees_from ws)) ∙ ap (λ ns. nodes_of (kept_tree w) ++ ns) (list_nodes ws)
+
+option_nodes : (w : Option UseTreeView) → nodes_in (option_to_list w) ≡ kept_nodes w
+unfolding nodes_in
+option_nodes None = refl
+option_nodes (Some w) = append-nil (kept_nodes (Some w))
+
+-- ---- where a tree is read
+
+record IsFound (ts : Tokens) (start : ℕ) (t : Tree) : Type 0 where
+  from : Tokens
+  leads : LeadsTo ts from
+  depth : ℕ
+  first : at from ≡ start
+  kept : option_and_then kept_tree (trees.tree_at depth from).0.value ≡ Some t
+
+later : {ts us : Tokens} → LeadsTo ts us → (start : ℕ) (t : Tree) → IsFound us start t → IsFound ts start t
+later p start t f = record { from = f.from; leads = through p f.leads; depth = f.depth; first = f.first; kept = f.kept }
+
+counted : {ts us : Tokens} → LeadsTo ts us → (n : ℕ) × (left_behind n ts ≡ us)
+counted here = (0, refl)
+counted (further p) = let c = counted p in (suc c.0, c.1)
+
+read_at : (ts : Tokens) (start : ℕ) (t : Tree) → IsFound ts start t → IsReadAt ts start t
+read_at ts start t f =
+    let c = counted f.leads in
+    record { before = c.0; depth = f.depth; first = ap at c.1 ∙ f.first; kept = ap (λ us. option_and_then kept_tree (trees.tree_at f.depth us).0.value) c.1 ∙ f.kept }
+
+-- ---- one tree
+
+IsListed : (ℕ → Tree → Type 0) → Option (List ℕ) → Option (List UseTreeView) → Type 0
+IsListed R None None = Unit {0}
+IsListed R (Some ss) (Some ws) = AllZip R ss (nodes_in ws)
+IsListed R _ _ = ⊥
+
+listed_is : (R S : ℕ → Tree → Type 0) → ((x : ℕ) (t : Tree) → R x t → S x t) → (s : Option (List ℕ)) (l : Option (List UseTreeView)) → IsListed R s l → IsListed S s l
+unfolding IsListed
+listed_is R S f None None h = tt
+listed_is R S f (Some ss) (Some ws) h = zip_is R S f ss (nodes_in ws) h
+listed_is R S f None (Some ws) h = absurd h
+listed_is R S f (Some ss) None h = absurd h
+
+module _ (R : ℕ → Tree → Type 0) (start : ℕ) where
+  -- what is kept of this tree stands at the place
+  Root : Option UseTreeView → Type 0
+  Root w = (t : Tree) → option_and_then kept_tree w ≡ Some t → R start t
+
+  star_at : (p : Option PathNode) → Root (Some (bare p true None)) → AllZip R (begun p start []) (kept_nodes (Some (bare p true None)))
+  unfolding Root
+  star_at None root = (root _ refl, tt)
+  star_at (Some Unreadable) root = tt
+  star_at (Some (Readable q)) root = (root _ refl, tt)
+
+  path_at : (p : Option PathNode) (r : Option Rename) → is_none p ≡ false → Root (Some (bare p false r)) → AllZip R (begun p start []) (kept_nodes (Some (bare p false r)))
+  unfolding Root
+  path_at None r e root = absurd cc
+  path_at (Some Unreadable) r e root = tt
+  path_at (Some (Readable q)) r e root = (root _ refl, tt)
+
+  listed_at : (p : Option PathNode) (s : Option (List ℕ)) (l : Option (List UseTreeView)) → IsListed R s l → Root (trees.listed p l) → AllZip R (begun_list p start s) (kept_nodes (trees.listed p l))
+  unfolding IsListed Root
+  listed_at None None None h root = tt
+  listed_at (Some Unreadable) None None h root = tt
+  listed_at (Some (Readable q)) None None h root = (root _ refl, tt)
+  listed_at None (Some ss) (Some ws) h root = (root _ refl, subst (AllZip R ss) (sym (list_nodes ws)) h)
+  listed_at (Some Unreadable) (Some ss) (Some ws) h root = tt
+  listed_at (Some (Readable q)) (Some ss) (Some ws) h root = (root _ refl, subst (AllZip R ss) (sym (list_nodes ws)) h)
+  listed_at p None (Some ws) h root = absurd h
+  listed_at p (Some ss) None h root = absurd h
+
+-- ---- what is told beside what is read
+
+record ListTold (ts : Tokens) (s : Option (List ℕ) × Tokens) (l : Found (Option (List UseTreeView)) × Tokens) : Type 0 where
+  each : IsListed (IsFound ts) s.0 l.0.value
+  left : s.1 ≡ l.1
+  leads : LeadsTo ts l.1
+
+record TreeTold (ts : Tokens) (s : List ℕ × Tokens) (t : Found (Option UseTreeView) × Tokens) : Type 0 where
+  each : AllZip (IsFound ts) s.0 (kept_nodes t.0.value)
+  left : s.1 ≡ t.1
+  leads : LeadsTo ts t.1
+
+either_none : (a b : Bool) → (a || b) ≡ false → b ≡ false
+either_none true b e = absurd cc
+either_none false b e = e
+
+comma_from_leads : (n : ℕ) (ts : Tokens) → LeadsTo ts (comma_from n ts)
+comma_from_leads zero ts = here
+comma_from_leads (suc n) ts =
+    when (is_at_end ts) (λ e. rw e here)
+    (λ e. rw e (when (symbol ts == 44) (λ f. rw f (bumped_leads ts)) (λ f. rw f (through (behind_tree_leads ts) (comma_from_leads n _)))))
+
+comma_leads : (ts : Tokens) → LeadsTo ts (behind_comma ts)
+unfolding behind_comma
+comma_leads ts = comma_from_leads _ ts
+
+module _ (told : Reader (Option (List ℕ))) (read : Reader (Found (Option (List UseTreeView)))) (h : (ts : Tokens) → ListTold ts (told ts) (read ts)) where
+  -- of a tree that begins there, behind its path
+  module _ (ts : Tokens) where
+    star_told : (p : Option PathNode) (us : Tokens) → LeadsTo ts us → Root (IsFound ts) (at ts) (trees.star_or_list read p us).0.value
+        → TreeTold ts (starts.star_or_list told (at ts) p us) (trees.star_or_list read p us)
+    star_told p us leads root =
+        when (symbol us == 42)
+        (λ e.
+        let v : (trees.star_or_list read p us).0.value ≡ Some (bare p true None) = rw e refl in
+        let all = star_at (IsFound ts) (at ts) p (subst (Root (IsFound ts) (at ts)) v root) in
+        rw e (record { each = all; left = refl; leads = through leads (bumped_leads us) }))
+        (λ e.
+        let v : (trees.star_or_list read p us).0.value ≡ trees.listed p (read us).0.value = rw e refl in
+        let inner = listed_is (IsFound us) (IsFound ts) (later leads) (told us).0 (read us).0.value (h us).each in
+        let all = listed_at (IsFound ts) (at ts) p (told us).0 (read us).0.value inner (subst (Root (IsFound ts) (at ts)) v root) in
+        rw e (record { each = all; left = (h us).left; leads = through leads (h us).leads }))
+
+    behind_told : (p : Option PathNode) (joined : Bool) (us : Tokens) → LeadsTo ts us → Root (IsFound ts) (at ts) (trees.tree_behind read p joined us).0.value
+        → TreeTold ts (starts.tree_behind told (at ts) p joined us) (trees.tree_behind read p joined us)
+    behind_told p joined us leads root =
+        when (joined || is_none p)
+        (λ e.
+        let v : (trees.tree_behind read p joined us).0.value ≡ (trees.star_or_list read p us).0.value = rw e refl in
+        let all = star_told p us leads (subst (Root (IsFound ts) (at ts)) v root) in
+        rw e all)
+        (λ e.
+        let v : (trees.tree_behind read p joined us).0.value ≡ Some (bare p false (trees.rename us).0) = rw e refl in
+        let all = path_at (IsFound ts) (at ts) p (trees.rename us).0 (either_none joined (is_none p) e) (subst (Root (IsFound ts) (at ts)) v root) in
+        rw e (record { each = all; left = refl; leads = through leads (rename_leads us) }))
+
+module _ (depth : ℕ) (h : (ts : Tokens) → ListTold ts (starts.list depth ts) (trees.list depth ts)) where
+  tree_told : (ts : Tokens) → TreeTold ts (starts.tree_with (starts.list depth) ts) (trees.tree_with (trees.list depth) ts)
+  unfolding trees.tree_at Root
+  tree_told ts =
+      behind_told (starts.list depth) (trees.list depth) h ts (use_path ts).0 (eat_colons (use_path ts).1).0 (eat_colons (use_path ts).1).1 (through (use_path_leads ts) (eat_pair_leads _ _ _))
+      (λ t e. record { from = ts; leads = here; depth = depth; first = refl; kept = e })
+
+  element_told : (ts : Tokens) → TreeTold ts (starts.element_with (starts.list depth) ts) (trees.element_with (trees.list depth) ts)
+  element_told ts = let t = tree_told ts in record { each = t.each; left = ap behind_comma t.left; leads = through t.leads (comma_leads _) }
+
+-- ---- lists
+
+values_push : (fs : List (Found (Option UseTreeView))) (f : Found (Option UseTreeView)) → values (fs ++ f ∷ []) ≡ values fs ++ option_to_list f.value
+values_push [] f = append-nil (option_to_list f.value)
+values_push (g ∷ fs) f = ap (λ ws. option_to_list g.value ++ ws) (values_push fs f) ∙ sym (append_assoc (option_to_list g.value) (values fs) (option_to_list f.value))
+
+nodes_push : (fs : List (Found (Option UseTreeView))) (f : Found (Option UseTreeView)) → nodes_in (values (fs ++ f ∷ [])) ≡ nodes_in (values fs) ++ kept_nodes f.value
+nodes_push fs f = ap nodes_in (values_push fs f) ∙ nodes_both (values fs) (option_to_list f.value) ∙ ap (λ ns. nodes_in (values fs) ++ ns) (option_nodes f.value)
+
+module _ (told : Reader (List ℕ)) (read : Reader (Found (Option UseTreeView))) (h : (ts : Tokens) → TreeTold ts (told ts) (read ts)) (base : Tokens) where
+  record AreTold (s : List ℕ × Tokens) (l : List (Found (Option UseTreeView)) × Tokens) : Type 0 where
+    each : AllZip (IsFound base) s.0 (nodes_in (values l.0))
+    left : s.1 ≡ l.1
+    leads : LeadsTo base l.1
+
+  more_told : (done : List ℕ) (fs : List (Found (Option UseTreeView))) (ts : Tokens) → LeadsTo base ts → AllZip (IsFound base) done (nodes_in (values fs))
+      → AllZip (IsFound base) (done ++ (told ts).0) (nodes_in (values (fs ++ (read ts).0 ∷ [])))
+  more_told done fs ts p e =
+      let here = zip_is (IsFound ts) (IsFound base) (later p) (told ts).0 (kept_nodes (read ts).0.value) (h ts).each in
+      subst (AllZip (IsFound base) (done ++ (told ts).0)) (sym (nodes_push fs (read ts).0)) (both_zip (IsFound base) done (told ts).0 (nodes_in (values fs)) (kept_nodes (read ts).0.value) e here)
+
+  turns_told : (n : ℕ) (done : List ℕ) (fs : List (Found (Option UseTreeView))) (ts : Tokens) → LeadsTo base ts → AllZip (IsFound base) done (nodes_in (values fs))
+      → AreTold (turns_from is_at_end told n done ts) (turns_from is_at_end (one read) n fs ts)
+  turns_told zero done fs ts p e = record { each = e; left = refl; leads = p }
+  turns_told (suc n) done fs ts p e =
+      when (is_at_end ts) (λ s. rw s (record { each = e; left = refl; leads = p }))
+      (λ s.
+      let after = beyond ts.past (told ts).1 in
+      let leads = through p (through (subst (LeadsTo ts) (sym (h ts).left) (h ts).leads) (beyond_leads ts.past (told ts).1)) in
+      rw s (subst (λ z. AreTold (turns_from is_at_end told n (done ++ (told ts).0) after) (turns_from is_at_end (one read) n (fs ++ (read ts).0 ∷ []) (beyond ts.past z))) (h ts).left
+      (turns_told n (done ++ (told ts).0) (fs ++ (read ts).0 ∷ []) after leads (more_told done fs ts p e))))
+
+  elements_told : (ts : Tokens) → LeadsTo base ts → AreTold (elements told ts) (elements (one read) ts)
+  unfolding turns nodes_in
+  elements_told ts p = turns_told most [] [] ts p tt
+
+list_told : (depth : ℕ) (ts : Tokens) → ListTold ts (starts.list depth ts) (trees.list depth ts)
+unfolding starts.list trees.list IsListed
+list_told zero ts =
+    when (symbol ts == 123) (λ e. rw e (record { each = tt; left = refl; leads = behind_tree_leads ts })) (λ e. rw e (record { each = tt; left = refl; leads = here }))
+list_told (suc depth) ts =
+    when (symbol ts == 123)
+    (λ e.
+    let all = elements_told (starts.element_with (starts.list depth)) (trees.element_with (trees.list depth)) (element_told depth (list_told depth)) ts (bumped ts) (bumped_leads ts) in
+    rw e (record { each = all.each; left = ap (behind_closed 123) all.left; leads = through all.leads (behind_closed_leads 123 _) }))
+    (λ e. rw e (record { each = tt; left = refl; leads = here }))
+
+pub all_told : (ts : Tokens) → AreToldFor ts
+unfolding use_tree_starts use_tree starts.tree_at trees.tree_at
+all_told ts =
+    let t = tree_told 128 (list_told 128) ts in record { each = zip_is (IsFound ts) (IsReadAt ts) (read_at ts) (use_tree_starts ts).0 (kept_nodes (use_tree ts).0.value) t.each; left = t.left }
