@@ -13,7 +13,7 @@ program=crates/item_tree_tool/out/item_tree_tool
 outlines=crates/outline_tool/out/outline_tool
 itemtree=crates/itemtree/out/itemtree
 tests=()
-for name in hir_input_tests item_tree_tests item_tree_db_tests rust_items_tests; do
+for name in hir_input_tests item_tree_tests rust_items_tests; do
     tests+=("crates/$name/out/${name}_tests")
 done
 log=$(mktemp)

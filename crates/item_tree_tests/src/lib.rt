@@ -1,5 +1,6 @@
-//! Tests of what only a call can show, of `item_tree`, of what stands on it alone and of `rust_items`: pages, copies, uses, blocks of
-//! Rust texts, what stands where a request for memory is refused, ids of other trees, and tables as `Debug` shows them.
+//! Tests of what only a call can show, of `item_tree` and of what stands on it, and of `rust_items`: pages, copies, uses, the table of
+//! trees, blocks of Rust texts, what stands where a request for memory is refused, ids of other trees, and tables as `Debug` shows
+//! them. They are one crate, since each crate that drops a tree proves anew how each of its parts is dropped.
 //!
 //! A crate with tests is proved twice; these call what is public, so no library has any.
 //!
@@ -12,6 +13,8 @@
 mod blocks;
 #[cfg(test)]
 mod copies;
+#[cfg(test)]
+mod db;
 #[cfg(test)]
 mod declarations;
 #[cfg(test)]

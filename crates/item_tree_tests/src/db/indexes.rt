@@ -1,5 +1,5 @@
 //! An index that is refreshed over edits: where it finds a name, and how many entries the trees have that changed.
-use crate::table::{Answer, OTHER, are_set, make, set_file, table};
+use crate::db::table::{Answer, OTHER, are_set, make, set_file, table};
 use decl_index::DeclIndex;
 use hir_input::Name;
 use item_tree_db::{Edit, Sources};

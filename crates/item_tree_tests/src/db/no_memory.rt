@@ -1,5 +1,5 @@
 //! A table over two files and a block, read where no memory is left, and a file removed.
-use crate::table::{Answer, BLOCK, CRATE, FILE, OTHER, are_set, make, table};
+use crate::db::table::{Answer, BLOCK, CRATE, FILE, OTHER, are_set, make, table};
 use hir_input::CfgExpr;
 use item_tree::CrateData;
 use item_tree_db::{Edit, Place, Sources, TreeId, file_item_tree};

@@ -9,7 +9,7 @@ ghost use Rattle.item_tree_db.specs.Edits.{edit_view};
 ghost use Rattle.item_tree_db.specs.Refusal.{NamesKnown};
 ghost use Rattle.decl_index.specs.Entries.{IndexView, IsBehind};
 
-use crate::example::new_table;
+use crate::db::example::new_table;
 use hir_input::ast::Syntax;
 use hir_input::{BlockId, Crate, HirFileId};
 use item_tree::{CrateData, EditFault, LowerError};

@@ -1,5 +1,5 @@
 //! Options given to a crate over two files and a block, where a request for memory is refused.
-use crate::table::{Answer, BLOCK, CRATE, FILE, OTHER, are_set, make, table};
+use crate::db::table::{Answer, BLOCK, CRATE, FILE, OTHER, are_set, make, table};
 use item_tree_db::{Edit, Place, Sources};
 use item_tree_samples::attributes::{flag, options};
 use std::alloc::{AllocError, Global};

@@ -1,5 +1,5 @@
 //! What stands of a table where a request for memory is refused.
-use crate::table::{Answer, FILE, make_all, set_file, table};
+use crate::db::table::{Answer, FILE, make_all, set_file, table};
 use hir_input::Crate;
 use hir_input::ast::Syntax;
 use item_tree_db::{Place, Sources, file_item_tree};

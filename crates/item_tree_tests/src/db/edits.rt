@@ -1,5 +1,5 @@
 //! The last number.
-use crate::table::{make_all, table};
+use crate::db::table::{make_all, table};
 use std::alloc::{AllocError, Global};
 
 const NO_NUMBER: &str =

@@ -1,5 +1,5 @@
 //! The table of trees in a few lines: a file is set, and its tree is read.
-use crate::table::crates;
+use crate::db::table::crates;
 use hir_input::ast::Syntax;
 use hir_input::{Crate, Edition, EditionYear, HirFileId};
 use item_tree::{CrateData, ModItemKind};
