@@ -4,13 +4,13 @@ ghost use Rattle.std.specs.List.{sum_by};
 ghost use Rattle.item_tree.specs.Line.{text};
 ghost use Rattle.item_tree.specs.Page.{shown_visibility, id_text, call_id_text, named_header, constant_header, use_header, extern_crate_header, macro_call_header, macro_rules_header, page};
 ghost use Rattle.item_tree.specs.Inner.PageByIds.{Gains, Starts, gap, item_lines, own_lines_at, lines_at, list_lines};
-ghost use Rattle.item_tree.specs.Shown.{IsContained};
+ghost use Rattle.item_tree.specs.Shown.{IsContained, IsModule};
 ghost use Rattle.item_tree.specs.Walk.{AreContained, count_at};
 
 mod attrs;
 
 use crate::items::{
-    Const, ExternCrate, MacroCall, MacroRules, ModItemId, ModItemKind, ModKind, Use,
+    Const, ExternCrate, MacroCall, MacroRules, Mod, ModItemId, ModItemKind, ModKind, Use,
 };
 use crate::line::{push_blank, push_indent, push_line};
 use crate::tree::ItemTree;
@@ -288,13 +288,7 @@ impl ItemTree {
             ModItemKind::Macro2(ast_id, item) => named!(ast_id, item, "macro", " { ... }"),
             ModItemKind::MacroCall(ast_id, item) => printer.push_macro_call(out, ast_id, item),
             ModItemKind::MacroRules(ast_id, item) => printer.push_macro_rules(out, ast_id, item),
-            ModItemKind::Mod(ast_id, item) => match &item.kind {
-                ModKind::Inline { items } => {
-                    named!(ast_id, item, "mod", " {")?;
-                    self.push_below(out, printer, items)
-                }
-                ModKind::Outline => named!(ast_id, item, "mod", ";"),
-            },
+            ModItemKind::Mod(ast_id, item) => self.push_module(out, printer, id, ast_id, item),
             ModItemKind::Static(ast_id, item) => named!(ast_id, item, "static", " = _;"),
             ModItemKind::Struct(ast_id, item) => named!(ast_id, item, "struct", " { ... }"),
             ModItemKind::Trait(ast_id, item) => named!(ast_id, item, "trait", " { ... }"),
@@ -302,6 +296,34 @@ impl ItemTree {
             ModItemKind::Union(ast_id, item) => named!(ast_id, item, "union", " { ... }"),
             ModItemKind::Use(ast_id, item) => {
                 printer.push_use(out, ast_id, item, &self[item.visibility()])
+            }
+        }
+    }
+
+    // The lines of a module behind its attributes.
+    #[cycle(page)]
+    #[tactic(auto, using(crate::proofs::Walking::parent_counts, crate::proofs::Walking::children_contained))]
+    fn push_module(
+        &self,
+        out: &mut String,
+        printer: Printer,
+        id: ModItemId,
+        ast_id: FileAstId,
+        item: &Mod,
+    ) -> Result<(), AllocError>
+        requires lent { IsModule self.now id ast_id item.now.name item.now.visibility item.now.kind }
+        requires level_fits { printer.level + count_at self.now id < 2 ^ 64 }
+        ensures { let reserved = printer.entry.edition.now.reserved.items in
+            OnOk result (Gains out.old out.new (own_lines_at reserved self.now printer.entry.level id)) }
+    {
+        let visibility = &self[item.visibility];
+        match &item.kind {
+            ModKind::Inline { items } => {
+                printer.push_named(out, ast_id, visibility, "mod", &item.name, " {")?;
+                self.push_below(out, printer, items)
+            }
+            ModKind::Outline => {
+                printer.push_named(out, ast_id, visibility, "mod", &item.name, ";")
             }
         }
     }

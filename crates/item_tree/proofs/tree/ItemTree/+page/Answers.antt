@@ -1,9 +1,12 @@
-use Rattle.std.proofs.Common.{◌∙◌, ap, refl, sym, subst, inl, inr, string_bytes, arith}
+use Rattle.std.proofs.Common.{ℕ, List, ◌∙◌, ap, refl, sym, subst, inl, inr, string_bytes, arith}
 use Rattle.std.proofs.lemmas.Result.{on_ok_weaker}
-use Rattle.item_tree.specs.Node.{inline, extern_block}
+use Rattle.hir_input.specs.declared.ids.FileAstId.{FileAstId}
+use Rattle.item_tree.specs.declared.items.ModKind.{ModKind}
+use Rattle.item_tree.specs.declared.items.ModKind.TheVariants.{Inline, Outline}
+use Rattle.item_tree.specs.Node.{inline, extern_block, Unfolding}
 use Rattle.item_tree.specs.Page.{item_opening}
 use Rattle.item_tree.specs.Inner.PageByIds.{Gains, lent_lines}
-use Rattle.item_tree.specs.Shown.{IsModule, IsParent}
+use Rattle.item_tree.specs.Shown.{HasVisibility, IsModule, IsParent}
 use Rattle.item_tree.proofs.Paging.{gains_more, item_gains, parent_gains}
 use Rattle.item_tree.proofs.tree.ItemTree.+page.Goals as goal
 use Rattle.std.proofs.lemmas.Grind.{common_steps}
@@ -26,18 +29,26 @@ push_own-returns-in_ok-push_fixed-in-ExternBlock t c =
     (λ below. parent_gains a.printer.edition.now.reserved.items a.printer.level extern_block a.out.now c.push_fixed.new.out c.push_below.new.out shown refl c.in_ok-push_fixed-in-ExternBlock.ensures below)
     c.push_below.ensures
 
-pub push_own-returns-in_ok-push_named-in-Inline : goal.push_own-returns-in_ok-push_named-in-Inline
-push_own-returns-in_ok-push_named-in-Inline t c =
+module_visible : (u : Unfolding) (i : ℕ) (a : FileAstId) (name : List ℕ) (v : ℕ) (kind : ModKind) → IsModule u i a name v kind → HasVisibility u v
+module_visible u i a name v (Inline ids) lent = grind arith
+module_visible u i a name v Outline lent = grind arith
+
+pub push_module-index-visibility-requires : goal.push_module-index-visibility-requires
+push_module-index-visibility-requires t c =
+    let item = c.args.item.now in
+    module_visible c.args.self.now c.args.id c.args.ast_id item.name item.visibility item.kind c.requires.lent
+
+pub push_module-returns-in_ok-push_named-in-Inline : goal.push_module-returns-in_ok-push_named-in-Inline
+push_module-returns-in_ok-push_named-in-Inline t c =
     let a = c.args in
-    let item = c.in-Mod.item.now in
-    let visibility = c.index-visibility-in-Inline in
+    let item = a.item.now in
     let shown =
-    subst (IsParent a.self.now a.id c.in-Mod.ast_id (inline item.name item.visibility)) (sym c.deref-in-Inline.ensures.value)
-    (subst (IsModule a.self.now a.id c.in-Mod.ast_id item.name item.visibility) c.in-Inline.is c.in-Mod.ensures) in
-    on_ok_weaker c.push_below-in-Inline.result
-    (λ below. parent_gains a.printer.edition.now.reserved.items a.printer.level (inline item.name visibility.result.now) a.out.now c.push_named-in-Inline.new.out c.push_below-in-Inline.new.out shown (ap (inline item.name) visibility.ensures)
+    subst (IsParent a.self.now a.id a.ast_id (inline item.name item.visibility)) (sym c.deref.ensures.value)
+    (subst (IsModule a.self.now a.id a.ast_id item.name item.visibility) c.in-Inline.is c.requires.lent) in
+    on_ok_weaker c.push_below.result
+    (λ below. parent_gains a.printer.edition.now.reserved.items a.printer.level (inline item.name c.index-visibility.result.now) a.out.now c.push_named.new.out c.push_below.new.out shown (ap (inline item.name) c.index-visibility.ensures)
     c.in_ok-push_named-in-Inline.ensures below)
-    c.push_below-in-Inline.ensures
+    c.push_below.ensures
 
 pub push_items-loop-place-preserved : goal.push_items-loop-place-preserved
 push_items-loop-place-preserved t c =
@@ -72,9 +83,6 @@ push_own-returns-in-MacroCall t c = grind arith
 pub push_own-returns-in-MacroRules : goal.push_own-returns-in-MacroRules
 push_own-returns-in-MacroRules t c = grind arith
 
-pub push_own-returns-in-Outline : goal.push_own-returns-in-Outline
-push_own-returns-in-Outline t c = grind arith
-
 pub push_own-returns-in-Static : goal.push_own-returns-in-Static
 push_own-returns-in-Static t c = grind arith
 
@@ -108,14 +116,8 @@ push_own-index-visibility-requires t c = grind arith
 pub push_own-index-visibility-requires-in-Function : goal.push_own-index-visibility-requires-in-Function
 push_own-index-visibility-requires-in-Function t c = grind arith
 
-pub push_own-index-visibility-requires-in-Inline : goal.push_own-index-visibility-requires-in-Inline
-push_own-index-visibility-requires-in-Inline t c = grind arith
-
 pub push_own-index-visibility-requires-in-Macro2 : goal.push_own-index-visibility-requires-in-Macro2
 push_own-index-visibility-requires-in-Macro2 t c = grind arith
-
-pub push_own-index-visibility-requires-in-Outline : goal.push_own-index-visibility-requires-in-Outline
-push_own-index-visibility-requires-in-Outline t c = grind arith
 
 pub push_own-index-visibility-requires-in-Static : goal.push_own-index-visibility-requires-in-Static
 push_own-index-visibility-requires-in-Static t c = grind arith
