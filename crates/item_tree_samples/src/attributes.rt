@@ -1,5 +1,5 @@
 //! Metas, and the options that decide them.
-use crate::words::{name, path_node, text};
+use crate::words::{name, path_node, push, text};
 use hir_input::{
     CfgAtom, CfgExpr, CfgOptions, EditionYear, Literal, Meta, PathKind, Span, SyntaxContext,
     TokenTree,
@@ -20,7 +20,7 @@ pub fn word(alloc: Global, word: &str) -> Result<Meta, AllocError> {
 pub fn words(alloc: Global, words: &[&str]) -> Result<Vec<Meta>, AllocError> {
     let mut metas = Vec::new(alloc);
     for text in words {
-        metas.push(word(alloc, text)?)?;
+        push(&mut metas, word(alloc, text))?;
     }
     Ok(metas)
 }
@@ -81,15 +81,26 @@ pub fn tokens(alloc: Global) -> Result<TokenTree, AllocError> {
     })
 }
 
-/// `#[unsafe(cfg_attr(not(x), key = "a", ?(b)))]`, with a path that is not readable.
-pub fn nested(alloc: Global) -> Result<Meta, AllocError> {
-    let mut metas = Vec::new(alloc);
-    metas.push(key_value(alloc)?)?;
-    metas.push(Meta::TokenTree {
+// `?(b)`, with a path that is not readable.
+fn unreadable(alloc: Global) -> Result<Meta, AllocError> {
+    Ok(Meta::TokenTree {
         path: None,
         tokens: tokens(alloc)?,
         ctxt: CTXT,
-    })?;
+    })
+}
+
+// `key = "a", ?(b)`
+fn conditional(alloc: Global) -> Result<Vec<Meta>, AllocError> {
+    let mut metas = Vec::new(alloc);
+    push(&mut metas, key_value(alloc))?;
+    push(&mut metas, unreadable(alloc))?;
+    Ok(metas)
+}
+
+/// `#[unsafe(cfg_attr(not(x), key = "a", ?(b)))]`, with a path that is not readable.
+pub fn nested(alloc: Global) -> Result<Meta, AllocError> {
+    let metas = conditional(alloc)?;
     let condition = CfgExpr::Not(Box::new(alloc, flag(alloc, "x")?)?);
     Ok(Meta::Unsafe(Box::new(alloc, Meta::CfgAttr { condition, metas })?))
 }

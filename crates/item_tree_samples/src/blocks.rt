@@ -1,6 +1,6 @@
 //! A block with items.
 use crate::items::{function, macro_call};
-use crate::words::path_node;
+use crate::words::{path_node, push};
 use hir_input::ast::{BlockExpr, MacroCall, Stmt, Tail};
 use hir_input::{ExpandTo, PathKind, SyntaxContext};
 use std::alloc::{AllocError, Global};
@@ -21,15 +21,24 @@ fn tail_call(alloc: Global) -> Result<MacroCall, AllocError> {
     Ok(call)
 }
 
+// `fn f() {}` as a statement.
+fn function_stmt(alloc: Global) -> Result<Stmt, AllocError> {
+    Ok(Stmt::Item(function(alloc, 1, Vec::new(alloc), None)?))
+}
+
+// `fn f() {} m!(); x;`
+fn stmts(alloc: Global) -> Result<Vec<Stmt>, AllocError> {
+    let mut stmts = Vec::new(alloc);
+    push(&mut stmts, function_stmt(alloc))?;
+    push(&mut stmts, call_stmt(alloc))?;
+    push(&mut stmts, Ok(Stmt::Other))?;
+    Ok(stmts)
+}
+
 /// `{ fn f() {} m!(); x; n!() }`
 pub fn block(alloc: Global) -> Result<BlockExpr, AllocError> {
-    let mut stmts = Vec::new(alloc);
-    stmts.push(Stmt::Item(function(alloc, 1, Vec::new(alloc), None)?))?;
-    stmts.push(call_stmt(alloc)?)?;
-    stmts.push(Stmt::Other)?;
-    Ok(BlockExpr {
-        attrs: Vec::new(alloc),
-        stmts,
-        tail: Tail::MacroCall(tail_call(alloc)?),
-    })
+    let stmts = stmts(alloc)?;
+    let tail = Tail::MacroCall(tail_call(alloc)?);
+    let attrs = Vec::new(alloc);
+    Ok(BlockExpr { attrs, stmts, tail })
 }

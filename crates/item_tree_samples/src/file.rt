@@ -5,22 +5,20 @@ use crate::items::{
     macro_rules, module, static_item, trait_item, tuple_struct, type_alias, union_item, use_of,
 };
 use crate::use_trees::nested;
-use crate::words::within;
+use crate::words::{push, within};
 use hir_input::PathKind;
 use hir_input::ast::{ExternItem, Item, Syntax, TupleField, Visibility};
 use std::alloc::{AllocError, Global};
 
-fn field(visibility: Visibility) -> TupleField {
-    TupleField {
-        visibility: Some(visibility),
-    }
+fn field(visibility: Result<Visibility, AllocError>) -> Result<TupleField, AllocError> {
+    let visibility = Some(visibility?);
+    Ok(TupleField { visibility })
 }
 
 // `#[b] #[cfg(x)] pub(in crate::type) fn f() {}`
 fn decorated(alloc: Global) -> Result<Item, AllocError> {
-    let mut attrs = Vec::new(alloc);
-    attrs.push(word(alloc, "b")?)?;
-    attrs.push(condition(alloc, "x")?)?;
+    let mut attrs = words(alloc, &["b"])?;
+    push(&mut attrs, condition(alloc, "x"))?;
     let visibility = within(alloc, PathKind::Crate, "type")?;
     function(alloc, 2, attrs, Some(visibility))
 }
@@ -28,20 +26,25 @@ fn decorated(alloc: Global) -> Result<Item, AllocError> {
 // `pub struct S(pub(crate) A, pub(super) B, pub(in m) C);`
 fn guarded(alloc: Global) -> Result<Item, AllocError> {
     let mut fields = Vec::new(alloc);
-    fields.push(field(Visibility::PubCrate))?;
-    fields.push(field(Visibility::PubSuper))?;
-    fields.push(field(within(alloc, PathKind::Plain, "m")?))?;
+    push(&mut fields, field(Ok(Visibility::PubCrate)))?;
+    push(&mut fields, field(Ok(Visibility::PubSuper)))?;
+    push(&mut fields, field(within(alloc, PathKind::Plain, "m")))?;
     tuple_struct(alloc, 3, fields)
 }
 
-// `#[a] pub(super) mod m { .. }`, with the function, the struct and `impl S {}`.
+// The function, the struct and `impl S {}`.
+fn push_inner(alloc: Global, items: &mut Vec<Item>) -> Result<(), AllocError> {
+    push(items, decorated(alloc))?;
+    push(items, guarded(alloc))?;
+    push(items, Ok(impl_item(alloc, 4)))
+}
+
+// `#[a] pub(super) mod m { .. }`, with these.
 fn inline(alloc: Global) -> Result<Item, AllocError> {
     let mut items = Vec::new(alloc);
-    items.push(decorated(alloc)?)?;
-    items.push(guarded(alloc)?)?;
-    items.push(impl_item(alloc, 4))?;
+    push_inner(alloc, &mut items)?;
     let mut module = module(alloc, 1, "m", Some(Visibility::PubSuper), Some(items))?;
-    module.attrs.push(word(alloc, "a")?)?;
+    push(&mut module.attrs, word(alloc, "a"))?;
     Ok(Item::Module(module))
 }
 
@@ -52,30 +55,47 @@ fn foreign(alloc: Global) -> Result<Item, AllocError> {
     Ok(extern_block(alloc, 5, items))
 }
 
+// `mod TEXT;`
+fn outline(
+    alloc: Global,
+    hash: u16,
+    text: &str,
+    visibility: Option<Visibility>,
+) -> Result<Item, AllocError> {
+    Ok(Item::Module(module(alloc, hash, text, visibility, None)?))
+}
+
 // `trait`, `macro_rules` and `mod n;`, and then `union`, `enum` and `type`.
 fn push_types(alloc: Global, items: &mut Vec<Item>) -> Result<(), AllocError> {
-    items.push(trait_item(alloc, 7)?)?;
-    items.push(macro_rules(alloc, 8)?)?;
-    items.push(Item::Module(module(alloc, 9, "n", None, None)?))?;
-    items.push(union_item(alloc, 10)?)?;
-    items.push(enum_item(alloc, 11)?)?;
-    items.push(type_alias(alloc, 12)?)?;
-    Ok(())
+    push(items, trait_item(alloc, 7))?;
+    push(items, macro_rules(alloc, 8))?;
+    push(items, outline(alloc, 9, "n", None))?;
+    push(items, union_item(alloc, 10))?;
+    push(items, enum_item(alloc, 11))?;
+    push(items, type_alias(alloc, 12))
+}
+
+// `use a::{*, self as b, {c, {d::*}}};`
+fn use_nested(alloc: Global) -> Result<Item, AllocError> {
+    Ok(use_of(alloc, 17, nested(alloc)?))
 }
 
 // `static`, `const`, `macro`, `extern crate` and `use`.
 fn push_values(alloc: Global, items: &mut Vec<Item>) -> Result<(), AllocError> {
-    items.push(static_item(alloc, 13)?)?;
-    items.push(constant(alloc, 14)?)?;
-    items.push(macro_def(alloc, 15)?)?;
-    items.push(extern_crate(alloc, 16)?)?;
-    items.push(use_of(alloc, 17, nested(alloc)?))?;
-    Ok(())
+    push(items, static_item(alloc, 13))?;
+    push(items, constant(alloc, 14))?;
+    push(items, macro_def(alloc, 15))?;
+    push(items, extern_crate(alloc, 16))?;
+    push(items, use_nested(alloc))
 }
 
-// `pub(self) mod o;`
-fn outline(alloc: Global, hash: u16) -> Result<Item, AllocError> {
-    Ok(Item::Module(module(alloc, hash, "o", Some(Visibility::PubSelf), None)?))
+// All of the file, and last `pub(self) mod o;` with this hash.
+fn push_all(alloc: Global, items: &mut Vec<Item>, last: u16) -> Result<(), AllocError> {
+    push(items, inline(alloc))?;
+    push(items, foreign(alloc))?;
+    push_types(alloc, items)?;
+    push_values(alloc, items)?;
+    push(items, outline(alloc, last, "o", Some(Visibility::PubSelf)))
 }
 
 /// A file with an item of each kind:
@@ -108,11 +128,7 @@ fn outline(alloc: Global, hash: u16) -> Result<Item, AllocError> {
 /// this hash, in place of 18.
 pub fn file(alloc: Global, last: u16) -> Result<Syntax, AllocError> {
     let mut items = Vec::new(alloc);
-    items.push(inline(alloc)?)?;
-    items.push(foreign(alloc)?)?;
-    push_types(alloc, &mut items)?;
-    push_values(alloc, &mut items)?;
-    items.push(outline(alloc, last)?)?;
+    push_all(alloc, &mut items, last)?;
     let attrs = words(alloc, &["t"])?;
     Ok(Syntax::SourceFile { attrs, items })
 }

@@ -10,10 +10,10 @@ use std::alloc::{AllocError, Global};
 
 /// A file without attributes, of one item.
 pub fn file_of(alloc: Global, item: Item) -> Result<Syntax, AllocError> {
-    Ok(Syntax::SourceFile {
-        attrs: Vec::new(alloc),
-        items: vec![in alloc; item]?,
-    })
+    let mut items = Vec::new(alloc);
+    items.push(item)?;
+    let attrs = Vec::new(alloc);
+    Ok(Syntax::SourceFile { attrs, items })
 }
 
 /// `fn f() {}`
@@ -39,10 +39,9 @@ pub fn one_function(alloc: Global, attrs: Vec<Meta>) -> Result<Syntax, AllocErro
 
 /// `use TREE;`
 pub fn use_of(alloc: Global, hash: u16, tree: UseTree) -> Item {
-    Item::Use(Use {
-        hash,
-        ..Use::new(alloc, tree)
-    })
+    let mut item = Use::new(alloc, tree);
+    item.hash = hash;
+    Item::Use(item)
 }
 
 /// `mod NAME { .. }`, or `mod NAME;` without items.
@@ -77,109 +76,88 @@ pub fn tuple_struct(alloc: Global, hash: u16, fields: Vec<TupleField>) -> Result
 
 /// `impl S {}`
 pub fn impl_item(alloc: Global, hash: u16) -> Item {
-    Item::Impl(Impl {
-        hash,
-        ..Impl::new(alloc)
-    })
+    let mut item = Impl::new(alloc);
+    item.hash = hash;
+    Item::Impl(item)
 }
 
 /// `pub(crate) trait T {}`
 pub fn trait_item(alloc: Global, hash: u16) -> Result<Item, AllocError> {
-    let name = name(alloc, "T")?;
-    Ok(Item::Trait(Trait {
-        hash,
-        visibility: Some(Visibility::PubCrate),
-        ..Trait::new(alloc, name)
-    }))
+    let mut item = Trait::new(alloc, name(alloc, "T")?);
+    item.hash = hash;
+    item.visibility = Some(Visibility::PubCrate);
+    Ok(Item::Trait(item))
 }
 
 /// `macro_rules! m {}`
 pub fn macro_rules(alloc: Global, hash: u16) -> Result<Item, AllocError> {
-    let name = name(alloc, "m")?;
-    Ok(Item::MacroRules(MacroRules {
-        hash,
-        ..MacroRules::new(alloc, name)
-    }))
+    let mut item = MacroRules::new(alloc, name(alloc, "m")?);
+    item.hash = hash;
+    Ok(Item::MacroRules(item))
 }
 
 /// `m!();`
 pub fn macro_call(alloc: Global, hash: u16) -> Result<MacroCall, AllocError> {
     let path = path_node(alloc, PathKind::Plain, "m")?;
     let ctxt = SyntaxContext::Root(EditionYear::E2024);
-    Ok(MacroCall {
-        hash,
-        ..MacroCall::new(alloc, path, ctxt)
-    })
+    let mut call = MacroCall::new(alloc, path, ctxt);
+    call.hash = hash;
+    Ok(call)
 }
 
 /// `extern { .. }`
 pub fn extern_block(alloc: Global, hash: u16, items: Vec<ExternItem>) -> Item {
-    Item::ExternBlock(ExternBlock {
-        hash,
-        ..ExternBlock::new(alloc, items)
-    })
+    let mut item = ExternBlock::new(alloc, items);
+    item.hash = hash;
+    Item::ExternBlock(item)
 }
 
 /// `union U {}`
 pub fn union_item(alloc: Global, hash: u16) -> Result<Item, AllocError> {
-    let name = name(alloc, "U")?;
-    Ok(Item::Union(Union {
-        hash,
-        ..Union::new(alloc, name)
-    }))
+    let mut item = Union::new(alloc, name(alloc, "U")?);
+    item.hash = hash;
+    Ok(Item::Union(item))
 }
 
 /// `enum E {}`
 pub fn enum_item(alloc: Global, hash: u16) -> Result<Item, AllocError> {
-    let name = name(alloc, "E")?;
-    Ok(Item::Enum(Enum {
-        hash,
-        ..Enum::new(alloc, name)
-    }))
+    let mut item = Enum::new(alloc, name(alloc, "E")?);
+    item.hash = hash;
+    Ok(Item::Enum(item))
 }
 
 /// `type A = ..;`
 pub fn type_alias(alloc: Global, hash: u16) -> Result<Item, AllocError> {
-    let name = name(alloc, "A")?;
-    Ok(Item::TypeAlias(TypeAlias {
-        hash,
-        ..TypeAlias::new(alloc, name)
-    }))
+    let mut item = TypeAlias::new(alloc, name(alloc, "A")?);
+    item.hash = hash;
+    Ok(Item::TypeAlias(item))
 }
 
 /// `static X: .. = ..;`
 pub fn static_item(alloc: Global, hash: u16) -> Result<Item, AllocError> {
-    let name = name(alloc, "X")?;
-    Ok(Item::Static(Static {
-        hash,
-        ..Static::new(alloc, name)
-    }))
+    let mut item = Static::new(alloc, name(alloc, "X")?);
+    item.hash = hash;
+    Ok(Item::Static(item))
 }
 
 /// `const C: .. = ..;`
 pub fn constant(alloc: Global, hash: u16) -> Result<Item, AllocError> {
-    let name = name(alloc, "C")?;
-    Ok(Item::Const(Const {
-        hash,
-        ..Const::new(alloc, name)
-    }))
+    let mut item = Const::new(alloc, name(alloc, "C")?);
+    item.hash = hash;
+    Ok(Item::Const(item))
 }
 
 /// `macro d() {}`
 pub fn macro_def(alloc: Global, hash: u16) -> Result<Item, AllocError> {
-    let name = name(alloc, "d")?;
-    Ok(Item::MacroDef(MacroDef {
-        hash,
-        ..MacroDef::new(alloc, name)
-    }))
+    let mut item = MacroDef::new(alloc, name(alloc, "d")?);
+    item.hash = hash;
+    Ok(Item::MacroDef(item))
 }
 
 /// `extern crate e as _;`
 pub fn extern_crate(alloc: Global, hash: u16) -> Result<Item, AllocError> {
-    let name = name(alloc, "e")?;
-    Ok(Item::ExternCrate(ExternCrate {
-        hash,
-        rename: Some(Rename { name: None }),
-        ..ExternCrate::new(alloc, name)
-    }))
+    let mut item = ExternCrate::new(alloc, name(alloc, "e")?);
+    item.hash = hash;
+    item.rename = Some(Rename { name: None });
+    Ok(Item::ExternCrate(item))
 }

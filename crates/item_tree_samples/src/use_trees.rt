@@ -1,5 +1,5 @@
 //! Use trees.
-use crate::words::{name, path_node};
+use crate::words::{name, path_node, push};
 use hir_input::PathKind;
 use hir_input::ast::{PathNode, Rename, UseTree};
 use std::alloc::{AllocError, Global};
@@ -22,20 +22,10 @@ pub fn starred(alloc: Global, text: &str) -> Result<UseTree, AllocError> {
 }
 
 /// The tree under another name.
-pub fn renamed(alloc: Global, tree: UseTree, text: &str) -> Result<UseTree, AllocError> {
+pub fn renamed(alloc: Global, mut tree: UseTree, text: &str) -> Result<UseTree, AllocError> {
     let name = name(alloc, text)?;
-    let UseTree {
-        path,
-        star,
-        list,
-        ..
-    } = tree;
-    Ok(UseTree {
-        path,
-        star,
-        rename: Some(Rename { name }),
-        list,
-    })
+    tree.rename = Some(Rename { name });
+    Ok(tree)
 }
 
 /// A path that is not readable.
@@ -49,14 +39,9 @@ pub fn unreadable() -> UseTree {
 }
 
 /// Use trees below one without a list, star and rename.
-pub fn below(tree: UseTree, list: Vec<UseTree>) -> UseTree {
-    let UseTree { path, .. } = tree;
-    UseTree {
-        path,
-        star: false,
-        rename: None,
-        list: Some(list),
-    }
+pub fn below(mut tree: UseTree, list: Vec<UseTree>) -> UseTree {
+    tree.list = Some(list);
+    tree
 }
 
 /// `{..}`
@@ -73,50 +58,66 @@ fn plain(alloc: Global, text: &str) -> Result<UseTree, AllocError> {
     leaf(alloc, PathKind::Plain, text)
 }
 
+// `{TREE}`
+fn listed(alloc: Global, tree: Result<UseTree, AllocError>) -> Result<UseTree, AllocError> {
+    Ok(list(vec![in alloc; tree?]?))
+}
+
+// `a::{..}`
+fn below_a(alloc: Global, list: Vec<UseTree>) -> Result<UseTree, AllocError> {
+    Ok(below(plain(alloc, "a")?, list))
+}
+
 /// `a::{{}, b, {c}}`
 pub fn with_lists(alloc: Global) -> Result<UseTree, AllocError> {
-    let inner = vec![in alloc; plain(alloc, "c")?]?;
     let mut all = Vec::new(alloc);
-    all.push(list(Vec::new(alloc)))?;
-    all.push(plain(alloc, "b")?)?;
-    all.push(list(inner))?;
-    Ok(below(plain(alloc, "a")?, all))
+    push(&mut all, Ok(list(Vec::new(alloc))))?;
+    push(&mut all, plain(alloc, "b"))?;
+    push(&mut all, listed(alloc, plain(alloc, "c")))?;
+    below_a(alloc, all)
 }
 
 // `{c, {d::*}}`
 fn two_deep(alloc: Global) -> Result<UseTree, AllocError> {
-    let inner = vec![in alloc; starred(alloc, "d")?]?;
     let mut all = Vec::new(alloc);
-    all.push(plain(alloc, "c")?)?;
-    all.push(list(inner))?;
+    push(&mut all, plain(alloc, "c"))?;
+    push(&mut all, listed(alloc, starred(alloc, "d")))?;
     Ok(list(all))
+}
+
+// `self as b`
+fn itself_renamed(alloc: Global) -> Result<UseTree, AllocError> {
+    renamed(alloc, leaf(alloc, PathKind::Super(0), "")?, "b")
 }
 
 /// `a::{*, self as b, {c, {d::*}}}`
 pub fn nested(alloc: Global) -> Result<UseTree, AllocError> {
-    let itself = leaf(alloc, PathKind::Super(0), "")?;
     let mut all = Vec::new(alloc);
-    all.push(starred(alloc, "")?)?;
-    all.push(renamed(alloc, itself, "b")?)?;
-    all.push(two_deep(alloc)?)?;
-    Ok(below(plain(alloc, "a")?, all))
+    push(&mut all, starred(alloc, ""))?;
+    push(&mut all, itself_renamed(alloc))?;
+    push(&mut all, two_deep(alloc))?;
+    below_a(alloc, all)
+}
+
+// `c::* as g`
+fn star_renamed(alloc: Global) -> Result<UseTree, AllocError> {
+    renamed(alloc, starred(alloc, "c")?, "g")
 }
 
 /// `a::{b, c::* as g, ?, d}`
 pub fn partly_kept(alloc: Global) -> Result<UseTree, AllocError> {
-    let star = starred(alloc, "c")?;
     let mut all = Vec::new(alloc);
-    all.push(plain(alloc, "b")?)?;
-    all.push(renamed(alloc, star, "g")?)?;
-    all.push(unreadable())?;
-    all.push(plain(alloc, "d")?)?;
-    Ok(below(plain(alloc, "a")?, all))
+    push(&mut all, plain(alloc, "b"))?;
+    push(&mut all, star_renamed(alloc))?;
+    push(&mut all, Ok(unreadable()))?;
+    push(&mut all, plain(alloc, "d"))?;
+    below_a(alloc, all)
 }
 
 /// `a::{b, d}`
 pub fn two_names(alloc: Global) -> Result<UseTree, AllocError> {
     let mut all = Vec::new(alloc);
-    all.push(plain(alloc, "b")?)?;
-    all.push(plain(alloc, "d")?)?;
-    Ok(below(plain(alloc, "a")?, all))
+    push(&mut all, plain(alloc, "b"))?;
+    push(&mut all, plain(alloc, "d"))?;
+    below_a(alloc, all)
 }

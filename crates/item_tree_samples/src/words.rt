@@ -8,6 +8,12 @@ pub fn text(alloc: Global, text: &str) -> Result<String, AllocError> {
     String::from_str(alloc, text)
 }
 
+/// Puts what was made at the end of the list.
+pub fn push<T: Drop>(list: &mut Vec<T>, made: Result<T, AllocError>) -> Result<(), AllocError> {
+    list.push(made?)?;
+    Ok(())
+}
+
 /// A name, or none where the text is none.
 pub fn name(alloc: Global, text: &str) -> Result<Option<Name>, AllocError> {
     Ok(Name::new(String::from_str(alloc, text)?))
