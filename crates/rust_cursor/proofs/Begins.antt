@@ -29,6 +29,7 @@ no_behind befores.End ts e h = rw h (no_impl ts e)
 no_behind befores.Angle ts e h = no_impl ts e
 no_behind befores.Dash ts e h = refl
 no_behind befores.Mark ts e h = refl
+no_behind befores.Hash ts e h = refl
 no_behind befores.Other ts e h = refl
 
 no_within : (ts : Tokens) → word ts ≡ [] → begins_within ts ≡ false

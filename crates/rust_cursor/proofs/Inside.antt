@@ -1,13 +1,13 @@
 -- Steps in braces.
-use Rattle.std.proofs.Common.{◌≡◌, ◌+◌, ◌-◌, ◌==◌, ◌&&◌, ℕ, Bool, true, false, not, refl, ap, ◌∙◌, arith}
+use Rattle.std.proofs.Common.{◌≡◌, ◌+◌, ◌-◌, ◌==◌, ◌&&◌, ℕ, Bool, true, false, not, Option, refl, ap, ◌∙◌, arith}
 use Rattle.std.specs.Prelude.{if◌then◌else◌}
 use Rattle.std.proofs.lemmas.Bool.Decides.{nat_tests}
 use Rattle.rust_cursor.specs.declared.cursor.nest.Nest.{Nest}
 use Rattle.rust_cursor.specs.declared.cursor.texts.Extent.{Extent}
 use Rattle.rust_cursor.specs.Tokens.{Tokens}
 use Rattle.rust_cursor.specs.Words.{symbol, is_empty}
-use Rattle.rust_cursor.specs.Nests.{nest_inside, nest_behind}
-use Rattle.rust_cursor.specs.Extents.{stops, ends}
+use Rattle.rust_cursor.specs.Nests.{is_mark, nest_inside, nest_behind}
+use Rattle.rust_cursor.specs.Extents.{stops, ends, opened_behind}
 
 record AreFalse (a b c : Bool) : Type 0 where
   first : a ≡ false
@@ -34,16 +34,20 @@ is_behind : (nest : Nest) (ts : Tokens) → (nest.braces == 0) ≡ false → nes
 unfolding nest_behind
 is_behind nest ts deep = rw deep refl
 
-not_last : (e : Extent) (behind : Nest) (ts : Tokens) → (behind.braces == 0) ≡ false → ends e behind ts ≡ false
+not_last : (e : Extent) (is_call : Bool) (behind : Nest) (ts : Tokens) → (behind.braces == 0) ≡ false → ends e is_call behind ts ≡ false
 unfolding ends
-not_last e behind ts deep = rw deep refl
+not_last e is_call behind ts deep = rw deep refl
+
+opened_same : (opened : Option Tokens) (nest : Nest) (ts : Tokens) → (nest.braces == 0) ≡ false → opened ≡ opened_behind opened nest ts
+opened_same opened nest ts deep = rw deep refl
 
 -- a token in braces that leaves one open is taken, and more
 pub record IsInside (e : Extent) (nest behind : Nest) (ts : Tokens) : Type 0 where
   pub some : is_empty ts ≡ false
   pub goes : stops e nest ts ≡ false
   pub after : behind ≡ nest_behind nest ts
-  pub more : ends e behind ts ≡ false
+  pub more : ends e (is_mark nest.before) behind ts ≡ false
+  pub opened : (o : Option Tokens) → o ≡ opened_behind o nest ts
 
 pub inside : (e : Extent) (nest behind : Nest) (ts : Tokens) → (not (nest.braces == 0) && (not (is_empty ts) && not (nest.braces == 1 && symbol ts == 125))) ≡ true → behind ≡ nest_inside nest ts → IsInside e nest behind ts
 inside e nest behind ts test is =
@@ -53,5 +57,6 @@ inside e nest behind ts test is =
       some = none.second;
       goes = goes_on e nest ts none.second none.first;
       after = is ∙ is_behind nest ts none.first;
-      more = not_last e behind ts (ap (λ k. k.braces == 0) is ∙ left);
+      more = not_last e (is_mark nest.before) behind ts (ap (λ k. k.braces == 0) is ∙ left);
+      opened = λ o. opened_same o nest ts none.first;
     }

@@ -1,6 +1,7 @@
 -- What is left behind tokens that are taken from the front.
-use Rattle.std.proofs.Common.{◌≡◌, ◌<◌, ◌==◌, ℕ, zero, suc, Bool, true, false, List, [], ◌∷◌, length, ⊎_elim, refl, arith}
+use Rattle.std.proofs.Common.{◌≡◌, ◌<◌, ◌==◌, ◌&&◌, ℕ, zero, suc, Bool, true, false, Option, Some, None, List, [], ◌∷◌, length, ⊎_elim, refl, arith}
 use Rattle.std.proofs.lemmas.Bool.{cases_Bool, eqb-true}
+use Rattle.std.specs.Prelude.{if◌then◌else◌}
 use Rattle.rust_lexer.specs.Piece.{Piece}
 use Rattle.rust_lexer.specs.Symbol.{symbol_of}
 use Rattle.rust_cursor.specs.declared.cursor.nest.Nest.{Nest}
@@ -10,10 +11,10 @@ use Rattle.rust_cursor.specs.declared.cursor.texts.Extent.{Extent}
 use Rattle.rust_cursor.specs.Tokens.{Tokens}
 use Rattle.rust_cursor.specs.Reader.{Reader}
 use Rattle.rust_cursor.specs.Words.{is_close, word_by, by_first, symbol, word, is_empty, is_at_open, is_at_end, bumped, taken_if, eat, eat_word, is_pair, eat_pair}
-use Rattle.rust_cursor.specs.Nests.{flat, nest_behind}
+use Rattle.rust_cursor.specs.Nests.{flat, is_mark, nest_behind}
 use Rattle.rust_cursor.specs.Brackets.{is_closing, closing, to_closing, behind_closing, behind_closed, behind_tree}
 use Rattle.rust_cursor.specs.Elements.{beyond, turns_from, turns}
-use Rattle.rust_cursor.specs.Extents.{stops, ends, taking, taken}
+use Rattle.rust_cursor.specs.Extents.{stops, ends, opened_behind, block_at, taking, taken}
 use Rattle.rust_cursor.specs.Angles.{is_reached, is_closed, reaching, reached, behind_angles}
 use Rattle.rust_cursor.proofs.Nesting.{shorter}
 use Rattle.rust_cursor.proofs.Steps.{closing_stop, closing_more}
@@ -118,25 +119,25 @@ turns_leads ends reader r ts = turns_from_leads ends reader r _ _ ts
 
 -- ---- texts
 
-taking_next : (e : Extent) (ts : Tokens) → ((done : List ℕ) (last : ℕ) (nest : Nest) → LeadsTo (bumped ts) (taking e done last nest (bumped ts)).1)
-    → (done : List ℕ) (last : ℕ) (nest : Nest) → LeadsTo ts (taking e done last nest ts).1
-taking_next e ts inner done last nest =
-    when (stops e nest ts) (λ s. rw (taking_stop e done last nest ts s) here)
-    (λ s. when (ends e (nest_behind nest ts) ts) (λ f. rw (taking_end e done last nest ts s f) (bumped_leads ts))
-    (λ f. rw (taking_more e done last nest ts s f) (further (inner _ _ _))))
+taking_next : (e : Extent) (ts : Tokens) → ((done : List ℕ) (last : ℕ) (opened : Option Tokens) (nest : Nest) → LeadsTo (bumped ts) (taking e done last opened nest (bumped ts)).1)
+    → (done : List ℕ) (last : ℕ) (opened : Option Tokens) (nest : Nest) → LeadsTo ts (taking e done last opened nest ts).1
+taking_next e ts inner done last opened nest =
+    when (stops e nest ts) (λ s. rw (taking_stop e done last opened nest ts s) here)
+    (λ s. when (ends e (is_mark nest.before) (nest_behind nest ts) ts) (λ f. rw (taking_end e done last opened nest ts s f) (bumped_leads ts))
+    (λ f. rw (taking_more e done last opened nest ts s f) (further (inner _ _ _ _))))
 
 stops_empty : (e : Extent) (nest : Nest) (ts : Tokens) → is_empty ts ≡ true → stops e nest ts ≡ true
 unfolding stops
 stops_empty e nest ts n = rw n refl
 
-pub taking_leads : (e : Extent) (done : List ℕ) (last : ℕ) (nest : Nest) → Forwards (taking e done last nest)
-taking_leads e done last nest ts =
-    from_last (λ ts. (done : List ℕ) (last : ℕ) (nest : Nest) → LeadsTo ts (taking e done last nest ts).1)
-    (λ ts n done last nest. rw (taking_stop e done last nest ts (stops_empty e nest ts n)) here) (λ ts n inner. taking_next e ts inner) ts done last nest
+taking_leads : (e : Extent) (done : List ℕ) (last : ℕ) (opened : Option Tokens) (nest : Nest) → Forwards (taking e done last opened nest)
+taking_leads e done last opened nest ts =
+    from_last (λ ts. (done : List ℕ) (last : ℕ) (opened : Option Tokens) (nest : Nest) → LeadsTo ts (taking e done last opened nest ts).1)
+    (λ ts n done last opened nest. rw (taking_stop e done last opened nest ts (stops_empty e nest ts n)) here) (λ ts n inner. taking_next e ts inner) ts done last opened nest
 
 pub taken_leads_on : (e : Extent) → Forwards (taken e)
 unfolding taken
-taken_leads_on e ts = taking_leads e _ _ _ ts
+taken_leads_on e ts = taking_leads e _ _ _ _ ts
 
 -- ---- angle brackets
 
@@ -204,3 +205,61 @@ no_word (t ∷ ts) e = absurd cc
 pub word_none : (ts : Tokens) → is_empty ts ≡ true → word ts ≡ []
 unfolding is_empty word
 word_none ts e = no_word ts.left e
+
+-- ---- the braces that a text ends with
+
+-- braces that were opened: their `{` is a token between what was given and what is left
+data IsOpened : Tokens → Tokens → Option Tokens → Type 0 where
+  none : {ts us : Tokens} → IsOpened ts us None
+  opened_at : {ts us : Tokens} (b : Tokens) → LeadsTo ts b → is_empty b ≡ false → LeadsTo (bumped b) us → IsOpened ts us (Some b)
+
+-- and their `}` is another behind it
+pub data HasBlock : Tokens → Tokens → Option Tokens → Type 0 where
+  no_block : {ts us : Tokens} → HasBlock ts us None
+  block : {ts us : Tokens} (b : Tokens) → LeadsTo ts b → is_empty b ≡ false → Takes (bumped b) us → HasBlock ts us (Some b)
+
+pub block_behind : {ts us vs : Tokens} {o : Option Tokens} → LeadsTo ts us → HasBlock us vs o → HasBlock ts vs o
+block_behind p no_block = no_block
+block_behind p (block b before some t) = block b (through p before) some t
+
+still_opened : (start ts : Tokens) (o : Option Tokens) → IsOpened start ts o → IsOpened start (bumped ts) o
+still_opened start ts None none = none
+still_opened start ts (Some a) (opened_at b before some behind) = opened_at b before some (through behind (bumped_leads ts))
+
+opened_next : (start : Tokens) (o : Option Tokens) (nest : Nest) (ts : Tokens) → is_empty ts ≡ false → LeadsTo start ts → IsOpened start ts o → IsOpened start (bumped ts) (opened_behind o nest ts)
+opened_next start o nest ts some p h = when (nest.braces == 0 && symbol ts == 123) (λ e. rw e (opened_at ts p some here)) (λ e. rw e (still_opened start ts o h))
+
+closed : (start ts : Tokens) (o : Option Tokens) → is_empty ts ≡ false → IsOpened start ts o → HasBlock start (bumped ts) o
+closed start ts None some none = no_block
+closed start ts (Some a) some (opened_at b before first behind) = block b before first (takes ts behind some here)
+
+no_brace : (c : ℕ) → (c == 125) ≡ true → (c == 123) ≡ false
+no_brace c e = let same : c ≡ 125 = eqb-true c 125 e in rw same refl
+
+still_same : (o : Option Tokens) (nest : Nest) (ts : Tokens) → (symbol ts == 125) ≡ true → opened_behind o nest ts ≡ o
+still_same o nest ts e = let none = no_brace (symbol ts) e in rw none (if_none (nest.braces == 0))
+  where
+    if_none : (b : Bool) → (if b && false then Some ts else o) ≡ o
+    if_none true = refl
+    if_none false = refl
+
+block_closed : (start : Tokens) (o : Option Tokens) (nest : Nest) (ts : Tokens) → is_empty ts ≡ false → IsOpened start ts o → HasBlock start (bumped ts) (block_at (opened_behind o nest ts) ts)
+block_closed start o nest ts some h = when (symbol ts == 125) (λ e. let same = still_same o nest ts e in rw (e, same) (closed start ts o some h)) (λ e. rw e no_block)
+
+-- what is taken from here on ends with such braces, or with none
+abbrev EndsWithBlock : Extent → Tokens → Tokens → Type 0
+EndsWithBlock e start ts =
+    (done : List ℕ) (last : ℕ) (opened : Option Tokens) (nest : Nest) → LeadsTo start ts → IsOpened start ts opened
+    → HasBlock start (taking e done last opened nest ts).1 (taking e done last opened nest ts).0.block
+
+block_next : (e : Extent) (start ts : Tokens) → is_empty ts ≡ false → EndsWithBlock e start (bumped ts) → EndsWithBlock e start ts
+block_next e start ts some inner done last opened nest p h =
+    when (stops e nest ts) (λ s. rw (taking_stop e done last opened nest ts s) no_block)
+    (λ s. when (ends e (is_mark nest.before) (nest_behind nest ts) ts) (λ f. rw (taking_end e done last opened nest ts s f) (block_closed start opened nest ts some h))
+    (λ f. rw (taking_more e done last opened nest ts s f) (inner _ _ _ _ (through p (bumped_leads ts)) (opened_next start opened nest ts some p h))))
+
+pub taken_block : (e : Extent) (ts : Tokens) → HasBlock ts (taken e ts).1 (taken e ts).0.block
+unfolding taken
+taken_block e ts =
+    from_last (EndsWithBlock e ts) (λ us n done last opened nest p h. rw (taking_stop e done last opened nest us (stops_empty e nest us n)) no_block)
+    (λ us n inner. block_next e ts us n inner) ts _ _ _ _ here none

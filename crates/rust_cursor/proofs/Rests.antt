@@ -1,5 +1,5 @@
 -- What is left of an item, taken token by token.
-use Rattle.std.proofs.Common.{◌≡◌, ℕ, ◌==◌, ◌||◌, ◌&&◌, Bool, true, false, List, [], ◌∷◌, ◌++◌, length, refl, ap, ◌∙◌, ⊎_elim}
+use Rattle.std.proofs.Common.{◌≡◌, ℕ, ◌==◌, ◌||◌, ◌&&◌, Bool, true, false, Option, None, List, [], ◌∷◌, ◌++◌, length, refl, ap, ◌∙◌, ⊎_elim}
 use Rattle.std.specs.Prelude.{if◌then◌else◌, not}
 use Rattle.std.proofs.lemmas.Bool.{cases_Bool}
 use Rattle.rust_cursor.specs.declared.cursor.nest.Nest.{Nest}
@@ -7,8 +7,8 @@ use Rattle.rust_cursor.specs.declared.cursor.texts.Extent.{Extent}
 use Rattle.rust_cursor.specs.declared.cursor.texts.Extent.TheVariants as extents
 use Rattle.rust_cursor.specs.Tokens.{Tokens}
 use Rattle.rust_cursor.specs.Words.{symbol, text, is_empty, is_at_doc, bumped}
-use Rattle.rust_cursor.specs.Nests.{flat, is_flat, is_whole, nest_behind}
-use Rattle.rust_cursor.specs.Extents.{ExcerptRead, excerpt, begins, stops, ends, goes_on, has_blank, more, last_behind, taking, taken, item_rest, value_rest}
+use Rattle.rust_cursor.specs.Nests.{flat, is_flat, is_mark, is_whole, nest_behind}
+use Rattle.rust_cursor.specs.Extents.{ExcerptRead, excerpt, begins, stops, ends, goes_on, opened_behind, block_at, has_blank, more, last_behind, taking, taken, item_rest, value_rest}
 use Rattle.rust_cursor.proofs.Scans.{taking_more, taking_end}
 
 -- what is left of an item that ends with a semicolon, or of one that may end with a block
@@ -16,14 +16,18 @@ rest_extent : Bool → Extent
 rest_extent true = extents.Value
 rest_extent false = extents.Item
 
-pub taking_rest : Bool → List ℕ → ℕ → Nest → Tokens → ExcerptRead × Tokens
-taking_rest is_value done last nest ts = taking (rest_extent is_value) done last nest ts
+-- the place where the last token ends, and the braces that were opened
+abbrev pub Behind : Type 0
+Behind = ℕ × Option Tokens
 
-pub item_rest_taking : (ts : Tokens) → item_rest ts ≡ taking_rest false [] ts.past flat ts
+pub taking_rest : Bool → List ℕ → Behind → Nest → Tokens → ExcerptRead × Tokens
+taking_rest is_value done s nest ts = taking (rest_extent is_value) done s.0 s.1 nest ts
+
+pub item_rest_taking : (ts : Tokens) → item_rest ts ≡ taking_rest false [] (ts.past, None) flat ts
 unfolding taking_rest rest_extent taken
 item_rest_taking ts = refl
 
-pub value_rest_taking : (ts : Tokens) → value_rest ts ≡ taking_rest true [] ts.past flat ts
+pub value_rest_taking : (ts : Tokens) → value_rest ts ≡ taking_rest true [] (ts.past, None) flat ts
 unfolding taking_rest rest_extent taken
 value_rest_taking ts = refl
 
@@ -35,9 +39,9 @@ and_next done ts = if is_at_doc ts then done else (if length done == 0 then done
 abbrev pub stops_here : Nest → Tokens → Bool
 stops_here nest ts = if nest.braces == 0 then symbol ts == 125 || begins nest ts else false
 
-abbrev pub ends_here : Bool → Nest → Tokens → Bool
-ends_here true nest ts = if is_flat nest then symbol ts == 59 else false
-ends_here false nest ts = if is_flat nest then symbol ts == 59 || symbol ts == 125 && (nest.angles == 0 || not (goes_on (bumped ts))) else false
+abbrev pub ends_here : Bool → Bool → Nest → Tokens → Bool
+ends_here true is_call nest ts = if is_flat nest then symbol ts == 59 else false
+ends_here false is_call nest ts = if is_flat nest then symbol ts == 59 || symbol ts == 125 && (not is_call && (nest.angles == 0 || not (goes_on (bumped ts)))) else false
 
 more_next : (is_value : Bool) (done : List ℕ) (last : ℕ) (ts : Tokens) → more (rest_extent is_value) last done ts ≡ and_next done ts
 unfolding more has_blank rest_extent
@@ -49,27 +53,27 @@ unfolding stops rest_extent
 stops_same true nest ts some = rw some refl
 stops_same false nest ts some = rw some refl
 
-ends_same : (is_value : Bool) (nest : Nest) (ts : Tokens) → ends (rest_extent is_value) nest ts ≡ ends_here is_value nest ts
+ends_same : (is_value is_call : Bool) (nest : Nest) (ts : Tokens) → ends (rest_extent is_value) is_call nest ts ≡ ends_here is_value is_call nest ts
 unfolding ends rest_extent
-ends_same true nest ts = refl
-ends_same false nest ts = refl
+ends_same true is_call nest ts = refl
+ends_same false is_call nest ts = refl
 
 -- a token is taken, and more
-pub rest_more : (is_value : Bool) (done : List ℕ) (last : ℕ) (nest next : Nest) (ts : Tokens) → is_empty ts ≡ false → stops_here nest ts ≡ false → nest_behind nest ts ≡ next → ends_here is_value next ts ≡ false
-    → taking_rest is_value done last nest ts ≡ taking_rest is_value (and_next done ts) (last_behind last ts) next (bumped ts)
+pub rest_more : (is_value : Bool) (done : List ℕ) (s : Behind) (nest next : Nest) (ts : Tokens) → is_empty ts ≡ false → stops_here nest ts ≡ false → nest_behind nest ts ≡ next → ends_here is_value (is_mark nest.before) next ts ≡ false
+    → taking_rest is_value done s nest ts ≡ taking_rest is_value (and_next done ts) (last_behind s.0 ts, opened_behind s.1 nest ts) next (bumped ts)
 unfolding taking_rest
-rest_more is_value done last nest next ts some stop n end =
+rest_more is_value done s nest next ts some stop n end =
     let e = rest_extent is_value in
-    taking_more e done last nest ts (stops_same is_value nest ts some ∙ stop) (ap (λ k. ends e k ts) n ∙ ends_same is_value next ts ∙ end)
-    ∙ ap (λ k. taking e (more e last done ts) (last_behind last ts) k (bumped ts)) n
-    ∙ ap (λ l. taking e l (last_behind last ts) next (bumped ts)) (more_next is_value done last ts)
+    taking_more e done s.0 s.1 nest ts (stops_same is_value nest ts some ∙ stop) (ap (λ k. ends e (is_mark nest.before) k ts) n ∙ ends_same is_value (is_mark nest.before) next ts ∙ end)
+    ∙ ap (λ k. taking e (more e s.0 done ts) (last_behind s.0 ts) (opened_behind s.1 nest ts) k (bumped ts)) n
+    ∙ ap (λ l. taking e l (last_behind s.0 ts) (opened_behind s.1 nest ts) next (bumped ts)) (more_next is_value done s.0 ts)
 
 -- a token is taken as the last
-pub rest_end : (is_value : Bool) (done : List ℕ) (last : ℕ) (nest next : Nest) (ts : Tokens) → is_empty ts ≡ false → stops_here nest ts ≡ false → nest_behind nest ts ≡ next → ends_here is_value next ts ≡ true
-    → taking_rest is_value done last nest ts ≡ (excerpt (and_next done ts) (is_whole next), bumped ts)
+pub rest_end : (is_value : Bool) (done : List ℕ) (s : Behind) (nest next : Nest) (ts : Tokens) → is_empty ts ≡ false → stops_here nest ts ≡ false → nest_behind nest ts ≡ next → ends_here is_value (is_mark nest.before) next ts ≡ true
+    → taking_rest is_value done s nest ts ≡ (excerpt (and_next done ts) (is_whole next) (block_at (opened_behind s.1 nest ts) ts), bumped ts)
 unfolding taking_rest
-rest_end is_value done last nest next ts some stop n end =
+rest_end is_value done s nest next ts some stop n end =
     let e = rest_extent is_value in
-    taking_end e done last nest ts (stops_same is_value nest ts some ∙ stop) (ap (λ k. ends e k ts) n ∙ ends_same is_value next ts ∙ end)
-    ∙ ap (λ k. (excerpt (more e last done ts) (is_whole k), bumped ts)) n
-    ∙ ap (λ l. (excerpt l (is_whole next), bumped ts)) (more_next is_value done last ts)
+    taking_end e done s.0 s.1 nest ts (stops_same is_value nest ts some ∙ stop) (ap (λ k. ends e (is_mark nest.before) k ts) n ∙ ends_same is_value (is_mark nest.before) next ts ∙ end)
+    ∙ ap (λ k. (excerpt (more e s.0 done ts) (is_whole k) (block_at (opened_behind s.1 nest ts) ts), bumped ts)) n
+    ∙ ap (λ l. (excerpt l (is_whole next) (block_at (opened_behind s.1 nest ts) ts), bumped ts)) (more_next is_value done s.0 ts)

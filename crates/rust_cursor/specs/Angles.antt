@@ -1,5 +1,5 @@
 -- What stands in angle brackets, and what is found beside them.
-use Rattle.std.specs.Prelude.{ℕ, ◌==◌, Bool, true, false, not, ◌&&◌, ◌||◌, if◌then◌else◌, Option, Some, List, [], ◌∷◌, codes}
+use Rattle.std.specs.Prelude.{ℕ, ◌==◌, nat_lt, Bool, true, false, not, ◌&&◌, ◌||◌, if◌then◌else◌, Option, Some, List, [], ◌∷◌, codes}
 use Rattle.std.specs.Str.{bytes_eq}
 use Rattle.rust_lexer.specs.declared.kind.TokenKind.{TokenKind}
 use Rattle.rust_lexer.specs.declared.kind.TokenKind.TheVariants as kinds
@@ -9,7 +9,7 @@ use Rattle.rust_cursor.specs.declared.cursor.generics.Reach.{Reach}
 use Rattle.rust_cursor.specs.declared.cursor.generics.Reach.TheVariants as reaches
 use Rattle.rust_cursor.specs.Tokens.{Tokens}
 use Rattle.rust_cursor.specs.Words.{symbol, word, kind, is_empty, is_at_end, bumped}
-use Rattle.rust_cursor.specs.Nests.{flat, is_flat, nest_behind}
+use Rattle.rust_cursor.specs.Nests.{flat, is_flat, is_mark, nest_behind}
 use Rattle.rust_cursor.specs.Extents.{begins}
 
 abbrev pub is_lifetime : Option TokenKind → Bool
@@ -29,22 +29,21 @@ is_lone_for ts = bytes_eq (word ts) (codes "for") && not (begins_binder (bumped 
 abbrev pub closes_around : Nest → Tokens → Bool
 closes_around nest ts = symbol ts == 125 || (nest.others == 0 && is_at_end ts)
 
--- an impl's header is over, in no bracket but so many angle brackets
-abbrev pub is_header_end : ℕ → Tokens → Bool
-is_header_end angles ts =
-    if symbol ts == 59 then true
-    else (if angles == 0 then symbol ts == 123 || (bytes_eq (word ts) (codes "where") || is_lone_for ts) else false)
+-- an item's block comes next, and not the braces of a macro call
+abbrev pub is_block : Nest → Tokens → Bool
+is_block nest ts = symbol ts == 123 && not (is_mark nest.before)
 
--- before an item's block nothing more stands
-abbrev pub is_block_end : ℕ → Tokens → Bool
-is_block_end angles ts = symbol ts == 59 || (angles == 0 && symbol ts == 123)
+-- an impl's header is over, in no bracket but angle brackets
+abbrev pub is_header_end : Nest → Tokens → Bool
+is_header_end nest ts =
+    if symbol ts == 59 then true
+    else (if nest.angles == 0 then is_block nest ts || (bytes_eq (word ts) (codes "where") || is_lone_for ts) else false)
 
 -- nothing more is passed over from here on, in no brace
 abbrev pub is_barred : Reach → Nest → Tokens → Bool
 is_barred reaches.Angles nest ts = closes_around nest ts || (begins nest ts || (nest.others == 0 && symbol ts == 59))
 is_barred reaches.Field nest ts = closes_around nest ts || (nest.others == 0 && (nest.angles == 0 && symbol ts == 44))
-is_barred reaches.Header nest ts = symbol ts == 125 || (begins nest ts || (nest.others == 0 && is_header_end nest.angles ts))
-is_barred reaches.Block nest ts = symbol ts == 125 || (begins nest ts || (nest.others == 0 && is_block_end nest.angles ts))
+is_barred reaches.Header nest ts = symbol ts == 125 || (begins nest ts || (nest.others == 0 && is_header_end nest ts))
 
 unfoldable pub is_reached : Reach → Nest → Tokens → Bool
 is_reached reach nest ts = if is_empty ts then true else (if nest.braces == 0 then is_barred reach nest ts else false)
@@ -54,7 +53,6 @@ unfoldable pub is_closed : Reach → Nest → Bool
 is_closed reaches.Angles nest = is_flat nest && nest.angles == 0
 is_closed reaches.Field nest = false
 is_closed reaches.Header nest = false
-is_closed reaches.Block nest = false
 
 -- goes on from here, at most as many times as a token is in this list
 abbrev pub reaching_from : Reach → Nest → Tokens → List Piece → Tokens
@@ -77,10 +75,10 @@ behind_angles ts = if symbol ts == 60 then reached reaches.Angles ts else ts
 abbrev pub behind_field : Tokens → Tokens
 behind_field = reached reaches.Field
 
--- what is left from an item's block on, or from where none comes
-unfoldable pub to_block : Tokens → Tokens
-to_block = reached reaches.Block
+-- what is left from the end of an impl's header on
+abbrev pub behind_header : Tokens → Tokens
+behind_header = reached reaches.Header
 
--- Behind `impl` and its generics: a `for` stands in no bracket before the items, and so before it a trait's name.
-unfoldable pub is_trait_impl : Tokens → Bool
-is_trait_impl ts = bytes_eq (word (reached reaches.Header ts)) (codes "for")
+-- Behind `impl` and its generics: a `for` stands in no bracket before the items and in the impl, which ends here; and so before it a trait's name.
+unfoldable pub is_trait_impl : ℕ → Tokens → Bool
+is_trait_impl end ts = bytes_eq (word (behind_header ts)) (codes "for") && nat_lt (behind_header ts).past end

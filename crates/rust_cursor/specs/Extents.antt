@@ -1,5 +1,5 @@
 -- The texts of what is taken: what stands in brackets, and what is left of an item.
-use Rattle.std.specs.Prelude.{ℕ, ◌==◌, Bool, true, false, not, ◌&&◌, ◌||◌, if◌then◌else◌, List, [], ◌∷◌, ◌++◌, length, string_bytes, codes}
+use Rattle.std.specs.Prelude.{ℕ, ◌==◌, Bool, true, false, not, ◌&&◌, ◌||◌, if◌then◌else◌, Option, Some, None, List, [], ◌∷◌, ◌++◌, length, string_bytes, codes}
 use Rattle.std.specs.Str.{bytes_eq}
 use Rattle.rust_lexer.specs.Piece.{Piece}
 use Rattle.rust_cursor.specs.declared.cursor.nest.Before.{Before}
@@ -11,7 +11,7 @@ use Rattle.rust_cursor.specs.declared.cursor.texts.Extent.TheVariants as extents
 use Rattle.rust_cursor.specs.Tokens.{Tokens}
 use Rattle.rust_cursor.specs.Reader.{Reader, ◌>>=◌, pure}
 use Rattle.rust_cursor.specs.Words.{symbol, word, text, at, is_empty, is_at_identifier, is_at_doc, is_pair, bumped}
-use Rattle.rust_cursor.specs.Nests.{flat_behind, is_flat, is_whole, nest_behind}
+use Rattle.rust_cursor.specs.Nests.{flat_behind, is_flat, is_mark, is_whole, nest_behind}
 
 -- ---- what begins an item
 
@@ -77,16 +77,24 @@ stops e nest ts = if is_empty ts then true else (if nest.braces == 0 then stops_
 abbrev pub goes_on : Tokens → Bool
 goes_on ts = symbol ts == 62 || symbol ts == 44
 
--- the next token is the last, if no bracket but so many angle brackets are open behind it
-abbrev pub ends_flat : Extent → ℕ → Tokens → Bool
-ends_flat extents.Tree angles ts = true
-ends_flat extents.Group angles ts = true
-ends_flat extents.Value angles ts = symbol ts == 59
-ends_flat extents.Item angles ts = symbol ts == 59 || (symbol ts == 125 && (angles == 0 || not (goes_on (bumped ts))))
-ends_flat extents.Macro angles ts = symbol ts == 59 || symbol ts == 125
+-- The next token is the last, if no bracket but so many angle brackets are open behind it; the braces of a macro call end no item.
+abbrev pub ends_flat : Extent → Bool → ℕ → Tokens → Bool
+ends_flat extents.Tree is_call angles ts = true
+ends_flat extents.Group is_call angles ts = true
+ends_flat extents.Value is_call angles ts = symbol ts == 59
+ends_flat extents.Item is_call angles ts = symbol ts == 59 || (symbol ts == 125 && (not is_call && (angles == 0 || not (goes_on (bumped ts)))))
+ends_flat extents.Macro is_call angles ts = symbol ts == 59 || symbol ts == 125
 
-unfoldable pub ends : Extent → Nest → Tokens → Bool
-ends e behind ts = if is_flat behind then ends_flat e behind.angles ts else false
+unfoldable pub ends : Extent → Bool → Nest → Tokens → Bool
+ends e is_call behind ts = if is_flat behind then ends_flat e is_call behind.angles ts else false
+
+-- the braces that were opened last in no other, if there are some
+abbrev pub opened_behind : Option Tokens → Nest → Tokens → Option Tokens
+opened_behind opened nest ts = if nest.braces == 0 && symbol ts == 123 then Some ts else opened
+
+-- those that the last token closes
+abbrev pub block_at : Option Tokens → Tokens → Option Tokens
+block_at opened ts = if symbol ts == 125 then opened else None
 
 -- ---- the text
 
@@ -108,28 +116,30 @@ more e last done ts =
 unfoldable pub last_behind : ℕ → Tokens → ℕ
 last_behind last ts = if is_at_doc ts then last else (bumped ts).past
 
--- A text, and whether it ends with its end and its brackets are closed.
+-- A text, whether it ends with its end and its brackets are closed, and what is left from the `{` on of the braces that it ends with.
 pub record ExcerptRead : Type 0 where
   pub text : List ℕ
   pub is_ended : Bool
+  pub block : Option Tokens
 
-abbrev pub excerpt : List ℕ → Bool → ExcerptRead
-excerpt text is_ended = record { text = text; is_ended = is_ended }
+abbrev pub excerpt : List ℕ → Bool → Option Tokens → ExcerptRead
+excerpt text is_ended block = record { text = text; is_ended = is_ended; block = block }
 
 abbrev pub excerpt_view : Excerpt → ExcerptRead
-excerpt_view e = excerpt (string_bytes e.text) e.is_ended
+excerpt_view e = excerpt (string_bytes e.text) e.is_ended e.block
 
 -- goes on from here, at most as many times as a token is in this list
-abbrev pub taking_from : Extent → List ℕ → ℕ → Nest → Tokens → List Piece → ExcerptRead × Tokens
-taking_from e done last nest ts [] = (excerpt done false, ts)
-taking_from e done last nest ts (_ ∷ more_left) =
-    if stops e nest ts then (excerpt done false, ts)
-    else (if ends e (nest_behind nest ts) ts then (excerpt (more e last done ts) (is_whole (nest_behind nest ts)), bumped ts)
-    else taking_from e (more e last done ts) (last_behind last ts) (nest_behind nest ts) (bumped ts) more_left)
+abbrev pub taking_from : Extent → List ℕ → ℕ → Option Tokens → Nest → Tokens → List Piece → ExcerptRead × Tokens
+taking_from e done last opened nest ts [] = (excerpt done false None, ts)
+taking_from e done last opened nest ts (_ ∷ more_left) =
+    if stops e nest ts then (excerpt done false None, ts)
+    else (if ends e (is_mark nest.before) (nest_behind nest ts) ts
+    then (excerpt (more e last done ts) (is_whole (nest_behind nest ts)) (block_at (opened_behind opened nest ts) ts), bumped ts)
+    else taking_from e (more e last done ts) (last_behind last ts) (opened_behind opened nest ts) (nest_behind nest ts) (bumped ts) more_left)
 
--- goes on taking where this stands, behind a text
-unfoldable pub taking : Extent → List ℕ → ℕ → Nest → Reader ExcerptRead
-taking e done last nest ts = taking_from e done last nest ts ts.left
+-- goes on taking where this stands, behind a text and braces that were opened
+unfoldable pub taking : Extent → List ℕ → ℕ → Option Tokens → Nest → Reader ExcerptRead
+taking e done last opened nest ts = taking_from e done last opened nest ts ts.left
 
 -- what comes first stands behind this: in the brackets of a macro's parameters any tokens may stand
 abbrev pub first_before : Extent → Before
@@ -137,7 +147,7 @@ first_before extents.Macro = befores.Mark
 first_before _ = befores.End
 
 unfoldable pub taken : Extent → Reader ExcerptRead
-taken e ts = taking e [] ts.past (flat_behind (first_before e)) ts
+taken e ts = taking e [] ts.past None (flat_behind (first_before e)) ts
 
 abbrev pub text_taken : Extent → Reader (List ℕ)
 text_taken e = do

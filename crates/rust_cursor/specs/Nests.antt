@@ -39,13 +39,19 @@ abbrev pub is_mark : Before → Bool
 is_mark befores.Mark = true
 is_mark _ = false
 
+-- a bracket that comes next is that of a macro call or an attribute
+abbrev pub lets_any : Before → Bool
+lets_any befores.Mark = true
+lets_any befores.Hash = true
+lets_any _ = false
+
 abbrev pub free_open : Nest → ℕ
-free_open nest = if nest.free == 0 && is_mark nest.before then nest.others + 1 else nest.free
+free_open nest = if nest.free == 0 && lets_any nest.before then nest.others + 1 else nest.free
 
 abbrev pub free_closed : Nest → ℕ
 free_closed nest = if nest.others == nest.free then 0 else nest.free
 
--- The place among these of the first behind `!` or `#`, or 0: any tokens may stand in the bracket of a macro call or an attribute.
+-- The place among these of the first that is a macro call's or an attribute's, or 0: any tokens may stand in it.
 abbrev pub free_behind : Nest → ℕ → ℕ
 free_behind nest c = if opens_other c then free_open nest else (if closes_other c then free_closed nest else (if c == 125 then 0 else nest.free))
 
@@ -83,15 +89,37 @@ is_literal_kind _ = false
 abbrev pub can_end : Tokens → Bool
 can_end ts = if is_at_identifier ts then not (leads_on (word ts)) else is_literal_kind (kind ts) || is_at_end ts
 
+-- a `!` is a macro call's behind a name, and an inner attribute's behind `#`
+abbrev pub mark_behind : Before → Before
+mark_behind befores.End = befores.Mark
+mark_behind befores.Hash = befores.Hash
+mark_behind _ = befores.Other
+
 abbrev pub symbol_before : Before → Tokens → Before
 symbol_before before ts =
     if symbol ts == 45 || symbol ts == 61 then befores.Dash
-    else (if symbol ts == 33 || symbol ts == 35 then befores.Mark
-    else (if symbol ts == 62 then (if is_arrow before ts then befores.Other else befores.Angle) else befores.Other))
+    else (if symbol ts == 33 then mark_behind before
+    else (if symbol ts == 35 then befores.Hash
+    else (if symbol ts == 62 then (if is_arrow before ts then befores.Other else befores.Angle) else befores.Other)))
 
 -- what the next token is for the one behind it; documentation is nothing
 abbrev pub before_behind : Before → Tokens → Before
 before_behind before ts = if is_at_doc ts then before else (if can_end ts then befores.End else symbol_before before ts)
+
+-- behind the bracket of a macro call a type or a value can end, behind that of an attribute none does
+abbrev pub behind_free : Before → Before
+behind_free befores.Hash = befores.Other
+behind_free _ = befores.End
+
+-- The same in no brace: in the bracket of a macro call or an attribute, and in braces, it stays what it was before them.
+abbrev pub before_outside : Nest → Tokens → Before
+before_outside nest ts =
+    if symbol ts == 123 || not (free_behind nest (symbol ts) == 0) then nest.before
+    else (if nest.free == 0 then before_behind nest.before ts else behind_free nest.before)
+
+-- behind the last brace that closes
+abbrev pub behind_braces : Nest → Before
+behind_braces nest = if nest.free == 0 then befores.End else nest.before
 
 -- ---- nests
 
@@ -120,7 +148,7 @@ nest_outside nest ts = record {
   angles = if nest.others == 0 then angles_behind nest ts else nest.angles;
   inner = nest.inner;
   is_torn = nest.is_torn || closes_none nest.others (symbol ts);
-  before = before_behind nest.before ts;
+  before = before_outside nest ts;
 }
 
 -- Behind the next token, in braces. Other brackets in them are counted by themselves, and a brace closes whatever their number is.
@@ -132,7 +160,7 @@ nest_inside nest ts = record {
   angles = nest.angles;
   inner = count_behind nest.inner (symbol ts);
   is_torn = nest.is_torn || closes_none nest.inner (symbol ts);
-  before = if symbol ts == 125 then befores.End else befores.Other;
+  before = if nest.braces == 1 && symbol ts == 125 then behind_braces nest else nest.before;
 }
 
 -- where what stands behind the next token is

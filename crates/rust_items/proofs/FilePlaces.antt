@@ -56,7 +56,7 @@ held_ids n (listed_extern_block m is) ids = refl
 held_ids n _ ids = refl
 
 numbered_place : (from to : ℕ) (i : ItemView) (p : ItemPlace) (id : FileAstId) (ids : List FileAstId) → id.kind ≡ p.id.kind → IsPlace from to i p
-    → IsPlace from to (held_with_ids (record { hash = id.hash; number = id.number }) i ids).0 (record { id = id; range = p.range; name = p.name })
+    → IsPlace from to (held_with_ids (record { hash = id.hash; number = id.number }) i ids).0 (record { id = id; range = p.range; name = p.name; body = p.body })
 numbered_place from to i p id ids same place =
     let n : Numbers = record { hash = id.hash; number = id.number } in
     record {
@@ -65,6 +65,7 @@ numbered_place from to i p id ids same place =
       some = place.some;
       ends = place.ends;
       name = place.name;
+      body = place.body;
     }
 
 head_kind : (k l : AstIdKind) (ks ls : List AstIdKind) → k ∷ ks ≡ l ∷ ls → k ≡ l

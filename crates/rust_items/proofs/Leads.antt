@@ -7,11 +7,11 @@ use Rattle.hir_input.specs.declared.ids.AstIdKind.{AstIdKind}
 use Rattle.hir_input.specs.declared.ids.FileAstId.{FileAstId}
 use Rattle.hir_input.specs.declared.ast.Visibility.{Visibility}
 use Rattle.hir_input.specs.Attr.{MetaView}
-use Rattle.hir_input.specs.Syntax.{PlainKind, union_kind, enum_kind, trait_kind, macro_def_kind, no_items}
+use Rattle.hir_input.specs.Syntax.{PlainKind, union_kind, enum_kind, trait_kind, no_items}
 use Rattle.rust_cursor.specs.Tokens.{Tokens}
 use Rattle.rust_cursor.specs.Words.{symbol, word, kind, text, at, is_empty, is_at_open, bumped}
 use Rattle.rust_cursor.specs.Extents.{ExcerptRead, tree_body}
-use Rattle.rust_cursor.proofs.Leads.{LeadsTo, here, further, through, Forwards, when, bumped_leads, eat_leads, eat_word_leads, behind_tree_leads, taken_leads_on, Takes, takes, takes_leads, takes_behind, takes_before, symbol_some, word_none}
+use Rattle.rust_cursor.proofs.Leads.{LeadsTo, here, further, through, Forwards, when, bumped_leads, eat_leads, eat_word_leads, behind_tree_leads, taken_leads_on, Takes, takes, takes_leads, takes_behind, takes_before, symbol_some, word_none, HasBlock, no_block, block, taken_block}
 use Rattle.rust_paths.specs.declared.names.TextRange.{TextRange}
 use Rattle.rust_paths.specs.Names.{Placed, placed_name}
 use Rattle.rust_paths.specs.Paths.{path}
@@ -21,7 +21,7 @@ use Rattle.rust_leaves.specs.declared.head.Head.{Head}
 use Rattle.rust_leaves.specs.declared.head.Head.TheVariants as heads
 use Rattle.rust_leaves.specs.Heads.{is_literal_kind, behind_abi, is_modifier, behind_modifier, behind_modifiers_from, behind_modifiers, head_by, behind_head, head, is_behind_others, behind_others_from, behind_others}
 use Rattle.rust_cursor.specs.Words.{is_at_end}
-use Rattle.rust_leaves.specs.Leaves.{LeafRead, name_read, named, named_or, item_end, macro_end, value_end, semicolon_end, call_end}
+use Rattle.rust_leaves.specs.Leaves.{LeafRead, range_to, name_read, named, named_or, item_end, macro_end, value_end, semicolon_end, call_end}
 use Rattle.rust_leaves.specs.Kinds.{function, block_item, union_item, enumeration, trait_item, macro_def, type_alias, static_value, constant, structure, implementation, crate_item, use_declaration, macro_definition, is_called, invocation, leaf_by, leaf}
 use Rattle.rust_leaves.specs.Fronts.{FrontRead, front_behind, front}
 use Rattle.rust_items.specs.Places.{id_of, held}
@@ -156,6 +156,40 @@ unfolding named_or
 named_or_named keyword some ts =
     when (bytes_eq (word ts) keyword) (λ e. rw e (by_token ts here (word_some keyword some ts e) here)) (λ e. rw e (named_named ts))
 
+-- ---- braces
+
+-- the braces that an item ends with: their `{` is a token between what was given and what is left, and another comes behind it
+pub data IsBraced : Tokens → Tokens → Option TextRange → Type 0 where
+  unbraced : {ts us : Tokens} → IsBraced ts us None
+  braced : {ts us : Tokens} (b : Tokens) → LeadsTo ts b → is_empty b ≡ false → Takes (bumped b) us → IsBraced ts us (Some (record { start = at b; end = us.past }))
+
+pub braces_behind : {ts us vs : Tokens} {range : Option TextRange} → LeadsTo ts us → IsBraced us vs range → IsBraced ts vs range
+braces_behind p unbraced = unbraced
+braces_behind p (braced b before some t) = braced b (through p before) some t
+
+block_braced : {ts us : Tokens} {o : Option Tokens} → HasBlock ts us o → IsBraced ts us (range_to us.past o)
+block_braced no_block = unbraced
+block_braced (block b before some t) = braced b before some t
+
+item_end_braced : (ts : Tokens) → IsBraced ts (item_end ts).1 (item_end ts).0.braces
+unfolding item_end
+item_end_braced ts = block_braced (taken_block _ ts)
+
+macro_end_braced : (ts : Tokens) → IsBraced ts (macro_end ts).1 (macro_end ts).0.braces
+unfolding macro_end
+macro_end_braced ts = block_braced (taken_block _ ts)
+
+value_end_braced : (ts : Tokens) → IsBraced ts (value_end ts).1 (value_end ts).0.braces
+unfolding value_end
+value_end_braced ts = block_braced (taken_block _ ts)
+
+call_end_braced : (ts : Tokens) → IsBraced ts (call_end ts).1 (call_end ts).0.braces
+unfolding call_end
+call_end_braced ts =
+    when (is_at_open ts)
+    (λ e. rw e (when (symbol ts == 123) (λ f. rw f (block_braced (taken_block _ ts))) (λ f. rw f unbraced)))
+    (λ e. rw e unbraced)
+
 -- ---- items that hold none
 
 -- an id before it has its hash and its number
@@ -167,14 +201,15 @@ pub record IsLeaf (ts us : Tokens) (l : LeafRead) : Type 0 where
   pub id : id_of l.item ≡ Some (blank l.kind)
   pub alone : held l.item ≡ no_items
   pub name : IsNamed ts us l.named
+  pub body : IsBraced ts us l.body
 
 module _ (start : ℕ) (attrs : List MetaView) (v : Option Visibility) (ts : Tokens) where
   function_leaf : IsLeaf ts (function start attrs v ts).1 (function start attrs v ts).0
   unfolding function
-  function_leaf = record { leads = through (named_leads ts) (item_end_leads _); id = refl; alone = refl; name = name_before (named_named ts) (item_end_leads _) }
+  function_leaf = record { leads = through (named_leads ts) (item_end_leads _); id = refl; alone = refl; name = name_before (named_named ts) (item_end_leads _); body = braces_behind (named_leads ts) (item_end_braced _) }
 
   block_leaf : (k : PlainKind) → IsLeaf ts (block_item k attrs v ts).1 (block_item k attrs v ts).0
-  block_leaf k = record { leads = through (named_leads ts) (item_end_leads _); id = refl; alone = refl; name = name_before (named_named ts) (item_end_leads _) }
+  block_leaf k = record { leads = through (named_leads ts) (item_end_leads _); id = refl; alone = refl; name = name_before (named_named ts) (item_end_leads _); body = braces_behind (named_leads ts) (item_end_braced _) }
 
   union_leaf : IsLeaf ts (union_item attrs v ts).1 (union_item attrs v ts).0
   unfolding union_item
@@ -190,11 +225,11 @@ module _ (start : ℕ) (attrs : List MetaView) (v : Option Visibility) (ts : Tok
 
   macro_def_leaf : IsLeaf ts (macro_def attrs v ts).1 (macro_def attrs v ts).0
   unfolding macro_def
-  macro_def_leaf = record { leads = through (named_leads ts) (macro_end_leads _); id = refl; alone = refl; name = name_before (named_named ts) (macro_end_leads _) }
+  macro_def_leaf = record { leads = through (named_leads ts) (macro_end_leads _); id = refl; alone = refl; name = name_before (named_named ts) (macro_end_leads _); body = braces_behind (named_leads ts) (macro_end_braced _) }
 
   type_alias_leaf : IsLeaf ts (type_alias attrs v ts).1 (type_alias attrs v ts).0
   unfolding type_alias
-  type_alias_leaf = record { leads = through (named_leads ts) (value_end_leads _); id = refl; alone = refl; name = name_before (named_named ts) (value_end_leads _) }
+  type_alias_leaf = record { leads = through (named_leads ts) (value_end_leads _); id = refl; alone = refl; name = name_before (named_named ts) (value_end_leads _); body = braces_behind (named_leads ts) (value_end_braced _) }
 
   static_leaf : IsLeaf ts (static_value attrs v ts).1 (static_value attrs v ts).0
   unfolding static_value
@@ -203,6 +238,7 @@ module _ (start : ℕ) (attrs : List MetaView) (v : Option Visibility) (ts : Tok
     id = refl;
     alone = refl;
     name = name_behind (eat_word_leads _ ts) (name_before (named_named _) (value_end_leads _));
+    body = braces_behind (through (eat_word_leads _ ts) (named_leads _)) (value_end_braced _);
   }
 
   const_leaf : IsLeaf ts (constant attrs v ts).1 (constant attrs v ts).0
@@ -212,15 +248,16 @@ module _ (start : ℕ) (attrs : List MetaView) (v : Option Visibility) (ts : Tok
     id = refl;
     alone = refl;
     name = name_before (named_named ts) (through (eat_word_leads _ _) (value_end_leads _));
+    body = braces_behind (through (named_leads ts) (eat_word_leads _ _)) (value_end_braced _);
   }
 
   struct_leaf : IsLeaf ts (structure attrs v ts).1 (structure attrs v ts).0
   unfolding structure
-  struct_leaf = record { leads = through (named_leads ts) (item_end_leads _); id = refl; alone = refl; name = name_before (named_named ts) (item_end_leads _) }
+  struct_leaf = record { leads = through (named_leads ts) (item_end_leads _); id = refl; alone = refl; name = name_before (named_named ts) (item_end_leads _); body = braces_behind (named_leads ts) (item_end_braced _) }
 
   impl_leaf : IsLeaf ts (implementation start attrs ts).1 (implementation start attrs ts).0
   unfolding implementation
-  impl_leaf = record { leads = item_end_leads ts; id = refl; alone = refl; name = nameless }
+  impl_leaf = record { leads = item_end_leads ts; id = refl; alone = refl; name = nameless; body = item_end_braced ts }
 
   crate_leaf : IsLeaf ts (crate_item attrs v ts).1 (crate_item attrs v ts).0
   unfolding crate_item
@@ -229,11 +266,12 @@ module _ (start : ℕ) (attrs : List MetaView) (v : Option Visibility) (ts : Tok
     id = refl;
     alone = refl;
     name = name_before (named_or_named (codes "self") refl ts) (through (rename_leads _) (eat_leads _ _));
+    body = unbraced;
   }
 
   use_leaf : IsLeaf ts (use_declaration attrs v ts).1 (use_declaration attrs v ts).0
   unfolding use_declaration
-  use_leaf = record { leads = through (use_tree_leads ts) (eat_leads _ _); id = refl; alone = refl; name = nameless }
+  use_leaf = record { leads = through (use_tree_leads ts) (eat_leads _ _); id = refl; alone = refl; name = nameless; body = unbraced }
 
   macro_rules_leaf : IsLeaf ts (macro_definition attrs ts).1 (macro_definition attrs ts).0
   unfolding macro_definition
@@ -242,6 +280,7 @@ module _ (start : ℕ) (attrs : List MetaView) (v : Option Visibility) (ts : Tok
     id = refl;
     alone = refl;
     name = name_before (named_or_named (codes "try") refl ts) (call_end_leads _);
+    body = braces_behind (named_or_leads (codes "try") ts) (call_end_braced _);
   }
 
 -- an item of tokens, one at least
@@ -252,7 +291,7 @@ pub record IsTaken (ts us : Tokens) (l : LeafRead) : Type 0 where
 leaf_taken : {ts us vs : Tokens} {l : LeafRead} → Takes ts us → IsLeaf us vs l → IsTaken ts vs l
 leaf_taken t l = record {
   takes = takes_before t l.leads;
-  leaf = record { leads = through (takes_leads t) l.leads; id = l.id; alone = l.alone; name = name_behind (takes_leads t) l.name };
+  leaf = record { leads = through (takes_leads t) l.leads; id = l.id; alone = l.alone; name = name_behind (takes_leads t) l.name; body = braces_behind (takes_leads t) l.body };
 }
 
 -- an item, or none
@@ -270,7 +309,7 @@ invocation_found attrs ts us p =
     when (is_some (path us).0 && is_called (path us).1)
     (λ e. rw e (record {
       takes = takes (path us).1 (through p (path_leads us)) (called_some (path us).1 (and_parts (is_some (path us).0) (is_called (path us).1) e).1) (call_end_leads _);
-      leaf = record { leads = through p (through (path_leads us) (further (call_end_leads _))); id = refl; alone = refl; name = nameless };
+      leaf = record { leads = through p (through (path_leads us) (further (call_end_leads _))); id = refl; alone = refl; name = nameless; body = braces_behind (through p (through (path_leads us) (further here))) (call_end_braced _) };
     }))
     (λ e. rw e p)
 

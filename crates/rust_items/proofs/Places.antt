@@ -27,8 +27,8 @@ use Rattle.rust_leaves.specs.Leaves.{LeafRead, NameRead, no_name, named}
 use Rattle.rust_leaves.specs.Kinds.{node, named_node}
 use Rattle.rust_leaves.specs.Fronts.{FrontRead, front}
 use Rattle.rust_items.specs.Items.{BlockRead, and_flaw, and_item, and_leaf, and_parent, leaf_found, leaf_turn, finding_from, finding, is_list_end, block_of, as_extern, extern_kept, extern_found, extern_turn, extern_inside, extern_block, one_more, unmatched, inside_unless, module_with, by_head, turn_with, inside, turn, depth_of, items}
-use Rattle.rust_items.specs.Places.{id_of, held, IsNameIn, IsPlace, ArePlaces, nothing, placed}
-use Rattle.rust_items.proofs.Leads.{IsNamed, nameless, by_token, name_behind, name_before, blank, IsLeaf, IsTaken, LeafFound, TakesBy, front_takes, front_start, named_leads, named_named, behind_others_leads}
+use Rattle.rust_items.specs.Places.{id_of, held, IsNameIn, IsBodyIn, IsPlace, ArePlaces, nothing, placed}
+use Rattle.rust_items.proofs.Leads.{IsNamed, nameless, by_token, name_behind, name_before, IsBraced, unbraced, braced, blank, IsLeaf, IsTaken, LeafFound, TakesBy, front_takes, front_start, named_leads, named_named, behind_others_leads}
 use Rattle.rust_items.proofs.Leads as leads
 
 -- ---- places
@@ -44,7 +44,7 @@ widened low high l h nothing = nothing
 widened low high l h (placed {to = to} {p = p} place inside behind) =
     let begins = place.begins in
     let ends = place.ends in
-    placed (record { id = place.id; begins = omega arith; some = place.some; ends = omega arith; name = place.name }) inside (widened p.range.end high (omega arith) h behind)
+    placed (record { id = place.id; begins = omega arith; some = place.some; ends = omega arith; name = place.name; body = place.body }) inside (widened p.range.end high (omega arith) h behind)
 
 -- more items behind
 joined : (from mid low to : ℕ) (xs ys : List ItemView) (ps ms rest : List ItemPlace) → from ≤ low → mid ≤ low → mid ≤ to
@@ -53,7 +53,7 @@ joined from mid low to [] ys ps ms rest a b c nothing q = widened from to a (ome
 joined from mid low to (x ∷ xs) ys ps ms rest a b c (placed {p = p} place inside behind) q =
     let begins = place.begins in
     let ends = place.ends in
-    placed (record { id = place.id; begins = place.begins; some = place.some; ends = omega arith; name = place.name }) inside (joined p.range.end mid low to xs ys _ ms rest (omega arith) b c behind q)
+    placed (record { id = place.id; begins = place.begins; some = place.some; ends = omega arith; name = place.name; body = place.body }) inside (joined p.range.end mid low to xs ys _ ms rest (omega arith) b c behind q)
 
 -- there are no more items than bytes
 pub few : {from to : ℕ} {is : ItemViews} {ps rest : List ItemPlace} → ArePlaces from to is ps rest → length ps ≤ length rest + (to - from)
@@ -75,7 +75,7 @@ abbrev pub place_kind : ItemPlace → AstIdKind
 place_kind p = p.id.kind
 
 abbrev pub place_span : ItemPlace → ItemSpan
-place_span p = record { range = p.range; name = p.name }
+place_span p = record { range = p.range; name = p.name; body = p.body }
 
 -- these items were found, with their places, but for the hashes and numbers of their ids
 pub record Adds (f g : Found) (ps : List ItemPlace) : Type 0 where
@@ -115,12 +115,12 @@ adds_all f g ps a = record {
 }
 
 -- the place of an item before its id has its hash and its number
-abbrev pub unnumbered : AstIdKind → ℕ → ℕ → Option TextRange → ItemPlace
-unnumbered kind start end name = record { id = blank kind; range = record { start = start; end = end }; name = name }
+abbrev pub unnumbered : AstIdKind → ℕ → ℕ → Option TextRange → Option TextRange → ItemPlace
+unnumbered kind start end body name = record { id = blank kind; range = record { start = start; end = end }; name = name; body = body }
 
-adds_item : (f : Found) (depth start end : ℕ) (kind : AstIdKind) (hashed : List ℕ) (name : Option TextRange) (is_ended : Bool)
-    → Adds f (and_item depth start end kind hashed name is_ended f) (unnumbered kind start end name ∷ [])
-adds_item f depth start end kind hashed name is_ended =
+adds_item : (f : Found) (depth start end : ℕ) (body : Option TextRange) (kind : AstIdKind) (hashed : List ℕ) (name : Option TextRange) (is_ended : Bool)
+    → Adds f (and_item depth start end body kind hashed name is_ended f) (unnumbered kind start end body name ∷ [])
+adds_item f depth start end body kind hashed name is_ended =
     adds_flaw is_ended _ start (record { rows = map-append row_kind f.rows (record { depth = depth; kind = kind; name = hashed } ∷ []); spans = refl })
 
 -- ---- what a reader of items finds
@@ -195,18 +195,28 @@ name_in end ts us (Some range) laid (by_token t before some later) =
     let last = behind end later next.laid in
     (first.place, strict, last.past)
 
-place_is : (end : ℕ) (ts us : Tokens) (i : ItemView) (k : AstIdKind) (name : Option TextRange) → IsLaid end ts → Takes ts us → id_of i ≡ Some (blank k) → IsNamed ts us name
-    → IsPlace ts.past us.past i (unnumbered k (at ts) us.past name)
-place_is end ts us i k name laid t e n =
-    record { id = e; begins = at_behind end ts laid; some = takes_strict end t laid; ends = omega arith; name = name_in end ts us name laid n }
+body_in : (end : ℕ) (ts us : Tokens) (body : Option TextRange) → IsLaid end ts → IsBraced ts us body → IsBodyIn (record { start = at ts; end = us.past }) body
+body_in end ts us None laid n = tt
+body_in end ts us (Some range) laid (braced b before some t) =
+    let first = behind end before laid in
+    let brace = taken_behind end b first.laid some in
+    let next = behind end (bumped_leads b) first.laid in
+    let inside = at_behind end (bumped b) next.laid in
+    let strict = takes_strict end t next.laid in
+    (first.place, omega arith, refl)
+
+place_is : (end : ℕ) (ts us : Tokens) (i : ItemView) (k : AstIdKind) (body name : Option TextRange) → IsLaid end ts → Takes ts us → id_of i ≡ Some (blank k) → IsNamed ts us name → IsBraced ts us body
+    → IsPlace ts.past us.past i (unnumbered k (at ts) us.past body name)
+place_is end ts us i k body name laid t e n b =
+    record { id = e; begins = at_behind end ts laid; some = takes_strict end t laid; ends = omega arith; name = name_in end ts us name laid n; body = body_in end ts us body laid b }
 
 -- an item that holds none
 leaf_is : (end : ℕ) (ts us : Tokens) (depth : ℕ) (l : LeafRead) (f : Found) → IsLaid end ts → IsTaken ts us l → AreFound ts us f (and_leaf depth (at ts) us.past l f) (item_and l.item no_items)
 leaf_is end ts us depth l f laid t = record {
   leads = takes_leads t.takes;
-  places = unnumbered l.kind (at ts) us.past l.named ∷ [];
-  adds = adds_problem_at _ l.too_deep (adds_item f depth (at ts) us.past l.kind l.name l.named l.is_ended);
-  are = placed (place_is end ts us l.item l.kind l.named laid t.takes t.leaf.id t.leaf.name) (rw t.leaf.alone nothing) nothing;
+  places = unnumbered l.kind (at ts) us.past l.body l.named ∷ [];
+  adds = adds_problem_at _ l.too_deep (adds_item f depth (at ts) us.past l.body l.kind l.name l.named l.is_ended);
+  are = placed (place_is end ts us l.item l.kind l.body l.named laid t.takes t.leaf.id t.leaf.name t.leaf.body) (rw t.leaf.alone nothing) nothing;
 }
 
 -- the items of a block, if there is one
@@ -221,9 +231,9 @@ parent_is end ts ms us f g depth k n is_ended i is laid t b e same name =
     let strict = takes_strict end t laid in
     record {
       leads = through (takes_leads t) b.leads;
-      places = unnumbered k (at ts) us.past n.range ∷ b.places;
-      adds = adds_more (adds_item f depth (at ts) us.past k n.hashed n.range is_ended) (adds_all _ g b.places b.adds);
-      are = placed (place_is end ts us i k n.range laid (takes_before t b.leads) e (name_before name b.leads)) (rw same (widened (at ts + 1) us.past (omega arith) (omega arith) b.are)) nothing;
+      places = unnumbered k (at ts) us.past None n.range ∷ b.places;
+      adds = adds_more (adds_item f depth (at ts) us.past None k n.hashed n.range is_ended) (adds_all _ g b.places b.adds);
+      are = placed (place_is end ts us i k None n.range laid (takes_before t b.leads) e (name_before name b.leads) unbraced) (rw same (widened (at ts + 1) us.past (omega arith) (omega arith) b.are)) nothing;
     }
 
 -- ---- items that hold none

@@ -1,7 +1,6 @@
 -- Blocks: statements one after another, and what stands last.
-use Rattle.std.specs.Prelude.{◌≡◌, ℕ, zero, suc, Bool, true, false, not, ◌==◌, ◌&&◌, ◌||◌, if◌then◌else◌, Option, Some, None, List, [], ◌∷◌, ◌++◌, codes}
+use Rattle.std.specs.Prelude.{◌≡◌, ℕ, zero, suc, Bool, true, not, ◌==◌, ◌&&◌, ◌||◌, if◌then◌else◌, Option, Some, None, List, [], ◌∷◌, ◌++◌, codes}
 use Rattle.std.specs.Str.{bytes_eq}
-use Rattle.hir_input.specs.declared.ast.BlockExpr.{BlockExpr}
 use Rattle.hir_input.specs.declared.ids.AstIdKind.TheVariants as kind
 use Rattle.hir_input.specs.declared.ids.FileAstId.{FileAstId}
 use Rattle.hir_input.specs.Attr.{MetaView}
@@ -11,13 +10,16 @@ use Rattle.rust_cursor.specs.Reader.{Reader}
 use Rattle.rust_cursor.specs.Words.{symbol, word, at, eat, is_at_end, bumped}
 use Rattle.rust_cursor.specs.Elements.{most, beyond}
 use Rattle.rust_ids.specs.Ids.{AreIds}
+use Rattle.rust_paths.specs.declared.names.TextRange.{TextRange}
 use Rattle.rust_metas.specs.Attributes.{outer_attributes, inner_attributes}
-use Rattle.rust_leaves.specs.Fronts.{FrontRead, front_behind}
+use Rattle.rust_leaves.specs.Fronts.{front_behind}
 use Rattle.rust_leaves.specs.Statements.{CallRead, is_item, statement, statement_call}
+use Rattle.rust_items.specs.declared.blocks.SourceBlock.{SourceBlock}
 use Rattle.rust_items.specs.declared.log.ProblemKind.TheVariants as problem
-use Rattle.rust_items.specs.Found.{Found, Finder, nothing_found, and_problem}
+use Rattle.rust_items.specs.Found.{Found, Finder, nothing_found, and_problem, and_problem_at}
 use Rattle.rust_items.specs.Ids.{first, numbered_call, item_with_ids}
 use Rattle.rust_items.specs.Items.{and_item, is_list_end, behind_front}
+use Rattle.rust_items.specs.SourceFiles.{places}
 
 -- ---- what is read
 
@@ -63,11 +65,11 @@ abbrev pub other_found : Bool → Finder PartView
 other_found is_top f ts = ((other_read is_top ts).0, (f, (other_read is_top ts).1))
 
 -- a macro call gets an id as an item does
-abbrev pub and_named_call : ℕ → ℕ → List ℕ → Found → Found
-and_named_call start end name f = and_item 0 start end kind.MacroCall name None true f
+abbrev pub and_named_call : ℕ → ℕ → Option TextRange → List ℕ → Found → Found
+and_named_call start end body name f = and_item 0 start end body kind.MacroCall name None true f
 
 abbrev pub and_call : ℕ → ℕ → CallRead → Found → Found
-and_call start end c f = and_named_call start end c.name f
+and_call start end c f = and_named_call start end c.body c.name f
 
 abbrev pub stmt_of_call : ℕ → ℕ → CallRead → Found → PartView × Found
 stmt_of_call start end c f = (stmt_part (call_stmt c.call), and_call start end c f)
@@ -153,14 +155,20 @@ is_bare text = not (eat 123 (tokens_of text)).0
 abbrev pub attributes_of : List ℕ → List MetaView × Tokens
 attributes_of text = inner_attributes 0 (eat 123 (tokens_of text)).1
 
--- the parts of a block, and the rows of its items
+-- the parts of a block, what is found beside them, and what is left
 abbrev pub body_of : List ℕ → BodyRead × (Found × Tokens)
 body_of text = parts (is_bare text) nothing_found (attributes_of text).1
 
+-- What is found in a block, as in a file: that a token is not ended is told of the text's last one alone.
+unfoldable pub found_of : List ℕ → Found
+found_of text = and_problem_at problem.Unterminated (body_of text).1.1.unended (body_of text).1.0
+
 -- what is read of a block
-pub record IsBlock (text : List ℕ) (block : BlockExpr) : Type 0 where
+pub record IsBlock (text : List ℕ) (read : SourceBlock) : Type 0 where
   -- each item and each macro call has its id
   pub ids : List FileAstId
-  pub are_ids : AreIds (body_of text).1.0.rows ids
-  pub value : block_view block ≡ (let stmts = stmts_with_ids (body_of text).0.stmts ids in
+  pub are_ids : AreIds (found_of text).rows ids
+  pub value : block_view read.block ≡ (let stmts = stmts_with_ids (body_of text).0.stmts ids in
       block_expr (attributes_of text).0 stmts.0 (tail_with_id (body_of text).0.tail stmts.1))
+  pub places : read.places.items ≡ places ids (found_of text).spans
+  pub problems : read.problems.items ≡ (found_of text).problems

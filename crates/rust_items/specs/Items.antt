@@ -22,8 +22,8 @@ use Rattle.rust_leaves.specs.Kinds.{named_node, node, leaf}
 
 -- ---- what is found
 
-abbrev pub span_of : ℕ → ℕ → Option TextRange → ItemSpan
-span_of start end name = record { range = record { start = start; end = end }; name = name }
+abbrev pub span_of : ℕ → ℕ → Option TextRange → Option TextRange → ItemSpan
+span_of start end body name = record { range = record { start = start; end = end }; name = name; body = body }
 
 -- a constant may go without a name
 abbrev pub needs_name : AstIdKind → Bool
@@ -38,12 +38,12 @@ needs_name _ = true
 abbrev pub and_flaw : Bool → Bool → ℕ → Found → Found
 and_flaw is_ended is_nameless start f = if is_ended then and_problem_if is_nameless problem.Nameless start f else and_problem problem.Unfinished start f
 
-abbrev pub and_item : ℕ → ℕ → ℕ → AstIdKind → List ℕ → Option TextRange → Bool → Found → Found
-and_item depth start end kind name named is_ended f =
-    and_flaw is_ended (is_none named && needs_name kind) start (and_row (record { depth = depth; kind = kind; name = name }) (span_of start end named) f)
+abbrev pub and_item : ℕ → ℕ → ℕ → Option TextRange → AstIdKind → List ℕ → Option TextRange → Bool → Found → Found
+and_item depth start end body kind name named is_ended f =
+    and_flaw is_ended (is_none named && needs_name kind) start (and_row (record { depth = depth; kind = kind; name = name }) (span_of start end body named) f)
 
 abbrev pub and_leaf : ℕ → ℕ → ℕ → LeafRead → Found → Found
-and_leaf depth start end l f = and_problem_at problem.TooDeep l.too_deep (and_item depth start end l.kind l.name l.named l.is_ended f)
+and_leaf depth start end l f = and_problem_at problem.TooDeep l.too_deep (and_item depth start end l.body l.kind l.name l.named l.is_ended f)
 
 abbrev pub leaf_kept : ℕ → ℕ → ℕ → LeafRead → Found → Option ItemView × Found
 leaf_kept depth start end l f = (Some l.item, and_leaf depth start end l f)
@@ -137,9 +137,9 @@ extern_turn depth f ts = if is_at_end ts then unmatched f ts else extern_by dept
 unfoldable pub extern_inside : ℕ → ℕ → Finder BlockRead
 extern_inside depth start f ts = if symbol ts == 123 then block_of start (extern_turn depth) f ts else (no_block, (f, ts))
 
--- an item that holds items: its row, and then theirs
+-- an item that holds items: its row, and then theirs; what is between its braces are these, and no body
 abbrev pub and_parent : ℕ → ℕ → ℕ → AstIdKind → NameRead → Bool → Found → Found → Found
-and_parent depth start end kind n is_ended inner f = and_all inner (and_item depth start end kind n.hashed n.range is_ended f)
+and_parent depth start end kind n is_ended inner f = and_all inner (and_item depth start end None kind n.hashed n.range is_ended f)
 
 -- what stands in an extern block is one deeper
 abbrev pub one_more : ℕ → ℕ

@@ -38,13 +38,19 @@ abbrev pub IsNameIn : TextRange → Option TextRange → Type 0
 IsNameIn range None = Unit {0}
 IsNameIn range (Some name) = (range.start ≤ name.start) × (name.start < name.end) × (name.end ≤ range.end)
 
--- an item's place: it has the item's id, and a range that is not empty, from a byte place on and up to another, with the name in it
+-- the braces that an item ends with, if it ends with braces: they are two bytes at least, and end where the item ends
+abbrev pub IsBodyIn : TextRange → Option TextRange → Type 0
+IsBodyIn range None = Unit {0}
+IsBodyIn range (Some body) = (range.start ≤ body.start) × (body.start + 2 ≤ body.end) × (body.end ≡ range.end)
+
+-- an item's place: it has the item's id, and a range that is not empty, from a byte place on and up to another, with the name and the braces in it
 pub record IsPlace (from to : ℕ) (i : ItemView) (p : ItemPlace) : Type 0 where
   pub id : id_of i ≡ Some p.id
   pub begins : from ≤ p.range.start
   pub some : p.range.start < p.range.end
   pub ends : p.range.end ≤ to
   pub name : IsNameIn p.range p.name
+  pub body : IsBodyIn p.range p.body
 
 -- The places of items in preorder, from a byte place on and up to another, and the places behind them: of siblings, each begins at the
 -- end of the one before it or behind that; what an item holds stands in it, behind its first byte.

@@ -17,7 +17,7 @@ use Rattle.rust_items.specs.Items.{items}
 abbrev pub places : List FileAstId → List ItemSpan → List ItemPlace
 places [] spans = []
 places (id ∷ ids) [] = []
-places (id ∷ ids) (s ∷ spans) = record { id = id; range = s.range; name = s.name } ∷ places ids spans
+places (id ∷ ids) (s ∷ spans) = record { id = id; range = s.range; name = s.name; body = s.body } ∷ places ids spans
 
 -- the text behind its inner attributes
 abbrev pub behind_attributes : List ℕ → Tokens

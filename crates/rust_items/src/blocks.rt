@@ -11,7 +11,8 @@ ghost use Rattle.rust_items.specs.Views.{body_view, part_view, supply_view};
 use crate::externs::is_list_end;
 use crate::ids::{Supply, item_with_ids};
 use crate::items::{MOST_DEPTH, behind_front};
-use crate::log::{Log, ProblemKind};
+use crate::log::{Log, Problem, ProblemKind};
+use crate::source_file::{ItemPlace, places};
 use crate::turn::{Extent, push_item};
 use hir_input::ast::{BlockExpr, Item, MacroCall, Stmt, Tail};
 use hir_input::{AstIdKind, Meta};
@@ -19,6 +20,7 @@ use rust_cursor::Cursor;
 use rust_ids::assign;
 use rust_leaves::{Call, front_behind, is_item, pass_statement, statement_call};
 use rust_metas::{inner_attributes, outer_attributes};
+use rust_paths::TextRange;
 use std::alloc::{AllocError, Global};
 
 /// A part of a block.
@@ -77,14 +79,16 @@ fn push_call<'t>(
     log: &mut Log<'t>,
     start: usize,
     end: usize,
+    body: Option<TextRange>,
     name: &'t str,
 ) -> Result<(), AllocError>
-    ensures { OnOk result (log_view log.new ≡ spec.and_named_call start end name.now (log_view log.old)) }
+    ensures { OnOk result (log_view log.new ≡ spec.and_named_call start end body name.now (log_view log.old)) }
 {
     let extent = Extent {
         depth: 0,
         start,
         end,
+        body,
     };
     push_item(log, extent, AstIdKind::MacroCall, name, None, true)
 }
@@ -97,7 +101,7 @@ fn stmt_of<'t>(
 ) -> Result<Part, AllocError>
     ensures { IfOk result (λ part. spec.stmt_of_call start end (call_read_view call.entry) (log_view log.old) ≡ (part_view part, log_view log.new)) }
 {
-    push_call(log, start, end, call.name)?;
+    push_call(log, start, end, call.body, call.name)?;
     Ok(Part::Stmt(Stmt::MacroCall(call.node)))
 }
 
@@ -109,7 +113,7 @@ fn tail_of<'t>(
 ) -> Result<Part, AllocError>
     ensures { IfOk result (λ part. spec.tail_of_call start end (call_read_view call.entry) (log_view log.old) ≡ (part_view part, log_view log.new)) }
 {
-    push_call(log, start, end, call.name)?;
+    push_call(log, start, end, call.body, call.name)?;
     Ok(Part::Tail(Tail::MacroCall(call.node)))
 }
 
@@ -302,25 +306,43 @@ fn tail_with_id(tail: Tail, supply: &mut Supply<'_>) -> Tail
     }
 }
 
+/// What was read of a block.
+#[derive(Debug, Drop)]
+pub struct SourceBlock {
+    pub block: BlockExpr,
+    /// The places of its items and its macro calls, in preorder.
+    pub places: Vec<ItemPlace>,
+    /// What is wrong with it, in order.
+    pub problems: Vec<Problem>,
+}
+
 /// Reads a block expression from its text, with its braces; a text that begins with none is that between them.
 ///
-/// It answers for every text. Statements that are neither items nor macro calls are not read, nor are the blocks in them. The
-/// ids count the items and the macro calls of this block alone. What stands behind the block is ignored.
+/// It answers for every text. Statements that are neither items nor macro calls are not read, nor are the blocks in them. Places
+/// and spans count from the start of the text, and the ids count the items and the macro calls of this block alone: those of the
+/// block in its file would need the file. What stands behind the block is ignored, but that its last token is not ended.
 ///
 /// # Errors
 ///
 /// `AllocError` where memory is refused.
-pub fn read_block(alloc: Global, text: &str) -> Result<BlockExpr, AllocError>
-    ensures { IfOk result (λ block. spec.IsBlock text.now block) }
+#[tactic(auto, unfolding(crate::specs::Blocks::found_of))]
+pub fn read_block(alloc: Global, text: &str) -> Result<SourceBlock, AllocError>
+    ensures { IfOk result (λ read. spec.IsBlock text.now read) }
 {
     let mut cursor = Cursor::new(text);
     let is_top = !cursor.eat(b'{');
     let attrs = inner_attributes(alloc, &mut cursor, 0)?;
     let mut log = Log::new(alloc);
     let body = parts(alloc, &mut cursor, is_top, &mut log)?;
+    log.push_problem_at(ProblemKind::Unterminated, cursor.unended())?;
     let ids = assign(alloc, &log.rows)?;
+    let places = places(alloc, &ids, &log.spans)?;
     let mut supply = Supply { rest: &ids };
     let stmts = stmts_with_ids(alloc, body.stmts, &mut supply)?;
     let tail = tail_with_id(body.tail, &mut supply);
-    Ok(BlockExpr { attrs, stmts, tail })
+    Ok(SourceBlock {
+        block: BlockExpr { attrs, stmts, tail },
+        places,
+        problems: log.problems,
+    })
 }

@@ -55,11 +55,19 @@ pub(crate) fn is_list_end(cursor: &Cursor<'_>, is_top: bool) -> bool
 /// Keeps an item of an extern block, where it may stand there.
 fn kept<'t>(
     leaf: Leaf<'t>,
-    extent: Extent,
+    depth: usize,
+    start: usize,
+    end: usize,
     log: &mut Log<'t>,
 ) -> Result<Option<ExternItem>, AllocError>
-    ensures { IfOk result (λ item. spec.extern_kept extent.depth extent.start extent.end (leaf_view leaf.entry) (spec.as_extern (item_view leaf.entry.item)) (log_view log.old) ≡ (option_map extern_item_view item, log_view log.new)) }
+    ensures { IfOk result (λ item. spec.extern_kept depth start end (leaf_view leaf.entry) (spec.as_extern (item_view leaf.entry.item)) (log_view log.old) ≡ (option_map extern_item_view item, log_view log.new)) }
 {
+    let extent = Extent {
+        depth,
+        start,
+        end,
+        body: leaf.body,
+    };
     match as_extern(leaf.item) {
         Some(item) => {
             push_item(log, extent, leaf.kind, leaf.name, leaf.named, leaf.is_ended)?;
@@ -67,7 +75,7 @@ fn kept<'t>(
             Ok(Some(item))
         }
         None => {
-            log.push_problem(ProblemKind::NoItem, extent.start)?;
+            log.push_problem(ProblemKind::NoItem, start)?;
             Ok(None)
         }
     }
@@ -86,7 +94,7 @@ fn extern_by<'t>(
     match take_leaf(alloc, cursor, front)? {
         Some(leaf) => {
             let end = cursor.past();
-            kept(leaf, Extent { depth, start, end }, log)
+            kept(leaf, depth, start, end, log)
         }
         None => {
             log.push_problem(ProblemKind::NoItem, start)?;
@@ -194,12 +202,20 @@ fn block_item(alloc: Global, front: Front, inside: ExternInside) -> Result<Item,
 /// Adds an extern block, and behind it what it holds.
 fn push_block<'t>(
     log: &mut Log<'t>,
-    extent: Extent,
+    depth: usize,
+    start: usize,
+    end: usize,
     is_ended: bool,
     more: Log<'t>,
 ) -> Result<(), AllocError>
-    ensures { OnOk result (log_view log.new ≡ spec.and_parent extent.depth extent.start extent.end AstIdKind.ExternBlock no_name is_ended (log_view more.entry) (log_view log.old)) }
+    ensures { OnOk result (log_view log.new ≡ spec.and_parent depth start end AstIdKind.ExternBlock no_name is_ended (log_view more.entry) (log_view log.old)) }
 {
+    let extent = Extent {
+        depth,
+        start,
+        end,
+        body: None,
+    };
     push_item(log, extent, AstIdKind::ExternBlock, "", None, is_ended)?;
     log.append(more)
 }
@@ -220,6 +236,6 @@ pub(crate) fn extern_block<'t>(
     let start = front.start;
     let inside = extern_inside(alloc, cursor, depth + 1, start, &mut more)?;
     let end = cursor.past();
-    push_block(log, Extent { depth, start, end }, inside.is_ended, more)?;
+    push_block(log, depth, start, end, inside.is_ended, more)?;
     block_item(alloc, front, inside)
 }

@@ -61,13 +61,21 @@ fn push_some(items: &mut Vec<Item>, item: Option<Item>) -> Result<(), AllocError
 /// Adds a module, and behind it what it holds.
 fn push_module<'t>(
     log: &mut Log<'t>,
-    extent: Extent,
+    depth: usize,
+    start: usize,
+    end: usize,
     named: &Named<'t>,
     is_ended: bool,
     more: Log<'t>,
 ) -> Result<(), AllocError>
-    ensures { OnOk result (log_view log.new ≡ spec.and_parent extent.depth extent.start extent.end AstIdKind.Module (name_view named.now) is_ended (log_view more.entry) (log_view log.old)) }
+    ensures { OnOk result (log_view log.new ≡ spec.and_parent depth start end AstIdKind.Module (name_view named.now) is_ended (log_view more.entry) (log_view log.old)) }
 {
+    let extent = Extent {
+        depth,
+        start,
+        end,
+        body: None,
+    };
     let kind = AstIdKind::Module;
     push_item(log, extent, kind, named.hashed, named.range, is_ended)?;
     log.append(more)
@@ -160,13 +168,17 @@ fn module<'t>(
     let semicolon = cursor.eat(b';');
     let mut more = Log::new(alloc);
     let inside = inside_unless(alloc, cursor, semicolon, left, front.start, &mut more)?;
-    let extent = Extent {
-        depth: depth_of(left),
-        start: front.start,
-        end: cursor.past(),
-    };
+    let end = cursor.past();
     let is_ended = semicolon || inside.is_ended;
-    push_module(log, extent, &named, is_ended, more)?;
+    push_module(
+        log,
+        depth_of(left),
+        front.start,
+        end,
+        &named,
+        is_ended,
+        more,
+    )?;
     module_item(alloc, front, named.name, semicolon, inside)
 }
 

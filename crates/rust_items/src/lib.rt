@@ -9,7 +9,7 @@ mod log;
 mod source_file;
 mod turn;
 
-pub use blocks::read_block;
+pub use blocks::{SourceBlock, read_block};
 pub use log::{Problem, ProblemKind};
 pub use rust_paths::TextRange;
 pub use source_file::{ItemPlace, SourceFile, read_source_file};

@@ -10,11 +10,12 @@ use rust_ids::Node;
 use rust_paths::TextRange;
 use std::alloc::{AllocError, Global};
 
-/// Where an item stands with its attributes, and where its name stands.
+/// Where an item stands with its attributes, and where its name stands and the braces that it ends with.
 #[derive(Clone, Copy)]
 pub(crate) struct ItemSpan {
     pub range: TextRange,
     pub name: Option<TextRange>,
+    pub body: Option<TextRange>,
 }
 
 /// What is wrong with a text.

@@ -23,6 +23,10 @@ pub struct ItemPlace {
     pub id: FileAstId,
     pub range: TextRange,
     pub name: Option<TextRange>,
+    /// The braces that the item ends with, from their `{` up to behind their `}`: those of a function, an impl, a trait, an enum, a
+    /// union, a struct with fields in braces, a macro or a macro call. A module, an extern block, a use and what ends with a
+    /// semicolon have none, nor has an item whose braces are not closed.
+    pub body: Option<TextRange>,
 }
 
 /// What was read of a text.
@@ -36,7 +40,7 @@ pub struct SourceFile {
 }
 
 #[tactic(auto, using(crate::proofs::Steps::places_none, crate::proofs::Steps::places_over))]
-fn places(
+pub(crate) fn places(
     alloc: Global,
     ids: &[FileAstId],
     spans: &[ItemSpan],
@@ -54,6 +58,7 @@ fn places(
             id: *id,
             range: span.range,
             name: span.name,
+            body: span.body,
         })?;
         left = more;
         unplaced = rest;

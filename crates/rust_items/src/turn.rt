@@ -21,6 +21,7 @@ pub(crate) struct Extent {
     pub depth: usize,
     pub start: usize,
     pub end: usize,
+    pub body: Option<TextRange>,
 }
 
 /// Adds an item, with a problem if it has no end, or no name where it needs one.
@@ -32,14 +33,19 @@ pub(crate) fn push_item<'t>(
     named: Option<TextRange>,
     is_ended: bool,
 ) -> Result<(), AllocError>
-    ensures { OnOk result (log_view log.new ≡ spec.and_item extent.depth extent.start extent.end kind name.now named is_ended (log_view log.old)) }
+    ensures { OnOk result (log_view log.new ≡ spec.and_item extent.depth extent.start extent.end extent.body kind name.now named is_ended (log_view log.old)) }
 {
     let row = Node::new(extent.depth, kind, name);
     let range = TextRange {
         start: extent.start,
         end: extent.end,
     };
-    log.push_row(row, ItemSpan { range, name: named })?;
+    let span = ItemSpan {
+        range,
+        name: named,
+        body: extent.body,
+    };
+    log.push_row(row, span)?;
     if !is_ended {
         return log.push_problem(ProblemKind::Unfinished, extent.start);
     }
@@ -62,9 +68,21 @@ fn needs_name(kind: AstIdKind) -> bool
 }
 
 /// Keeps an item that holds none.
-fn kept<'t>(leaf: Leaf<'t>, extent: Extent, log: &mut Log<'t>) -> Result<Option<Item>, AllocError>
-    ensures { IfOk result (λ item. spec.leaf_kept extent.depth extent.start extent.end (leaf_view leaf.entry) (log_view log.old) ≡ (option_map item_view item, log_view log.new)) }
+fn kept<'t>(
+    leaf: Leaf<'t>,
+    depth: usize,
+    start: usize,
+    end: usize,
+    log: &mut Log<'t>,
+) -> Result<Option<Item>, AllocError>
+    ensures { IfOk result (λ item. spec.leaf_kept depth start end (leaf_view leaf.entry) (log_view log.old) ≡ (option_map item_view item, log_view log.new)) }
 {
+    let extent = Extent {
+        depth,
+        start,
+        end,
+        body: leaf.body,
+    };
     push_item(log, extent, leaf.kind, leaf.name, leaf.named, leaf.is_ended)?;
     log.push_problem_at(ProblemKind::TooDeep, leaf.too_deep)?;
     Ok(Some(leaf.item))
@@ -85,7 +103,7 @@ pub(crate) fn leaf_turn<'t>(
     match take_leaf(alloc, cursor, front)? {
         Some(leaf) => {
             let end = cursor.past();
-            kept(leaf, Extent { depth, start, end }, log)
+            kept(leaf, depth, start, end, log)
         }
         None => {
             log.push_problem(ProblemKind::NoItem, start)?;

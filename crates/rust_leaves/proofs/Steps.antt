@@ -1,8 +1,8 @@
 -- Steps of what is read in turns.
-use Rattle.std.proofs.Common.{◌≡◌, ◌≢◌, ◌==◌, ◌<◌, ◌+◌, ◌-◌, ℕ, zero, suc, Bool, true, false, List, refl, ap, ◌∙◌, arith}
+use Rattle.std.proofs.Common.{◌≡◌, ◌≢◌, ◌==◌, ◌<◌, ◌+◌, ◌-◌, ℕ, zero, suc, true, false, List, refl, ap, arith}
 use Rattle.std.proofs.lemmas.Bool.{ne_eqb}
 use Rattle.rust_cursor.specs.Tokens.{Tokens}
-use Rattle.rust_cursor.specs.Words.{text, bumped, is_empty}
+use Rattle.rust_cursor.specs.Words.{text, bumped}
 use Rattle.rust_cursor.specs.Brackets.{behind_tree}
 use Rattle.rust_leaves.specs.Heads.{is_modifier, behind_modifier, behind_modifiers_from, is_segment, behind_segments_from, is_behind_others, behind_others_from}
 use Rattle.rust_leaves.specs.declared.statements.Scan.{Scan}

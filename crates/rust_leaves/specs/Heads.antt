@@ -9,6 +9,7 @@ use Rattle.rust_cursor.specs.Reader.{Reader}
 use Rattle.rust_cursor.specs.Words.{symbol, word, kind, is_at_identifier, is_at_doc, is_at_end, is_pair, bumped}
 use Rattle.rust_cursor.specs.Brackets.{behind_tree}
 use Rattle.rust_cursor.specs.Elements.{most}
+use Rattle.rust_paths.specs.Names.{has_name}
 use Rattle.rust_leaves.specs.declared.head.Head.{Head}
 use Rattle.rust_leaves.specs.declared.head.Head.TheVariants as heads
 
@@ -93,7 +94,7 @@ macro_rules_head behind = if symbol behind == 33 && is_at_identifier (bumped beh
 
 -- `union`: an item where a name follows
 unfoldable pub union_head : Tokens → Head
-union_head behind = if is_at_identifier behind then heads.Union else heads.Other
+union_head behind = if has_name behind then heads.Union else heads.Other
 
 -- the kind of item that a word begins
 unfoldable pub head_by : List ℕ → Tokens → Head
@@ -135,7 +136,7 @@ is_first_word w =
 
 -- `union` before a name
 abbrev pub is_union : Tokens → Bool
-is_union ts = bytes_eq (word ts) (codes "union") && is_at_identifier (bumped ts)
+is_union ts = bytes_eq (word ts) (codes "union") && has_name (bumped ts)
 
 -- a name with `::` behind it
 abbrev pub is_segment : Tokens → Bool

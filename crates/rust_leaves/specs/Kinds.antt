@@ -19,7 +19,7 @@ use Rattle.rust_leaves.specs.declared.head.Head.{Head}
 use Rattle.rust_leaves.specs.declared.head.Head.TheVariants as head
 use Rattle.rust_leaves.specs.Fronts.{FrontRead}
 use Rattle.rust_leaves.specs.Texts.{bare, last_text}
-use Rattle.rust_leaves.specs.Leaves.{NameRead, RestRead, LeafRead, no_name, named, named_or, item_end, macro_end, value_end, call_end, block_attributes, struct_fields, has_trait}
+use Rattle.rust_leaves.specs.Leaves.{NameRead, RestRead, LeafRead, no_name, named, named_or, past, bare_end, item_end, macro_end, value_end, call_end, block_attributes, struct_fields, has_trait}
 
 -- the ids are given later
 abbrev pub node : List MetaView → List ℕ → NodeView
@@ -28,19 +28,22 @@ node attrs body = record { hash = 0; number = 0; attrs = attrs; body = body }
 abbrev pub named_node : List MetaView → Option (List ℕ) → Option Visibility → List ℕ → NamedView
 named_node attrs name visibility body = record { node = node attrs body; name = name; visibility = visibility }
 
-abbrev pub leaf_read : ItemView → AstIdKind → NameRead → Bool → LeafRead
-leaf_read item kind n is_ended = record { item = item; kind = kind; name = n.hashed; named = n.range; is_ended = is_ended; too_deep = None }
+abbrev pub leaf_read : ItemView → AstIdKind → NameRead → RestRead → LeafRead
+leaf_read item kind n r = record { item = item; kind = kind; name = n.hashed; named = n.range; body = r.braces; is_ended = r.is_ended; too_deep = None }
 
 abbrev pub plain_read : PlainKind → List MetaView → Option Visibility → NameRead → RestRead → LeafRead
-plain_read k attrs visibility n r = leaf_read (plain_item k (named_node attrs n.name visibility r.body)) (ast_kind k) n r.is_ended
+plain_read k attrs visibility n r = leaf_read (plain_item k (named_node attrs n.name visibility r.body)) (ast_kind k) n r
+
+-- what is left
+abbrev pub here : Tokens → Tokens
+here ts = ts
 
 -- Function
 unfoldable pub function : ℕ → List MetaView → Option Visibility → Reader LeafRead
 function start attrs visibility = do
   n ← named
-  inner ← look (block_attributes start)
   r ← item_end
-  pure (plain_read fn_kind (attrs ++ inner) visibility n r)
+  pure (plain_read fn_kind (attrs ++ block_attributes start r.block) visibility n r)
 
 -- Union, Enumeration and Trait: a name, and all that is left
 abbrev pub block_item : PlainKind → List MetaView → Option Visibility → Reader LeafRead
@@ -86,23 +89,23 @@ constant attrs visibility = do
   n ← named
   _ ← eat_word (codes "_")
   r ← value_end
-  pure (leaf_read (const_item (named_node attrs n.name visibility r.body)) kind.Const n r.is_ended)
+  pure (leaf_read (const_item (named_node attrs n.name visibility r.body)) kind.Const n r)
 
 -- Struct
 unfoldable pub structure : List MetaView → Option Visibility → Reader LeafRead
 structure attrs visibility = do
   n ← named
-  fields ← look struct_fields
+  header ← look here
   r ← item_end
-  pure (leaf_read (struct_item (named_node attrs n.name visibility r.body) fields) kind.Struct n r.is_ended)
+  pure (leaf_read (struct_item (named_node attrs n.name visibility r.body) (struct_fields (is_some r.block) header)) kind.Struct n r)
 
 -- Implementation
 unfoldable pub implementation : ℕ → List MetaView → Reader LeafRead
 implementation start attrs = do
-  is_trait ← look has_trait
-  inner ← look (block_attributes start)
+  header ← look here
   r ← item_end
-  pure (leaf_read (impl_item (node (attrs ++ inner) r.body) is_trait) kind.Impl no_name r.is_ended)
+  end ← look past
+  pure (leaf_read (impl_item (node (attrs ++ block_attributes start r.block) r.body) (has_trait end header)) kind.Impl no_name r)
 
 -- ExternCrate
 unfoldable pub crate_item : List MetaView → Option Visibility → Reader LeafRead
@@ -110,7 +113,7 @@ crate_item attrs visibility = do
   n ← named_or (codes "self")
   alias ← rename
   semicolon ← eat 59
-  pure (leaf_read (extern_crate (named_node attrs n.name visibility []) alias) kind.ExternCrate n semicolon)
+  pure (leaf_read (extern_crate (named_node attrs n.name visibility []) alias) kind.ExternCrate n (bare_end semicolon))
 
 abbrev pub use_read : List MetaView → Option Visibility → Found (Option UseTreeView) → Bool → LeafRead
 use_read attrs visibility tree is_ended = record {
@@ -118,6 +121,7 @@ use_read attrs visibility tree is_ended = record {
   kind = kind.Use;
   name = [];
   named = None;
+  body = None;
   is_ended = is_ended;
   too_deep = tree.too_deep;
 }
@@ -134,7 +138,7 @@ unfoldable pub macro_definition : List MetaView → Reader LeafRead
 macro_definition attrs = do
   n ← named_or (codes "try")
   r ← call_end
-  pure (leaf_read (macro_rules (node attrs r.body) n.name) kind.MacroRules n r.is_ended)
+  pure (leaf_read (macro_rules (node attrs r.body) n.name) kind.MacroRules n r)
 
 -- behind a path: a macro is called
 unfoldable pub is_called : Tokens → Bool
@@ -143,7 +147,7 @@ is_called ts = symbol ts == 33 && is_at_open (bumped ts)
 abbrev pub called : List MetaView → Option PathNode → List ℕ → RestRead → LeafRead
 called attrs path last r =
     let c = macro_call (record { node = node attrs r.body; path = path; expand_to = expand_to.Items; ctxt = context.Root year.E2024 }) in
-    record { item = c; kind = kind.MacroCall; name = last; named = None; is_ended = r.is_ended; too_deep = None }
+    record { item = c; kind = kind.MacroCall; name = last; named = None; body = r.braces; is_ended = r.is_ended; too_deep = None }
 
 -- a macro's name is hashed as the last word of its path
 abbrev pub call_behind : List MetaView → Option PathNode → List ℕ → Reader LeafRead

@@ -1,16 +1,16 @@
 -- What items are made of, but for those that hold items.
-use Rattle.std.specs.Prelude.{ℕ, Bool, false, not, ◌==◌, ◌&&◌, if◌then◌else◌, Option, Some, None, List, [], codes}
+use Rattle.std.specs.Prelude.{ℕ, Bool, false, ◌==◌, ◌&&◌, ◌||◌, if◌then◌else◌, Option, Some, None, List, []}
 use Rattle.std.specs.Str.{bytes_eq}
 use Rattle.hir_input.specs.declared.ids.AstIdKind.{AstIdKind}
 use Rattle.hir_input.specs.declared.ast.Visibility.{Visibility}
 use Rattle.hir_input.specs.Attr.{MetaView}
 use Rattle.hir_input.specs.Syntax.{FieldsView, ItemView, record_fields, tuple_fields, no_fields}
 use Rattle.rust_cursor.specs.Tokens.{Tokens}
-use Rattle.rust_cursor.specs.Reader.{Reader, ◌>>=◌, pure, pass}
+use Rattle.rust_cursor.specs.Reader.{Reader, ◌>>=◌, pure, look, pass}
 use Rattle.rust_cursor.specs.Words.{symbol, word, text, at, eat, bumped, is_at_open}
 use Rattle.rust_cursor.specs.Elements.{elements, one}
 use Rattle.rust_cursor.specs.Extents.{ExcerptRead, tree_body, item_rest, macro_rest, value_rest}
-use Rattle.rust_cursor.specs.Angles.{behind_angles, behind_field, to_block, is_trait_impl}
+use Rattle.rust_cursor.specs.Angles.{behind_angles, behind_field, is_trait_impl}
 use Rattle.rust_paths.specs.declared.names.TextRange.{TextRange}
 use Rattle.rust_paths.specs.Names.{Placed, placed_name, as_name}
 use Rattle.rust_paths.specs.Visibilities.{visibility}
@@ -23,17 +23,21 @@ pub record NameRead : Type 0 where
   pub hashed : List ℕ
   pub range : Option TextRange
 
--- what stands behind an item's header, and whether the item ends as it should
+-- what stands behind an item's header, whether the item ends as it should, and the braces that it ends with: from their `{` on, and where they stand
 pub record RestRead : Type 0 where
   pub body : List ℕ
   pub is_ended : Bool
+  pub block : Option Tokens
+  pub braces : Option TextRange
 
--- an item that holds no items: with what its id is made from, its name's place, whether it is ended, and a use list that is too deep
+-- an item that holds no items: with what its id is made from, the places of its name and of the braces that it ends with, whether it is
+-- ended, and a use list that is too deep
 pub record LeafRead : Type 0 where
   pub item : ItemView
   pub kind : AstIdKind
   pub name : List ℕ
   pub named : Option TextRange
+  pub body : Option TextRange
   pub is_ended : Bool
   pub too_deep : Option ℕ
 
@@ -59,42 +63,62 @@ named_or keyword ts =
 
 -- ---- ends
 
+-- from the `{` of braces up to this place
+abbrev pub range_to : ℕ → Option Tokens → Option TextRange
+range_to end None = None
+range_to end (Some block) = Some (record { start = at block; end = end })
+
+-- the rest of an item that ends at this place
+abbrev pub rest_read : ExcerptRead → ℕ → RestRead
+rest_read read end = record { body = read.text; is_ended = read.is_ended; block = read.block; braces = range_to end read.block }
+
+-- no rest but a semicolon, if there is one
+abbrev pub bare_end : Bool → RestRead
+bare_end is_ended = record { body = []; is_ended = is_ended; block = None; braces = None }
+
+abbrev pub past : Tokens → ℕ
+past ts = ts.past
+
 -- up to a semicolon or a block
 unfoldable pub item_end : Reader RestRead
 item_end = do
   read ← item_rest
-  pure (record { body = read.text; is_ended = read.is_ended })
+  end ← look past
+  pure (rest_read read end)
 
 -- the same of a macro with parameters
 unfoldable pub macro_end : Reader RestRead
 macro_end = do
   read ← macro_rest
-  pure (record { body = read.text; is_ended = read.is_ended })
+  end ← look past
+  pure (rest_read read end)
 
 -- up to a semicolon
 unfoldable pub value_end : Reader RestRead
 value_end = do
   read ← value_rest
-  pure (record { body = read.text; is_ended = read.is_ended })
+  end ← look past
+  pure (rest_read read end)
 
 abbrev pub semicolon_end : ExcerptRead → Reader RestRead
 semicolon_end read = do
   semicolon ← eat 59
-  pure (record { body = read.text; is_ended = read.is_ended && semicolon })
+  pure (record { body = read.text; is_ended = read.is_ended && semicolon; block = None; braces = None })
 
 -- what a macro is given in its brackets; a semicolon ends those that are no braces
 unfoldable pub call_end : Reader RestRead
 call_end ts =
     if is_at_open ts
-    then (if symbol ts == 123 then (record { body = (tree_body ts).0.text; is_ended = (tree_body ts).0.is_ended }, (tree_body ts).1)
+    then (if symbol ts == 123 then (rest_read (tree_body ts).0 (tree_body ts).1.past, (tree_body ts).1)
     else semicolon_end (tree_body ts).0 (tree_body ts).1)
-    else (record { body = []; is_ended = false }, ts)
+    else (bare_end false, ts)
 
 -- ---- parts
 
--- the inner attributes at the beginning of an item's block; spans count from the item's start
-unfoldable pub block_attributes : ℕ → Tokens → List MetaView
-block_attributes start ts = if symbol (to_block ts) == 123 then (inner_attributes start (bumped (to_block ts))).0 else []
+-- the inner attributes at the beginning of the braces that an item ends with; spans count from the item's start
+unfoldable pub block_attributes : ℕ → Option Tokens → List MetaView
+block_attributes start None = []
+block_attributes start (Some block) = (inner_attributes start (bumped block)).0
 
 -- TupleField: its visibility; attributes and the type are passed over
 unfoldable pub field : Reader (Option Visibility)
@@ -108,19 +132,16 @@ field = do
 unfoldable pub fields : Reader (List (Option Visibility))
 fields = elements (one field)
 
-abbrev pub is_record_behind_where : Tokens → Bool
-is_record_behind_where ts = bytes_eq (word ts) (codes "where") && symbol (to_block ts) == 123
-
-abbrev pub fields_at : Tokens → FieldsView
-fields_at ts =
+-- behind a `where`, the fields are in the braces that the struct ends with
+abbrev pub fields_at : Bool → Tokens → FieldsView
+fields_at has_block ts =
     if symbol ts == 40 then tuple_fields (fields (bumped ts)).0
-    else (if symbol ts == 123 then record_fields
-    else (if is_record_behind_where ts then record_fields else no_fields))
+    else (if symbol ts == 123 || has_block then record_fields else no_fields)
 
 -- StructStruct or TupleStruct: what stands behind a struct's name and generics
-unfoldable pub struct_fields : Tokens → FieldsView
-struct_fields ts = fields_at (behind_angles ts)
+unfoldable pub struct_fields : Bool → Tokens → FieldsView
+struct_fields has_block ts = fields_at has_block (behind_angles ts)
 
--- behind `impl`: the items are those of a trait
-unfoldable pub has_trait : Tokens → Bool
-has_trait ts = is_trait_impl (behind_angles ts)
+-- behind `impl`, of an impl that ends at this place: the items are those of a trait
+unfoldable pub has_trait : ℕ → Tokens → Bool
+has_trait end ts = is_trait_impl end (behind_angles ts)

@@ -12,11 +12,13 @@ use Rattle.rust_lexer.specs.declared.kind.TokenKind.{TokenKind}
 use Rattle.rust_lexer.specs.declared.kind.TokenKind.TheVariants as kinds
 use Rattle.rust_cursor.specs.Tokens.{Tokens}
 use Rattle.rust_cursor.specs.Reader.{Reader}
-use Rattle.rust_cursor.specs.Words.{symbol, word, kind, bumped, is_at_end, is_at_identifier}
+use Rattle.rust_cursor.specs.Words.{symbol, word, kind, bumped, is_at_end, is_at_identifier, is_pair}
+use Rattle.rust_cursor.specs.Angles.{is_lone_for}
 use Rattle.rust_cursor.specs.Brackets.{behind_tree}
 use Rattle.rust_cursor.specs.Elements.{most}
 use Rattle.rust_cursor.specs.Extents.{begins_item, tree_body}
 use Rattle.rust_paths.specs.Paths.{path}
+use Rattle.rust_paths.specs.declared.names.TextRange.{TextRange}
 use Rattle.rust_leaves.specs.declared.head.Head.{Head}
 use Rattle.rust_leaves.specs.declared.head.Head.TheVariants as heads
 use Rattle.rust_leaves.specs.declared.statements.Scan.{Scan}
@@ -24,6 +26,7 @@ use Rattle.rust_leaves.specs.declared.statements.Scan.TheVariants as scans
 use Rattle.rust_leaves.specs.declared.statements.Step.{Step}
 use Rattle.rust_leaves.specs.declared.statements.Step.TheVariants as steps
 use Rattle.rust_leaves.specs.Heads.{is_modifier, head_by}
+use Rattle.rust_leaves.specs.Leaves.{range_to}
 use Rattle.rust_leaves.specs.Texts.{bare, last_text}
 use Rattle.rust_leaves.specs.Kinds.{node, is_called, some_read}
 
@@ -80,13 +83,21 @@ is_block_at ts = symbol ts == 123 || is_control_word (word ts)
 
 -- a block behind this token stands inside what comes before the statement's own block, as in `if let x = { .. } { .. }`
 unfoldable pub leads_inside : Tokens → Bool
-leads_inside ts = is_block_word (word ts) || (symbol ts == 61 || (symbol ts == 38 || symbol ts == 124))
+leads_inside ts = is_block_word (word ts) || (is_control_word (word ts) || (symbol ts == 61 || (symbol ts == 38 || symbol ts == 124)))
 
--- how a statement goes on behind a token or a bracket of it that is not its own block
+-- the same behind a token of what comes before its own block: a pattern stands behind `let`, and behind a `for` that is not one of `for<'a>`
+unfoldable pub header_behind : Tokens → Scan
+header_behind ts =
+    if bytes_eq (word ts) (codes "let") then scans.Let
+    else (if is_lone_for ts then scans.For else (if leads_inside ts then scans.Inside else scans.Header))
+
+-- how a statement goes on behind a token or a bracket of it that is not its own block; a pattern goes up to `=`, or to `in`
 unfoldable pub scan_behind : Scan → Tokens → Scan
 scan_behind scans.Plain ts = scans.Plain
-scan_behind scans.Header ts = if leads_inside ts then scans.Inside else scans.Header
-scan_behind scans.Inside ts = if leads_inside ts then scans.Inside else scans.Header
+scan_behind scans.Header ts = header_behind ts
+scan_behind scans.Inside ts = header_behind ts
+scan_behind scans.Let ts = if symbol ts == 61 then scans.Inside else scans.Let
+scan_behind scans.For ts = if bytes_eq (word ts) (codes "in") then scans.Inside else scans.For
 
 -- how it goes on behind its block: with `else`, as an operand of `.` or `?`, or not
 unfoldable pub step_behind_block : Tokens → Step
@@ -98,10 +109,15 @@ abbrev pub is_header : Scan → Bool
 is_header scans.Header = true
 is_header _ = false
 
--- a token of a statement, or what stands in brackets
+abbrev pub is_let : Scan → Bool
+is_let scans.Let = true
+is_let _ = false
+
+-- a token of a statement, or what stands in brackets; the `=` of `..=` ends no pattern
 unfoldable pub part_step : Scan → Reader Step
 part_step s ts =
-    (if is_header s && symbol ts == 123 then step_behind_block (behind_tree ts) else steps.On (scan_behind s ts), behind_tree ts)
+    if is_let s && is_pair 46 61 ts then (steps.On s, bumped (bumped ts))
+    else (if is_header s && symbol ts == 123 then step_behind_block (behind_tree ts) else steps.On (scan_behind s ts), behind_tree ts)
 
 -- A step of a statement: it ends with a semicolon, and before a bracket that closes or a word that can begin an item only.
 unfoldable pub statement_step : Scan → Reader Step
@@ -128,16 +144,17 @@ statement ts = if is_block_at (block_start ts) then statement_up_to scans.Header
 
 -- ---- macro calls
 
--- a macro call, the name that is hashed, and whether its bracket is a brace
+-- a macro call, the name that is hashed, whether its bracket is a brace, and where its braces stand
 pub record CallRead : Type 0 where
   pub call : CallView
   pub name : List ℕ
   pub is_braced : Bool
+  pub body : Option TextRange
 
 abbrev pub call_tree : List MetaView → Option PathNode → List ℕ → Reader CallRead
 call_tree attrs p name ts =
     let c : CallView = record { node = node attrs (tree_body ts).0.text; path = p; expand_to = expand_to.Statements; ctxt = context.Root year.E2024 } in
-    (record { call = c; name = name; is_braced = symbol ts == 123 }, (tree_body ts).1)
+    (record { call = c; name = name; is_braced = symbol ts == 123; body = range_to (tree_body ts).1.past (tree_body ts).0.block }, (tree_body ts).1)
 
 -- MacroInvocation, up to its bracket, if one is written
 unfoldable pub statement_call : List MetaView → Reader (Option CallRead)

@@ -17,16 +17,16 @@ abbrev pub name_view : Named → NameRead
 name_view n = record { name = n.name; hashed = n.hashed.now; range = n.range }
 
 abbrev pub rest_view : Rest → RestRead
-rest_view r = record { body = string_bytes r.body; is_ended = r.is_ended }
+rest_view r = record { body = string_bytes r.body; is_ended = r.is_ended; block = r.block; braces = r.braces }
 
 abbrev pub leaf_view : Leaf → LeafRead
-leaf_view l = record { item = item_view l.item; kind = l.kind; name = l.name.now; named = l.named; is_ended = l.is_ended; too_deep = l.too_deep }
+leaf_view l = record { item = item_view l.item; kind = l.kind; name = l.name.now; named = l.named; body = l.body; is_ended = l.is_ended; too_deep = l.too_deep }
 
 abbrev pub front_view : Front → FrontRead
 front_view f = record { start = f.start; attrs = map meta_view f.attrs.items; visibility = f.visibility; head = f.head }
 
 abbrev pub call_read_view : Call → CallRead
-call_read_view c = record { call = call_view c.node; name = c.name.now; is_braced = c.is_braced }
+call_read_view c = record { call = call_view c.node; name = c.name.now; is_braced = c.is_braced; body = c.body }
 
 abbrev pub field_view : TupleField → Option Visibility
 field_view f = f.visibility

@@ -37,6 +37,7 @@ pub(crate) fn macro_definition<'t>(
         kind: AstIdKind::MacroRules,
         name: named.hashed,
         named: named.range,
+        body: rest.braces,
         is_ended: rest.is_ended,
         too_deep: None,
     })
@@ -80,6 +81,7 @@ fn call_behind<'t>(
         kind: AstIdKind::MacroCall,
         name,
         named: None,
+        body: rest.braces,
         is_ended: rest.is_ended,
         too_deep: None,
     })

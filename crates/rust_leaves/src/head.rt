@@ -5,6 +5,7 @@ ghost use Rattle.rust_leaves.specs.Heads as spec;
 
 use rust_cursor::Cursor;
 use rust_lexer::TokenKind;
+use rust_paths::has_name;
 
 /// What kind of item the words begin that were taken.
 #[derive(Clone, Copy)]
@@ -202,7 +203,7 @@ fn macro_rules_head(behind: &Cursor<'_>) -> Head
 fn union_head(behind: &Cursor<'_>) -> Head
     ensures { result ≡ spec.union_head behind.now }
 {
-    if behind.is_at_identifier() {
+    if has_name(behind) {
         Head::Union
     } else {
         Head::Other
@@ -293,7 +294,7 @@ fn is_union(cursor: &Cursor<'_>) -> bool
     }
     let mut behind = cursor.ahead();
     behind.bump();
-    behind.is_at_identifier()
+    has_name(&behind)
 }
 
 fn is_segment(cursor: &Cursor<'_>) -> bool

@@ -30,6 +30,8 @@ pub struct Leaf<'t> {
     pub name: &'t str,
     /// Where the name stands.
     pub named: Option<TextRange>,
+    /// Where the braces stand that it ends with.
+    pub body: Option<TextRange>,
     /// Whether it ends as it should.
     pub is_ended: bool,
     /// The place of a list of a use that is too deep.
@@ -47,8 +49,8 @@ fn function<'t>(
     ensures { Gives leaf_view (spec.function start (map meta_view attrs.items) visibility cursor.old) result cursor.new }
 {
     let named = item_name(alloc, cursor)?;
-    let attrs = with_inner(alloc, cursor, start, attrs)?;
     let rest = item_end(alloc, cursor)?;
+    let attrs = with_inner(alloc, attrs, rest.block, start)?;
     let item = Item::Fn(Fn {
         hash: 0,
         number: 0,
@@ -62,6 +64,7 @@ fn function<'t>(
         kind: AstIdKind::Fn,
         name: named.hashed,
         named: named.range,
+        body: rest.braces,
         is_ended: rest.is_ended,
         too_deep: None,
     })
@@ -91,6 +94,7 @@ fn union_item<'t>(
         kind: AstIdKind::Union,
         name: named.hashed,
         named: named.range,
+        body: rest.braces,
         is_ended: rest.is_ended,
         too_deep: None,
     })
@@ -120,6 +124,7 @@ fn enumeration<'t>(
         kind: AstIdKind::Enum,
         name: named.hashed,
         named: named.range,
+        body: rest.braces,
         is_ended: rest.is_ended,
         too_deep: None,
     })
@@ -149,6 +154,7 @@ fn trait_item<'t>(
         kind: AstIdKind::Trait,
         name: named.hashed,
         named: named.range,
+        body: rest.braces,
         is_ended: rest.is_ended,
         too_deep: None,
     })
@@ -178,6 +184,7 @@ fn macro_def<'t>(
         kind: AstIdKind::MacroDef,
         name: named.hashed,
         named: named.range,
+        body: rest.braces,
         is_ended: rest.is_ended,
         too_deep: None,
     })
@@ -207,6 +214,7 @@ fn type_alias<'t>(
         kind: AstIdKind::TypeAlias,
         name: named.hashed,
         named: named.range,
+        body: rest.braces,
         is_ended: rest.is_ended,
         too_deep: None,
     })
@@ -237,6 +245,7 @@ fn static_value<'t>(
         kind: AstIdKind::Static,
         name: named.hashed,
         named: named.range,
+        body: rest.braces,
         is_ended: rest.is_ended,
         too_deep: None,
     })
@@ -267,6 +276,7 @@ fn constant<'t>(
         kind: AstIdKind::Const,
         name: named.hashed,
         named: named.range,
+        body: rest.braces,
         is_ended: rest.is_ended,
         too_deep: None,
     })
@@ -281,9 +291,10 @@ fn implementation<'t>(
 ) -> Result<Leaf<'t>, AllocError>
     ensures { Gives leaf_view (spec.implementation start (map meta_view attrs.items) cursor.old) result cursor.new }
 {
-    let is_trait_impl = has_trait(cursor);
-    let attrs = with_inner(alloc, cursor, start, attrs)?;
+    let header = cursor.ahead();
     let rest = item_end(alloc, cursor)?;
+    let is_trait_impl = has_trait(&header, cursor.past());
+    let attrs = with_inner(alloc, attrs, rest.block, start)?;
     let item = Item::Impl(Impl {
         hash: 0,
         number: 0,
@@ -296,6 +307,7 @@ fn implementation<'t>(
         kind: AstIdKind::Impl,
         name: "",
         named: None,
+        body: rest.braces,
         is_ended: rest.is_ended,
         too_deep: None,
     })

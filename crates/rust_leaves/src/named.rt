@@ -1,16 +1,17 @@
 //! The names of items, and where items end.
 
-ghost use Rattle.std.specs.Prelude.{◌≡◌, ◌++◌, IfOk, Some, string_bytes, map, option_map, [], false};
+ghost use Rattle.std.specs.Prelude.{◌≡◌, ◌++◌, IfOk, Some, string_bytes, map, option_map, false};
 ghost use Rattle.rust_paths.specs.Names.{as_name};
 ghost use Rattle.rust_paths.specs.Views.{placed_view};
 ghost use Rattle.hir_input.specs.Attr.{meta_view};
+ghost use Rattle.rust_cursor.specs.Extents.{excerpt_view};
 ghost use Rattle.rust_cursor.specs.Reader.{Gives};
 ghost use Rattle.rust_leaves.specs.Leaves as spec;
 ghost use Rattle.rust_leaves.specs.Views.{name_view, rest_view};
 
 use crate::texts::bare;
 use hir_input::{Meta, Name};
-use rust_cursor::Cursor;
+use rust_cursor::{Cursor, Excerpt};
 use rust_metas::inner_attributes;
 use rust_paths::{PlacedName, TextRange, placed_name};
 use std::alloc::{AllocError, Global};
@@ -27,10 +28,14 @@ pub struct Named<'t> {
 
 /// What stands behind an item's header.
 #[derive(Drop)]
-pub(crate) struct Rest {
+pub(crate) struct Rest<'t> {
     pub body: String,
     /// Whether the item ends as it should.
     pub is_ended: bool,
+    /// What is left from the `{` on of the braces that the item ends with, if it ends with braces.
+    pub block: Option<Cursor<'t>>,
+    /// Where these stand.
+    pub braces: Option<TextRange>,
 }
 
 fn named_of<'t>(placed: Option<PlacedName>, text: &'t str) -> Named<'t>
@@ -96,84 +101,114 @@ pub(crate) fn item_name_or<'t>(
     })
 }
 
+/// Where braces stand, from their `{` up to a place.
+pub(crate) fn range_to(end: usize, block: &Option<Cursor<'_>>) -> Option<TextRange>
+    ensures { result ≡ spec.range_to end block.now }
+{
+    match block {
+        Some(block) => {
+            let start = block.at();
+            Some(TextRange { start, end })
+        }
+        None => None,
+    }
+}
+
+/// The rest of an item that ends at a place.
+fn rest_of<'t>(excerpt: Excerpt<'t>, end: usize) -> Rest<'t>
+    ensures { rest_view result ≡ spec.rest_read (excerpt_view excerpt.entry) end }
+{
+    let braces = range_to(end, &excerpt.block);
+    Rest {
+        body: excerpt.text,
+        is_ended: excerpt.is_ended,
+        block: excerpt.block,
+        braces,
+    }
+}
+
 /// Takes what is left of an item that ends with a semicolon or a block.
 #[tactic(auto, unfolding(crate::specs::Leaves::item_end))]
-pub(crate) fn item_end(alloc: Global, cursor: &mut Cursor<'_>) -> Result<Rest, AllocError>
+pub(crate) fn item_end<'t>(alloc: Global, cursor: &mut Cursor<'t>) -> Result<Rest<'t>, AllocError>
     ensures { Gives rest_view (spec.item_end cursor.old) result cursor.new }
 {
-    let rest = cursor.item_rest(alloc)?;
-    Ok(Rest {
-        body: rest.text,
-        is_ended: rest.is_ended,
-    })
+    let excerpt = cursor.item_rest(alloc)?;
+    Ok(rest_of(excerpt, cursor.past()))
 }
 
 /// The same of a macro with parameters.
 #[tactic(auto, unfolding(crate::specs::Leaves::macro_end))]
-pub(crate) fn macro_end(alloc: Global, cursor: &mut Cursor<'_>) -> Result<Rest, AllocError>
+pub(crate) fn macro_end<'t>(alloc: Global, cursor: &mut Cursor<'t>) -> Result<Rest<'t>, AllocError>
     ensures { Gives rest_view (spec.macro_end cursor.old) result cursor.new }
 {
-    let rest = cursor.macro_rest(alloc)?;
-    Ok(Rest {
-        body: rest.text,
-        is_ended: rest.is_ended,
-    })
+    let excerpt = cursor.macro_rest(alloc)?;
+    Ok(rest_of(excerpt, cursor.past()))
 }
 
 /// Takes what is left of an item that ends with a semicolon.
 #[tactic(auto, unfolding(crate::specs::Leaves::value_end))]
-pub(crate) fn value_end(alloc: Global, cursor: &mut Cursor<'_>) -> Result<Rest, AllocError>
+pub(crate) fn value_end<'t>(alloc: Global, cursor: &mut Cursor<'t>) -> Result<Rest<'t>, AllocError>
     ensures { Gives rest_view (spec.value_end cursor.old) result cursor.new }
 {
-    let rest = cursor.value_rest(alloc)?;
-    Ok(Rest {
-        body: rest.text,
-        is_ended: rest.is_ended,
-    })
+    let excerpt = cursor.value_rest(alloc)?;
+    Ok(rest_of(excerpt, cursor.past()))
 }
 
-fn no_call(alloc: Global) -> Rest
-    ensures { rest_view result ≡ record { body = []; is_ended = false } }
+fn no_call<'t>(alloc: Global) -> Rest<'t>
+    ensures { rest_view result ≡ spec.bare_end false }
 {
     Rest {
         body: String::new(alloc),
         is_ended: false,
+        block: None,
+        braces: None,
+    }
+}
+
+fn semicolon_end<'t>(excerpt: Excerpt<'t>, cursor: &mut Cursor<'t>) -> Rest<'t>
+    ensures { spec.semicolon_end (excerpt_view excerpt.entry) cursor.old ≡ (rest_view result, cursor.new) }
+{
+    let semicolon = cursor.eat(b';');
+    Rest {
+        body: excerpt.text,
+        is_ended: excerpt.is_ended && semicolon,
+        block: None,
+        braces: None,
     }
 }
 
 /// Takes what a macro is given in its brackets, and the semicolon behind those that are no braces.
 #[tactic(auto, unfolding(crate::specs::Leaves::call_end))]
-pub(crate) fn call_end(alloc: Global, cursor: &mut Cursor<'_>) -> Result<Rest, AllocError>
+pub(crate) fn call_end<'t>(alloc: Global, cursor: &mut Cursor<'t>) -> Result<Rest<'t>, AllocError>
     ensures { Gives rest_view (spec.call_end cursor.old) result cursor.new }
 {
     if !cursor.is_at_open() {
         return Ok(no_call(alloc));
     }
     let is_braced = cursor.symbol() == b'{';
-    let body = cursor.tree_body(alloc)?;
-    let semicolon = is_braced || cursor.eat(b';');
-    Ok(Rest {
-        body: body.text,
-        is_ended: body.is_ended && semicolon,
-    })
+    let excerpt = cursor.tree_body(alloc)?;
+    if is_braced {
+        return Ok(rest_of(excerpt, cursor.past()));
+    }
+    Ok(semicolon_end(excerpt, cursor))
 }
 
-/// The inner attributes at the beginning of an item's block.
+/// The inner attributes at the beginning of the braces that an item ends with.
 #[tactic(auto, unfolding(crate::specs::Leaves::block_attributes))]
 fn block_attributes(
     alloc: Global,
-    cursor: &Cursor<'_>,
+    block: Option<Cursor<'_>>,
     start: usize,
 ) -> Result<Vec<Meta>, AllocError>
-    ensures { IfOk result (λ v. map meta_view v.items ≡ spec.block_attributes start cursor.now) }
+    ensures { IfOk result (λ v. map meta_view v.items ≡ spec.block_attributes start block.entry) }
 {
-    let mut ahead = cursor.ahead();
-    ahead.pass_to_block();
-    if ahead.symbol() != b'{' {
-        return Ok(Vec::new(alloc));
+    match block {
+        Some(mut inside) => {
+            inside.bump();
+            inner_attributes(alloc, &mut inside, start)
+        }
+        None => Ok(Vec::new(alloc)),
     }
-    ahead.bump();
-    inner_attributes(alloc, &mut ahead, start)
 }
 
 /// Attributes with others behind.
@@ -191,12 +226,12 @@ pub fn joined(mut attrs: Vec<Meta>, mut more: Vec<Meta>) -> Result<Vec<Meta>, Al
 /// Attributes with the inner ones of an item's block behind.
 pub(crate) fn with_inner(
     alloc: Global,
-    cursor: &Cursor<'_>,
-    start: usize,
     attrs: Vec<Meta>,
+    block: Option<Cursor<'_>>,
+    start: usize,
 ) -> Result<Vec<Meta>, AllocError>
-    ensures { IfOk result (λ v. map meta_view v.items ≡ map meta_view attrs.items ++ spec.block_attributes start cursor.now) }
+    ensures { IfOk result (λ v. map meta_view v.items ≡ map meta_view attrs.items ++ spec.block_attributes start block.entry) }
 {
-    let inner = block_attributes(alloc, cursor, start)?;
+    let inner = block_attributes(alloc, block, start)?;
     joined(attrs, inner)
 }

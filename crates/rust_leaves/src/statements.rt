@@ -8,12 +8,13 @@ ghost use Rattle.rust_leaves.specs.Views.{call_read_view};
 
 use crate::calls::is_called;
 use crate::head::{Head, head_by, is_modifier};
+use crate::named::range_to;
 use crate::texts::{bare, last_text};
 use hir_input::ast::{MacroCall, PathNode};
 use hir_input::{EditionYear, ExpandTo, Meta, SyntaxContext};
 use rust_cursor::Cursor;
 use rust_lexer::TokenKind;
-use rust_paths::path;
+use rust_paths::{TextRange, path};
 use std::alloc::{AllocError, Global};
 
 /// How a statement goes on.
@@ -25,6 +26,10 @@ pub(crate) enum Scan {
     Header,
     /// The same, where a block that comes next is not its own.
     Inside,
+    /// In a pattern behind `let`, up to its `=`.
+    Let,
+    /// In a pattern behind `for`, up to its `in`.
+    For,
 }
 
 /// A step of a statement.
@@ -143,7 +148,26 @@ fn is_block_at(start: &Cursor<'_>) -> bool
 fn leads_inside(cursor: &Cursor<'_>) -> bool
     ensures { result ≡ spec.leads_inside cursor.now }
 {
-    is_block_word(cursor.word()) || matches!(cursor.symbol(), b'=' | b'&' | b'|')
+    is_block_word(cursor.word())
+        || is_control_word(cursor.word())
+        || matches!(cursor.symbol(), b'=' | b'&' | b'|')
+}
+
+#[tactic(auto, unfolding(crate::specs::Statements::header_behind))]
+fn header_behind(cursor: &Cursor<'_>) -> Scan
+    ensures { result ≡ spec.header_behind cursor.now }
+{
+    if cursor.word() == "let" {
+        return Scan::Let;
+    }
+    if cursor.is_lone_for() {
+        return Scan::For;
+    }
+    if leads_inside(cursor) {
+        Scan::Inside
+    } else {
+        Scan::Header
+    }
 }
 
 #[tactic(auto, unfolding(crate::specs::Statements::scan_behind))]
@@ -152,11 +176,19 @@ fn scan_behind(scan: Scan, cursor: &Cursor<'_>) -> Scan
 {
     match scan {
         Scan::Plain => Scan::Plain,
-        Scan::Header | Scan::Inside => {
-            if leads_inside(cursor) {
+        Scan::Header | Scan::Inside => header_behind(cursor),
+        Scan::Let => {
+            if cursor.symbol() == b'=' {
                 Scan::Inside
             } else {
-                Scan::Header
+                Scan::Let
+            }
+        }
+        Scan::For => {
+            if cursor.word() == "in" {
+                Scan::Inside
+            } else {
+                Scan::For
             }
         }
     }
@@ -181,11 +213,22 @@ fn is_header(scan: Scan) -> bool
     matches!(scan, Scan::Header)
 }
 
+fn is_let(scan: Scan) -> bool
+    ensures { result ≡ spec.is_let scan }
+{
+    matches!(scan, Scan::Let)
+}
+
 /// Takes a token of a statement, or what stands in brackets.
 #[tactic(auto, unfolding(crate::specs::Statements::part_step))]
 fn part_step(cursor: &mut Cursor<'_>, scan: Scan) -> Step
     ensures { spec.part_step scan cursor.old ≡ (result, cursor.new) }
 {
+    if is_let(scan) && cursor.is_pair(b'.', b'=') {
+        cursor.bump();
+        cursor.bump();
+        return Step::On(scan);
+    }
     if is_header(scan) && cursor.symbol() == b'{' {
         cursor.pass_tree();
         return step_behind_block(cursor);
@@ -248,6 +291,8 @@ pub struct Call<'t> {
     pub name: &'t str,
     /// Whether its bracket is a brace.
     pub is_braced: bool,
+    /// Where its braces stand.
+    pub body: Option<TextRange>,
 }
 
 fn call_tree<'t>(
@@ -260,7 +305,8 @@ fn call_tree<'t>(
     ensures { Gives call_read_view (spec.call_tree (map meta_view attrs.items) path name.now cursor.old) result cursor.new }
 {
     let is_braced = cursor.symbol() == b'{';
-    let body = cursor.tree_body(alloc)?;
+    let excerpt = cursor.tree_body(alloc)?;
+    let body = range_to(cursor.past(), &excerpt.block);
     let node = MacroCall {
         hash: 0,
         number: 0,
@@ -268,12 +314,13 @@ fn call_tree<'t>(
         path,
         expand_to: ExpandTo::Statements,
         ctxt: SyntaxContext::Root(EditionYear::E2024),
-        body: body.text,
+        body: excerpt.text,
     };
     Ok(Call {
         node,
         name,
         is_braced,
+        body,
     })
 }
 

@@ -17,14 +17,14 @@ use rust_metas::outer_attributes;
 use rust_paths::visibility;
 use std::alloc::{AllocError, Global};
 
-/// Behind `impl`, whether the items are those of a trait.
+/// Behind `impl`, whether the items are those of a trait, of an impl that ends at a place.
 #[tactic(auto, unfolding(crate::specs::Leaves::has_trait))]
-pub(crate) fn has_trait(cursor: &Cursor<'_>) -> bool
-    ensures { result ≡ spec.has_trait cursor.now }
+pub(crate) fn has_trait(header: &Cursor<'_>, end: usize) -> bool
+    ensures { result ≡ spec.has_trait end header.now }
 {
-    let mut behind = cursor.ahead();
+    let mut behind = header.ahead();
     behind.pass_angles();
-    behind.is_trait_impl()
+    behind.is_trait_impl(end)
 }
 
 #[tactic(auto, unfolding(crate::specs::Leaves::field))]
@@ -56,43 +56,35 @@ fn fields(alloc: Global, cursor: &mut Cursor<'_>) -> Result<Vec<TupleField>, All
     Ok(fields)
 }
 
-fn is_record_behind_where(cursor: &Cursor<'_>) -> bool
-    ensures { result ≡ spec.is_record_behind_where cursor.now }
+fn fields_at(
+    alloc: Global,
+    cursor: &mut Cursor<'_>,
+    has_block: bool,
+) -> Result<StructKind, AllocError>
+    ensures { IfOk result (λ kind. fields_view kind ≡ spec.fields_at has_block cursor.old) }
 {
-    if cursor.word() != "where" {
-        return false;
+    if cursor.symbol() == b'(' {
+        cursor.bump();
+        return Ok(StructKind::Tuple(fields(alloc, cursor)?));
     }
-    let mut ahead = cursor.ahead();
-    ahead.pass_to_block();
-    ahead.symbol() == b'{'
+    if cursor.symbol() == b'{' || has_block {
+        return Ok(StructKind::Record);
+    }
+    Ok(StructKind::Unit)
 }
 
-fn fields_at(alloc: Global, cursor: &mut Cursor<'_>) -> Result<StructKind, AllocError>
-    ensures { IfOk result (λ kind. fields_view kind ≡ spec.fields_at cursor.old) }
-{
-    match cursor.symbol() {
-        b'(' => {
-            cursor.bump();
-            Ok(StructKind::Tuple(fields(alloc, cursor)?))
-        }
-        b'{' => Ok(StructKind::Record),
-        _ => {
-            if is_record_behind_where(cursor) {
-                return Ok(StructKind::Record);
-            }
-            Ok(StructKind::Unit)
-        }
-    }
-}
-
-/// How the fields of a struct are written, behind its name.
+/// How the fields of a struct are written, behind its name, where the struct ends with braces or not.
 #[tactic(auto, unfolding(crate::specs::Leaves::struct_fields))]
-fn struct_fields(alloc: Global, cursor: &Cursor<'_>) -> Result<StructKind, AllocError>
-    ensures { IfOk result (λ kind. fields_view kind ≡ spec.struct_fields cursor.now) }
+fn struct_fields(
+    alloc: Global,
+    header: &Cursor<'_>,
+    has_block: bool,
+) -> Result<StructKind, AllocError>
+    ensures { IfOk result (λ kind. fields_view kind ≡ spec.struct_fields has_block header.now) }
 {
-    let mut ahead = cursor.ahead();
-    ahead.pass_angles();
-    fields_at(alloc, &mut ahead)
+    let mut behind = header.ahead();
+    behind.pass_angles();
+    fields_at(alloc, &mut behind, has_block)
 }
 
 #[tactic(auto, unfolding(crate::specs::Kinds::structure), using(hir_input::proofs::SyntaxViews::item_views))]
@@ -105,8 +97,9 @@ pub(crate) fn structure<'t>(
     ensures { Gives leaf_view (kinds.structure (map meta_view attrs.items) visibility cursor.old) result cursor.new }
 {
     let named = item_name(alloc, cursor)?;
-    let kind = struct_fields(alloc, cursor)?;
+    let header = cursor.ahead();
     let rest = item_end(alloc, cursor)?;
+    let kind = struct_fields(alloc, &header, rest.block.is_some())?;
     let item = Item::Struct(Struct {
         hash: 0,
         number: 0,
@@ -121,6 +114,7 @@ pub(crate) fn structure<'t>(
         kind: AstIdKind::Struct,
         name: named.hashed,
         named: named.range,
+        body: rest.braces,
         is_ended: rest.is_ended,
         too_deep: None,
     })

@@ -61,6 +61,7 @@ pub(crate) fn crate_item<'t>(
         kind: AstIdKind::ExternCrate,
         name: named.hashed,
         named: named.range,
+        body: None,
         is_ended,
         too_deep: None,
     })
@@ -90,6 +91,7 @@ pub(crate) fn use_declaration<'t>(
         kind: AstIdKind::Use,
         name: "",
         named: None,
+        body: None,
         is_ended,
         too_deep: found.too_deep,
     })

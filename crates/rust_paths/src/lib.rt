@@ -8,7 +8,7 @@ mod use_starts;
 mod use_trees;
 mod visibilities;
 
-pub use names::{PlacedName, TextRange, name, placed_name};
+pub use names::{PlacedName, TextRange, has_name, name, placed_name};
 pub use paths::path;
 pub use use_starts::use_tree_starts;
 pub use use_trees::{FoundUseTree, use_tree};

@@ -152,7 +152,7 @@ fn name_text(kind: Option<TokenKind>, text: &str) -> Option<&str>
 
 /// Whether a name comes next.
 #[tactic(auto, unfolding(crate::specs::Names::has_name))]
-pub(crate) fn has_name(cursor: &Cursor<'_>) -> bool
+pub fn has_name(cursor: &Cursor<'_>) -> bool
     ensures { result ≡ spec.has_name cursor.now }
 {
     name_text(cursor.kind(), cursor.text()).is_some()

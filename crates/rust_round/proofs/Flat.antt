@@ -53,6 +53,7 @@ behind_word befores.End w ts s e =
 behind_word befores.Angle w ts s e = impl_or_const ts (ap trees.is_impl_word s.word_is ∙ e)
 behind_word befores.Dash w ts s e = refl
 behind_word befores.Mark w ts s e = refl
+behind_word befores.Hash w ts s e = refl
 behind_word befores.Other w ts s e = refl
 
 pub word_begins : (a : ℕ) (before : Before) (w next : Word) (ts : Tokens) → Shows w ts → Shows next (bumped ts) → trees.begins_item w next ≡ false → trees.may_begin_behind before w ≡ false
@@ -65,6 +66,7 @@ no_word befores.End w e t = rw (e, t) refl
 no_word befores.Angle w e t = rw t refl
 no_word befores.Dash w e t = refl
 no_word befores.Mark w e t = refl
+no_word befores.Hash w e t = refl
 no_word befores.Other w e t = refl
 
 no_item : (w : Word) (ts : Tokens) → Shows w ts → trees.text_of w ≡ [] → extents.begins_item ts ≡ false

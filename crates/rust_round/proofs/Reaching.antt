@@ -4,22 +4,21 @@ use Rattle.std.specs.Prelude.{if◌then◌else◌, not}
 use Rattle.rust_cursor.specs.declared.cursor.generics.Reach.{Reach}
 use Rattle.rust_cursor.specs.declared.cursor.generics.Reach.TheVariants as reaches
 use Rattle.rust_cursor.specs.declared.cursor.nest.Before.{Before}
-use Rattle.rust_cursor.specs.declared.cursor.nest.Before.TheVariants as befores
 use Rattle.rust_cursor.specs.declared.cursor.nest.Nest.{Nest}
 use Rattle.rust_cursor.specs.Tokens.{Tokens}
 use Rattle.rust_cursor.specs.Words.{symbol, is_empty, is_at_end, bumped}
-use Rattle.rust_cursor.specs.Nests.{is_mark, is_flat, nest_behind}
+use Rattle.rust_cursor.specs.Nests.{behind_free, is_flat, nest_behind}
 use Rattle.rust_cursor.specs.Extents.{begins, begins_item, begins_behind, begins_within}
-use Rattle.rust_cursor.specs.Angles.{is_header_end, is_block_end, is_barred, is_reached, is_closed, reaching, reached, to_block}
-use Rattle.rust_cursor.proofs.Reaches.{reaching_stop, reaching_more}
+use Rattle.rust_cursor.specs.Angles.{is_header_end, is_barred, is_reached, is_closed, reaching}
+use Rattle.rust_cursor.proofs.Reaches.{reaching_more}
 use Rattle.rust_round.specs.Words.{Word}
-use Rattle.rust_round.specs.Trees.{Bracket, round, square, curly, open_of, close_of, Tree, single, group, Trees, no_trees, tree_and, tree_words, trees_words, IsTree, AreTrees, first_of, Holds, MayStand, GoesBehind, GoesOn, AreClosed, angles_behind, angles_behind_all, before_behind}
+use Rattle.rust_round.specs.Trees.{Bracket, round, square, curly, open_of, close_of, Tree, single, group, Trees, no_trees, tree_and, tree_words, trees_words, IsTree, AreTrees, first_of, Holds, MayStand, GoesBehind, angles_behind, angles_behind_all, before_behind, behind_group}
 use Rattle.rust_round.specs.Trees as trees
 use Rattle.rust_round.specs.Impls.{before_behind_all}
 use Rattle.rust_round.proofs.Begins.{Shows, Begins, behind, behind_append, begins_left, begins_right}
 use Rattle.rust_round.proofs.Same.{shows_first}
-use Rattle.rust_round.proofs.Nested.{nest, and_false, plain_word, IsOther, free_in, out_open, out_close}
-use Rattle.rust_round.proofs.Stays.{stays, Stays, within, open_no_end, close_no_end, close_no_item}
+use Rattle.rust_round.proofs.Nested.{nest, and_false, plain_word, IsOther, free_in, inside_of, out_open}
+use Rattle.rust_round.proofs.Stays.{stays, Stays, within, within_close, open_no_end, close_no_end, close_no_item}
 use Rattle.rust_round.proofs.Flat.{flat_word, word_begins, open_begins}
 
 -- these words are passed over, from one nest to another
@@ -50,12 +49,12 @@ field_remains true brace free item end comma e = absurd cc
 field_remains false true free item end comma e = absurd cc
 field_remains false false free item end comma e = refl
 
-block_remains : (deep brace free item x end : Bool) → Remains deep brace free item → (brace || ((if deep then x else free && item) || (deep && end))) ≡ false
-block_remains true brace free item x end e = absurd cc
-block_remains false true free item x end e = absurd cc
-block_remains false false true true x end e = absurd cc
-block_remains false false true false x end e = refl
-block_remains false false false item x end e = refl
+header_remains : (deep brace free item x end : Bool) → Remains deep brace free item → (brace || ((if deep then x else free && item) || (deep && end))) ≡ false
+header_remains true brace free item x end e = absurd cc
+header_remains false true free item x end e = absurd cc
+header_remains false false true true x end e = absurd cc
+header_remains false false true false x end e = refl
+header_remains false false false item x end e = refl
 
 -- in no brace, or in one
 by_braces : (z barred stay : Bool) → (if z then stay else true) ≡ true → (stay ≡ true → barred ≡ false) → (if z then barred else false) ≡ false
@@ -66,8 +65,7 @@ stays_barred : (r : Reach) (n : Nest) (ts : Tokens) → Remains (n.others == 0) 
 stays_barred reaches.Angles n ts e =
     angles_remain (n.others == 0) (symbol ts == 125) (n.free == 0) (begins_within ts) (is_at_end ts) (begins_item ts || begins_behind n.before ts) (symbol ts == 59) e
 stays_barred reaches.Field n ts e = field_remains (n.others == 0) (symbol ts == 125) (n.free == 0) (begins_within ts) (is_at_end ts) (n.angles == 0 && symbol ts == 44) e
-stays_barred reaches.Header n ts e = block_remains (n.others == 0) (symbol ts == 125) (n.free == 0) (begins_within ts) (begins_item ts || begins_behind n.before ts) (is_header_end n.angles ts) e
-stays_barred reaches.Block n ts e = block_remains (n.others == 0) (symbol ts == 125) (n.free == 0) (begins_within ts) (begins_item ts || begins_behind n.before ts) (is_block_end n.angles ts) e
+stays_barred reaches.Header n ts e = header_remains (n.others == 0) (symbol ts == 125) (n.free == 0) (begins_within ts) (begins_item ts || begins_behind n.before ts) (is_header_end n ts) e
 
 reached_by : (r : Reach) (n : Nest) (ts : Tokens) → is_empty ts ≡ false → is_reached r n ts ≡ (if n.braces == 0 then is_barred r n ts else false)
 unfolding is_reached
@@ -81,7 +79,6 @@ unfolding is_closed
 open_stays reaches.Angles n e = rw e refl
 open_stays reaches.Field n e = refl
 open_stays reaches.Header n e = refl
-open_stays reaches.Block n e = refl
 
 pub passes_stays : (ws : List Word) (r : Reach) (n m : Nest) (ts : Tokens) → Begins ws ts → Stays ws n m ts → Passes r n m ws ts
 passes_stays [] r n m ts b h = ap (λ k. reaching r k ts) h
@@ -113,32 +110,40 @@ last_barred : (r : Reach) (k : Bracket) (f a : ℕ) (before : Before) (ts : Toke
 last_barred r k f a before ts h s = stays_reached r (nest 0 0 (0 + 1) f a before) ts s.some (rw (close_no_end k ts h s, close_no_item k ts s, and_false (f == 0)) refl)
 
 pub passes_other : (r : Reach) (k : Bracket) (is : Trees) (a : ℕ) (before : Before) (ts : Tokens) → IsOther k → AreTrees is → Holds before k is → Begins (tree_words (group k is)) ts → IsBefore r a a ts
-    → Passes r (nest 0 0 0 0 a before) (nest 0 0 0 0 a befores.End) (tree_words (group k is)) ts
+    → Passes r (nest 0 0 0 0 a before) (nest 0 0 0 0 a (behind_free before)) (tree_words (group k is)) ts
 passes_other r k is a before ts n h g b before_is =
     let ws = trees_words is in
     let us = behind ws (bumped ts) in
     let shut : Shows (close_of k) us = (begins_right ws (close_of k ∷ []) (bumped ts) b.1).0 in
     let mid = within k is 0 a before (bumped ts) n h g b.1 in
     let f = free_in before 0 in
-    let first = nest 0 0 (0 + 1) f a befores.Other in
+    let first = nest 0 0 (0 + 1) f a (inside_of before) in
     let inner = nest 0 0 (0 + 1) f a mid.0 in
-    passes_append r (nest 0 0 0 0 a before) first (nest 0 0 0 0 a befores.End) (open_of k ∷ []) (ws ++ close_of k ∷ []) ts
+    let last = nest 0 0 0 0 a (behind_free before) in
+    passes_append r (nest 0 0 0 0 a before) first last (open_of k ∷ []) (ws ++ close_of k ∷ []) ts
     (passes_word r (nest 0 0 0 0 a before) first (open_of k) ts (flat_reached r a before ts b.0.some (before_is.barred before (open_no_end k ts b.0) (open_begins k a before ts b.0))) (out_open k 0 a before ts n b.0)
     (open_stays r first refl))
-    (passes_append r first inner (nest 0 0 0 0 a befores.End) ws (close_of k ∷ []) (bumped ts)
+    (passes_append r first inner last ws (close_of k ∷ []) (bumped ts)
     (passes_stays ws r first inner (bumped ts) (begins_left ws (close_of k ∷ []) (bumped ts) b.1) mid.1)
-    (passes_word r inner (nest 0 0 0 0 a befores.End) (close_of k) us (last_barred r k f a mid.0 us n shut) (out_close k 0 a (is_mark before) mid.0 us n shut) (before_is.unclosed befores.End)))
+    (passes_word r inner last (close_of k) us (last_barred r k f a mid.0 us n shut) (within_close k ws 0 a before (bumped ts) us n shut mid) (before_is.unclosed (behind_free before))))
 
 pub may_be_other : (k : Bracket) → MayStand false k → IsOther k
 may_be_other round h = tt
 may_be_other square h = tt
 may_be_other curly h = absurd cc
 
+-- a bracket that is no brace
+pub passes_group : (r : Reach) (k : Bracket) (is : Trees) (a : ℕ) (before : Before) (ts : Tokens) → IsOther k → AreTrees is → Holds before k is → Begins (tree_words (group k is)) ts → IsBefore r a a ts
+    → Passes r (nest 0 0 0 0 a before) (nest 0 0 0 0 a (behind_group before k)) (tree_words (group k is)) ts
+passes_group r round is a before ts n h g b i = passes_other r round is a before ts n h g b i
+passes_group r square is a before ts n h g b i = passes_other r square is a before ts n h g b i
+passes_group r curly is a before ts n h g b i = absurd n
+
 -- nothing is looked for at these words
 abbrev pub AreBefore : Reach → Before → ℕ → Trees → Tokens → Type 0
 AreBefore r before a no_trees ts = Unit {0}
 AreBefore r before a (tree_and (single w) is) ts = IsBefore r a (angles_behind before a w) ts × AreBefore r (before_behind before w) (angles_behind before a w) is (bumped ts)
-AreBefore r before a (tree_and (group k is') is) ts = IsBefore r a a ts × AreBefore r befores.End a is (behind (tree_words (group k is')) ts)
+AreBefore r before a (tree_and (group k is') is) ts = IsBefore r a a ts × AreBefore r (behind_group before k) a is (behind (tree_words (group k is')) ts)
 
 -- trees are passed over
 pub passes_trees : (is : Trees) (r : Reach) (a : ℕ) (before : Before) (end : Word) (more : List Word) (ts : Tokens) → AreTrees is → GoesBehind false before is end → Begins (trees_words is ++ end ∷ more) ts → AreBefore r before a is ts
@@ -153,54 +158,12 @@ passes_trees (tree_and (single w) is) r a before end more ts h g b are =
 passes_trees (tree_and (group k is') is) r a before end more ts h g b are =
     let ws = tree_words (group k is') in
     let split : Begins (ws ++ (trees_words is ++ end ∷ more)) ts = subst (λ l. Begins l ts) (append_assoc ws (trees_words is) (end ∷ more)) b in
-    passes_append r (nest 0 0 0 0 a before) (nest 0 0 0 0 a befores.End) (nest 0 0 0 0 (angles_behind_all befores.End a is) (before_behind_all befores.End is)) ws (trees_words is) ts
-    (passes_other r k is' a before ts (may_be_other k g.0) h.0 g.1 (begins_left ws (trees_words is ++ end ∷ more) ts split) are.0)
-    (passes_trees is r a befores.End end more (behind ws ts) h.1 g.2 (begins_right ws (trees_words is ++ end ∷ more) ts split) are.1)
-
--- ---- to a block
-
-block_bar : (brace begins semicolon flat block : Bool) → brace ≡ false → begins ≡ false → semicolon ≡ false → block ≡ false → (brace || (begins || (semicolon || (flat && block)))) ≡ false
-block_bar brace begins semicolon true block e f g h = rw (e, f, g, h) refl
-block_bar brace begins semicolon false block e f g h = rw (e, f, g) refl
-
-before_block : (a b : ℕ) (ts : Tokens) → (symbol ts == 59) ≡ false → (symbol ts == 123) ≡ false → IsBefore reaches.Block a b ts
-unfolding is_closed
-before_block a b ts semicolon block = record {
-  barred = λ before e f. block_bar (symbol ts == 125) (begins (nest 0 0 0 0 a before) ts) (symbol ts == 59) (a == 0) (symbol ts == 123) e f semicolon block;
-  unclosed = λ before. refl;
-}
+    let mid = behind_group before k in
+    passes_append r (nest 0 0 0 0 a before) (nest 0 0 0 0 a mid) (nest 0 0 0 0 (angles_behind_all mid a is) (before_behind_all mid is)) ws (trees_words is) ts
+    (passes_group r k is' a before ts (may_be_other k g.0) h.0 g.1 (begins_left ws (trees_words is ++ end ∷ more) ts split) are.0)
+    (passes_trees is r a mid end more (behind ws ts) h.1 g.2 (begins_right ws (trees_words is ++ end ∷ more) ts split) are.1)
 
 pub open_no_block : (k : Bracket) (ts : Tokens) → IsOther k → Shows (open_of k) ts → ((symbol ts == 59) ≡ false) × ((symbol ts == 123) ≡ false)
 open_no_block round ts h s = rw s.symbol_is (refl, refl)
 open_no_block square ts h s = rw s.symbol_is (refl, refl)
 open_no_block curly ts h s = absurd h
-
-pub all_before_block : (is : Trees) (before : Before) (a : ℕ) (end : Word) (more : List Word) (ts : Tokens) → AreTrees is → GoesBehind false before is end → Begins (trees_words is ++ end ∷ more) ts
-    → AreBefore reaches.Block before a is ts
-all_before_block no_trees before a end more ts h g b = tt
-all_before_block (tree_and (single w) is) before a end more ts h g b =
-    let p = plain_word w ts b.0 h.0 in (
-      before_block a (angles_behind before a w) ts (ap (λ (c : ℕ). c == 59) b.0.symbol_is ∙ g.1) p.opens_curly,
-      all_before_block is (before_behind before w) (angles_behind before a w) end more (bumped ts) h.1 g.4 b.1,
-    )
-all_before_block (tree_and (group k is') is) before a end more ts h g b =
-    let ws = tree_words (group k is') in
-    let split : Begins (ws ++ (trees_words is ++ end ∷ more)) ts = subst (λ l. Begins l ts) (append_assoc ws (trees_words is) (end ∷ more)) b in
-    let other = open_no_block k ts (may_be_other k g.0) b.0 in
-    (before_block a a ts other.0 other.1, all_before_block is befores.End a end more (behind ws ts) h.1 g.2 (begins_right ws (trees_words is ++ end ∷ more) ts split))
-
-block_here : (before : Before) (ts : Tokens) → Shows (open_of curly) ts → is_reached reaches.Block (nest 0 0 0 0 0 before) ts ≡ true
-unfolding is_reached
-block_here before ts s = rw (s.some, s.symbol_is, open_begins curly 0 before ts s) refl
-
--- to the block of an item
-pub to_block_header : (is : Trees) (more : List Word) (ts : Tokens) → AreTrees is → GoesOn false is (open_of curly) → AreClosed is → Begins (trees_words is ++ open_of curly ∷ more) ts
-    → to_block ts ≡ behind (trees_words is) ts
-unfolding to_block reached
-to_block_header is more ts h g e b =
-    let us = behind (trees_words is) ts in
-    let last : Shows (open_of curly) us = (begins_right (trees_words is) (open_of curly ∷ more) ts b).0 in
-    let after = before_behind_all befores.End is in
-    passes_trees is reaches.Block 0 befores.End (open_of curly) more ts h g b (all_before_block is befores.End 0 (open_of curly) more ts h g b)
-    ∙ ap (λ n. reaching reaches.Block (nest 0 0 0 0 n after) us) e
-    ∙ reaching_stop reaches.Block (nest 0 0 0 0 0 after) us (block_here after us last)

@@ -5,7 +5,7 @@ use Rattle.rust_cursor.specs.declared.cursor.nest.Before.{Before}
 use Rattle.rust_cursor.specs.declared.cursor.nest.Before.TheVariants as befores
 use Rattle.rust_cursor.specs.Nests.{is_dash}
 use Rattle.rust_round.specs.Words.{Word}
-use Rattle.rust_round.specs.Trees.{word, mark, text_of, symbol_of, single, group, Trees, no_trees, tree_and, open_of, curly, first_of, before_behind, GoesBehind, GoesOn, AreClosed, angles_behind, angles_behind_all}
+use Rattle.rust_round.specs.Trees.{word, mark, text_of, symbol_of, single, group, Trees, no_trees, tree_and, open_of, curly, first_of, before_behind, behind_group, GoesBehind, GoesOn, AreClosed, angles_behind, angles_behind_all}
 
 abbrev pub trees_append : Trees → Trees → Trees
 trees_append no_trees us = us
@@ -15,7 +15,7 @@ trees_append (tree_and t ts) us = tree_and t (trees_append ts us)
 abbrev pub before_behind_all : Before → Trees → Before
 before_behind_all before no_trees = before
 before_behind_all before (tree_and (single w) ts) = before_behind_all (before_behind before w) ts
-before_behind_all before (tree_and (group b is) ts) = before_behind_all befores.End ts
+before_behind_all before (tree_and (group b is) ts) = before_behind_all (behind_group before b) ts
 
 -- ---- generics
 
@@ -23,7 +23,7 @@ before_behind_all before (tree_and (group b is) ts) = before_behind_all befores.
 abbrev pub StaysOpen : Before → ℕ → Trees → Type 0
 StaysOpen before a no_trees = Unit {0}
 StaysOpen before a (tree_and (single w) ts) = ((angles_behind before a w == 0) ≡ false) × StaysOpen (before_behind before w) (angles_behind before a w) ts
-StaysOpen before a (tree_and (group b is) ts) = StaysOpen befores.End a ts
+StaysOpen before a (tree_and (group b is) ts) = StaysOpen (behind_group before b) a ts
 
 -- what may stand between `<` and `>`
 pub record AreGenerics (g : Trees) : Type 0 where
@@ -42,7 +42,7 @@ generics (Some g) = tree_and (single (mark 60)) (trees_append g (tree_and (singl
 abbrev pub HasNoComma : Before → ℕ → Trees → Type 0
 HasNoComma before a no_trees = Unit {0}
 HasNoComma before a (tree_and (single w) ts) = ((a == 0 && symbol_of w == 44) ≡ false) × HasNoComma (before_behind before w) (angles_behind before a w) ts
-HasNoComma before a (tree_and (group b is) ts) = HasNoComma befores.End a ts
+HasNoComma before a (tree_and (group b is) ts) = HasNoComma (behind_group before b) a ts
 
 -- the type of a field, up to its comma
 pub record IsFieldType (ts : Trees) : Type 0 where
@@ -59,7 +59,7 @@ is_header_word w = bytes_eq w (codes "where") || bytes_eq w (codes "for")
 abbrev pub IsOnePart : Before → ℕ → Trees → Type 0
 IsOnePart before a no_trees = Unit {0}
 IsOnePart before a (tree_and (single w) ts) = ((a == 0 && is_header_word (text_of w)) ≡ false) × IsOnePart (before_behind before w) (angles_behind before a w) ts
-IsOnePart before a (tree_and (group b is) ts) = IsOnePart befores.End a ts
+IsOnePart before a (tree_and (group b is) ts) = IsOnePart (behind_group before b) a ts
 
 -- a trait's path or a type, before this word
 pub record IsPart (ts : Trees) (behind : Word) : Type 0 where
@@ -106,6 +106,5 @@ HasTrait (Some t) h = IsPart t (word (codes "for")) × ((symbol_of (first_of (ty
 -- all before the block of an impl is passed over as what it is
 pub record IsImplHeader (h : ImplHeader) : Type 0 where
   pub goes : GoesOn false (header_trees h) (open_of curly)
-  pub closed : AreClosed (header_trees h)
   pub has_generics : HasGenerics h.generics (first_of (behind_generics h) (open_of curly))
   pub has_trait : HasTrait h.of_trait h

@@ -6,7 +6,7 @@ use Rattle.rust_lexer.specs.Symbol.{symbol_from}
 use Rattle.rust_cursor.specs.declared.cursor.nest.Before.{Before}
 use Rattle.rust_cursor.specs.declared.cursor.nest.Before.TheVariants as befores
 use Rattle.rust_cursor.specs.Words.{closes, documents, identifies, word_by}
-use Rattle.rust_cursor.specs.Nests.{leads_on, is_literal_kind, is_dash, is_mark}
+use Rattle.rust_cursor.specs.Nests.{leads_on, is_literal_kind, is_dash, is_mark, lets_any, mark_behind, behind_free}
 use Rattle.rust_cursor.specs.Extents.{is_item_word}
 use Rattle.rust_round.specs.Words.{Link, joined, free, Word}
 
@@ -117,11 +117,17 @@ can_end w = if identifies w.kind then not (leads_on (text_of w)) else is_literal
 abbrev pub symbol_before : Before → Word → Before
 symbol_before before w =
     if symbol_of w == 45 || symbol_of w == 61 then befores.Dash
-    else (if symbol_of w == 33 || symbol_of w == 35 then befores.Mark
-    else (if symbol_of w == 62 then (if is_arrow before w then befores.Other else befores.Angle) else befores.Other))
+    else (if symbol_of w == 33 then mark_behind before
+    else (if symbol_of w == 35 then befores.Hash
+    else (if symbol_of w == 62 then (if is_arrow before w then befores.Other else befores.Angle) else befores.Other)))
 
 abbrev pub before_behind : Before → Word → Before
 before_behind before w = if documents w.kind then before else (if can_end w then befores.End else symbol_before before w)
+
+-- what a bracket is for the word behind it
+abbrev pub behind_group : Before → Bracket → Before
+behind_group before curly = befores.End
+behind_group before _ = behind_free before
 
 -- a `>` behind a `-` or a `=` is written right behind it, or apart from it
 abbrev pub IsClear : Before → Word → Type 0
@@ -161,27 +167,28 @@ abbrev pub Unless : Bool → Type 0 → Type 0
 Unless true A = Unit {0}
 Unless false A = A
 
--- In `(` and `[` nothing begins an item; anything may stand in those behind `!` or `#`, and in braces.
+-- In `(` and `[` nothing begins an item; anything may stand in those of macro calls and attributes, and in braces.
 abbrev pub StaysIn : Before → Trees → Word → Type 0
 StaysIn before no_trees behind = Unit {0}
 StaysIn before (tree_and (single w) ts) behind = IsClear before w × (begins_within w (first_of ts behind) ≡ false) × StaysIn (before_behind before w) ts behind
 StaysIn before (tree_and (group curly is) ts) behind = StaysIn befores.End ts behind
-StaysIn before (tree_and (group b is) ts) behind = Unless (is_mark before) (StaysIn befores.Other is (close_of b)) × StaysIn befores.End ts behind
+StaysIn before (tree_and (group b is) ts) behind = Unless (lets_any before) (StaysIn befores.Other is (close_of b)) × StaysIn (behind_group before b) ts behind
 
 -- the same of what stands in one of them
 abbrev pub Holds : Before → Bracket → Trees → Type 0
 Holds before curly is = Unit {0}
-Holds before b is = Unless (is_mark before) (StaysIn befores.Other is (close_of b))
+Holds before b is = Unless (lets_any before) (StaysIn befores.Other is (close_of b))
 
 abbrev pub MayStand : (braces : Bool) → Bracket → Type 0
 MayStand braces curly = braces ≡ true
 MayStand braces _ = Unit {0}
 
+-- a brace behind them is no macro call's
 abbrev pub GoesBehind : (braces : Bool) → Before → Trees → Word → Type 0
-GoesBehind braces before no_trees behind = Unit {0}
+GoesBehind braces before no_trees behind = (is_mark before && symbol_of behind == 123) ≡ false
 GoesBehind braces before (tree_and (single w) ts) behind =
     IsClear before w × ((symbol_of w == 59) ≡ false) × (begins_item w (first_of ts behind) ≡ false) × (may_begin_behind before w ≡ false) × GoesBehind braces (before_behind before w) ts behind
-GoesBehind braces before (tree_and (group b is) ts) behind = MayStand braces b × Holds before b is × GoesBehind braces befores.End ts behind
+GoesBehind braces before (tree_and (group b is) ts) behind = MayStand braces b × Holds before b is × GoesBehind braces (behind_group before b) ts behind
 
 -- behind a name, nothing ends an item or begins one; braces may stand there or not
 abbrev pub GoesOn : (braces : Bool) → Trees → Word → Type 0
@@ -197,7 +204,7 @@ angles_behind before n w = if symbol_of w == 60 then n + 1 else (if symbol_of w 
 abbrev pub angles_behind_all : Before → ℕ → Trees → ℕ
 angles_behind_all before n no_trees = n
 angles_behind_all before n (tree_and (single w) ts) = angles_behind_all (before_behind before w) (angles_behind before n w) ts
-angles_behind_all before n (tree_and (group b is) ts) = angles_behind_all befores.End n ts
+angles_behind_all before n (tree_and (group b is) ts) = angles_behind_all (behind_group before b) n ts
 
 -- each is closed that is opened behind a name
 abbrev pub AreClosed : Trees → Type 0

@@ -85,8 +85,8 @@ function_well body b first = (
     function_named,
     ((plain, (plain, (plain, tt))), (plain, (plain, (plain, (plain, (plain, (plain, tt))))))),
     b,
-    (tt, (refl, refl, (refl, refl, (refl, refl, tt))), (refl, refl, refl, refl, (refl, refl, refl, refl, (refl, refl, refl, refl, (refl, refl, refl, refl, (refl, refl, refl, refl, (refl, refl, refl, refl, tt))))))),
-    (refl, first),
+    (tt, (refl, refl, (refl, refl, (refl, refl, tt))), (refl, refl, refl, refl, (refl, refl, refl, refl, (refl, refl, refl, refl, (refl, refl, refl, refl, (refl, refl, refl, refl, (refl, refl, refl, refl, refl))))))),
+    first,
     tt,
   ),
   tt,
@@ -142,8 +142,8 @@ outer_well =
     let file : IsNamed (codes "file") = record { plain = refl; name = refl; bare = refl } in
     let holds : IsNamed (codes "outer") = record { plain = refl; name = refl; bare = refl } in
     let numbers : GoesOn true (trees (sign 58 ∷ name (codes "u8") ∷ sign 61 ∷ name (codes "A") ∷ [])) (mark 59) =
-    (refl, refl, refl, refl, (refl, refl, refl, refl, (refl, refl, refl, refl, (refl, refl, refl, refl, tt)))) in
-    ((holds, ((unit, record { trees = tt; goes = tt; has_generics = refl; shape = tt }, tt), ((choice, tt, (plain, (plain, (plain, tt))), tt, tt, tt), ((size, (plain, (plain, (plain, (plain, tt)))), numbers, refl, tt), tt))), tt), ((file, tt), tt))
+    (refl, refl, refl, refl, (refl, refl, refl, refl, (refl, refl, refl, refl, (refl, refl, refl, refl, refl)))) in
+    ((holds, ((unit, record { trees = tt; goes = refl; has_generics = refl; shape = tt }, tt), ((choice, tt, (plain, (plain, (plain, tt))), refl, tt, tt), ((size, (plain, (plain, (plain, (plain, tt)))), numbers, refl, tt), tt))), tt), ((file, tt), tt))
 
 pub outer_writes : Writes outer (text_of outer)
 unfolding most
@@ -166,14 +166,14 @@ pair_well : AreItems 128 pair
 unfolding plain_name is_strict_keyword is_reserved_keyword bare leads_on
 pair_well =
     let named : IsNamed (codes "Pair") = record { plain = refl; name = refl; bare = refl } in
-    let one : GoesOn false (trees (name (codes "T") ∷ [])) (mark 44) = (refl, refl, refl, refl, tt) in
-    let number : GoesOn false (trees (name (codes "u8") ∷ [])) (mark 44) = (refl, refl, refl, refl, tt) in (
+    let one : GoesOn false (trees (name (codes "T") ∷ [])) (mark 44) = (refl, refl, refl, refl, refl) in
+    let number : GoesOn false (trees (name (codes "u8") ∷ [])) (mark 44) = (refl, refl, refl, refl, refl) in (
       (
         named,
         record {
           trees = (plain, (plain, (plain, ((plain, (plain, (plain, (plain, (plain, tt))))), (plain, (plain, (plain, (plain, tt))))))));
-          goes = (refl, refl, refl, refl, (refl, refl, refl, refl, (refl, refl, refl, refl, (tt, (refl, refl, (refl, refl, (refl, refl, (refl, refl, (refl, refl, tt))))), (refl, refl, refl, refl, (refl, refl, refl, refl, (refl, refl, refl, refl, (refl, refl, refl, refl, tt))))))));
-          has_generics = record { goes = (refl, refl, refl, refl, tt); unclosed = (refl, tt); closed = refl; undashed = refl };
+          goes = (refl, refl, refl, refl, (refl, refl, refl, refl, (refl, refl, refl, refl, (tt, (refl, refl, (refl, refl, (refl, refl, (refl, refl, (refl, refl, tt))))), (refl, refl, refl, refl, (refl, refl, refl, refl, (refl, refl, refl, refl, (refl, refl, refl, refl, refl))))))));
+          has_generics = record { goes = (refl, refl, refl, refl, refl); unclosed = (refl, tt); closed = refl; undashed = refl };
           shape = (
             record { passed = record { goes = one; one = (refl, tt); closed = refl }; begins = refl; plain = refl },
             (record { passed = record { goes = number; one = (refl, tt); closed = refl }; begins = refl; plain = refl }, tt),
@@ -217,10 +217,9 @@ implements_well = (
     (plain, (plain, (plain, (plain, (plain, (plain, (plain, (plain, (plain, (plain, (plain, (plain, (plain, tt))))))))))))),
     (plain, (plain, (tt, (tt, tt)))),
     record {
-      goes = (refl, refl, refl, refl, (refl, refl, refl, refl, (refl, refl, refl, refl, (refl, refl, refl, refl, (refl, refl, refl, refl, (refl, refl, refl, refl, (refl, refl, refl, refl, (refl, refl, refl, refl, (refl, refl, refl, refl, (refl, refl, refl, refl, (refl, refl, refl, refl, (refl, refl, refl, refl, (refl, refl, refl, refl, tt)))))))))))));
-      closed = refl;
-      has_generics = record { goes = (refl, refl, refl, refl, tt); unclosed = (refl, tt); closed = refl; undashed = refl };
-      has_trait = (record { goes = (refl, refl, refl, refl, (refl, refl, refl, refl, (refl, refl, refl, refl, (refl, refl, refl, refl, tt)))); one = (refl, (refl, (refl, (refl, tt)))); closed = refl }, refl);
+      goes = (refl, refl, refl, refl, (refl, refl, refl, refl, (refl, refl, refl, refl, (refl, refl, refl, refl, (refl, refl, refl, refl, (refl, refl, refl, refl, (refl, refl, refl, refl, (refl, refl, refl, refl, (refl, refl, refl, refl, (refl, refl, refl, refl, (refl, refl, refl, refl, (refl, refl, refl, refl, (refl, refl, refl, refl, refl)))))))))))));
+      has_generics = record { goes = (refl, refl, refl, refl, refl); unclosed = (refl, tt); closed = refl; undashed = refl };
+      has_trait = (record { goes = (refl, refl, refl, refl, (refl, refl, refl, refl, (refl, refl, refl, refl, (refl, refl, refl, refl, refl)))); one = (refl, (refl, (refl, (refl, tt)))); closed = refl }, refl);
     },
     refl,
     (refl, tt),

@@ -13,7 +13,7 @@ use Rattle.rust_cursor.specs.Words.{at, word, bumped, documents}
 use Rattle.rust_cursor.specs.Elements.{turns, one, most}
 use Rattle.rust_cursor.proofs.Turns.{turns_stop}
 use Rattle.rust_cursor.specs.Extents.{is_item_word}
-use Rattle.rust_paths.specs.Names.{plain_name, is_strict_keyword, placed_name, name, next_name}
+use Rattle.rust_paths.specs.Names.{plain_name, is_strict_keyword, has_name, placed_name, name, next_name}
 use Rattle.rust_paths.specs.Visibilities.{visibility, scoped, is_in, scope, scope_of}
 use Rattle.rust_metas.specs.Literals.{style_by}
 use Rattle.rust_metas.specs.Attributes.{is_style, is_doc, is_attribute, is_behind, attribute, attributes, outer_attributes, inner_attributes}
@@ -167,12 +167,12 @@ block_head unions = heads.Union
 block_head enums = heads.Enum
 block_head traits = heads.Trait
 
-pub block_heads : (k : BlockKind) (n : List ℕ) (ts : Tokens) → Shows (trees.word (block_word k)) ts → Shows (trees.word n) (bumped ts) → Heads (block_head k) ts
-unfolding is_modifier is_modifier_before head head_by union_head
-block_heads functions n ts s m = record { modifier = rw s.word_is refl; head = rw s.word_is refl }
-block_heads unions n ts s m = record { modifier = rw s.word_is refl; head = rw (s.word_is, m.identifier_is) refl }
-block_heads enums n ts s m = record { modifier = rw s.word_is refl; head = rw s.word_is refl }
-block_heads traits n ts s m = record { modifier = rw s.word_is refl; head = rw s.word_is refl }
+pub block_heads : (k : BlockKind) (n : List ℕ) (ts : Tokens) → IsNamed n → Shows (trees.word (block_word k)) ts → Shows (trees.word n) (bumped ts) → Heads (block_head k) ts
+unfolding is_modifier is_modifier_before head head_by union_head has_name
+block_heads functions n ts h s m = record { modifier = rw s.word_is refl; head = rw s.word_is refl }
+block_heads unions n ts h s m = record { modifier = rw s.word_is refl; head = rw (s.word_is, m.kind_is, m.text_is, h.plain) refl }
+block_heads enums n ts h s m = record { modifier = rw s.word_is refl; head = rw s.word_is refl }
+block_heads traits n ts h s m = record { modifier = rw s.word_is refl; head = rw s.word_is refl }
 
 abbrev pub value_head : ValueKind → Head
 value_head statics = heads.Static

@@ -45,8 +45,8 @@ flaw_rows true true start f = refl
 flaw_rows true false start f = refl
 flaw_rows false is_nameless start f = refl
 
-rows_if : (e : Bool) (depth start end : ℕ) (k : AstIdKind) (n : List ℕ) (range : Option TextRange) (f : Found) → (and_item depth start end k n range e f).rows ≡ f.rows ++ row depth k n ∷ []
-rows_if e depth start end k n range f = flaw_rows e (is_none range && needs_name k) start (and_row (row depth k n) (span_of start end range) f)
+rows_if : (e : Bool) (depth start end : ℕ) (body : Option TextRange) (k : AstIdKind) (n : List ℕ) (range : Option TextRange) (f : Found) → (and_item depth start end body k n range e f).rows ≡ f.rows ++ row depth k n ∷ []
+rows_if e depth start end body k n range f = flaw_rows e (is_none range && needs_name k) start (and_row (row depth k n) (span_of start end body range) f)
 
 -- the front of an item of a kind that holds no items
 abbrev IsLeafHead : Head → Type 0
@@ -73,14 +73,14 @@ leaf_turns : (left : ℕ) (v : Front) (h : Head) (w n : List ℕ) (item : ItemVi
     → Turns left item (row (depth_of left) k n ∷ []) (front_words v ++ trees.word w ∷ ws) f ts
 leaf_turns left v h w n item k ws f ts i e fronts reads =
     let us = bumped (behind (front_words v) ts) in
-    let l : LeafRead = record { item = item; kind = k; name = n; named = reads.0; is_ended = true; too_deep = None } in
+    let l : LeafRead = record { item = item; kind = k; name = n; named = reads.0; body = reads.1; is_ended = true; too_deep = None } in
     let rest = behind ws us in (
       and_leaf (depth_of left) (at ts) rest.past l f,
       turn_behind left (front_at (at ts) v h) f ts us e fronts
           ∙ leaf_by_head left h (front_at (at ts) v h) f us i
-          ∙ leaf_found_is (depth_of left) (front_at (at ts) v h) l f us rest reads.1
+          ∙ leaf_found_is (depth_of left) (front_at (at ts) v h) l f us rest reads.2
           ∙ ap (λ r. (Some item, (and_leaf (depth_of left) (at ts) rest.past l f, r))) (sym (behind_append (front_words v) (trees.word w ∷ ws) ts)),
-      rows_if true (depth_of left) (at ts) rest.past k n reads.0 f,
+      rows_if true (depth_of left) (at ts) rest.past reads.1 k n reads.0 f,
     )
 
 -- ---- the first word of an item
@@ -138,7 +138,7 @@ blocked_turns left k v n h b f ts few is begun e =
     let ws = trees_words h ++ braced b in
     let us = behind (front_words v) ts in
     let inner = begins_right (front_words v) (trees.word (block_word k) ∷ trees.word n ∷ ws) ts begun in
-    let fronts = front_of v (block_head k) (block_word k) (trees.word n ∷ ws) ts few (no_pub_block k) is.5 begun (block_heads k n us inner.0 inner.1.0) in
+    let fronts = front_of v (block_head k) (block_word k) (trees.word n ∷ ws) ts few (no_pub_block k) is.5 begun (block_heads k n us is.0 inner.0 inner.1.0) in
     let next : goes_on (behind ws (bumped (bumped us))) ≡ false = ap goes_on (sym (behind_name v (block_word k) n ws ts)) ∙ e in
     leaf_turns left v (block_head k) (block_word k) n (item_view (blocked k v n h b)) (ast_kind (block_kind k)) (trees.word n ∷ ws) f ts (leaf_block k) fronts.0 fronts.1
     (blocked_reads k v n h b (at ts) (bumped us) is.0 is.1 is.2 is.3 is.4 inner.1.0 inner.1.1 next)
@@ -233,7 +233,7 @@ module_turn left v n more semicolon b inner f ts vs rest few m a begun g h =
 
 parent_rows : (e : Bool) (depth start end : ℕ) (m : NameRead) (inner f : Found) → (and_parent depth start end kind.Module m e inner f).rows ≡ f.rows ++ row depth kind.Module m.hashed ∷ inner.rows
 parent_rows e depth start end m inner f =
-    ap (λ l. l ++ inner.rows) (rows_if e depth start end kind.Module m.hashed m.range f)
+    ap (λ l. l ++ inner.rows) (rows_if e depth start end None kind.Module m.hashed m.range f)
     ∙ append_assoc f.rows (row depth kind.Module m.hashed ∷ []) inner.rows
 
 file_turns : (left : ℕ) (v : Front) (n : List ℕ) (f : Found) (ts : Tokens) → length ts.left ≤ most → IsItem left (file_module v n) → Begins (item_words (file_module v n)) ts

@@ -1,8 +1,7 @@
 -- Items that hold no items.
-use Rattle.std.proofs.Common.{◌≤◌, length, ◌≡◌, ℕ, ◌==◌, ◌||◌, Bool, true, false, Option, Some, None, List, [], ◌∷◌, ◌++◌, codes, refl, ap, ◌∙◌, sym}
+use Rattle.std.proofs.Common.{◌≤◌, length, ◌≡◌, ℕ, ◌==◌, ◌||◌, Bool, true, false, Option, Some, None, List, [], ◌∷◌, ◌++◌, codes, refl, ap, ◌∙◌, sym, arith}
 use Rattle.std.specs.Prelude.{is_some}
 use Rattle.std.specs.Str.{bytes_eq}
-use Rattle.rust_lexer.proofs.Counted.{when}
 use Rattle.hir_input.specs.declared.ids.AstIdKind.{AstIdKind}
 use Rattle.hir_input.specs.declared.ids.AstIdKind.TheVariants as kind
 use Rattle.hir_input.specs.declared.ast.Visibility.{Visibility}
@@ -11,13 +10,11 @@ use Rattle.rust_paths.specs.Names.{plain_name, is_strict_keyword}
 use Rattle.rust_paths.specs.declared.names.TextRange.{TextRange}
 use Rattle.rust_cursor.specs.Tokens.{Tokens}
 use Rattle.rust_cursor.specs.Reader.{Reader}
-use Rattle.rust_cursor.specs.Words.{symbol, word, bumped, documents, eat_word}
-use Rattle.rust_cursor.specs.Extents.{ExcerptRead, goes_on, item_rest, value_rest}
-use Rattle.rust_cursor.specs.Angles.{to_block}
-use Rattle.rust_metas.specs.Attributes.{inner_attributes}
+use Rattle.rust_cursor.specs.Words.{word, bumped, documents, eat_word}
+use Rattle.rust_cursor.specs.Extents.{ExcerptRead, excerpt, goes_on, item_rest, value_rest}
 use Rattle.rust_leaves.specs.declared.head.Head.{Head}
 use Rattle.rust_leaves.specs.declared.head.Head.TheVariants as heads
-use Rattle.rust_leaves.specs.Leaves.{NameRead, RestRead, no_name, named, has_trait, item_end, value_end, block_attributes, struct_fields}
+use Rattle.rust_leaves.specs.Leaves.{NameRead, RestRead, rest_read, no_name, named, has_trait, item_end, value_end, block_attributes, struct_fields}
 use Rattle.rust_leaves.specs.Kinds.{named_node, plain_read, leaf_read, function, block_item, union_item, enumeration, trait_item, type_alias, static_value, constant, structure, implementation, leaf}
 use Rattle.hir_input.specs.UseTreeView.{UseTreeView}
 use Rattle.hir_input.specs.Syntax.{use_item}
@@ -29,13 +26,12 @@ use Rattle.rust_leaves.specs.Kinds.{node, use_read, use_declaration}
 use Rattle.rust_written.specs.UseTrees.{UseTree, use_words, use_view, IsUse}
 use Rattle.rust_written.proofs.Uses.{IsUseEnd, use_reads}
 use Rattle.rust_round.specs.Words.{Word}
-use Rattle.rust_round.specs.Trees.{Trees, no_trees, mark, curly, open_of, close_of, first_of, trees_words, AreTrees, GoesOn, AreClosed, spaced}
+use Rattle.rust_round.specs.Trees.{Trees, no_trees, mark, curly, open_of, close_of, first_of, trees_words, AreTrees, GoesOn, spaced}
 use Rattle.rust_round.specs.Impls.{ImplHeader, header_trees, IsImplHeader}
 use Rattle.rust_round.specs.Trees as trees
 use Rattle.rust_round.proofs.Begins.{Shows, Begins, behind, behind_append, begins_left, begins_right}
 use Rattle.rust_round.proofs.Same.{shows_first}
 use Rattle.rust_round.proofs.Ends.{whole, item_semicolon, value_semicolon, item_block}
-use Rattle.rust_round.proofs.Reaching.{to_block_header}
 use Rattle.rust_round.proofs.Impls.{impl_header_read}
 use Rattle.rust_written.specs.Written.{Front, impl_front, front_view, BlockKind, functions, unions, enums, traits, block_kind, ValueKind, statics, aliases, constants, value_item, value_id, braced, ended, Shape, unit_shape, tuple_shape, record_shape, struct_trees, struct_words, shape_view, IsStruct, named_by, IsNamed, IsPlainBlock, IsOfKind, IsValue}
 use Rattle.rust_written.proofs.Structs.{struct_read}
@@ -43,26 +39,33 @@ use Rattle.rust_written.proofs.Fronts.{inner_none, no_keyword, named_at, named_r
 
 -- ---- ends
 
--- how an item's rest is read
-abbrev pub Ends : Reader RestRead → List Word → Tokens → Type 0
-Ends reader ws ts = reader ts ≡ (record { body = spaced ws; is_ended = true }, behind ws ts)
+-- how an item's rest is read, which ends with these braces or with none
+abbrev pub rest_is : Option Tokens → List Word → Tokens → RestRead
+rest_is block ws ts = rest_read (excerpt (spaced ws) true block) (behind ws ts).past
 
-rest_of : ExcerptRead → RestRead
-rest_of r = record { body = r.text; is_ended = r.is_ended }
+abbrev pub Ends : Reader RestRead → Option Tokens → List Word → Tokens → Type 0
+Ends reader block ws ts = reader ts ≡ (rest_is block ws ts, behind ws ts)
 
-item_ends : (ws : List Word) (ts : Tokens) → item_rest ts ≡ (whole (spaced ws), behind ws ts) → Ends item_end ws ts
+rest_of : ExcerptRead × Tokens → RestRead × Tokens
+rest_of r = (rest_read r.0 r.1.past, r.1)
+
+item_ends : (block : Option Tokens) (ws : List Word) (ts : Tokens) → item_rest ts ≡ (excerpt (spaced ws) true block, behind ws ts) → Ends item_end block ws ts
 unfolding item_end rest_of
-item_ends ws ts e = ap (λ r. (rest_of r.0, r.1)) e
+item_ends block ws ts e = ap rest_of e
 
-value_ends : (ws : List Word) (ts : Tokens) → value_rest ts ≡ (whole (spaced ws), behind ws ts) → Ends value_end ws ts
+value_ends : (ws : List Word) (ts : Tokens) → value_rest ts ≡ (whole (spaced ws), behind ws ts) → Ends value_end None ws ts
 unfolding value_end rest_of
-value_ends ws ts e = ap (λ r. (rest_of r.0, r.1)) e
+value_ends ws ts e = ap rest_of e
+
+-- the braces behind a header
+abbrev pub block_behind : Trees → Tokens → Option Tokens
+block_behind h ts = Some (behind (trees_words h) ts)
 
 pub block_ends : (h b : Trees) (ts : Tokens) → AreTrees h → AreTrees b → GoesOn false h (open_of curly) → Begins (trees_words h ++ braced b) ts → goes_on (behind (trees_words h ++ braced b) ts) ≡ false
-    → Ends item_end (trees_words h ++ braced b) ts
-block_ends h b ts i j g begun e = item_ends (trees_words h ++ braced b) ts (item_block h b ts i j g begun e)
+    → Ends item_end (block_behind h ts) (trees_words h ++ braced b) ts
+block_ends h b ts i j g begun e = item_ends (block_behind h ts) (trees_words h ++ braced b) ts (item_block h b ts i j g begun e)
 
-pub values_end : (t : Trees) (ts : Tokens) → AreTrees t → GoesOn true t (mark 59) → Begins (ended t) ts → Ends value_end (ended t) ts
+pub values_end : (t : Trees) (ts : Tokens) → AreTrees t → GoesOn true t (mark 59) → Begins (ended t) ts → Ends value_end None (ended t) ts
 values_end t ts h g b = value_ends (ended t) ts (value_semicolon t ts h g b)
 
 -- ---- a leaf
@@ -70,73 +73,84 @@ values_end t ts h g b = value_ends (ended t) ts (value_semicolon t ts h g b)
 -- behind its front, an item without items is read as this, and these words are taken
 abbrev pub Reads : Head → Front → ℕ → ItemView → AstIdKind → List ℕ → List Word → Tokens → Type 0
 Reads h v start item kind n ws ts =
-    (range : Option TextRange) × (leaf (front_at start v h) ts ≡ (Some (record { item = item; kind = kind; name = n; named = range; is_ended = true; too_deep = None }), behind ws ts))
+    (range : Option TextRange) × (body : Option TextRange)
+    × (leaf (front_at start v h) ts ≡ (Some (record { item = item; kind = kind; name = n; named = range; body = body; is_ended = true; too_deep = None }), behind ws ts))
 
 -- ---- functions, unions, enums and traits
-
-inner_at : (start : ℕ) (ts us : Tokens) → to_block ts ≡ us → inner_attributes start (bumped us) ≡ ([], bumped us) → block_attributes start ts ≡ []
-unfolding block_attributes
-inner_at start ts us e h = when (symbol (to_block ts) == 123) (λ f. rw f (ap (λ k. (inner_attributes start (bumped k)).0) e ∙ ap (λ r. r.0) h)) (λ f. rw f refl)
 
 plain_parts : (a b : Bool) → (a || b) ≡ false → (a ≡ false) × (b ≡ false)
 plain_parts true b e = absurd cc
 plain_parts false b e = (refl, e)
 
-no_inner : (start : ℕ) (h b : Trees) (ts : Tokens) → AreTrees h → GoesOn false h (open_of curly) → AreClosed h → IsPlainBlock b → Begins (trees_words h ++ braced b) ts → block_attributes start ts ≡ []
-no_inner start h b ts i g c p begun =
+no_inner : (start : ℕ) (h b : Trees) (ts : Tokens) → IsPlainBlock b → Begins (trees_words h ++ braced b) ts → block_attributes start (block_behind h ts) ≡ []
+unfolding block_attributes
+no_inner start h b ts p begun =
     let us = behind (trees_words h) ts in
     let inside : Begins (trees_words b ++ close_of curly ∷ []) (bumped us) = (begins_right (trees_words h) (braced b) ts begun).1 in
     let first : Shows (first_of b (close_of curly)) (bumped us) = shows_first b (close_of curly) [] (bumped us) inside in
     let plain = plain_parts (trees.symbol_of (first_of b (close_of curly)) == 35) (documents (first_of b (close_of curly)).kind) p in
-    inner_at start ts us (to_block_header h (trees_words b ++ close_of curly ∷ []) ts i g c begun)
-    (inner_none start (first_of b (close_of curly)) (bumped us) first plain.1 plain.0)
+    ap (λ r. r.0) (inner_none start (first_of b (close_of curly)) (bumped us) first plain.1 plain.0)
 
-function_reads : (start : ℕ) (v : Option Visibility) (n : NameRead) (ws : List Word) (ts us : Tokens) → named ts ≡ (n, us) → block_attributes start us ≡ [] → (e : Ends item_end ws us)
-    → function start [] v ts ≡ (plain_read fn_kind [] v n (record { body = spaced ws; is_ended = true }), behind ws us)
+function_reads : (start : ℕ) (v : Option Visibility) (n : NameRead) (block : Option Tokens) (ws : List Word) (ts us : Tokens) → named ts ≡ (n, us) → block_attributes start block ≡ [] → (e : Ends item_end block ws us)
+    → function start [] v ts ≡ (plain_read fn_kind [] v n (rest_is block ws us), behind ws us)
 unfolding function
-function_reads start v n ws ts us m i e = rw (m, i, e) refl
+function_reads start v n block ws ts us m i e = rw (m, e, i) refl
 
-block_reads : (k : PlainKind) (v : Option Visibility) (n : NameRead) (ws : List Word) (ts us : Tokens) → named ts ≡ (n, us) → (e : Ends item_end ws us)
-    → block_item k [] v ts ≡ (plain_read k [] v n (record { body = spaced ws; is_ended = true }), behind ws us)
-block_reads k v n ws ts us m e = rw (m, e) refl
+block_reads : (k : PlainKind) (v : Option Visibility) (n : NameRead) (block : Option Tokens) (ws : List Word) (ts us : Tokens) → named ts ≡ (n, us) → (e : Ends item_end block ws us)
+    → block_item k [] v ts ≡ (plain_read k [] v n (rest_is block ws us), behind ws us)
+block_reads k v n block ws ts us m e = rw (m, e) refl
 
-pub blocked_reads : (k : BlockKind) (v : Front) (n : List ℕ) (h b : Trees) (start : ℕ) (ts : Tokens) → IsNamed n → AreTrees h → AreTrees b → GoesOn false h (open_of curly) → IsOfKind k h b
+pub blocked_reads : (k : BlockKind) (v : Front) (n : List ℕ) (h b : Trees) (start : ℕ) (ts : Tokens) → IsNamed n → AreTrees h → AreTrees b → GoesOn false h (open_of curly) → IsOfKind k b
     → Shows (trees.word n) ts → Begins (trees_words h ++ braced b) (bumped ts) → goes_on (behind (trees_words h ++ braced b) (bumped ts)) ≡ false
     → Reads (block_head k) v start (plain_item (block_kind k) (named_by v n (trees_words h ++ braced b))) (ast_kind (block_kind k)) n (trees.word n ∷ (trees_words h ++ braced b)) ts
 unfolding leaf union_item enumeration trait_item
 blocked_reads functions v n h b start ts m i j g f s begun e =
-    let ends = block_ends h b (bumped ts) i j g begun e in
-    ((named_at n ts).range, ap (λ r. (Some r.0, r.1)) (function_reads start (front_view v) (named_at n ts) (trees_words h ++ braced b) ts (bumped ts) (named_reads n ts m s) (no_inner start h b (bumped ts) i g f.0 f.1 begun) ends))
+    let ws = trees_words h ++ braced b in
+    let block = block_behind h (bumped ts) in
+    let ends = block_ends h b (bumped ts) i j g begun e in (
+      (named_at n ts).range,
+      (rest_is block ws (bumped ts)).braces,
+      ap (λ r. (Some r.0, r.1)) (function_reads start (front_view v) (named_at n ts) block ws ts (bumped ts) (named_reads n ts m s) (no_inner start h b (bumped ts) f begun) ends),
+    )
 blocked_reads unions v n h b start ts m i j g f s begun e =
+    let ws = trees_words h ++ braced b in
+    let block = block_behind h (bumped ts) in
     let ends = block_ends h b (bumped ts) i j g begun e in
-    ((named_at n ts).range, ap (λ r. (Some r.0, r.1)) (block_reads union_kind (front_view v) (named_at n ts) (trees_words h ++ braced b) ts (bumped ts) (named_reads n ts m s) ends))
+    ((named_at n ts).range, (rest_is block ws (bumped ts)).braces, ap (λ r. (Some r.0, r.1)) (block_reads union_kind (front_view v) (named_at n ts) block ws ts (bumped ts) (named_reads n ts m s) ends))
 blocked_reads enums v n h b start ts m i j g f s begun e =
+    let ws = trees_words h ++ braced b in
+    let block = block_behind h (bumped ts) in
     let ends = block_ends h b (bumped ts) i j g begun e in
-    ((named_at n ts).range, ap (λ r. (Some r.0, r.1)) (block_reads enum_kind (front_view v) (named_at n ts) (trees_words h ++ braced b) ts (bumped ts) (named_reads n ts m s) ends))
+    ((named_at n ts).range, (rest_is block ws (bumped ts)).braces, ap (λ r. (Some r.0, r.1)) (block_reads enum_kind (front_view v) (named_at n ts) block ws ts (bumped ts) (named_reads n ts m s) ends))
 blocked_reads traits v n h b start ts m i j g f s begun e =
+    let ws = trees_words h ++ braced b in
+    let block = block_behind h (bumped ts) in
     let ends = block_ends h b (bumped ts) i j g begun e in
-    ((named_at n ts).range, ap (λ r. (Some r.0, r.1)) (block_reads trait_kind (front_view v) (named_at n ts) (trees_words h ++ braced b) ts (bumped ts) (named_reads n ts m s) ends))
+    ((named_at n ts).range, (rest_is block ws (bumped ts)).braces, ap (λ r. (Some r.0, r.1)) (block_reads trait_kind (front_view v) (named_at n ts) block ws ts (bumped ts) (named_reads n ts m s) ends))
 
 -- ---- impls
 
-impl_steps : (start : ℕ) (is_trait : Bool) (ws : List Word) (ts : Tokens) → has_trait ts ≡ is_trait → block_attributes start ts ≡ [] → Ends item_end ws ts
-    → implementation start [] ts ≡ (leaf_read (impl_item (node [] (spaced ws)) is_trait) kind.Impl no_name true, behind ws ts)
+impl_steps : (start : ℕ) (is_trait : Bool) (block : Option Tokens) (ws : List Word) (ts : Tokens) → has_trait (behind ws ts).past ts ≡ is_trait → block_attributes start block ≡ [] → Ends item_end block ws ts
+    → implementation start [] ts ≡ (leaf_read (impl_item (node [] (spaced ws)) is_trait) kind.Impl no_name (rest_is block ws ts), behind ws ts)
 unfolding implementation
-impl_steps start is_trait ws ts t i e = rw (t, i, e) refl
+impl_steps start is_trait block ws ts t i e = rw (e, i, t) refl
 
-trait_is : (h : ImplHeader) (more : List Word) (ts : Tokens) → AreTrees (header_trees h) → IsImplHeader h → Begins (trees_words (header_trees h) ++ open_of curly ∷ more) ts → has_trait ts ≡ is_some h.of_trait
+trait_is : (h : ImplHeader) (more : List Word) (ts : Tokens) → AreTrees (header_trees h) → IsImplHeader h → Begins (trees_words (header_trees h) ++ open_of curly ∷ more) ts
+    → has_trait (behind (trees_words (header_trees h) ++ open_of curly ∷ more) ts).past ts ≡ is_some h.of_trait
 unfolding has_trait
-trait_is h more ts a is b = impl_header_read h more ts a is b
+trait_is h more ts a is b = impl_header_read (behind (trees_words (header_trees h) ++ open_of curly ∷ more) ts).past h more ts a is b (omega arith)
 
 pub impl_reads : (ms : List (List ℕ)) (h : ImplHeader) (b : Trees) (start : ℕ) (ts : Tokens) → AreTrees (header_trees h) → AreTrees b → IsImplHeader h → IsPlainBlock b → Begins (trees_words (header_trees h) ++ braced b) ts
     → goes_on (behind (trees_words (header_trees h) ++ braced b) ts) ≡ false
     → Reads heads.Impl (impl_front ms) start (impl_item (node [] (spaced (trees_words (header_trees h) ++ braced b))) (is_some h.of_trait)) kind.Impl [] (trees_words (header_trees h) ++ braced b) ts
 unfolding leaf
 impl_reads ms h b start ts i j is p begun e =
-    let t = header_trees h in (
+    let t = header_trees h in
+    let ws = trees_words t ++ braced b in
+    let block = block_behind t ts in (
       None,
-      ap (λ r. (Some r.0, r.1)) (impl_steps start (is_some h.of_trait) (trees_words t ++ braced b) ts (trait_is h (trees_words b ++ close_of curly ∷ []) ts i is begun)
-          (no_inner start t b ts i is.goes is.closed p begun) (block_ends t b ts i j is.goes begun e)),
+      (rest_is block ws ts).braces,
+      ap (λ r. (Some r.0, r.1)) (impl_steps start (is_some h.of_trait) block ws ts (trait_is h (trees_words b ++ close_of curly ∷ []) ts i is begun) (no_inner start t b ts p begun) (block_ends t b ts i j is.goes begun e)),
     )
 
 -- ---- statics, type aliases and constants
@@ -149,18 +163,18 @@ not_mut : (n : List ℕ) → IsNamed n → bytes_eq n (codes "mut") ≡ false
 unfolding plain_name is_strict_keyword
 not_mut n m = no_keyword (codes "mut") n m refl
 
-static_steps : (v : Option Visibility) (n : NameRead) (ws : List Word) (ts us : Tokens) → eat_word (codes "mut") ts ≡ (false, ts) → named ts ≡ (n, us) → (e : Ends value_end ws us)
-    → static_value [] v ts ≡ (plain_read static_kind [] v n (record { body = spaced ws; is_ended = true }), behind ws us)
+static_steps : (v : Option Visibility) (n : NameRead) (ws : List Word) (ts us : Tokens) → eat_word (codes "mut") ts ≡ (false, ts) → named ts ≡ (n, us) → (e : Ends value_end None ws us)
+    → static_value [] v ts ≡ (plain_read static_kind [] v n (rest_is None ws us), behind ws us)
 unfolding static_value
 static_steps v n ws ts us w m e = rw (w, m, e) refl
 
-alias_steps : (v : Option Visibility) (n : NameRead) (ws : List Word) (ts us : Tokens) → named ts ≡ (n, us) → (e : Ends value_end ws us)
-    → type_alias [] v ts ≡ (plain_read type_alias_kind [] v n (record { body = spaced ws; is_ended = true }), behind ws us)
+alias_steps : (v : Option Visibility) (n : NameRead) (ws : List Word) (ts us : Tokens) → named ts ≡ (n, us) → (e : Ends value_end None ws us)
+    → type_alias [] v ts ≡ (plain_read type_alias_kind [] v n (rest_is None ws us), behind ws us)
 unfolding type_alias
 alias_steps v n ws ts us m e = rw (m, e) refl
 
-const_steps : (v : Option Visibility) (n : NameRead) (ws : List Word) (ts us : Tokens) → named ts ≡ (n, us) → eat_word (codes "_") us ≡ (false, us) → (e : Ends value_end ws us)
-    → constant [] v ts ≡ (leaf_read (const_item (named_node [] n.name v (spaced ws))) kind.Const n true, behind ws us)
+const_steps : (v : Option Visibility) (n : NameRead) (ws : List Word) (ts us : Tokens) → named ts ≡ (n, us) → eat_word (codes "_") us ≡ (false, us) → (e : Ends value_end None ws us)
+    → constant [] v ts ≡ (leaf_read (const_item (named_node [] n.name v (spaced ws))) kind.Const n (rest_is None ws us), behind ws us)
 unfolding constant
 const_steps v n ws ts us m w e = rw (m, w, e) refl
 
@@ -169,36 +183,42 @@ pub value_reads : (k : ValueKind) (v : Front) (n : List ℕ) (t : Trees) (start 
 unfolding leaf
 value_reads aliases v n t start ts m i g u s b =
     let ends = values_end t (bumped ts) i g b in
-    ((named_at n ts).range, ap (λ r. (Some r.0, r.1)) (alias_steps (front_view v) (named_at n ts) (ended t) ts (bumped ts) (named_reads n ts m s) ends))
+    ((named_at n ts).range, None, ap (λ r. (Some r.0, r.1)) (alias_steps (front_view v) (named_at n ts) (ended t) ts (bumped ts) (named_reads n ts m s) ends))
 value_reads statics v n t start ts m i g u s b =
     let ends = values_end t (bumped ts) i g b in
     let no_word = no_eat (codes "mut") n ts s.word_is (not_mut n m) in
-    ((named_at n ts).range, ap (λ r. (Some r.0, r.1)) (static_steps (front_view v) (named_at n ts) (ended t) ts (bumped ts) no_word (named_reads n ts m s) ends))
+    ((named_at n ts).range, None, ap (λ r. (Some r.0, r.1)) (static_steps (front_view v) (named_at n ts) (ended t) ts (bumped ts) no_word (named_reads n ts m s) ends))
 value_reads constants v n t start ts m i g u s b =
     let ends = values_end t (bumped ts) i g b in
     let first : Shows (first_of t (mark 59)) (bumped ts) = shows_first t (mark 59) [] (bumped ts) b in
     let no_word = no_eat (codes "_") (trees.text_of (first_of t (mark 59))) (bumped ts) first.word_is u in
-    ((named_at n ts).range, ap (λ r. (Some r.0, r.1)) (const_steps (front_view v) (named_at n ts) (ended t) ts (bumped ts) (named_reads n ts m s) no_word ends))
+    ((named_at n ts).range, None, ap (λ r. (Some r.0, r.1)) (const_steps (front_view v) (named_at n ts) (ended t) ts (bumped ts) (named_reads n ts m s) no_word ends))
 
 -- ---- structs
 
-struct_steps : (v : Option Visibility) (n : NameRead) (shape : FieldsView) (ws : List Word) (ts us : Tokens) → named ts ≡ (n, us) → struct_fields us ≡ shape → (e : Ends item_end ws us)
-    → structure [] v ts ≡ (leaf_read (struct_item (named_node [] n.name v (spaced ws)) shape) kind.Struct n true, behind ws us)
+struct_steps : (v : Option Visibility) (n : NameRead) (shape : FieldsView) (block : Option Tokens) (ws : List Word) (ts us : Tokens) → named ts ≡ (n, us) → struct_fields (is_some block) us ≡ shape → (e : Ends item_end block ws us)
+    → structure [] v ts ≡ (leaf_read (struct_item (named_node [] n.name v (spaced ws)) shape) kind.Struct n (rest_is block ws us), behind ws us)
 unfolding structure
-struct_steps v n shape ws ts us m f e = rw (m, f, e) refl
+struct_steps v n shape block ws ts us m f e = rw (m, e, f) refl
 
-struct_reads : (v : Front) (n : List ℕ) (shape : FieldsView) (ws : List Word) (start : ℕ) (ts : Tokens) → IsNamed n → Shows (trees.word n) ts → struct_fields (bumped ts) ≡ shape → Ends item_end ws (bumped ts)
-    → Reads heads.Struct v start (struct_item (named_by v n ws) shape) kind.Struct n (trees.word n ∷ ws) ts
+struct_reads : (v : Front) (n : List ℕ) (shape : FieldsView) (block : Option Tokens) (ws : List Word) (start : ℕ) (ts : Tokens) → IsNamed n → Shows (trees.word n) ts → struct_fields (is_some block) (bumped ts) ≡ shape
+    → Ends item_end block ws (bumped ts) → Reads heads.Struct v start (struct_item (named_by v n ws) shape) kind.Struct n (trees.word n ∷ ws) ts
 unfolding leaf
-struct_reads v n shape ws start ts m s f ends =
-    ((named_at n ts).range, ap (λ r. (Some r.0, r.1)) (struct_steps (front_view v) (named_at n ts) shape ws ts (bumped ts) (named_reads n ts m s) f ends))
+struct_reads v n shape block ws start ts m s f ends =
+    ((named_at n ts).range, (rest_is block ws (bumped ts)).braces, ap (λ r. (Some r.0, r.1)) (struct_steps (front_view v) (named_at n ts) shape block ws ts (bumped ts) (named_reads n ts m s) f ends))
 
-struct_ends : (g : Option Trees) (s : Shape) (ts : Tokens) → IsStruct g s → Begins (struct_words g s) ts → goes_on (behind (struct_words g s) ts) ≡ false → Ends item_end (struct_words g s) ts
-struct_ends g (unit_shape w) ts is b e = item_ends (struct_words g (unit_shape w)) ts (item_semicolon (struct_trees g (unit_shape w)) ts is.trees is.goes b)
-struct_ends g (tuple_shape fs w) ts is b e = item_ends (struct_words g (tuple_shape fs w)) ts (item_semicolon (struct_trees g (tuple_shape fs w)) ts is.trees is.goes b)
-struct_ends g (record_shape w b) ts is begun e = block_ends (struct_trees g (record_shape w b)) b ts is.trees is.shape.0 is.goes begun e
+-- the braces that a struct ends with
+abbrev struct_block : Option Trees → Shape → Tokens → Option Tokens
+struct_block g (unit_shape w) ts = None
+struct_block g (tuple_shape fs w) ts = None
+struct_block g (record_shape w b) ts = block_behind (struct_trees g (record_shape w b)) ts
 
-struct_fields_are : (g : Option Trees) (s : Shape) (ts : Tokens) → length ts.left ≤ most → IsStruct g s → Begins (struct_words g s) ts → struct_fields ts ≡ shape_view s
+struct_ends : (g : Option Trees) (s : Shape) (ts : Tokens) → IsStruct g s → Begins (struct_words g s) ts → goes_on (behind (struct_words g s) ts) ≡ false → Ends item_end (struct_block g s ts) (struct_words g s) ts
+struct_ends g (unit_shape w) ts is b e = item_ends None (struct_words g (unit_shape w)) ts (item_semicolon (struct_trees g (unit_shape w)) ts is.trees is.goes b)
+struct_ends g (tuple_shape fs w) ts is b e = item_ends None (struct_words g (tuple_shape fs w)) ts (item_semicolon (struct_trees g (tuple_shape fs w)) ts is.trees is.goes b)
+struct_ends g (record_shape w b) ts is begun e = block_ends (struct_trees g (record_shape w b)) b ts is.trees is.shape is.goes begun e
+
+struct_fields_are : (g : Option Trees) (s : Shape) (ts : Tokens) → length ts.left ≤ most → IsStruct g s → Begins (struct_words g s) ts → struct_fields (is_some (struct_block g s ts)) ts ≡ shape_view s
 struct_fields_are g (unit_shape w) ts l is b = struct_read g (unit_shape w) [] ts l is b
 struct_fields_are g (tuple_shape fs w) ts l is b = struct_read g (tuple_shape fs w) [] ts l is b
 struct_fields_are g (record_shape w b) ts l is begun = struct_read g (record_shape w b) (trees_words b ++ close_of curly ∷ []) ts l is begun
@@ -207,7 +227,7 @@ pub structure_reads : (v : Front) (n : List ℕ) (g : Option Trees) (s : Shape) 
     → goes_on (behind (struct_words g s) (bumped ts)) ≡ false
     → Reads heads.Struct v start (struct_item (named_by v n (struct_words g s)) (shape_view s)) kind.Struct n (trees.word n ∷ struct_words g s) ts
 structure_reads v n g s start ts l m is shown b e =
-    struct_reads v n (shape_view s) (struct_words g s) start ts m shown (struct_fields_are g s (bumped ts) l is b) (struct_ends g s (bumped ts) is b e)
+    struct_reads v n (shape_view s) (struct_block g s (bumped ts)) (struct_words g s) start ts m shown (struct_fields_are g s (bumped ts) l is b) (struct_ends g s (bumped ts) is b e)
 
 -- ---- uses
 
@@ -226,6 +246,7 @@ used_reads v t start ts h l b =
     let us = behind (use_words t) ts in
     let last : Shows (mark 59) us = (begins_right (use_words t) (mark 59 ∷ []) ts b).0 in
     let end : IsUseEnd us = record { colon = rw last.symbol_is refl; word = last.word_is } in (
+      None,
       None,
       ap (λ r. (Some r.0, r.1)) (use_steps (front_view v) (use_spec.whole (Some (use_view t))) true ts us (bumped us) (use_reads t ts h l (begins_left (use_words t) (mark 59 ∷ []) ts b) end) (eaten us last))
           ∙ ap (λ k. (Some (use_read [] (front_view v) (use_spec.whole (Some (use_view t))) true), k)) (sym (behind_append (use_words t) (mark 59 ∷ []) ts)),

@@ -3,15 +3,11 @@ use Rattle.std.proofs.Common.{◌≡◌, ◌≤◌, ◌<◌, ℕ, zero, suc, ◌
 use Rattle.std.specs.Prelude.{map}
 use Rattle.hir_input.specs.declared.ast.Visibility.{Visibility}
 use Rattle.hir_input.specs.Syntax.{no_fields, record_fields, tuple_fields}
-use Rattle.rust_cursor.specs.declared.cursor.generics.Reach.TheVariants as reaches
-use Rattle.rust_cursor.specs.declared.cursor.nest.Before.{Before}
-use Rattle.rust_cursor.specs.declared.cursor.nest.Before.TheVariants as befores
 use Rattle.rust_cursor.specs.Tokens.{Tokens}
 use Rattle.rust_cursor.specs.Words.{is_at_end, bumped, documents, eat}
 use Rattle.rust_cursor.specs.Elements.{most, turns, turns_from, one, beyond}
-use Rattle.rust_cursor.specs.Angles.{is_reached, reached, behind_field, to_block}
+use Rattle.rust_cursor.specs.Angles.{behind_field}
 use Rattle.rust_cursor.proofs.Nesting.{shorter}
-use Rattle.rust_cursor.proofs.Reaches.{reaching_stop}
 use Rattle.rust_cursor.proofs.Turns.{turns_stop}
 use Rattle.rust_paths.specs.Visibilities.{visibility, scoped, is_in, scope, scope_of}
 use Rattle.rust_metas.specs.Attributes.{outer_attributes}
@@ -19,12 +15,9 @@ use Rattle.rust_leaves.specs.Leaves.{field, fields, fields_at, struct_fields}
 use Rattle.rust_round.specs.Words.{Word}
 use Rattle.rust_round.specs.Trees.{mark, Bracket, round, curly, open_of, close_of, close_mark, Tree, single, group, Trees, no_trees, tree_and, tree_words, trees_words, AreTrees, first_of, GoesOn, AreClosed}
 use Rattle.rust_round.specs.Trees as trees
-use Rattle.rust_round.specs.Impls.{before_behind_all, trees_append, where_part, generics}
+use Rattle.rust_round.specs.Impls.{trees_append, where_part, generics}
 use Rattle.rust_round.proofs.Begins.{Shows, Begins, behind, behind_append, begins_left, begins_right}
 use Rattle.rust_round.proofs.Same.{shows_first}
-use Rattle.rust_round.proofs.Nested.{nest}
-use Rattle.rust_round.proofs.Flat.{semicolon_begins}
-use Rattle.rust_round.proofs.Reaching.{passes_trees, all_before_block, to_block_header}
 use Rattle.rust_round.proofs.Impls.{append_words, append_trees, generics_words, enclosed, generics_passed, no_generics, field_type_passed}
 use Rattle.rust_written.specs.Written.{Scope, unwritten, everywhere, in_crate, in_super, in_self, scope_words, scope_view, Field, Shape, unit_shape, tuple_shape, record_shape, scope_trees, fields_trees, shape_trees, struct_trees, shape_end, field_view, shape_view, BeginsType, IsField, AreFields, IsShape, IsStruct}
 use Rattle.rust_written.proofs.Uses.{fewer_left, beyond_none, one_element, past_more}
@@ -173,52 +166,37 @@ all_fields fs ts l h is b = ap (λ r. r.0) (fields_read fs most [] ts l h is b)
 
 -- ---- shapes
 
--- the semicolon of a struct, behind its `where`
-semicolon_reached : (a : ℕ) (before : Before) (ts : Tokens) → Shows (mark 59) ts → is_reached reaches.Block (nest 0 0 0 0 a before) ts ≡ true
-unfolding is_reached
-semicolon_reached a before ts s = rw (s.some, s.symbol_is, semicolon_begins a before ts s) refl
+-- a struct ends with braces
+abbrev pub has_block : Shape → Bool
+has_block (record_shape w b) = true
+has_block _ = false
 
-to_semicolon : (t : Trees) (ts : Tokens) → AreTrees t → GoesOn false t (mark 59) → Begins (trees_words t ++ mark 59 ∷ []) ts → to_block ts ≡ behind (trees_words t) ts
-unfolding to_block reached
-to_semicolon t ts h g b =
-    let us = behind (trees_words t) ts in
-    passes_trees t reaches.Block 0 befores.End (mark 59) [] ts h g b (all_before_block t befores.End 0 (mark 59) [] ts h g b)
-    ∙ reaching_stop reaches.Block (nest 0 0 0 0 (trees.angles_behind_all befores.End 0 t) (before_behind_all befores.End t)) us
-    (semicolon_reached (trees.angles_behind_all befores.End 0 t) (before_behind_all befores.End t) us (begins_right (trees_words t) (mark 59 ∷ []) ts b).0)
+unit_at : (w : Option Trees) (ts : Tokens) → Begins (trees_words (where_part w) ++ mark 59 ∷ []) ts → fields_at false ts ≡ no_fields
+unit_at None ts b = rw b.0.symbol_is refl
+unit_at (Some w) ts b = rw b.0.symbol_is refl
 
-unit_at : (w : Option Trees) (ts : Tokens) → AreTrees (where_part w) → GoesOn false (where_part w) (mark 59) → Begins (trees_words (where_part w) ++ mark 59 ∷ []) ts → fields_at ts ≡ no_fields
-unit_at None ts h g b = rw (b.0.symbol_is, b.0.word_is) refl
-unit_at (Some w) ts h g b =
-    let t = where_part (Some w) in
-    let last : Shows (mark 59) (behind (trees_words t) ts) = (begins_right (trees_words t) (mark 59 ∷ []) ts b).0 in
-    rw (b.0.symbol_is, b.0.word_is, to_semicolon t ts h g b, last.symbol_is) refl
-
-record_at : (w : Option Trees) (more : List Word) (ts : Tokens) → AreTrees (where_part w) → GoesOn false (where_part w) (open_of curly) → AreClosed (where_part w) → Begins (trees_words (where_part w) ++ open_of curly ∷ more) ts
-    → fields_at ts ≡ record_fields
-record_at None more ts h g c b = rw b.0.symbol_is refl
-record_at (Some w) more ts h g c b =
-    let t = where_part (Some w) in
-    let last : Shows (open_of curly) (behind (trees_words t) ts) = (begins_right (trees_words t) (open_of curly ∷ more) ts b).0 in
-    rw (b.0.symbol_is, b.0.word_is, to_block_header t more ts h g c b, last.symbol_is) refl
+record_at : (w : Option Trees) (more : List Word) (ts : Tokens) → Begins (trees_words (where_part w) ++ open_of curly ∷ more) ts → fields_at true ts ≡ record_fields
+record_at None more ts b = rw b.0.symbol_is refl
+record_at (Some w) more ts b = rw b.0.symbol_is refl
 
 tuple_at : (fs : List Field) (rest : List Word) (ts : Tokens) → length ts.left ≤ most → AreTrees (fields_trees fs) → AreFields fs → Begins (tree_words (group round (fields_trees fs)) ++ rest) ts
-    → fields_at ts ≡ tuple_fields (map field_view fs)
+    → fields_at false ts ≡ tuple_fields (map field_view fs)
 tuple_at fs rest ts l h is b =
     let here = begins_left (tree_words (group round (fields_trees fs))) rest ts b in
     let one : length (bumped ts).left + 1 ≡ length ts.left = shorter ts here.0.some in
     rw here.0.symbol_is (ap tuple_fields (all_fields fs (bumped ts) (omega (arith, one, l)) h is here.1))
 
-shape_read : (s : Shape) (more : List Word) (ts : Tokens) → length ts.left ≤ most → AreTrees (shape_trees s) → IsShape s → Begins (trees_words (shape_trees s) ++ shape_end s ∷ more) ts → fields_at ts ≡ shape_view s
-shape_read (unit_shape w) more ts l h is b = unit_at w ts h is (begins_left (trees_words (where_part w) ++ mark 59 ∷ []) more ts (subst (λ k. Begins k ts) (sym (append_assoc (trees_words (where_part w)) (mark 59 ∷ []) more)) b))
+shape_read : (s : Shape) (more : List Word) (ts : Tokens) → length ts.left ≤ most → AreTrees (shape_trees s) → IsShape s → Begins (trees_words (shape_trees s) ++ shape_end s ∷ more) ts → fields_at (has_block s) ts ≡ shape_view s
+shape_read (unit_shape w) more ts l h is b = unit_at w ts (begins_left (trees_words (where_part w) ++ mark 59 ∷ []) more ts (subst (λ k. Begins k ts) (sym (append_assoc (trees_words (where_part w)) (mark 59 ∷ []) more)) b))
 shape_read (tuple_shape fs w) more ts l h is b =
     tuple_at fs (trees_words (where_part w) ++ mark 59 ∷ more) ts l h.0 is (subst (λ k. Begins k ts) (append_assoc (tree_words (group round (fields_trees fs))) (trees_words (where_part w)) (mark 59 ∷ more)) b)
-shape_read (record_shape w b) more ts l h is begun = record_at w more ts h is.1 is.2 begun
+shape_read (record_shape w b) more ts l h is begun = record_at w more ts begun
 
 -- what a struct's fields are read as, behind its name
-pub struct_read : (g : Option Trees) (s : Shape) (more : List Word) (ts : Tokens) → length ts.left ≤ most → IsStruct g s → Begins (trees_words (struct_trees g s) ++ shape_end s ∷ more) ts → struct_fields ts ≡ shape_view s
+pub struct_read : (g : Option Trees) (s : Shape) (more : List Word) (ts : Tokens) → length ts.left ≤ most → IsStruct g s → Begins (trees_words (struct_trees g s) ++ shape_end s ∷ more) ts → struct_fields (has_block s) ts ≡ shape_view s
 unfolding struct_fields
 struct_read None s more ts l is b =
-    ap fields_at (no_generics (first_of (shape_trees s) (shape_end s)) ts (shows_first (shape_trees s) (shape_end s) more ts b) is.has_generics) ∙ shape_read s more ts l is.trees is.shape b
+    ap (fields_at (has_block s)) (no_generics (first_of (shape_trees s) (shape_end s)) ts (shows_first (shape_trees s) (shape_end s) more ts b) is.has_generics) ∙ shape_read s more ts l is.trees is.shape b
 struct_read (Some g) s more ts l is b =
     let front = generics (Some g) in
     let tail = trees_words (shape_trees s) ++ shape_end s ∷ more in
@@ -229,5 +207,5 @@ struct_read (Some g) s more ts l is b =
     b in
     let first = begins_left (enclosed g) tail ts split in
     let few : length (enclosed g) + length (behind (enclosed g) ts).left ≡ length ts.left = fewer_left (enclosed g) ts first in
-    ap fields_at (generics_passed g ts (append_trees g (tree_and (single (mark 62)) no_trees) parts.0.1).0 is.has_generics first)
+    ap (fields_at (has_block s)) (generics_passed g ts (append_trees g (tree_and (single (mark 62)) no_trees) parts.0.1).0 is.has_generics first)
     ∙ shape_read s more (behind (enclosed g) ts) (omega (arith, few, l)) parts.1 is.shape (begins_right (enclosed g) tail ts split)

@@ -15,7 +15,7 @@ use Rattle.rust_leaves.specs.Texts.{bare}
 use Rattle.rust_round.specs.Words.{Word}
 use Rattle.rust_round.specs.Impls.{trees_append, where_part, generics, HasGenerics, IsFieldType, ImplHeader, header_trees, IsImplHeader}
 use Rattle.rust_written.specs.UseTrees.{UseTree, use_words, use_view, IsUse}
-use Rattle.rust_round.specs.Trees.{word, mark, open_mark, close_mark, symbol_of, text_of, round, curly, open_of, close_of, single, group, Trees, no_trees, tree_and, tree_words, trees_words, AreTrees, first_of, GoesOn, AreClosed, spaced}
+use Rattle.rust_round.specs.Trees.{word, mark, open_mark, close_mark, symbol_of, text_of, round, curly, open_of, close_of, single, group, Trees, no_trees, tree_and, tree_words, trees_words, AreTrees, first_of, GoesOn, spaced}
 
 -- ---- visibilities
 
@@ -270,10 +270,9 @@ pub record IsNamed (n : List ℕ) : Type 0 where
 abbrev pub IsPlainBlock : Trees → Type 0
 IsPlainBlock b = (symbol_of (first_of b (close_of curly)) == 35 || documents (first_of b (close_of curly)).kind) ≡ false
 
--- in a function's header each angle bracket is closed
-abbrev pub IsOfKind : BlockKind → Trees → Trees → Type 0
-IsOfKind functions h b = AreClosed h × IsPlainBlock b
-IsOfKind _ h b = Unit {0}
+abbrev pub IsOfKind : BlockKind → Trees → Type 0
+IsOfKind functions b = IsPlainBlock b
+IsOfKind _ b = Unit {0}
 
 -- a `_` behind a constant's name would be read with it
 abbrev pub IsValue : ValueKind → Trees → Type 0
@@ -295,11 +294,10 @@ abbrev pub AreFields : List Field → Type 0
 AreFields [] = Unit {0}
 AreFields (f ∷ fs) = IsField f × AreFields fs
 
--- `where` and what is behind it goes on to the struct's end; before a block its angle brackets are closed
 abbrev pub IsShape : Shape → Type 0
-IsShape (unit_shape w) = GoesOn false (where_part w) (mark 59)
+IsShape (unit_shape w) = Unit {0}
 IsShape (tuple_shape fs w) = AreFields fs
-IsShape (record_shape w b) = AreTrees b × GoesOn false (where_part w) (open_of curly) × AreClosed (where_part w)
+IsShape (record_shape w b) = AreTrees b
 
 pub record IsStruct (g : Option Trees) (s : Shape) : Type 0 where
   pub trees : AreTrees (struct_trees g s)
@@ -310,7 +308,7 @@ pub record IsStruct (g : Option Trees) (s : Shape) : Type 0 where
 -- Names are names, brackets stand in pairs, and no part of an item ends it or begins another; modules stand in one another at most so deep.
 abbrev mutual
   pub IsItem : ℕ → Item → Type 0
-  IsItem left (blocked k v n h b) = IsNamed n × AreTrees h × AreTrees b × GoesOn false h (open_of curly) × IsOfKind k h b × AreModifiers v.modifiers (block_word k)
+  IsItem left (blocked k v n h b) = IsNamed n × AreTrees h × AreTrees b × GoesOn false h (open_of curly) × IsOfKind k b × AreModifiers v.modifiers (block_word k)
   IsItem left (valued k v n t) = IsNamed n × AreTrees t × GoesOn true t (mark 59) × IsValue k t × AreModifiers v.modifiers (value_word k)
   IsItem left (structure v n g s) = IsNamed n × IsStruct g s × AreModifiers v.modifiers (codes "struct")
   IsItem left (implemented ms h b) = AreTrees (header_trees h) × AreTrees b × IsImplHeader h × IsPlainBlock b × AreModifiers ms (codes "impl")

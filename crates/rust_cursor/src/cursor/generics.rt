@@ -5,7 +5,7 @@ ghost use Rattle.rust_cursor.specs.declared.cursor.generics.Reach.TheVariants as
 ghost use Rattle.rust_cursor.specs.Angles as spec;
 
 use crate::cursor::Cursor;
-use crate::cursor::nest::Nest;
+use crate::cursor::nest::{Nest, is_mark};
 use rust_lexer::TokenKind;
 
 /// How far tokens are passed over.
@@ -17,12 +17,11 @@ pub enum Reach {
     Field,
     /// Up to a `for` that no `<` follows, a `where` or a block.
     Header,
-    /// Up to a block or a semicolon.
-    Block,
 }
 
 impl<'t> Cursor<'t> {
-    fn is_lone_for(&self) -> bool
+    /// Whether a `for` comes next that no lifetimes follow, as in `for<'a>`.
+    pub fn is_lone_for(&self) -> bool
         ensures { result ≡ spec.is_lone_for self.now }
     {
         self.word() == "for" && !self.second().begins_binder()
@@ -54,7 +53,6 @@ impl<'t> Cursor<'t> {
             Reach::Angles => self.is_barred_angles(nest),
             Reach::Field => self.is_barred_field(nest),
             Reach::Header => self.is_barred_header(nest),
-            Reach::Block => self.is_barred_block(nest),
         }
     }
 
@@ -76,43 +74,31 @@ impl<'t> Cursor<'t> {
         nest.others == 0 && nest.angles == 0 && self.symbol() == b','
     }
 
-    fn is_barred_block(&self, nest: Nest) -> bool
-        ensures { result ≡ spec.is_barred reaches.Block nest self.now }
-    {
-        if self.symbol() == b'}' || self.begins(nest) {
-            return true;
-        }
-        nest.others == 0 && self.is_block_end(nest.angles)
-    }
-
-    fn is_block_end(&self, angles: usize) -> bool
-        ensures { result ≡ spec.is_block_end angles self.now }
-    {
-        if self.symbol() == b';' {
-            return true;
-        }
-        angles == 0 && self.symbol() == b'{'
-    }
-
     fn is_barred_header(&self, nest: Nest) -> bool
         ensures { result ≡ spec.is_barred reaches.Header nest self.now }
     {
         if self.symbol() == b'}' || self.begins(nest) {
             return true;
         }
-        nest.others == 0 && self.is_header_end(nest.angles)
+        nest.others == 0 && self.is_header_end(nest)
     }
 
-    fn is_header_end(&self, angles: usize) -> bool
-        ensures { result ≡ spec.is_header_end angles self.now }
+    fn is_block(&self, nest: Nest) -> bool
+        ensures { result ≡ spec.is_block nest self.now }
+    {
+        self.symbol() == b'{' && !is_mark(nest.before)
+    }
+
+    fn is_header_end(&self, nest: Nest) -> bool
+        ensures { result ≡ spec.is_header_end nest self.now }
     {
         if self.symbol() == b';' {
             return true;
         }
-        if angles != 0 {
+        if nest.angles != 0 {
             return false;
         }
-        self.symbol() == b'{' || self.word() == "where" || self.is_lone_for()
+        self.is_block(nest) || self.word() == "where" || self.is_lone_for()
     }
 
     #[tactic(auto, unfolding(crate::specs::Angles::is_reached))]
@@ -163,24 +149,14 @@ impl<'t> Cursor<'t> {
         self.pass_reach(Reach::Field);
     }
 
-    /// Passes over what stands before the block of an item.
-    ///
-    /// It ends before a semicolon, a bracket that closes, or a word that can begin an item only where no block comes.
-    #[tactic(auto, unfolding(crate::specs::Angles::to_block))]
-    pub fn pass_to_block(&mut self)
-        ensures { self.new ≡ spec.to_block self.old }
-    {
-        self.pass_reach(Reach::Block);
-    }
-
-    /// Behind `impl` and its generics, whether a `for` stands between a trait and a type.
+    /// Behind `impl` and its generics, whether a `for` stands between a trait and a type of the impl, which ends at this place.
     #[tactic(auto, unfolding(crate::specs::Angles::is_trait_impl))]
-    pub fn is_trait_impl(&self) -> bool
-        ensures { result ≡ spec.is_trait_impl self.now }
+    pub fn is_trait_impl(&self, end: usize) -> bool
+        ensures { result ≡ spec.is_trait_impl end self.now }
     {
         let mut ahead = self.ahead();
         ahead.pass_reach(Reach::Header);
-        ahead.word() == "for"
+        ahead.word() == "for" && ahead.past() < end
     }
 }
 
@@ -196,6 +172,6 @@ fn is_closed(reach: Reach, nest: Nest) -> bool
 {
     match reach {
         Reach::Angles => nest.is_flat() && nest.angles == 0,
-        Reach::Field | Reach::Header | Reach::Block => false,
+        Reach::Field | Reach::Header => false,
     }
 }

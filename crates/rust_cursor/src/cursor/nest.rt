@@ -11,8 +11,10 @@ use rust_lexer::TokenKind;
 pub enum Before {
     /// A `-` or `=`: a `>` right behind it closes nothing.
     Dash,
-    /// A `!` or `#`: a bracket behind it may hold any tokens.
+    /// The `!` of a macro call: what stands in a bracket behind it, or in braces, is the call's.
     Mark,
+    /// The `#` of an attribute, or `#!`: what stands in a bracket behind it is the attribute's.
+    Hash,
     /// A `>` that is not that of `->` or `=>`.
     Angle,
     /// A type or a value can end with it.
@@ -27,7 +29,7 @@ pub struct Nest {
     pub braces: usize,
     /// In how many of `(` and `[`.
     pub others: usize,
-    /// The place among these of the first that may hold any tokens, or 0.
+    /// The place among these of the first that is a macro call's or an attribute's, or 0.
     pub free: usize,
     /// In how many angle brackets, where no other bracket is open.
     pub angles: usize,
@@ -114,7 +116,8 @@ impl<'t> Cursor<'t> {
     {
         match self.symbol() {
             b'-' | b'=' => Before::Dash,
-            b'!' | b'#' => Before::Mark,
+            b'!' => mark_behind(before),
+            b'#' => Before::Hash,
             b'>' => {
                 if self.is_arrow(before) {
                     Before::Other
@@ -138,6 +141,20 @@ impl<'t> Cursor<'t> {
         self.symbol_before(before)
     }
 
+    fn before_outside(&self, nest: Nest) -> Before
+        requires { nest.others + 1 < 2 ^ 64 }
+        ensures { result ≡ spec.before_outside nest self.now }
+    {
+        let symbol = self.symbol();
+        if symbol == b'{' || free_behind(nest, symbol) != 0 {
+            return nest.before;
+        }
+        if nest.free == 0 {
+            return self.before_behind(nest.before);
+        }
+        behind_free(nest.before)
+    }
+
     fn nest_outside(&self, nest: Nest) -> Nest
         requires others { nest.others + 1 < 2 ^ 64 }
         requires angles { nest.angles + 1 < 2 ^ 64 }
@@ -156,7 +173,7 @@ impl<'t> Cursor<'t> {
             angles,
             inner: nest.inner,
             is_torn: nest.is_torn || closes_none(nest.others, symbol),
-            before: self.before_behind(nest.before),
+            before: self.before_outside(nest),
         }
     }
 
@@ -167,12 +184,13 @@ impl<'t> Cursor<'t> {
         requires inner { nest.old.inner + 1 < 2 ^ 64 }
         ensures { nest.new ≡ spec.nest_inside nest.old self.now }
     {
-        nest.before = Before::Other;
         match self.symbol() {
             b'{' => nest.braces += 1,
             b'}' => {
+                if nest.braces == 1 {
+                    nest.before = behind_braces(*nest);
+                }
                 nest.braces = nest.braces.saturating_sub(1);
-                nest.before = Before::End;
             }
             b'(' | b'[' => nest.inner += 1,
             b')' | b']' => {
@@ -200,7 +218,7 @@ impl<'t> Cursor<'t> {
             b'(' | b'[' | b'{' | b')' | b']' | b'}' | b'<' | b'>' => {
                 *nest = self.nest_outside(*nest);
             }
-            _ => nest.before = self.before_behind(nest.before),
+            _ => nest.before = self.before_outside(*nest),
         }
     }
 }
@@ -211,10 +229,45 @@ fn is_dash(before: Before) -> bool
     matches!(before, Before::Dash)
 }
 
-fn is_mark(before: Before) -> bool
+pub(crate) fn is_mark(before: Before) -> bool
     ensures { result ≡ spec.is_mark before }
 {
     matches!(before, Before::Mark)
+}
+
+fn lets_any(before: Before) -> bool
+    ensures { result ≡ spec.lets_any before }
+{
+    matches!(before, Before::Mark | Before::Hash)
+}
+
+fn mark_behind(before: Before) -> Before
+    ensures { result ≡ spec.mark_behind before }
+{
+    match before {
+        Before::End => Before::Mark,
+        Before::Hash => Before::Hash,
+        Before::Dash | Before::Mark | Before::Angle | Before::Other => Before::Other,
+    }
+}
+
+fn behind_free(before: Before) -> Before
+    ensures { result ≡ spec.behind_free before }
+{
+    match before {
+        Before::Hash => Before::Other,
+        Before::Dash | Before::Mark | Before::Angle | Before::End | Before::Other => Before::End,
+    }
+}
+
+fn behind_braces(nest: Nest) -> Before
+    ensures { result ≡ spec.behind_braces nest }
+{
+    if nest.free == 0 {
+        Before::End
+    } else {
+        nest.before
+    }
 }
 
 fn is_literal_kind(kind: Option<TokenKind>) -> bool
@@ -262,7 +315,7 @@ fn free_open(nest: Nest) -> usize
     requires { nest.others + 1 < 2 ^ 64 }
     ensures { result ≡ spec.free_open nest }
 {
-    if nest.free == 0 && is_mark(nest.before) {
+    if nest.free == 0 && lets_any(nest.before) {
         nest.others + 1
     } else {
         nest.free

@@ -1,12 +1,13 @@
 //! The texts of what is taken.
 
-ghost use Rattle.std.specs.Prelude.{◌≡◌, ◌≤◌, ◌<◌, ◌+◌, ◌^◌, ◌++◌, ◌==◌, ◌&&◌, not, OnOk, length, string_bytes};
+ghost use Rattle.std.specs.Prelude.{◌≡◌, ◌≤◌, ◌<◌, ◌+◌, ◌^◌, ◌++◌, ◌==◌, ◌&&◌, not, OnOk, Option, length, string_bytes};
 ghost use Rattle.rust_cursor.specs.Extents as spec;
 ghost use Rattle.rust_cursor.specs.Reader.{Gives};
+ghost use Rattle.rust_cursor.specs.Tokens.{Tokens};
 ghost use Rattle.rust_cursor.specs.Words.{bumped, is_empty, symbol};
 
 use crate::cursor::Cursor;
-use crate::cursor::nest::{Before, Nest};
+use crate::cursor::nest::{Before, Nest, is_mark};
 use std::alloc::{AllocError, Global};
 
 /// How far tokens are taken, and what stands between their texts.
@@ -26,10 +27,12 @@ pub(crate) enum Extent {
 
 /// A text that was taken.
 #[derive(Drop)]
-pub struct Excerpt {
+pub struct Excerpt<'t> {
     pub text: String,
     /// Whether it ends with its end and its brackets are closed.
     pub is_ended: bool,
+    /// What is left from the `{` on of the braces that it ends with, if it ends with braces.
+    pub block: Option<Cursor<'t>>,
 }
 
 impl<'t> Cursor<'t> {
@@ -92,7 +95,7 @@ impl<'t> Cursor<'t> {
                 self.begins_impl_or_const()
             }
             Before::Angle => self.begins_impl_or_const(),
-            Before::Dash | Before::Mark | Before::Other => false,
+            Before::Dash | Before::Mark | Before::Hash | Before::Other => false,
         }
     }
 
@@ -151,15 +154,15 @@ impl<'t> Cursor<'t> {
         matches!(self.symbol(), b'>' | b',')
     }
 
-    fn ends_flat(&self, extent: Extent, angles: usize) -> bool
-        ensures { result ≡ spec.ends_flat extent angles self.now }
+    fn ends_flat(&self, extent: Extent, is_call: bool, angles: usize) -> bool
+        ensures { result ≡ spec.ends_flat extent is_call angles self.now }
     {
         match extent {
             Extent::Tree | Extent::Group => true,
             Extent::Value => self.symbol() == b';',
             Extent::Item => match self.symbol() {
                 b';' => true,
-                b'}' => angles == 0 || !self.second().goes_on(),
+                b'}' => !is_call && (angles == 0 || !self.second().goes_on()),
                 _ => false,
             },
             Extent::Macro => matches!(self.symbol(), b';' | b'}'),
@@ -167,10 +170,26 @@ impl<'t> Cursor<'t> {
     }
 
     #[tactic(auto, unfolding(crate::specs::Extents::ends))]
-    fn ends(&self, extent: Extent, behind: Nest) -> bool
-        ensures { result ≡ spec.ends extent behind self.now }
+    fn ends(&self, extent: Extent, is_call: bool, behind: Nest) -> bool
+        ensures { result ≡ spec.ends extent is_call behind self.now }
     {
-        behind.is_flat() && self.ends_flat(extent, behind.angles)
+        behind.is_flat() && self.ends_flat(extent, is_call, behind.angles)
+    }
+
+    /// Puts down the braces that the next token opens, in no other.
+    #[inline(always)]
+    fn note_opened(&self, nest: Nest, opened: &mut Option<Cursor<'t>>)
+        ensures { opened.new ≡ spec.opened_behind opened.old nest self.now }
+    {
+        if nest.braces == 0 && self.symbol() == b'{' {
+            *opened = Some(self.ahead());
+        }
+    }
+
+    fn block_at(&self, opened: Option<Cursor<'t>>) -> Option<Cursor<'t>>
+        ensures { result ≡ spec.block_at opened.entry self.now }
+    {
+        if self.symbol() == b'}' { opened } else { None }
     }
 
     #[tactic(auto, unfolding(crate::specs::Extents::has_blank))]
@@ -233,8 +252,8 @@ impl<'t> Cursor<'t> {
     ) -> Result<(), AllocError>
         requires braces { nest.old.braces + length self.old.left < 2 ^ 64 }
         requires inner { nest.old.inner + length self.old.left < 2 ^ 64 }
-        ensures same { OnOk result (spec.taking extent (string_bytes text.new) last.new nest.new self.new
-            ≡ spec.taking extent (string_bytes text.old) last.old nest.old self.old) }
+        ensures same { OnOk result ((opened : Option Tokens) → spec.taking extent (string_bytes text.new) last.new opened nest.new self.new
+            ≡ spec.taking extent (string_bytes text.old) last.old opened nest.old self.old) }
         ensures left { OnOk result (length self.new.left ≤ length self.old.left) }
         ensures braces { OnOk result (nest.new.braces + length self.new.left ≤ nest.old.braces + length self.old.left) }
         ensures inner { OnOk result (nest.new.inner + length self.new.left ≤ nest.old.inner + length self.old.left) }
@@ -249,29 +268,38 @@ impl<'t> Cursor<'t> {
         Ok(())
     }
 
-    #[tactic(auto, unfolding(crate::specs::Extents::taken), using(crate::proofs::Scans::taking_stop, crate::proofs::Scans::taking_end, crate::proofs::Scans::taking_more))]
-    fn take_excerpt(&mut self, alloc: Global, extent: Extent) -> Result<Excerpt, AllocError>
+    #[tactic(auto, unfolding(crate::specs::Extents::taken), using(crate::proofs::Scans::taking_stop))]
+    fn take_excerpt(&mut self, alloc: Global, extent: Extent) -> Result<Excerpt<'t>, AllocError>
         ensures { Gives spec.excerpt_view (spec.taken extent self.old) result self.new }
     {
         // That brackets can be counted is known of a cursor that was looked into.
         let _ = &self.next;
         let mut text = String::new(alloc);
         let mut last = self.past();
+        let mut opened = None;
         let mut nest = Nest::flat_behind(first_before(extent));
         'tokens: while !self.stops(extent, nest) {
+            self.note_opened(nest, &mut opened);
+            let is_call = is_mark(nest.before);
             self.nest_behind(&mut nest);
-            let is_last = self.ends(extent, nest);
             self.push_text(extent, last, &mut text)?;
-            last = self.bump_behind(last);
-            if is_last {
+            if self.ends(extent, is_call, nest) {
+                let block = self.block_at(opened);
+                self.bump();
                 let is_ended = nest.is_whole();
-                return Ok(Excerpt { text, is_ended });
+                return Ok(Excerpt {
+                    text,
+                    is_ended,
+                    block,
+                });
             }
+            last = self.bump_behind(last);
             self.take_inside(extent, &mut nest, &mut last, &mut text)?;
         }
         Ok(Excerpt {
             text,
             is_ended: false,
+            block: None,
         })
     }
 
@@ -291,7 +319,7 @@ impl<'t> Cursor<'t> {
     }
 
     /// Takes a token, or what stands in brackets, and gives the texts of its tokens with a blank between each two.
-    pub fn tree_body(&mut self, alloc: Global) -> Result<Excerpt, AllocError>
+    pub fn tree_body(&mut self, alloc: Global) -> Result<Excerpt<'t>, AllocError>
         ensures { Gives spec.excerpt_view (spec.tree_body self.old) result self.new }
     {
         self.take_excerpt(alloc, Extent::Group)
@@ -300,22 +328,22 @@ impl<'t> Cursor<'t> {
     /// Takes what is left of an item that ends with a semicolon, and gives the texts of its tokens with a blank between each two.
     ///
     /// Without one it ends before a `}` that closes what is around, and before what can only begin an item.
-    pub fn value_rest(&mut self, alloc: Global) -> Result<Excerpt, AllocError>
+    pub fn value_rest(&mut self, alloc: Global) -> Result<Excerpt<'t>, AllocError>
         ensures { Gives spec.excerpt_view (spec.value_rest self.old) result self.new }
     {
         self.take_excerpt(alloc, Extent::Value)
     }
 
-    /// The same of an item that ends with a semicolon, or with a block. In angle brackets a block that `>` or `,` follows is none of
-    /// the item's.
-    pub fn item_rest(&mut self, alloc: Global) -> Result<Excerpt, AllocError>
+    /// The same of an item that ends with a semicolon, or with a block. The braces of a macro call are no block, and in angle brackets
+    /// one that `>` or `,` follows is none of the item's.
+    pub fn item_rest(&mut self, alloc: Global) -> Result<Excerpt<'t>, AllocError>
         ensures { Gives spec.excerpt_view (spec.item_rest self.old) result self.new }
     {
         self.take_excerpt(alloc, Extent::Item)
     }
 
     /// The same of a macro with parameters, in whose bracket any tokens may stand.
-    pub fn macro_rest(&mut self, alloc: Global) -> Result<Excerpt, AllocError>
+    pub fn macro_rest(&mut self, alloc: Global) -> Result<Excerpt<'t>, AllocError>
         ensures { Gives spec.excerpt_view (spec.macro_rest self.old) result self.new }
     {
         self.take_excerpt(alloc, Extent::Macro)

@@ -1,7 +1,7 @@
 use Rattle.std.proofs.Common.{◌∙◌, ap, arith, refl, sym}
 use Rattle.std.specs.Prelude.{string_bytes}
 use Rattle.rust_cursor.specs.Extents.{taking}
-use Rattle.rust_cursor.specs.Nests.{nest_inside}
+use Rattle.rust_cursor.specs.Nests.{is_mark, nest_inside}
 use Rattle.rust_cursor.proofs.Inside.{inside}
 use Rattle.rust_cursor.proofs.Nesting.{shorter, fewer}
 use Rattle.rust_cursor.proofs.Scans.{taking_turn}
@@ -30,9 +30,9 @@ tokens-preserved c =
     let is = inside c.args.extent c.tokens.nest c.nest_inside.new.nest c.tokens.self (sym c.is_inside.ensures ∙ c.tokens-test.true) c.nest_inside.ensures in
     let less = fewer c.tokens.nest c.nest_inside.new.nest c.tokens.self c.bump_behind.new.self is.some is.after c.bump_behind.ensures.rest in
     record {
-      same = taking_turn c.args.extent (string_bytes c.tokens.text) (string_bytes c.push_text.new.text) c.tokens.last c.bump_behind.result c.tokens.nest c.nest_inside.new.nest c.tokens.self c.bump_behind.new.self
-          (taking c.args.extent (string_bytes c.args.text.now) c.args.last.now c.args.nest.now c.args.self.now)
-          is.goes is.after is.more c.in_ok-push_text.ensures c.bump_behind.ensures.value c.bump_behind.ensures.rest c.tokens.invariant.same;
+      same = λ o. taking_turn c.args.extent (string_bytes c.tokens.text) (string_bytes c.push_text.new.text) c.tokens.last c.bump_behind.result o o c.tokens.nest c.nest_inside.new.nest (is_mark c.tokens.nest.before) c.tokens.self c.bump_behind.new.self
+          (taking c.args.extent (string_bytes c.args.text.now) c.args.last.now o c.args.nest.now c.args.self.now)
+          is.goes refl is.after is.more c.in_ok-push_text.ensures c.bump_behind.ensures.value (is.opened o) c.bump_behind.ensures.rest (c.tokens.invariant.same o);
       left = omega (arith, less.left, c.tokens.invariant.left);
       braces = omega (arith, less.braces, c.tokens.invariant.braces);
       inner = omega (arith, less.inner, c.tokens.invariant.inner);
