@@ -23,7 +23,7 @@ fn shape_of(alloc: Global, block: &BlockExpr) -> Result<String, Fail> {
     Ok(text)
 }
 
-const SHAPES: [(&str, &str); 22] = [
+const SHAPES: [(&str, &str); 28] = [
     ("", "|"),
     ("{", "|"),
     ("/* a */ { } // b", "|"),
@@ -67,13 +67,34 @@ const SHAPES: [(&str, &str); 22] = [
     ("{ let x = 1 }", "O|"),
     ("{ x fn f() {} ) y }", "OI|O"),
     ("{ #[a] }", "|"),
+    (
+        "{ if let Point { x, .. } = p { g(x) } impl Tr for S {} const K: u8 = 1; m! { a } unsafe fn u() {} fn h() {} }",
+        "OIIMII|",
+    ),
+    (
+        "{ for Pair { a, b } in list { g(a, b); } m! { a } while let Self::Some { x } = it.next() { g(x); } impl Tr for S {} let union = 1; union as usize }",
+        "OMOIO|O",
+    ),
+    (
+        "{ if let A { .. } = a && let B { .. } = b { } else if let P { x } = y { } else { } m!{} 1 }",
+        "OM|O",
+    ),
+    (
+        "{ if let 0..=9 | P { x } = y { } for x in { v } { } match { x } { } if { a } { b } m!{} 1 }",
+        "OOOOM|O",
+    ),
+    (
+        "{ while let Some(x) = it.next() { } for for_ in 0.. { } if f as for<'a> fn(&'a u8) == g { } m!() }",
+        "OOO|M",
+    ),
+    ("{ union union {} union r#as {} union + 1 }", "II|O"),
 ];
 
 #[test]
 fn blocks_have_their_parts(rt: HostRuntime) -> Result<(), Fail> {
     let alloc = rt.alloc();
     for (text, shape) in SHAPES {
-        let block = read_block(alloc, text)?;
+        let block = read_block(alloc, text)?.block;
         assert_eq!(rt; shape_of(alloc, &block)?.as_str(), shape, "of {text}");
     }
     Ok(())
@@ -117,7 +138,7 @@ m!(...);
 #[test]
 fn a_block_has_its_page(rt: HostRuntime) -> Result<(), Fail> {
     let alloc = rt.alloc();
-    let block = read_block(alloc, BLOCK)?;
+    let block = read_block(alloc, BLOCK)?.block;
     assert_eq!(rt; page_of(alloc, &block)?.as_str(), PAGE);
     Ok(())
 }
@@ -125,7 +146,7 @@ fn a_block_has_its_page(rt: HostRuntime) -> Result<(), Fail> {
 // Whether a block is read whole, if it is read.
 fn is_whole(alloc: Global) -> Option<bool> {
     match read_block(alloc, BLOCK) {
-        Ok(block) => Some(block.stmts.len() == 6 && block.attrs.len() == 1),
+        Ok(read) => Some(read.block.stmts.len() == 6 && read.places.len() == 6),
         Err(_) => None,
     }
 }
@@ -136,5 +157,35 @@ fn a_block_is_whole_or_refused_when_memory_is_refused(rt: HostRuntime) -> Result
     let second = is_whole(rt.alloc());
     assert!(rt; first.unwrap_or(true) && second.unwrap_or(true));
     assert!(rt; first.is_some() || second.is_some());
+    Ok(())
+}
+
+// The places with the braces in them, and the problems.
+fn told(alloc: Global, text: &str) -> Result<String, Fail> {
+    let read = read_block(alloc, text)?;
+    let mut told = String::new(alloc);
+    for place in &read.places {
+        let (start, end) = (place.range.start, place.range.end);
+        write!(told, "{start}..{end}")?;
+        if let Some(body) = place.body {
+            let (start, end) = (body.start, body.end);
+            write!(told, " {start}..{end}")?;
+        }
+        told.push_str("; ")?;
+    }
+    for problem in &read.problems {
+        let (kind, at) = (problem.kind, problem.at);
+        write!(told, "{kind:?} at {at}; ")?;
+    }
+    Ok(told)
+}
+
+#[test]
+fn a_block_tells_places_and_problems(rt: HostRuntime) -> Result<(), Fail> {
+    let told = told(rt.alloc(), "{ fn f() { } m!{} ) const A: u8 = 1 }")?;
+    assert_eq!(rt;
+        told.as_str(),
+        "2..12 9..12; 13..17 15..17; 20..35; Unmatched at 18; Unfinished at 20; "
+    );
     Ok(())
 }

@@ -1,4 +1,4 @@
-//! Reading is whole or refused when a request for memory is refused.
+//! Reading is whole or refused when a request for memory is refused, and tells the braces that items end with.
 use rust_items::read_source_file;
 use std::alloc::Global;
 use std::test::Fail;
@@ -29,5 +29,51 @@ fn a_text_is_whole_or_refused_when_memory_is_refused(rt: HostRuntime) -> Result<
     let second = is_whole(rt.alloc());
     assert!(rt; first.unwrap_or(true) && second.unwrap_or(true));
     assert!(rt; first.is_some() || second.is_some());
+    Ok(())
+}
+
+// The texts of the braces that items end with, and `-` for those that end with none.
+fn bodies(alloc: Global, text: &str) -> Result<String, Fail> {
+    let file = read_source_file(alloc, text)?;
+    let mut shown = String::new(alloc);
+    for place in &file.places {
+        let body = match place.body {
+            Some(body) => text.get(body.start..body.end).unwrap_or("no text"),
+            None => "-",
+        };
+        shown.push_str(body)?;
+        shown.push_str(" ")?;
+    }
+    Ok(shown)
+}
+
+#[test]
+fn items_tell_their_braces(rt: HostRuntime) -> Result<(), Fail> {
+    for (text, want) in [
+        (
+            "fn f() -> A<{ 1 }> {a} impl B<{ 2 }> for C {b} trait T{c} enum E{d} union U{e}",
+            "{a} {b} {c} {d} {e} ",
+        ),
+        (
+            "struct A{a} struct B(u8); struct C; struct D where E: F {b} struct G where H: I;",
+            "{a} - - {b} - ",
+        ),
+        (
+            "macro_rules! a {b} macro_rules! c (d); macro e($f:ident) {g} macro h {i} j!{k} l![m];",
+            "{b} - {g} {i} {k} - ",
+        ),
+        (
+            "mod a { fn b() {c} } mod d; extern { fn e(); fn f() {g} } use h::{i}; const J: u8 = { 1 };",
+            "- {c} - - - {g} - - ",
+        ),
+        (
+            "fn f() -> m!{a} {b} static S: m!{a} = 1; type T = m!{a};",
+            "{b} - - ",
+        ),
+        ("fn f() { { fn g()", "- "),
+        ("fn f() { g(x; } m!{ (a; }", "{ g(x; } { (a; } "),
+    ] {
+        assert_eq!(rt; bodies(rt.alloc(), text)?.as_str(), want, "of {text}");
+    }
     Ok(())
 }
