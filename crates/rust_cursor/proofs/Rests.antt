@@ -8,7 +8,7 @@ use Rattle.rust_cursor.specs.declared.cursor.texts.Extent.TheVariants as extents
 use Rattle.rust_cursor.specs.Tokens.{Tokens}
 use Rattle.rust_cursor.specs.Words.{symbol, text, is_empty, is_at_doc, bumped}
 use Rattle.rust_cursor.specs.Nests.{flat, is_flat, is_mark, is_whole, nest_behind}
-use Rattle.rust_cursor.specs.Extents.{ExcerptRead, excerpt, begins, stops, ends, goes_on, opened_behind, block_at, has_blank, more, last_behind, taking, taken, item_rest, value_rest}
+use Rattle.rust_cursor.specs.Extents.{ExcerptRead, excerpt, begins, stops, ends, goes_on, opened_behind, block_at, has_blank, more, taking, taken, item_rest, value_rest}
 use Rattle.rust_cursor.proofs.Scans.{taking_more, taking_end}
 
 -- what is left of an item that ends with a semicolon, or of one that may end with a block
@@ -16,18 +16,18 @@ rest_extent : Bool → Extent
 rest_extent true = extents.Value
 rest_extent false = extents.Item
 
--- the place where the last token ends, and the braces that were opened
+-- the symbol of the last token, and the braces that were opened
 abbrev pub Behind : Type 0
 Behind = ℕ × Option Tokens
 
 pub taking_rest : Bool → List ℕ → Behind → Nest → Tokens → ExcerptRead × Tokens
 taking_rest is_value done s nest ts = taking (rest_extent is_value) done s.0 s.1 nest ts
 
-pub item_rest_taking : (ts : Tokens) → item_rest ts ≡ taking_rest false [] (ts.past, None) flat ts
+pub item_rest_taking : (ts : Tokens) → item_rest ts ≡ taking_rest false [] (0, None) flat ts
 unfolding taking_rest rest_extent taken
 item_rest_taking ts = refl
 
-pub value_rest_taking : (ts : Tokens) → value_rest ts ≡ taking_rest true [] (ts.past, None) flat ts
+pub value_rest_taking : (ts : Tokens) → value_rest ts ≡ taking_rest true [] (0, None) flat ts
 unfolding taking_rest rest_extent taken
 value_rest_taking ts = refl
 
@@ -60,13 +60,13 @@ ends_same false is_call nest ts = refl
 
 -- a token is taken, and more
 pub rest_more : (is_value : Bool) (done : List ℕ) (s : Behind) (nest next : Nest) (ts : Tokens) → is_empty ts ≡ false → stops_here nest ts ≡ false → nest_behind nest ts ≡ next → ends_here is_value (is_mark nest.before) next ts ≡ false
-    → taking_rest is_value done s nest ts ≡ taking_rest is_value (and_next done ts) (last_behind s.0 ts, opened_behind s.1 nest ts) next (bumped ts)
+    → taking_rest is_value done s nest ts ≡ taking_rest is_value (and_next done ts) (symbol ts, opened_behind s.1 nest ts) next (bumped ts)
 unfolding taking_rest
 rest_more is_value done s nest next ts some stop n end =
     let e = rest_extent is_value in
     taking_more e done s.0 s.1 nest ts (stops_same is_value nest ts some ∙ stop) (ap (λ k. ends e (is_mark nest.before) k ts) n ∙ ends_same is_value (is_mark nest.before) next ts ∙ end)
-    ∙ ap (λ k. taking e (more e s.0 done ts) (last_behind s.0 ts) (opened_behind s.1 nest ts) k (bumped ts)) n
-    ∙ ap (λ l. taking e l (last_behind s.0 ts) (opened_behind s.1 nest ts) next (bumped ts)) (more_next is_value done s.0 ts)
+    ∙ ap (λ k. taking e (more e s.0 done ts) (symbol ts) (opened_behind s.1 nest ts) k (bumped ts)) n
+    ∙ ap (λ l. taking e l (symbol ts) (opened_behind s.1 nest ts) next (bumped ts)) (more_next is_value done s.0 ts)
 
 -- a token is taken as the last
 pub rest_end : (is_value : Bool) (done : List ℕ) (s : Behind) (nest next : Nest) (ts : Tokens) → is_empty ts ≡ false → stops_here nest ts ≡ false → nest_behind nest ts ≡ next → ends_here is_value (is_mark nest.before) next ts ≡ true

@@ -4,9 +4,9 @@ use Rattle.rust_lexer.specs.Piece.{Piece}
 use Rattle.rust_cursor.specs.declared.cursor.nest.Nest.{Nest}
 use Rattle.rust_cursor.specs.declared.cursor.texts.Extent.{Extent}
 use Rattle.rust_cursor.specs.Tokens.{Tokens}
-use Rattle.rust_cursor.specs.Words.{is_empty, bumped}
+use Rattle.rust_cursor.specs.Words.{symbol, is_empty, bumped}
 use Rattle.rust_cursor.specs.Nests.{is_mark, is_whole, nest_behind}
-use Rattle.rust_cursor.specs.Extents.{ExcerptRead, excerpt, stops, ends, opened_behind, block_at, more, last_behind, taking, taking_from}
+use Rattle.rust_cursor.specs.Extents.{ExcerptRead, excerpt, stops, ends, opened_behind, block_at, more, taking, taking_from}
 use Rattle.rust_cursor.proofs.Nesting.{not_first}
 
 stop_from : (e : Extent) (done : List ℕ) (last : ℕ) (opened : Option Tokens) (nest : Nest) (ts : Tokens) (left : List Piece) → stops e nest ts ≡ true
@@ -33,14 +33,14 @@ taking_end e done last opened nest ts s f = end_from e done last opened nest ts.
 
 more_from : (e : Extent) (done : List ℕ) (last : ℕ) (opened : Option Tokens) (nest : Nest) (past : ℕ) (left : List Piece) (u : Option ℕ) → (let here : Tokens = record { past = past; left = left; unended = u } in
     stops e nest here ≡ false → ends e (is_mark nest.before) (nest_behind nest here) here ≡ false
-    → taking e done last opened nest here ≡ taking e (more e last done here) (last_behind last here) (opened_behind opened nest here) (nest_behind nest here) (bumped here))
+    → taking e done last opened nest here ≡ taking e (more e last done here) (symbol here) (opened_behind opened nest here) (nest_behind nest here) (bumped here))
 unfolding stops is_empty taking bumped
 more_from e done last opened nest past [] u s f = absurd cc
 more_from e done last opened nest past (t ∷ ts) u s f = rw (s, f) refl
 
 -- the next token is taken, and more
 pub taking_more : (e : Extent) (done : List ℕ) (last : ℕ) (opened : Option Tokens) (nest : Nest) (ts : Tokens) → stops e nest ts ≡ false → ends e (is_mark nest.before) (nest_behind nest ts) ts ≡ false
-    → taking e done last opened nest ts ≡ taking e (more e last done ts) (last_behind last ts) (opened_behind opened nest ts) (nest_behind nest ts) (bumped ts)
+    → taking e done last opened nest ts ≡ taking e (more e last done ts) (symbol ts) (opened_behind opened nest ts) (nest_behind nest ts) (bumped ts)
 taking_more e done last opened nest ts s f = more_from e done last opened nest ts.past ts.left ts.unended s f
 
 -- where something is taken, something is left
@@ -50,7 +50,7 @@ taking_some e nest ts s = not_first (is_empty ts) _ s
 
 -- a turn
 pub taking_turn : (e : Extent) (done done' : List ℕ) (last last' : ℕ) (opened opened' : Option Tokens) (nest behind : Nest) (is_call : Bool) (ts ts' : Tokens) (all : ExcerptRead × Tokens) → stops e nest ts ≡ false
-    → is_call ≡ is_mark nest.before → behind ≡ nest_behind nest ts → ends e is_call behind ts ≡ false → done' ≡ more e last done ts → last' ≡ last_behind last ts → opened' ≡ opened_behind opened nest ts → ts' ≡ bumped ts
+    → is_call ≡ is_mark nest.before → behind ≡ nest_behind nest ts → ends e is_call behind ts ≡ false → done' ≡ more e last done ts → last' ≡ symbol ts → opened' ≡ opened_behind opened nest ts → ts' ≡ bumped ts
     → taking e done last opened nest ts ≡ all → taking e done' last' opened' behind ts' ≡ all
 taking_turn e done done' last last' opened opened' nest behind is_call ts ts' all s i b f d l o n told =
     let step = taking_more e done last opened nest ts s (ap (λ k. ends e (is_mark nest.before) k ts) (sym b) ∙ ap (λ k. ends e k behind ts) (sym i) ∙ f) in

@@ -10,8 +10,8 @@ use Rattle.rust_cursor.specs.declared.cursor.texts.Extent.{Extent}
 use Rattle.rust_cursor.specs.declared.cursor.texts.Extent.TheVariants as extents
 use Rattle.rust_cursor.specs.Tokens.{Tokens}
 use Rattle.rust_cursor.specs.Reader.{Reader, ◌>>=◌, pure}
-use Rattle.rust_cursor.specs.Words.{symbol, word, text, at, is_empty, is_at_identifier, is_at_doc, is_pair, bumped}
-use Rattle.rust_cursor.specs.Nests.{flat_behind, is_flat, is_mark, is_whole, nest_behind}
+use Rattle.rust_cursor.specs.Words.{symbol, word, text, is_empty, is_at_identifier, is_at_doc, is_glued, is_pair, bumped}
+use Rattle.rust_cursor.specs.Nests.{opens_other, closes_other, flat_behind, is_flat, is_mark, is_whole, nest_behind}
 
 -- ---- what begins an item
 
@@ -98,23 +98,36 @@ block_at opened ts = if symbol ts == 125 then opened else None
 
 -- ---- the text
 
--- Whether a blank stands before the next token where another stands before it. As written, it stands for all white space and comments.
+abbrev pub opens : ℕ → Bool
+opens c = opens_other c || c == 123
+
+abbrev pub closes : ℕ → Bool
+closes c = closes_other c || c == 125
+
+-- a symbol that is no bracket
+abbrev pub is_punctuation : ℕ → Bool
+is_punctuation c = not (c == 0) && (not (opens c) && not (closes c))
+
+-- Nothing stands between the next token and one of this symbol before it: directly inside brackets, between a word and a bracket that
+-- opens behind it, before commas, beside colons, and between other marks that are written side by side. So layout does not count.
+unfoldable pub is_joined : ℕ → Tokens → Bool
+is_joined last ts =
+    if is_punctuation last && is_punctuation (symbol ts) then is_glued ts
+    else opens last || (closes (symbol ts) || ((last == 0 && opens (symbol ts)) || (last == 58 || (symbol ts == 44 || symbol ts == 58))))
+
+-- Whether a blank stands before the next token where one of this symbol stands before it.
 unfoldable pub has_blank : Extent → ℕ → Tokens → Bool
-has_blank extents.Tree last ts = not (at ts == last)
+has_blank extents.Tree last ts = not (is_joined last ts)
 has_blank extents.Group last ts = true
 has_blank extents.Value last ts = true
 has_blank extents.Item last ts = true
 has_blank extents.Macro last ts = true
 
--- a text with that of the next token behind it, where the one before ended at this place; documentation is left out
+-- a text with that of the next token behind it, where the one before has this symbol; documentation is left out
 unfoldable pub more : Extent → ℕ → List ℕ → Tokens → List ℕ
 more e last done ts =
     if is_at_doc ts then done
     else (if not (length done == 0) && has_blank e last ts then done ++ 32 ∷ text ts else done ++ text ts)
-
--- where the last token ends that is no documentation
-unfoldable pub last_behind : ℕ → Tokens → ℕ
-last_behind last ts = if is_at_doc ts then last else (bumped ts).past
 
 -- A text, whether it ends with its end and its brackets are closed, and what is left from the `{` on of the braces that it ends with.
 pub record ExcerptRead : Type 0 where
@@ -135,7 +148,7 @@ taking_from e done last opened nest ts (_ ∷ more_left) =
     if stops e nest ts then (excerpt done false None, ts)
     else (if ends e (is_mark nest.before) (nest_behind nest ts) ts
     then (excerpt (more e last done ts) (is_whole (nest_behind nest ts)) (block_at (opened_behind opened nest ts) ts), bumped ts)
-    else taking_from e (more e last done ts) (last_behind last ts) (opened_behind opened nest ts) (nest_behind nest ts) (bumped ts) more_left)
+    else taking_from e (more e last done ts) (symbol ts) (opened_behind opened nest ts) (nest_behind nest ts) (bumped ts) more_left)
 
 -- goes on taking where this stands, behind a text and braces that were opened
 unfoldable pub taking : Extent → List ℕ → ℕ → Option Tokens → Nest → Reader ExcerptRead
@@ -147,7 +160,7 @@ first_before extents.Macro = befores.Mark
 first_before _ = befores.End
 
 unfoldable pub taken : Extent → Reader ExcerptRead
-taken e ts = taking e [] ts.past None (flat_behind (first_before e)) ts
+taken e ts = taking e [] 0 None (flat_behind (first_before e)) ts
 
 abbrev pub text_taken : Extent → Reader (List ℕ)
 text_taken e = do

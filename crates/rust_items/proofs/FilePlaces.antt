@@ -1,5 +1,5 @@
 -- The places of a whole text, with the ids of its items.
-use Rattle.std.proofs.Common.{true, ◌≡◌, ◌≢◌, ◌<◌, ◌≤◌, ◌+◌, ◌-◌, ℕ, zero, suc, Option, Some, List, [], ◌∷◌, map, length, refl, sym, ap, ◌∙◌, arith, get_or}
+use Rattle.std.proofs.Common.{true, ◌≡◌, ◌≢◌, ◌<◌, ◌≤◌, ◌+◌, ◌-◌, ℕ, zero, suc, Option, Some, List, [], ◌∷◌, map, length, refl, sym, ap, subst, ◌∙◌, arith, get_or}
 use Rattle.std.specs.Prelude.{option_map, AllPairs}
 use Rattle.std.proofs.lemmas.List.{length-map}
 use Rattle.hir_input.specs.declared.ids.AstIdKind.{AstIdKind}
@@ -15,10 +15,14 @@ use Rattle.rust_items.specs.declared.ids.Numbers.{Numbers}
 use Rattle.rust_items.specs.declared.log.ItemSpan.{ItemSpan}
 use Rattle.rust_items.specs.declared.source_file.ItemPlace.{ItemPlace}
 use Rattle.rust_items.specs.declared.source_file.SourceFile.{SourceFile}
+use Rattle.rust_items.specs.declared.blocks.SourceBlock.{SourceBlock}
+use Rattle.rust_items.specs.Blocks.{IsBlock, IsBlockOf}
 use Rattle.rust_items.specs.Found.{nothing_found}
 use Rattle.rust_items.specs.Ids.{held_with_ids, with_ids}
 use Rattle.rust_items.specs.Places.{id_of, held, IsPlace, ArePlaces, nothing, placed}
-use Rattle.rust_items.specs.SourceFiles.{places, behind_attributes, found_in, items_in, IsSourceFile}
+use Rattle.rust_items.specs.LineEnds.{with_feeds, returns_from, place_by, place_in, moved_span}
+use Rattle.rust_items.specs.SourceFiles.{places, behind_attributes, found_in, items_in, IsFile, IsSourceFile}
+use Rattle.rust_items.proofs.LineEnds.{returns_count, place_rises_in, place_within, moved_place, places_moved}
 use Rattle.rust_items.proofs.Places.{few, widened, row_kind, place_kind, place_span, Adds, adds_problem_at, items_found}
 
 -- ---- ids
@@ -113,7 +117,7 @@ text_found : (text : List ℕ) → IsText text
 unfolding found_in items_in
 text_found text =
     let whole = tokens_laid text in
-    let first = behind (length text) (inner_attributes_leads 0 (tokens_of text)) whole in
+    let first = behind (length text) (inner_attributes_leads (tokens_of text)) whole in
     let found = items_found (length text) true 128 nothing_found (behind_attributes text) first.laid in
     let last = behind (length text) found.leads first.laid in
     record {
@@ -122,18 +126,44 @@ text_found text =
       are = widened 0 (length text) (omega arith) (past_within (length text) _ last.laid) found.are;
     }
 
-module _ (text : List ℕ) (file : SourceFile) (is : IsSourceFile text file) where
-  kinds : map id_kind is.ids ≡ map place_kind (text_found text).ps
-  kinds =
-      kinds_same is.ids (found_in text).rows is.are_ids.as_many (λ k l. (is.are_ids.each k l).kind)
-      ∙ (text_found text).adds.rows
+spans_moved : (place : ℕ → ℕ) (ps : List ItemPlace) → map (moved_span place) (map place_span ps) ≡ map place_span (map (moved_place place) ps)
+spans_moved place [] = refl
+spans_moved place (p ∷ ps) = ap (λ l. place_span (moved_place place p) ∷ l) (spans_moved place ps)
 
-  -- the places of a text are those of its items
-  pub file_placed : ArePlaces 0 (length text) (items_of (syntax_view file.syntax)) file.places.items []
-  file_placed =
-      let t = text_found text in
-      let all = numbered t.are is.ids kinds in
-      rw (is.syntax, is.places, t.adds.spans) (rw (none_left (with_ids (items_in text) is.ids).1) at all.0)
+kinds_moved : (place : ℕ → ℕ) (ps : List ItemPlace) → map place_kind (map (moved_place place) ps) ≡ map place_kind ps
+kinds_moved place [] = refl
+kinds_moved place (p ∷ ps) = ap (λ l. p.id.kind ∷ l) (kinds_moved place ps)
+
+-- the ids of a file have the kinds of its places
+kinds : (text : List ℕ) (place : ℕ → ℕ) (file : SourceFile) (is : IsFile text place file) → map id_kind is.ids ≡ map place_kind (text_found text).ps
+kinds text place file is =
+    kinds_same is.ids (found_in text).rows is.are_ids.as_many (λ k l. (is.are_ids.each k l).kind)
+    ∙ (text_found text).adds.rows
+
+-- the places of a text are those of its items
+pub file_placed : (text : List ℕ) (file : SourceFile) → IsSourceFile text file → ArePlaces 0 (length text) (items_of (syntax_view file.syntax)) file.places.items []
+file_placed text file is =
+    let feeds = with_feeds text in
+    let place = place_in text in
+    let t = text_found feeds in
+    let moved = places_moved place (length feeds) (place_rises_in text) t.are 0 (length text) (omega arith) (place_within text) (omega arith) in
+    let all = numbered moved is.ids (kinds feeds place file is ∙ sym (kinds_moved place t.ps)) in
+    rw (is.syntax, is.places, t.adds.spans, spans_moved place t.ps) (rw (none_left (with_ids (items_in feeds) is.ids).1) at all.0)
+
+-- what is read of a text with line feeds alone is read of the text
+pub same_file : (text feeds : List ℕ) (len : ℕ) (returns : List ℕ) (file : SourceFile) → feeds ≡ with_feeds text → len ≡ length (with_feeds text) → returns ≡ returns_from 0 text
+    → IsFile feeds (place_by len returns) file → IsSourceFile text file
+unfolding place_in
+same_file text feeds len returns file f l r is =
+    subst (λ (p : List ℕ × (ℕ × List ℕ)). IsFile p.0 (place_by p.1.0 p.1.1) file)
+    (let e : (feeds, (len, returns)) ≡ (with_feeds text, (length (with_feeds text), returns_from 0 text)) = cc in e) is
+
+pub same_block : (text feeds : List ℕ) (len : ℕ) (returns : List ℕ) (read : SourceBlock) → feeds ≡ with_feeds text → len ≡ length (with_feeds text) → returns ≡ returns_from 0 text
+    → IsBlockOf feeds (place_by len returns) read → IsBlock text read
+unfolding place_in
+same_block text feeds len returns read f l r is =
+    subst (λ (p : List ℕ × (ℕ × List ℕ)). IsBlockOf p.0 (place_by p.1.0 p.1.1) read)
+    (let e : (feeds, (len, returns)) ≡ (with_feeds text, (length (with_feeds text), returns_from 0 text)) = cc in e) is
 
 -- ---- ids differ
 
@@ -151,13 +181,15 @@ places_at (id ∷ ids) (s ∷ spans) (suc k) d e l = places_at ids spans k d (om
 -- no two places of a text that is not too long have one id
 pub file_distinct : (text : List ℕ) (file : SourceFile) → IsSourceFile text file → length text ≤ 4294967296 → AllPairs (λ p q. p.id ≢ q.id) file.places.items
 file_distinct text file is short i j d before within same =
-    let t = text_found text in
-    let rows = (found_in text).rows in
-    let spans = (found_in text).spans in
+    let feeds = with_feeds text in
+    let t = text_found feeds in
+    let rows = (found_in feeds).rows in
+    let spans = map (moved_span (place_in text)) (found_in feeds).spans in
+    let fewer : length feeds ≤ length text = omega (arith, returns_count 0 text) in
     let as_many : length is.ids ≡ length rows = is.are_ids.as_many in
     let row_count : length rows ≡ length t.ps = sym (length-map rows row_kind) ∙ ap length t.adds.rows ∙ length-map t.ps place_kind in
-    let span_count : length spans ≡ length t.ps = ap length t.adds.spans ∙ length-map t.ps place_span in
-    let bounded : length t.ps ≤ 0 + (length text - 0) = few t.are in
+    let span_count : length spans ≡ length t.ps = length-map (found_in feeds).spans (moved_span (place_in text)) ∙ ap length t.adds.spans ∙ length-map t.ps place_span in
+    let bounded : length t.ps ≤ 0 + (length feeds - 0) = few t.are in
     let pairs : length is.ids ≡ length spans = omega arith in
     let place_count : length file.places.items ≡ length is.ids = ap length is.places ∙ places_length is.ids spans pairs in
     let low : i < length is.ids = omega arith in

@@ -111,7 +111,7 @@ takes_by_behind p t = record { leads = through p t.leads; word = λ other. takes
 
 pub front_takes : (ts : Tokens) → TakesBy (front ts).0.head ts (front ts).1
 unfolding front front_behind
-front_takes ts = takes_by_behind (through (outer_attributes_leads (at ts) ts) (through (visibility_leads _) (behind_modifiers_leads _))) (head_takes _)
+front_takes ts = takes_by_behind (through (outer_attributes_leads ts) (through (visibility_leads _) (behind_modifiers_leads _))) (head_takes _)
 
 pub front_start : (ts : Tokens) → (front ts).0.start ≡ at ts
 unfolding front front_behind

@@ -3,4 +3,5 @@ pub mod Parts
 pub mod Numbering
 pub mod Leads
 pub mod Places
+pub mod LineEnds
 pub mod FilePlaces

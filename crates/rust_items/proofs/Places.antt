@@ -263,13 +263,13 @@ unmatched_found ts f = none_found f _ (bumped_leads ts) (adds_problem _ _ (adds_
 abbrev pub FindsIn : ℕ → Finder BlockRead → Type 0
 FindsIn end inside = (f : Found) (ts : Tokens) → IsLaid end ts → AreFound ts (inside f ts).1.1 f (inside f ts).1.0 (listed (inside f ts).0.items)
 
-block_found : (end start : ℕ) (turn : Finder (Option ItemView)) → Finds end turn → FindsIn end (block_of start turn)
-block_found end start turn t f ts laid =
-    let open_leads : LeadsTo ts (inner_attributes start (bumped ts)).1 = further (inner_attributes_leads start (bumped ts)) in
+block_found : (end : ℕ) (turn : Finder (Option ItemView)) → Finds end turn → FindsIn end (block_of turn)
+block_found end turn t f ts laid =
+    let open_leads : LeadsTo ts (inner_attributes (bumped ts)).1 = further (inner_attributes_leads (bumped ts)) in
     let first = behind end open_leads laid in
-    let list = list_found end (is_list_end false) turn t f (inner_attributes start (bumped ts)).1 first.laid in
+    let list = list_found end (is_list_end false) turn t f (inner_attributes (bumped ts)).1 first.laid in
     let next = behind end list.leads first.laid in
-    let close_leads = eat_leads 125 (finding (is_list_end false) turn f (inner_attributes start (bumped ts)).1).1.1 in
+    let close_leads = eat_leads 125 (finding (is_list_end false) turn f (inner_attributes (bumped ts)).1).1.1 in
     let last = behind end close_leads next.laid in
     record {
       leads = through open_leads (through list.leads close_leads);
@@ -306,10 +306,10 @@ extern_turn_found end depth f ts laid =
     when (is_at_end ts) (λ e. rw e (unmatched_found ts f))
     (λ e. rw (e, front_start ts) (extern_option_found end ts _ depth _ f laid (leads.leaf_found (front ts).0 ts (front ts).1 (front_takes ts))))
 
-extern_inside_found : (end depth start : ℕ) → FindsIn end (extern_inside depth start)
+extern_inside_found : (end depth : ℕ) → FindsIn end (extern_inside depth)
 unfolding extern_inside
-extern_inside_found end depth start f ts laid =
-    when (symbol ts == 123) (λ e. rw e (block_found end start (extern_turn depth) (extern_turn_found end depth) f ts laid)) (λ e. rw e (no_block_found f ts))
+extern_inside_found end depth f ts laid =
+    when (symbol ts == 123) (λ e. rw e (block_found end (extern_turn depth) (extern_turn_found end depth) f ts laid)) (λ e. rw e (no_block_found f ts))
 
 extern_id : (attrs : List MetaView) (is : Option (List ItemView)) → id_of (extern_block_from (node attrs []) is) ≡ Some (blank kind.ExternBlock)
 extern_id attrs None = refl
@@ -324,7 +324,7 @@ extern_block_found : (end : ℕ) (ts us : Tokens) (depth : ℕ) (attrs : List Me
 unfolding extern_block
 extern_block_found end ts us depth attrs f laid t =
     let first = behind end (takes_leads t) laid in
-    parent_is end ts us _ f _ depth kind.ExternBlock no_name _ _ _ laid t (extern_inside_found end (one_more depth) (at ts) nothing_found us first.laid) (extern_id _ _) (extern_held _ _) nameless
+    parent_is end ts us _ f _ depth kind.ExternBlock no_name _ _ _ laid t (extern_inside_found end (one_more depth) nothing_found us first.laid) (extern_id _ _) (extern_held _ _) nameless
 
 -- ---- modules
 
@@ -337,17 +337,17 @@ module_held : (n : NamedView) (semicolon : Bool) (is : Option (List ItemView)) �
 module_held n semicolon None = refl
 module_held n semicolon (Some is) = refl
 
-module _ (end : ℕ) (inside : ℕ → Finder BlockRead) (finds : (start : ℕ) → FindsIn end (inside start)) (depth : ℕ) where
-  unless_found : (semicolon : Bool) (start : ℕ) → FindsIn end (inside_unless semicolon (inside start))
-  unless_found true start f ts laid = no_block_found f ts
-  unless_found false start f ts laid = finds start f ts laid
+module _ (end : ℕ) (inside : Finder BlockRead) (finds : FindsIn end inside) (depth : ℕ) where
+  unless_found : (semicolon : Bool) → FindsIn end (inside_unless semicolon inside)
+  unless_found true f ts laid = no_block_found f ts
+  unless_found false f ts laid = finds f ts laid
 
   module_found : (ts us : Tokens) (h : FrontRead) (f : Found) → h.start ≡ at ts → IsLaid end ts → Takes ts us
       → AreFound ts (module_with inside depth h f us).1.1 f (module_with inside depth h f us).1.0 (item_and (module_with inside depth h f us).0 no_items)
   module_found ts us h f s laid t =
       let name_leads = through (named_leads us) (eat_leads 59 (named us).1) in
       let first = behind end (through (takes_leads t) name_leads) laid in
-      let b = unless_found (eat 59 (named us).1).0 (at ts) nothing_found (eat 59 (named us).1).1 first.laid in
+      let b = unless_found (eat 59 (named us).1).0 nothing_found (eat 59 (named us).1).1 first.laid in
       rw s (parent_is end ts (eat 59 (named us).1).1 _ f _ depth kind.Module (named us).0 _ _ _ laid (takes_before t name_leads) b (module_id _ _ _ _ _) (module_held _ _ _)
       (name_behind (takes_leads t) (name_before (named_named us) (eat_leads 59 (named us).1))))
 
@@ -362,13 +362,13 @@ module _ (end : ℕ) (inside : ℕ → Finder BlockRead) (finds : (start : ℕ) 
       when (is_at_end ts) (λ e. rw e (unmatched_found ts f))
       (λ e. rw e (head_found (front ts).0.head ts (front ts).1 (front ts).0 f (front_start ts) laid (front_takes ts) (front_takes ts)))
 
-inside_found : (end left start : ℕ) → FindsIn end (inside left start)
+inside_found : (end left : ℕ) → FindsIn end (inside left)
 unfolding inside
-inside_found end zero start f ts laid =
+inside_found end zero f ts laid =
     when (symbol ts == 123) (λ e. rw e (none_found f _ (behind_tree_leads ts) (adds_problem _ _ (adds_none f)))) (λ e. rw e (no_block_found f ts))
-inside_found end (suc left) start f ts laid =
+inside_found end (suc left) f ts laid =
     when (symbol ts == 123)
-    (λ e. rw e (block_found end start (turn_with (inside left) (depth_of left)) (turn_with_found end (inside left) (inside_found end left) (depth_of left)) f ts laid))
+    (λ e. rw e (block_found end (turn_with (inside left) (depth_of left)) (turn_with_found end (inside left) (inside_found end left) (depth_of left)) f ts laid))
     (λ e. rw e (no_block_found f ts))
 
 turn_found : (end left : ℕ) → Finds end (turn left)

@@ -37,22 +37,22 @@ finding_more ends turn bound at past done done' i f f' ts mid after all below e 
 -- ---- modules
 
 -- one that is too deep
-pub inside_deep : (left start : ℕ) (f : Found) (ts : Tokens) → left ≡ 0 → (symbol ts == 123) ≡ true → inside left start f ts ≡ (deep_block, (and_problem problem.TooDeep (at ts) f, behind_tree ts))
+pub inside_deep : (left : ℕ) (f : Found) (ts : Tokens) → left ≡ 0 → (symbol ts == 123) ≡ true → inside left f ts ≡ (deep_block, (and_problem problem.TooDeep (at ts) f, behind_tree ts))
 unfolding inside
-inside_deep zero start f ts e b = rw b refl
-inside_deep (suc left) start f ts e b = absurd (omega arith)
+inside_deep zero f ts e b = rw b refl
+inside_deep (suc left) f ts e b = absurd (omega arith)
 
 -- no braces
-pub inside_none : (left start : ℕ) (f : Found) (ts : Tokens) → symbol ts ≢ 123 → inside left start f ts ≡ (no_block, (f, ts))
+pub inside_none : (left : ℕ) (f : Found) (ts : Tokens) → symbol ts ≢ 123 → inside left f ts ≡ (no_block, (f, ts))
 unfolding inside
-inside_none zero start f ts e = let other : (symbol ts == 123) ≡ false = ne_eqb (symbol ts) 123 e in rw other refl
-inside_none (suc left) start f ts e = let other : (symbol ts == 123) ≡ false = ne_eqb (symbol ts) 123 e in rw other refl
+inside_none zero f ts e = let other : (symbol ts == 123) ≡ false = ne_eqb (symbol ts) 123 e in rw other refl
+inside_none (suc left) f ts e = let other : (symbol ts == 123) ≡ false = ne_eqb (symbol ts) 123 e in rw other refl
 
 -- the braces of a module
-pub inside_some : (left start : ℕ) (f : Found) (ts : Tokens) → 0 < left → (symbol ts == 123) ≡ true → inside left start f ts ≡ block_of start (turn (left - 1)) f ts
+pub inside_some : (left : ℕ) (f : Found) (ts : Tokens) → 0 < left → (symbol ts == 123) ≡ true → inside left f ts ≡ block_of (turn (left - 1)) f ts
 unfolding inside turn
-inside_some zero start f ts h e = absurd (omega arith)
-inside_some (suc left) start f ts h e = let less : suc left - 1 ≡ left = omega arith in rw (e, less) refl
+inside_some zero f ts h e = absurd (omega arith)
+inside_some (suc left) f ts h e = let less : suc left - 1 ≡ left = omega arith in rw (e, less) refl
 
 -- ---- places
 

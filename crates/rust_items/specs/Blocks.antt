@@ -1,5 +1,5 @@
 -- Blocks: statements one after another, and what stands last.
-use Rattle.std.specs.Prelude.{◌≡◌, ℕ, zero, suc, Bool, true, not, ◌==◌, ◌&&◌, ◌||◌, if◌then◌else◌, Option, Some, None, List, [], ◌∷◌, ◌++◌, codes}
+use Rattle.std.specs.Prelude.{◌≡◌, ℕ, zero, suc, Bool, true, not, ◌==◌, ◌&&◌, ◌||◌, if◌then◌else◌, Option, Some, None, List, [], ◌∷◌, ◌++◌, map, codes}
 use Rattle.std.specs.Str.{bytes_eq}
 use Rattle.hir_input.specs.declared.ids.AstIdKind.TheVariants as kind
 use Rattle.hir_input.specs.declared.ids.FileAstId.{FileAstId}
@@ -19,6 +19,7 @@ use Rattle.rust_items.specs.declared.log.ProblemKind.TheVariants as problem
 use Rattle.rust_items.specs.Found.{Found, Finder, nothing_found, and_problem, and_problem_at}
 use Rattle.rust_items.specs.Ids.{first, numbered_call, item_with_ids}
 use Rattle.rust_items.specs.Items.{and_item, is_list_end, behind_front}
+use Rattle.rust_items.specs.LineEnds.{with_feeds, place_in, moved_span, moved_problem}
 use Rattle.rust_items.specs.SourceFiles.{places}
 
 -- ---- what is read
@@ -109,7 +110,7 @@ unfoldable pub part : Bool → Finder PartView
 part is_top f ts =
     if is_at_end ts then (no_part, (and_problem problem.Unmatched (at ts) f, bumped ts))
     else (if symbol ts == 59 then (no_part, (f, bumped ts))
-    else behind_attributes is_top (at ts) (outer_attributes (at ts) ts).0 f (outer_attributes (at ts) ts).1)
+    else behind_attributes is_top (at ts) (outer_attributes ts).0 f (outer_attributes ts).1)
 
 -- ---- all parts
 
@@ -151,9 +152,9 @@ tail_with_id t ids = t
 abbrev pub is_bare : List ℕ → Bool
 is_bare text = not (eat 123 (tokens_of text)).0
 
--- the inner attributes of a block, which count from the start of the text, and what is behind them
+-- the inner attributes of a block, and what is behind them
 abbrev pub attributes_of : List ℕ → List MetaView × Tokens
-attributes_of text = inner_attributes 0 (eat 123 (tokens_of text)).1
+attributes_of text = inner_attributes (eat 123 (tokens_of text)).1
 
 -- the parts of a block, what is found beside them, and what is left
 abbrev pub body_of : List ℕ → BodyRead × (Found × Tokens)
@@ -163,12 +164,16 @@ body_of text = parts (is_bare text) nothing_found (attributes_of text).1
 unfoldable pub found_of : List ℕ → Found
 found_of text = and_problem_at problem.Unterminated (body_of text).1.1.unended (body_of text).1.0
 
--- what is read of a block
-pub record IsBlock (text : List ℕ) (read : SourceBlock) : Type 0 where
+-- what is read of a block without returns, with the places that these have in another
+pub record IsBlockOf (text : List ℕ) (place : ℕ → ℕ) (read : SourceBlock) : Type 0 where
   -- each item and each macro call has its id
   pub ids : List FileAstId
   pub are_ids : AreIds (found_of text).rows ids
   pub value : block_view read.block ≡ (let stmts = stmts_with_ids (body_of text).0.stmts ids in
       block_expr (attributes_of text).0 stmts.0 (tail_with_id (body_of text).0.tail stmts.1))
-  pub places : read.places.items ≡ places ids (found_of text).spans
-  pub problems : read.problems.items ≡ (found_of text).problems
+  pub places : read.places.items ≡ places ids (map (moved_span place) (found_of text).spans)
+  pub problems : read.problems.items ≡ map (moved_problem place) (found_of text).problems
+
+-- what is read of a block
+abbrev pub IsBlock : List ℕ → SourceBlock → Type 0
+IsBlock text read = IsBlockOf (with_feeds text) (place_in text) read

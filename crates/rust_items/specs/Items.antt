@@ -92,10 +92,10 @@ no_block = empty_block false
 abbrev pub deep_block : BlockRead
 deep_block = empty_block true
 
--- from its `{` on; the spans of the attributes count from this place
-abbrev pub block_of : ℕ → Finder (Option ItemView) → Finder BlockRead
-block_of start turn f ts =
-    let inner = inner_attributes start (bumped ts) in
+-- from its `{` on
+abbrev pub block_of : Finder (Option ItemView) → Finder BlockRead
+block_of turn f ts =
+    let inner = inner_attributes (bumped ts) in
     let list = finding (is_list_end false) turn f inner.1 in
     (record { attrs = inner.0; items = Some list.0; is_ended = (eat 125 list.1.1).0 }, (list.1.0, (eat 125 list.1.1).1))
 
@@ -134,8 +134,8 @@ unmatched f ts = (None, (and_problem problem.Unmatched (at ts) f, bumped ts))
 unfoldable pub extern_turn : ℕ → Finder (Option ItemView)
 extern_turn depth f ts = if is_at_end ts then unmatched f ts else extern_by depth f ts
 
-unfoldable pub extern_inside : ℕ → ℕ → Finder BlockRead
-extern_inside depth start f ts = if symbol ts == 123 then block_of start (extern_turn depth) f ts else (no_block, (f, ts))
+unfoldable pub extern_inside : ℕ → Finder BlockRead
+extern_inside depth f ts = if symbol ts == 123 then block_of (extern_turn depth) f ts else (no_block, (f, ts))
 
 -- an item that holds items: its row, and then theirs; what is between its braces are these, and no body
 abbrev pub and_parent : ℕ → ℕ → ℕ → AstIdKind → NameRead → Bool → Found → Found → Found
@@ -148,7 +148,7 @@ one_more depth = depth + 1
 -- ExternBlock
 unfoldable pub extern_block : ℕ → ℕ → List MetaView → Finder ItemView
 extern_block depth start attrs f ts =
-    let b = extern_inside (one_more depth) start nothing_found ts in
+    let b = extern_inside (one_more depth) nothing_found ts in
     (extern_block_from (node (attrs ++ b.0.attrs) []) b.0.items, (and_parent depth start b.1.1.past kind.ExternBlock no_name b.0.is_ended b.1.0 f, b.1.1))
 
 -- ---- modules
@@ -161,11 +161,11 @@ abbrev pub inside_unless : Bool → Finder BlockRead → Finder BlockRead
 inside_unless semicolon inside f ts = if semicolon then (no_block, (f, ts)) else inside f ts
 
 -- Module: with a semicolon, with items, or with neither
-abbrev pub module_with : (ℕ → Finder BlockRead) → ℕ → FrontRead → Finder ItemView
+abbrev pub module_with : Finder BlockRead → ℕ → FrontRead → Finder ItemView
 module_with inside depth h f ts =
     let n = named ts in
     let semicolon = eat 59 n.1 in
-    let b = inside_unless semicolon.0 (inside h.start) nothing_found semicolon.1 in (
+    let b = inside_unless semicolon.0 inside nothing_found semicolon.1 in (
       module_from (named_node (h.attrs ++ b.0.attrs) n.0.name h.visibility []) semicolon.0 b.0.items,
       (and_parent depth h.start b.1.1.past kind.Module n.0 (semicolon.0 || b.0.is_ended) b.1.0 f, b.1.1),
     )
@@ -173,21 +173,20 @@ module_with inside depth h f ts =
 abbrev pub some_item : {A : Type 0} → ItemView × A → Option ItemView × A
 some_item r = (Some r.0, r.1)
 
-abbrev pub by_head : (ℕ → Finder BlockRead) → ℕ → Head → FrontRead → Finder (Option ItemView)
+abbrev pub by_head : Finder BlockRead → ℕ → Head → FrontRead → Finder (Option ItemView)
 by_head inside depth heads.Module h f ts = some_item (module_with inside depth h f ts)
 by_head inside depth heads.ExternBlock h f ts = some_item (extern_block depth h.start h.attrs f ts)
 by_head inside depth _ h f ts = leaf_turn depth h f ts
 
 -- Item: an item, or none: then tokens are passed over
-abbrev pub turn_with : (ℕ → Finder BlockRead) → ℕ → Finder (Option ItemView)
+abbrev pub turn_with : Finder BlockRead → ℕ → Finder (Option ItemView)
 turn_with inside depth f ts =
     if is_at_end ts then unmatched f ts else by_head inside depth (front ts).0.head (front ts).0 f (front ts).1
 
--- The items of a module that begins at this place. The first number bounds how deep modules stand in one another; one that is
--- deeper is passed over.
-unfoldable pub inside : ℕ → ℕ → Finder BlockRead
-inside zero start f ts = if symbol ts == 123 then (deep_block, (and_problem problem.TooDeep (at ts) f, behind_tree ts)) else (no_block, (f, ts))
-inside (suc left) start f ts = if symbol ts == 123 then block_of start (turn_with (inside left) (depth_of left)) f ts else (no_block, (f, ts))
+-- The items of a module. The number bounds how deep modules stand in one another; one that is deeper is passed over.
+unfoldable pub inside : ℕ → Finder BlockRead
+inside zero f ts = if symbol ts == 123 then (deep_block, (and_problem problem.TooDeep (at ts) f, behind_tree ts)) else (no_block, (f, ts))
+inside (suc left) f ts = if symbol ts == 123 then block_of (turn_with (inside left) (depth_of left)) f ts else (no_block, (f, ts))
 
 -- an item behind what stands in front of it
 unfoldable pub behind_front : ℕ → FrontRead → Finder (Option ItemView)

@@ -1,5 +1,5 @@
 -- Source files.
-use Rattle.std.specs.Prelude.{◌≡◌, ℕ, true, List, [], ◌∷◌}
+use Rattle.std.specs.Prelude.{◌≡◌, ℕ, true, List, [], ◌∷◌, map}
 use Rattle.hir_input.specs.declared.ids.FileAstId.{FileAstId}
 use Rattle.hir_input.specs.Syntax.{ItemView, ItemViews, source_file, items_from, syntax_view}
 use Rattle.rust_cursor.specs.Tokens.{Tokens, tokens_of}
@@ -12,6 +12,7 @@ use Rattle.rust_items.specs.declared.source_file.SourceFile.{SourceFile}
 use Rattle.rust_items.specs.Found.{Found, nothing_found, and_problem_at}
 use Rattle.rust_items.specs.Ids.{with_ids}
 use Rattle.rust_items.specs.Items.{items}
+use Rattle.rust_items.specs.LineEnds.{with_feeds, place_in, moved_span, moved_problem}
 
 -- ids with the places of their items
 abbrev pub places : List FileAstId → List ItemSpan → List ItemPlace
@@ -21,7 +22,7 @@ places (id ∷ ids) (s ∷ spans) = record { id = id; range = s.range; name = s.
 
 -- the text behind its inner attributes
 abbrev pub behind_attributes : List ℕ → Tokens
-behind_attributes text = (inner_attributes 0 (tokens_of text)).1
+behind_attributes text = (inner_attributes (tokens_of text)).1
 
 -- the items of a text without their ids, what is found beside them, and what is left
 abbrev pub read_of : List ℕ → List ItemView × (Found × Tokens)
@@ -35,11 +36,15 @@ found_in text = and_problem_at problem.Unterminated (read_of text).1.1.unended (
 unfoldable pub items_in : List ℕ → ItemViews
 items_in text = items_from (read_of text).0
 
--- what is read of a text
-pub record IsSourceFile (text : List ℕ) (file : SourceFile) : Type 0 where
+-- what is read of a text without returns, with the places that these have in another
+pub record IsFile (text : List ℕ) (place : ℕ → ℕ) (file : SourceFile) : Type 0 where
   -- each item has its id
   pub ids : List FileAstId
   pub are_ids : AreIds (found_in text).rows ids
-  pub syntax : syntax_view file.syntax ≡ source_file (inner_attributes 0 (tokens_of text)).0 (with_ids (items_in text) ids).0
-  pub places : file.places.items ≡ places ids (found_in text).spans
-  pub problems : file.problems.items ≡ (found_in text).problems
+  pub syntax : syntax_view file.syntax ≡ source_file (inner_attributes (tokens_of text)).0 (with_ids (items_in text) ids).0
+  pub places : file.places.items ≡ places ids (map (moved_span place) (found_in text).spans)
+  pub problems : file.problems.items ≡ map (moved_problem place) (found_in text).problems
+
+-- what is read of a text
+abbrev pub IsSourceFile : List ℕ → SourceFile → Type 0
+IsSourceFile text file = IsFile (with_feeds text) (place_in text) file

@@ -6,11 +6,13 @@ ghost use Rattle.hir_input.specs.Syntax.{call_view, item_view, stmt_view, tail_v
 ghost use Rattle.rust_leaves.specs.Views.{call_read_view, front_view};
 ghost use Rattle.rust_items.specs.Blocks as spec;
 ghost use Rattle.rust_items.specs.Found.{Finds, log_view};
+ghost use Rattle.rust_items.specs.LineEnds.{place_by};
 ghost use Rattle.rust_items.specs.Views.{body_view, part_view, supply_view};
 
 use crate::externs::is_list_end;
 use crate::ids::{Supply, item_with_ids};
 use crate::items::{MOST_DEPTH, behind_front};
+use crate::line_ends::{LineEnds, has_return, with_feeds};
 use crate::log::{Log, Problem, ProblemKind};
 use crate::source_file::{ItemPlace, places};
 use crate::turn::{Extent, push_item};
@@ -214,7 +216,7 @@ fn take_part<'t>(
         return Ok(Part::Nothing);
     }
     let start = cursor.at();
-    let attrs = outer_attributes(alloc, cursor, start)?;
+    let attrs = outer_attributes(alloc, cursor)?;
     take_behind(alloc, cursor, is_top, start, attrs, log)
 }
 
@@ -316,6 +318,30 @@ pub struct SourceBlock {
     pub problems: Vec<Problem>,
 }
 
+/// What is read of a block's text with line feeds alone.
+#[tactic(auto, unfolding(crate::specs::Blocks::found_of))]
+fn block_of(alloc: Global, text: &str, ends: &LineEnds) -> Result<SourceBlock, AllocError>
+    ensures { IfOk result (λ read. spec.IsBlockOf text.now (place_by ends.now.len ends.now.returns.items) read) }
+{
+    let mut cursor = Cursor::new(text);
+    let is_top = !cursor.eat(b'{');
+    let attrs = inner_attributes(alloc, &mut cursor)?;
+    let mut log = Log::new(alloc);
+    let body = parts(alloc, &mut cursor, is_top, &mut log)?;
+    log.push_problem_at(ProblemKind::Unterminated, cursor.unended())?;
+    let ids = assign(alloc, &log.rows)?;
+    let places = places(alloc, &ids, &log.spans, ends)?;
+    let problems = ends.problems(alloc, &log.problems)?;
+    let mut supply = Supply { rest: &ids };
+    let stmts = stmts_with_ids(alloc, body.stmts, &mut supply)?;
+    let tail = tail_with_id(body.tail, &mut supply);
+    Ok(SourceBlock {
+        block: BlockExpr { attrs, stmts, tail },
+        places,
+        problems,
+    })
+}
+
 /// Reads a block expression from its text, with its braces; a text that begins with none is that between them.
 ///
 /// It answers for every text. Statements that are neither items nor macro calls are not read, nor are the blocks in them. Places
@@ -325,24 +351,14 @@ pub struct SourceBlock {
 /// # Errors
 ///
 /// `AllocError` where memory is refused.
-#[tactic(auto, unfolding(crate::specs::Blocks::found_of))]
+#[tactic(auto, using(crate::proofs::FilePlaces::same_block))]
 pub fn read_block(alloc: Global, text: &str) -> Result<SourceBlock, AllocError>
     ensures { IfOk result (λ read. spec.IsBlock text.now read) }
 {
-    let mut cursor = Cursor::new(text);
-    let is_top = !cursor.eat(b'{');
-    let attrs = inner_attributes(alloc, &mut cursor, 0)?;
-    let mut log = Log::new(alloc);
-    let body = parts(alloc, &mut cursor, is_top, &mut log)?;
-    log.push_problem_at(ProblemKind::Unterminated, cursor.unended())?;
-    let ids = assign(alloc, &log.rows)?;
-    let places = places(alloc, &ids, &log.spans)?;
-    let mut supply = Supply { rest: &ids };
-    let stmts = stmts_with_ids(alloc, body.stmts, &mut supply)?;
-    let tail = tail_with_id(body.tail, &mut supply);
-    Ok(SourceBlock {
-        block: BlockExpr { attrs, stmts, tail },
-        places,
-        problems: log.problems,
-    })
+    if !has_return(text) {
+        let ends = LineEnds::none(alloc, text);
+        return block_of(alloc, text, &ends);
+    }
+    let (feeds, ends) = with_feeds(alloc, text)?;
+    block_of(alloc, &feeds, &ends)
 }

@@ -163,10 +163,9 @@ fn extern_inside<'t>(
     alloc: Global,
     cursor: &mut Cursor<'t>,
     depth: usize,
-    start: usize,
     log: &mut Log<'t>,
 ) -> Result<ExternInside, AllocError>
-    ensures { Finds extern_inside_view (spec.extern_inside depth start (log_view log.old) cursor.old) result (log_view log.new) cursor.new }
+    ensures { Finds extern_inside_view (spec.extern_inside depth (log_view log.old) cursor.old) result (log_view log.new) cursor.new }
 {
     if cursor.symbol() != b'{' {
         return Ok(ExternInside {
@@ -176,7 +175,7 @@ fn extern_inside<'t>(
         });
     }
     cursor.bump();
-    let attrs = inner_attributes(alloc, cursor, start)?;
+    let attrs = inner_attributes(alloc, cursor)?;
     let items = extern_items(alloc, cursor, depth, log)?;
     let is_ended = cursor.eat(b'}');
     Ok(ExternInside {
@@ -234,7 +233,7 @@ pub(crate) fn extern_block<'t>(
 {
     let mut more = Log::new(alloc);
     let start = front.start;
-    let inside = extern_inside(alloc, cursor, depth + 1, start, &mut more)?;
+    let inside = extern_inside(alloc, cursor, depth + 1, &mut more)?;
     let end = cursor.past();
     push_block(log, depth, start, end, inside.is_ended, more)?;
     block_item(alloc, front, inside)

@@ -111,10 +111,9 @@ fn module_inside<'t>(
     alloc: Global,
     cursor: &mut Cursor<'t>,
     left: usize,
-    start: usize,
     log: &mut Log<'t>,
 ) -> Result<Inside, AllocError>
-    ensures { Finds inside_view (spec.inside left start (log_view log.old) cursor.old) result (log_view log.new) cursor.new }
+    ensures { Finds inside_view (spec.inside left (log_view log.old) cursor.old) result (log_view log.new) cursor.new }
 {
     if cursor.symbol() != b'{' {
         return Ok(no_inside(alloc, false));
@@ -125,7 +124,7 @@ fn module_inside<'t>(
         return Ok(no_inside(alloc, true));
     }
     cursor.bump();
-    let attrs = inner_attributes(alloc, cursor, start)?;
+    let attrs = inner_attributes(alloc, cursor)?;
     let items = items(alloc, cursor, false, left - 1, log)?;
     let is_ended = cursor.eat(b'}');
     Ok(Inside {
@@ -141,15 +140,14 @@ fn inside_unless<'t>(
     cursor: &mut Cursor<'t>,
     semicolon: bool,
     left: usize,
-    start: usize,
     log: &mut Log<'t>,
 ) -> Result<Inside, AllocError>
-    ensures { Finds inside_view (spec.inside_unless semicolon (spec.inside left start) (log_view log.old) cursor.old) result (log_view log.new) cursor.new }
+    ensures { Finds inside_view (spec.inside_unless semicolon (spec.inside left) (log_view log.old) cursor.old) result (log_view log.new) cursor.new }
 {
     if semicolon {
         return Ok(no_inside(alloc, false));
     }
-    module_inside(alloc, cursor, left, start, log)
+    module_inside(alloc, cursor, left, log)
 }
 
 /// Takes a module, behind `mod`.
@@ -167,7 +165,7 @@ fn module<'t>(
     let named = item_name(alloc, cursor)?;
     let semicolon = cursor.eat(b';');
     let mut more = Log::new(alloc);
-    let inside = inside_unless(alloc, cursor, semicolon, left, front.start, &mut more)?;
+    let inside = inside_unless(alloc, cursor, semicolon, left, &mut more)?;
     let end = cursor.past();
     let is_ended = semicolon || inside.is_ended;
     push_module(

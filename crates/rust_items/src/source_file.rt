@@ -3,11 +3,13 @@
 ghost use Rattle.std.specs.Prelude.{◌≡◌, ◌≢◌, ◌≤◌, ◌^◌, [], length, AllPairs, IfOk, OnOk, map};
 ghost use Rattle.hir_input.specs.Syntax.{items_of, syntax_view};
 ghost use Rattle.rust_items.specs.Found.{log_view};
+ghost use Rattle.rust_items.specs.LineEnds.{moved_span, place_by};
 ghost use Rattle.rust_items.specs.Places.{ArePlaces};
 ghost use Rattle.rust_items.specs.SourceFiles as spec;
 
 use crate::ids::{Supply, items_with_ids};
 use crate::items::{MOST_DEPTH, items};
+use crate::line_ends::{LineEnds, has_return, with_feeds};
 use crate::log::{ItemSpan, Log, Problem, ProblemKind};
 use hir_input::FileAstId;
 use hir_input::ast::Syntax;
@@ -39,13 +41,16 @@ pub struct SourceFile {
     pub problems: Vec<Problem>,
 }
 
+/// The places of items with these ids, in the text as it is.
 #[tactic(auto, using(crate::proofs::Steps::places_none, crate::proofs::Steps::places_over))]
 pub(crate) fn places(
     alloc: Global,
     ids: &[FileAstId],
     spans: &[ItemSpan],
+    ends: &LineEnds,
 ) -> Result<Vec<ItemPlace>, AllocError>
-    ensures { IfOk result (λ v. v.items ≡ spec.places ids.now spans.now) }
+    ensures { IfOk result (λ v. v.items
+        ≡ spec.places ids.now (map (moved_span (place_by ends.now.len ends.now.returns.items)) spans.now)) }
 {
     let mut places = Vec::with_capacity(alloc, ids.len())?;
     let mut left = ids;
@@ -54,6 +59,7 @@ pub(crate) fn places(
         let [span, rest @ ..] = unplaced else {
             return Ok(places);
         };
+        let span = ends.span(*span);
         places.push(ItemPlace {
             id: *id,
             range: span.range,
@@ -66,32 +72,33 @@ pub(crate) fn places(
     Ok(places)
 }
 
-/// What is read of a text.
+/// What is read of a text with line feeds alone.
 #[tactic(auto, unfolding(crate::specs::SourceFiles::found_in, crate::specs::SourceFiles::items_in), using(crate::proofs::Numbering::with_ids_list))]
-fn file_of(alloc: Global, text: &str) -> Result<SourceFile, AllocError>
-    ensures { IfOk result (λ file. spec.IsSourceFile text.now file) }
+fn file_of(alloc: Global, text: &str, ends: &LineEnds) -> Result<SourceFile, AllocError>
+    ensures { IfOk result (λ file. spec.IsFile text.now (place_by ends.now.len ends.now.returns.items) file) }
 {
     let mut cursor = Cursor::new(text);
-    let attrs = inner_attributes(alloc, &mut cursor, 0)?;
+    let attrs = inner_attributes(alloc, &mut cursor)?;
     let mut log = Log::new(alloc);
     let items = items(alloc, &mut cursor, true, MOST_DEPTH, &mut log)?;
     log.push_problem_at(ProblemKind::Unterminated, cursor.unended())?;
     let ids = assign(alloc, &log.rows)?;
-    let places = places(alloc, &ids, &log.spans)?;
+    let places = places(alloc, &ids, &log.spans, ends)?;
+    let problems = ends.problems(alloc, &log.problems)?;
     let mut supply = Supply { rest: &ids };
     let items = items_with_ids(alloc, items, &mut supply)?;
     Ok(SourceFile {
         syntax: Syntax::SourceFile { attrs, items },
         places,
-        problems: log.problems,
+        problems,
     })
 }
 
 /// Reads the items of a text.
 ///
-/// It answers for every text: what is no item is passed over and told among the problems. The only error is that memory
-/// runs out.
-#[tactic(auto, using(crate::proofs::FilePlaces::file_placed, crate::proofs::FilePlaces::file_distinct))]
+/// It answers for every text: what is no item is passed over and told among the problems. Lines may end with line feeds, or with
+/// carriage returns before them: only places tell which. The only error is that memory runs out.
+#[tactic(auto, using(crate::proofs::FilePlaces::same_file, crate::proofs::FilePlaces::file_placed, crate::proofs::FilePlaces::file_distinct))]
 pub fn read_source_file(alloc: Global, text: &str) -> Result<SourceFile, AllocError>
     ensures file { IfOk result (λ file. spec.IsSourceFile text.now file) }
     ensures placed { IfOk result (λ file. let items = items_of (syntax_view file.syntax) in
@@ -99,5 +106,10 @@ pub fn read_source_file(alloc: Global, text: &str) -> Result<SourceFile, AllocEr
     ensures distinct { length text.now ≤ 2 ^ 32
         → IfOk result (λ file. AllPairs (λ p q. p.id ≢ q.id) file.places.items) }
 {
-    file_of(alloc, text)
+    if !has_return(text) {
+        let ends = LineEnds::none(alloc, text);
+        return file_of(alloc, text, &ends);
+    }
+    let (feeds, ends) = with_feeds(alloc, text)?;
+    file_of(alloc, &feeds, &ends)
 }

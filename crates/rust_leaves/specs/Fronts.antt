@@ -24,9 +24,9 @@ front_behind start attrs = do
   h ← head
   pure (record { start = start; attrs = attrs; visibility = v; head = h })
 
--- Attributes, and what stands behind them. Spans count from the item's start.
+-- attributes, and what stands behind them
 unfoldable pub front : Reader FrontRead
 front = do
   start ← look at
-  attrs ← outer_attributes start
+  attrs ← outer_attributes
   front_behind start attrs

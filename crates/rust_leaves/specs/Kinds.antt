@@ -39,11 +39,11 @@ abbrev pub here : Tokens → Tokens
 here ts = ts
 
 -- Function
-unfoldable pub function : ℕ → List MetaView → Option Visibility → Reader LeafRead
-function start attrs visibility = do
+unfoldable pub function : List MetaView → Option Visibility → Reader LeafRead
+function attrs visibility = do
   n ← named
   r ← item_end
-  pure (plain_read fn_kind (attrs ++ block_attributes start r.block) visibility n r)
+  pure (plain_read fn_kind (attrs ++ block_attributes r.block) visibility n r)
 
 -- Union, Enumeration and Trait: a name, and all that is left
 abbrev pub block_item : PlainKind → List MetaView → Option Visibility → Reader LeafRead
@@ -100,12 +100,12 @@ structure attrs visibility = do
   pure (leaf_read (struct_item (named_node attrs n.name visibility r.body) (struct_fields (is_some r.block) header)) kind.Struct n r)
 
 -- Implementation
-unfoldable pub implementation : ℕ → List MetaView → Reader LeafRead
-implementation start attrs = do
+unfoldable pub implementation : List MetaView → Reader LeafRead
+implementation attrs = do
   header ← look here
   r ← item_end
   end ← look past
-  pure (leaf_read (impl_item (node (attrs ++ block_attributes start r.block) r.body) (has_trait end header)) kind.Impl no_name r)
+  pure (leaf_read (impl_item (node (attrs ++ block_attributes r.block) r.body) (has_trait end header)) kind.Impl no_name r)
 
 -- ExternCrate
 unfoldable pub crate_item : List MetaView → Option Visibility → Reader LeafRead
@@ -166,22 +166,22 @@ invocation attrs ts =
     else (None, ts)
 
 -- an item that holds no items, by its word, if one is written
-abbrev pub leaf_by : Head → ℕ → List MetaView → Option Visibility → Reader (Option LeafRead)
-leaf_by head.Use start attrs v ts = some_read (use_declaration attrs v ts)
-leaf_by head.ExternCrate start attrs v ts = some_read (crate_item attrs v ts)
-leaf_by head.Fn start attrs v ts = some_read (function start attrs v ts)
-leaf_by head.Impl start attrs v ts = some_read (implementation start attrs ts)
-leaf_by head.Trait start attrs v ts = some_read (trait_item attrs v ts)
-leaf_by head.Struct start attrs v ts = some_read (structure attrs v ts)
-leaf_by head.Union start attrs v ts = some_read (union_item attrs v ts)
-leaf_by head.Enum start attrs v ts = some_read (enumeration attrs v ts)
-leaf_by head.Const start attrs v ts = some_read (constant attrs v ts)
-leaf_by head.Static start attrs v ts = some_read (static_value attrs v ts)
-leaf_by head.TypeAlias start attrs v ts = some_read (type_alias attrs v ts)
-leaf_by head.MacroDef start attrs v ts = some_read (macro_def attrs v ts)
-leaf_by head.MacroRules start attrs v ts = some_read (macro_definition attrs ts)
-leaf_by _ start attrs v ts = invocation attrs ts
+abbrev pub leaf_by : Head → List MetaView → Option Visibility → Reader (Option LeafRead)
+leaf_by head.Use attrs v ts = some_read (use_declaration attrs v ts)
+leaf_by head.ExternCrate attrs v ts = some_read (crate_item attrs v ts)
+leaf_by head.Fn attrs v ts = some_read (function attrs v ts)
+leaf_by head.Impl attrs v ts = some_read (implementation attrs ts)
+leaf_by head.Trait attrs v ts = some_read (trait_item attrs v ts)
+leaf_by head.Struct attrs v ts = some_read (structure attrs v ts)
+leaf_by head.Union attrs v ts = some_read (union_item attrs v ts)
+leaf_by head.Enum attrs v ts = some_read (enumeration attrs v ts)
+leaf_by head.Const attrs v ts = some_read (constant attrs v ts)
+leaf_by head.Static attrs v ts = some_read (static_value attrs v ts)
+leaf_by head.TypeAlias attrs v ts = some_read (type_alias attrs v ts)
+leaf_by head.MacroDef attrs v ts = some_read (macro_def attrs v ts)
+leaf_by head.MacroRules attrs v ts = some_read (macro_definition attrs ts)
+leaf_by _ attrs v ts = invocation attrs ts
 
 -- an item that holds no items, behind what stands in front of it
 unfoldable pub leaf : FrontRead → Reader (Option LeafRead)
-leaf h ts = leaf_by h.head h.start h.attrs h.visibility ts
+leaf h ts = leaf_by h.head h.attrs h.visibility ts

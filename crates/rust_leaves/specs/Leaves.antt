@@ -115,15 +115,15 @@ call_end ts =
 
 -- ---- parts
 
--- the inner attributes at the beginning of the braces that an item ends with; spans count from the item's start
-unfoldable pub block_attributes : ℕ → Option Tokens → List MetaView
-block_attributes start None = []
-block_attributes start (Some block) = (inner_attributes start (bumped block)).0
+-- the inner attributes at the beginning of the braces that an item ends with
+unfoldable pub block_attributes : Option Tokens → List MetaView
+block_attributes None = []
+block_attributes (Some block) = (inner_attributes (bumped block)).0
 
 -- TupleField: its visibility; attributes and the type are passed over
 unfoldable pub field : Reader (Option Visibility)
 field = do
-  _ ← outer_attributes 0
+  _ ← outer_attributes
   v ← visibility
   _ ← pass behind_field
   _ ← eat 44

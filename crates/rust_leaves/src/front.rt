@@ -17,7 +17,7 @@ use std::alloc::{AllocError, Global};
 /// What stands before an item's own parts.
 #[derive(Drop)]
 pub struct Front {
-    /// The byte place where the item begins, with its attributes. Their spans count from it.
+    /// The byte place where the item begins, with its attributes.
     pub start: usize,
     pub attrs: Vec<Meta>,
     pub visibility: Option<Visibility>,
@@ -59,6 +59,6 @@ pub fn take_front(alloc: Global, cursor: &mut Cursor<'_>) -> Result<Front, Alloc
     ensures { Gives front_view (spec.front cursor.old) result cursor.new }
 {
     let start = cursor.at();
-    let attrs = outer_attributes(alloc, cursor, start)?;
+    let attrs = outer_attributes(alloc, cursor)?;
     front_behind(alloc, cursor, start, attrs)
 }

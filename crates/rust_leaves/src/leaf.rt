@@ -42,15 +42,14 @@ pub struct Leaf<'t> {
 fn function<'t>(
     alloc: Global,
     cursor: &mut Cursor<'t>,
-    start: usize,
     attrs: Vec<Meta>,
     visibility: Option<Visibility>,
 ) -> Result<Leaf<'t>, AllocError>
-    ensures { Gives leaf_view (spec.function start (map meta_view attrs.items) visibility cursor.old) result cursor.new }
+    ensures { Gives leaf_view (spec.function (map meta_view attrs.items) visibility cursor.old) result cursor.new }
 {
     let named = item_name(alloc, cursor)?;
     let rest = item_end(alloc, cursor)?;
-    let attrs = with_inner(alloc, attrs, rest.block, start)?;
+    let attrs = with_inner(alloc, attrs, rest.block)?;
     let item = Item::Fn(Fn {
         hash: 0,
         number: 0,
@@ -286,15 +285,14 @@ fn constant<'t>(
 fn implementation<'t>(
     alloc: Global,
     cursor: &mut Cursor<'t>,
-    start: usize,
     attrs: Vec<Meta>,
 ) -> Result<Leaf<'t>, AllocError>
-    ensures { Gives leaf_view (spec.implementation start (map meta_view attrs.items) cursor.old) result cursor.new }
+    ensures { Gives leaf_view (spec.implementation (map meta_view attrs.items) cursor.old) result cursor.new }
 {
     let header = cursor.ahead();
     let rest = item_end(alloc, cursor)?;
     let is_trait_impl = has_trait(&header, cursor.past());
-    let attrs = with_inner(alloc, attrs, rest.block, start)?;
+    let attrs = with_inner(alloc, attrs, rest.block)?;
     let item = Item::Impl(Impl {
         hash: 0,
         number: 0,
@@ -326,14 +324,13 @@ pub fn take_leaf<'t>(
 ) -> Result<Option<Leaf<'t>>, AllocError>
     ensures { Gives (option_map leaf_view) (spec.leaf (front_view front) cursor.old) result cursor.new }
 {
-    let start = front.start;
     let attrs = front.attrs;
     let visibility = front.visibility;
     let leaf = match front.head {
         Head::Use => use_declaration(alloc, cursor, attrs, visibility)?,
         Head::ExternCrate => crate_item(alloc, cursor, attrs, visibility)?,
-        Head::Fn => function(alloc, cursor, start, attrs, visibility)?,
-        Head::Impl => implementation(alloc, cursor, start, attrs)?,
+        Head::Fn => function(alloc, cursor, attrs, visibility)?,
+        Head::Impl => implementation(alloc, cursor, attrs)?,
         Head::Trait => trait_item(alloc, cursor, attrs, visibility)?,
         Head::Struct => structure(alloc, cursor, attrs, visibility)?,
         Head::Union => union_item(alloc, cursor, attrs, visibility)?,

@@ -195,17 +195,13 @@ pub(crate) fn call_end<'t>(alloc: Global, cursor: &mut Cursor<'t>) -> Result<Res
 
 /// The inner attributes at the beginning of the braces that an item ends with.
 #[tactic(auto, unfolding(crate::specs::Leaves::block_attributes))]
-fn block_attributes(
-    alloc: Global,
-    block: Option<Cursor<'_>>,
-    start: usize,
-) -> Result<Vec<Meta>, AllocError>
-    ensures { IfOk result (λ v. map meta_view v.items ≡ spec.block_attributes start block.entry) }
+fn block_attributes(alloc: Global, block: Option<Cursor<'_>>) -> Result<Vec<Meta>, AllocError>
+    ensures { IfOk result (λ v. map meta_view v.items ≡ spec.block_attributes block.entry) }
 {
     match block {
         Some(mut inside) => {
             inside.bump();
-            inner_attributes(alloc, &mut inside, start)
+            inner_attributes(alloc, &mut inside)
         }
         None => Ok(Vec::new(alloc)),
     }
@@ -228,10 +224,9 @@ pub(crate) fn with_inner(
     alloc: Global,
     attrs: Vec<Meta>,
     block: Option<Cursor<'_>>,
-    start: usize,
 ) -> Result<Vec<Meta>, AllocError>
-    ensures { IfOk result (λ v. map meta_view v.items ≡ map meta_view attrs.items ++ spec.block_attributes start block.entry) }
+    ensures { IfOk result (λ v. map meta_view v.items ≡ map meta_view attrs.items ++ spec.block_attributes block.entry) }
 {
-    let inner = block_attributes(alloc, block, start)?;
+    let inner = block_attributes(alloc, block)?;
     joined(attrs, inner)
 }

@@ -31,7 +31,7 @@ pub(crate) fn has_trait(header: &Cursor<'_>, end: usize) -> bool
 fn field(alloc: Global, cursor: &mut Cursor<'_>) -> Result<TupleField, AllocError>
     ensures { Gives field_view (spec.field cursor.old) result cursor.new }
 {
-    let _attrs = outer_attributes(alloc, cursor, 0)?;
+    let _attrs = outer_attributes(alloc, cursor)?;
     let visibility = visibility(alloc, cursor)?;
     cursor.pass_field();
     cursor.eat(b',');

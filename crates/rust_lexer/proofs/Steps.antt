@@ -9,7 +9,7 @@ use Rattle.rust_lexer.specs.Bytes.{run}
 use Rattle.rust_lexer.specs.Cut.{cut, first_cut}
 use Rattle.rust_lexer.specs.Inner.{split_of}
 use Rattle.rust_lexer.specs.Piece.{Piece}
-use Rattle.rust_lexer.specs.Tokens.{lines_from, mark_from, piece, shebang_from, tokens_from, whole}
+use Rattle.rust_lexer.specs.Tokens.{lines_from, mark_from, matter_by, matter_from, piece, shebang_from, tokens_from, whole}
 
 -- what is left of one token is left out
 pub tokens_from_drop : (n at : ℕ) (z : List ℕ) → tokens_from n at z ≡ tokens_from 0 (at + length (take n z)) (drop n z)
@@ -35,18 +35,27 @@ first_next at (b ∷ z) w c t rest same some is h =
     let cut_is : c ≡ first_cut b z = is ∙ ap (first_cut (get_or w 0 0)) (take_rest w 1) ∙ ap (λ l. first_cut (get_or l 0 0) (drop 1 l)) same in
     split_next (first_cut b z) at b z t rest (subst (λ (d : Cut). split_of d at (b ∷ z) ≡ Some (t, rest)) cut_is h)
 
-pub shebang_next : (at : ℕ) (text w : List ℕ) (n : ℕ) (t : Piece) (rest : List ℕ) → w ≡ text → 1 ≤ length w → n ≡ run class.Line (take (length w - 1) (drop 1 w)) → split_of (cut kind.Shebang n) at text ≡ Some (t, rest) → shebang_from at text ≡ t ∷ tokens_from 0 (at + length t.text) rest
+-- frontmatter
+pub matter_next : (n at : ℕ) (text : List ℕ) (t : Piece) (rest : List ℕ) → split_of (cut kind.Frontmatter (n - 1)) at text ≡ Some (t, rest) → matter_by (Some n) at text ≡ t ∷ tokens_from 0 (at + length t.text) rest
+matter_next n at [] t rest h = cc
+matter_next n at (b ∷ z) t rest h = split_next (cut kind.Frontmatter (n - 1)) at b z t rest h
+
+-- what is split off in front, by what reads the text behind it
+front_next : (c : Cut) (read : ℕ → List ℕ → List Piece) (at b : ℕ) (z : List ℕ) (t : Piece) (rest : List ℕ) → split_of c at (b ∷ z) ≡ Some (t, rest)
+    → (let u = piece c at b z in u ∷ read (at + length u.text) (drop (whole c z) z)) ≡ t ∷ read (at + length t.text) rest
+front_next c read at b z t rest h =
+    let u = piece c at b z in
+    let e : (u, drop (whole c z) z) ≡ (t, rest) = cc in
+    subst (λ (q : Piece × List ℕ). u ∷ read (at + length u.text) (drop (whole c z) z) ≡ q.0 ∷ read (at + length q.0.text) q.1) e refl
+
+pub shebang_next : (at : ℕ) (text w : List ℕ) (n : ℕ) (t : Piece) (rest : List ℕ) → w ≡ text → 1 ≤ length w → n ≡ run class.Line (take (length w - 1) (drop 1 w)) → split_of (cut kind.Shebang n) at text ≡ Some (t, rest) → shebang_from at text ≡ t ∷ matter_from (at + length t.text) rest
 shebang_next at [] w n t rest same some is h = absurd (omega (arith, ap length same))
 shebang_next at (b ∷ z) w n t rest same some is h =
     let n_is : n ≡ run class.Line z = is ∙ ap (run class.Line) (take_rest w 1) ∙ ap (λ l. run class.Line (drop 1 l)) same in
-    split_next (cut kind.Shebang (run class.Line z)) at b z t rest
+    front_next (cut kind.Shebang (run class.Line z)) matter_from at b z t rest
     (subst (λ (k : ℕ). split_of (cut kind.Shebang k) at (b ∷ z) ≡ Some (t, rest)) n_is h)
 
 -- and behind a byte order mark
 pub mark_next : (at : ℕ) (text : List ℕ) (t : Piece) (rest : List ℕ) → split_of (cut kind.ByteOrderMark 2) at text ≡ Some (t, rest) → mark_from at text ≡ t ∷ lines_from (at + length t.text) rest
 mark_next at [] t rest h = cc
-mark_next at (b ∷ z) t rest h =
-    let c = cut kind.ByteOrderMark 2 in
-    let u = piece c at b z in
-    let e : (u, drop (whole c z) z) ≡ (t, rest) = cc in
-    subst (λ (q : Piece × List ℕ). u ∷ lines_from (at + length u.text) (drop (whole c z) z) ≡ q.0 ∷ lines_from (at + length q.0.text) q.1) e refl
+mark_next at (b ∷ z) t rest h = front_next (cut kind.ByteOrderMark 2) lines_from at b z t rest h

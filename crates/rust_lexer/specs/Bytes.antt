@@ -53,6 +53,7 @@ is_in class.White b z = is_white b z || is_continuation b
 is_in class.Word b z = is_ascii_alphanumeric b || b == 95 || is_continuation b || is_wide_continue b z
 is_in class.Line b z = not (b == 10)
 is_in class.Hash b z = b == 35
+is_in class.Dash b z = b == 45
 is_in class.Low b z = b == 95
 is_in class.Decimal b z = is_ascii_digit b || b == 95
 is_in class.Hexadecimal b z = is_ascii_hexdigit b || b == 95

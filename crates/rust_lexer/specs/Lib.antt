@@ -6,6 +6,7 @@ pub mod Cut
 pub mod Identifier
 pub mod Piece
 pub mod Symbol
+pub mod Frontmatter
 pub mod Tokens
 pub mod Terminated
 pub mod Inner

@@ -1,5 +1,5 @@
 -- The tokens of a text.
-use Rattle.std.specs.Prelude.{ℕ, zero, suc, ◌≡◌, ◌+◌, ◌==◌, Bool, true, false, not, ◌&&◌, if◌then◌else◌, List, [], ◌∷◌, take, drop, length, slice_index, None, flat_map}
+use Rattle.std.specs.Prelude.{ℕ, zero, suc, ◌≡◌, ◌+◌, ◌-◌, ◌==◌, Bool, true, false, not, ◌&&◌, if◌then◌else◌, List, [], ◌∷◌, take, drop, length, slice_index, Option, Some, None, flat_map}
 use Rattle.rust_lexer.specs.declared.bytes.Class.TheVariants as class
 use Rattle.rust_lexer.specs.declared.cut.Cut.{Cut}
 use Rattle.rust_lexer.specs.declared.kind.TokenKind.{TokenKind}
@@ -7,6 +7,7 @@ use Rattle.rust_lexer.specs.declared.kind.TokenKind.TheVariants as kind
 use Rattle.rust_lexer.specs.declared.lexer.Front.{Front}
 use Rattle.rust_lexer.specs.declared.lexer.Front.TheVariants as front
 use Rattle.rust_lexer.specs.Bytes.{run}
+use Rattle.rust_lexer.specs.Frontmatter.{frontmatter}
 use Rattle.rust_lexer.specs.Cut.{cut, first_cut}
 use Rattle.rust_lexer.specs.Piece.{Piece}
 use Rattle.rust_lexer.specs.Symbol.{symbol_of}
@@ -47,15 +48,26 @@ abbrev pub is_shebang : List Piece → Bool
 is_shebang [] = false
 is_shebang (t ∷ ts) = symbol_of t == 35 && is_shebang_next ts
 
+-- the tokens of a text with so many bytes of frontmatter in front, or with none
+abbrev pub matter_by : Option ℕ → ℕ → List ℕ → List Piece
+matter_by None at z = tokens_from 0 at z
+matter_by (Some n) at [] = []
+matter_by (Some n) at (b ∷ z) = let c = cut kind.Frontmatter (n - 1) in piece c at b z ∷ tokens_from (whole c z) (suc at) z
+
+-- the tokens of a text with frontmatter or none in front
+abbrev pub matter_from : ℕ → List ℕ → List Piece
+matter_from at z = matter_by (frontmatter 0 z) at z
+
 -- the tokens of a text with a shebang line in front
 abbrev pub shebang_from : ℕ → List ℕ → List Piece
 shebang_from at [] = []
 shebang_from at (b ∷ z) =
-    let c = cut kind.Shebang (run class.Line z) in piece c at b z ∷ tokens_from (whole c z) (suc at) z
+    let c = cut kind.Shebang (run class.Line z) in
+    let t = piece c at b z in t ∷ matter_from (at + length t.text) (drop (whole c z) z)
 
 -- the tokens of a text with a shebang line or none in front
 abbrev pub lines_from : ℕ → List ℕ → List Piece
-lines_from at z = if is_shebang (tokens_from 0 at z) then shebang_from at z else tokens_from 0 at z
+lines_from at z = if is_shebang (tokens_from 0 at z) then shebang_from at z else matter_from at z
 
 -- the tokens of a text with a byte order mark in front
 abbrev pub mark_from : ℕ → List ℕ → List Piece
@@ -72,6 +84,7 @@ has_mark z = slice_index z 0 == 239 && slice_index z 1 == 187 && slice_index z 2
 abbrev pub pieces : Front → ℕ → List ℕ → List Piece
 pieces front.Mark at z = if has_mark z then mark_from at z else lines_from at z
 pieces front.Line at z = lines_from at z
+pieces front.Matter at z = matter_from at z
 pieces front.Token at z = tokens_from 0 at z
 
 -- the tokens of a text
@@ -82,6 +95,7 @@ tokens z = pieces front.Mark 0 z
 abbrev pub is_significant_kind : TokenKind → Bool
 is_significant_kind kind.ByteOrderMark = false
 is_significant_kind kind.Shebang = false
+is_significant_kind kind.Frontmatter = false
 is_significant_kind k = not (is_blank k)
 
 abbrev pub is_significant : Piece → Bool

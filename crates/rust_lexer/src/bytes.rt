@@ -17,6 +17,8 @@ pub(crate) enum Class {
     Line,
     /// The `#` alone.
     Hash,
+    /// The `-` alone.
+    Dash,
     /// The `_` alone.
     Low,
     /// Decimal digits and `_`.
@@ -200,6 +202,7 @@ pub(crate) fn is_in(class: Class, b: u8, behind: &[u8]) -> bool
         Class::Word => is_word_byte(b) || is_wide_continue(b, behind),
         Class::Line => b != b'\n',
         Class::Hash => b == b'#',
+        Class::Dash => b == b'-',
         Class::Low => b == b'_',
         Class::Decimal => b.is_ascii_digit() || b == b'_',
         Class::Hexadecimal => b.is_ascii_hexdigit() || b == b'_',

@@ -41,6 +41,8 @@ pub enum TokenKind {
     ByteOrderMark,
     /// A line `#!..` in front of a text that is no inner attribute.
     Shebang,
+    /// What stands between two lines of dashes in front of a text, with the line ends before it.
+    Frontmatter,
     /// White space.
     Whitespace,
     /// A comment to the end of a line.

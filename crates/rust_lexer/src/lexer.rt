@@ -11,6 +11,7 @@ ghost use Rattle.rust_lexer.specs.declared.bytes.Class.TheVariants as class;
 
 use crate::bytes::{Class, byte, is_blank, run};
 use crate::cut::{Cut, any_cut, frequent_cut};
+use crate::frontmatter::frontmatter;
 use crate::kind::TokenKind;
 use crate::token::Token;
 use std::alloc::{AllocError, Global};
@@ -21,15 +22,17 @@ use std::marker::Model;
 pub(crate) enum Front {
     /// A byte order mark.
     Mark,
-    /// A line `#!..`.
+    /// A line `#!..`, or frontmatter.
     Line,
+    /// Frontmatter.
+    Matter,
     /// A token alone.
     Token,
 }
 
 /// The tokens of a text that are left, one behind the other. It takes no memory.
 ///
-/// rustc's `tokenize`, with the byte order mark and the line `#!..` in front as tokens.
+/// rustc's `tokenize`, with the byte order mark, the line `#!..` and frontmatter in front as tokens.
 #[derive(Debug, Drop)]
 pub struct Lexer<'a> {
     rest: &'a str,
@@ -268,7 +271,7 @@ fn is_shebang_next(at: usize, text: &str) -> bool
 fn shebang(at: usize, text: &str) -> Option<(Token<'_>, &str)>
     requires { at + length text.now < 2 ^ 64 }
     ensures value { MatchOption result (spec.shebang_from at text.now ≡ [])
-        (λ p. spec.shebang_from at text.now ≡ p.0 ∷ spec.tokens_from 0 (at + length p.0.text) p.1.now) }
+        (λ p. spec.shebang_from at text.now ≡ p.0 ∷ spec.matter_from (at + length p.0.text) p.1.now) }
     ensures utf8 { IfSome result (λ p. IsUtf8 p.1.now) }
     ensures takes { IfSome result (λ p. length p.0.text + length p.1.now ≡ length text.now) }
 {
@@ -282,6 +285,22 @@ fn shebang(at: usize, text: &str) -> Option<(Token<'_>, &str)>
         }
         [] => None,
     }
+}
+
+/// The frontmatter of so many bytes in front of a text, and the text behind it.
+fn matter(len: usize, at: usize, text: &str) -> (Token<'_>, &str)
+    requires some { 0 < len }
+    requires within { len ≤ length text.now }
+    requires fits { at + length text.now < 2 ^ 64 }
+    ensures value { spec.matter_by (Some len) at text.now ≡ result.0 ∷ spec.tokens_from 0 (at + length result.0.text) result.1.now }
+    ensures utf8 { IsUtf8 result.1.now }
+    ensures takes { length result.0.text + length result.1.now ≡ length text.now }
+{
+    let cut = Cut {
+        kind: TokenKind::Frontmatter,
+        len: len - 1,
+    };
+    split(cut, at, text)
 }
 
 /// Whether a byte order mark stands in front.
@@ -318,17 +337,31 @@ fn step_token(at: usize, text: &str) -> Option<(Token<'_>, Lexer<'_>)>
     Some((token, Lexer { rest, at, front }))
 }
 
+/// The same where frontmatter may stand in front.
+fn step_matter(at: usize, text: &str) -> Option<(Token<'_>, Lexer<'_>)>
+    requires { at + length text.now < 2 ^ 64 }
+    ensures { MatchOption result (spec.matter_from at text.now ≡ []) (λ p. spec.matter_from at text.now ≡ p.0 ∷ p.1) }
+{
+    let Some(len) = frontmatter(text.as_bytes()) else {
+        return step_token(at, text);
+    };
+    let (token, rest) = matter(len, at, text);
+    let at = at + token.text().len();
+    let front = Front::Token;
+    Some((token, Lexer { rest, at, front }))
+}
+
 /// The same where a line `#!..` may stand in front.
 fn step_line(at: usize, text: &str) -> Option<(Token<'_>, Lexer<'_>)>
     requires { at + length text.now < 2 ^ 64 }
     ensures { MatchOption result (spec.lines_from at text.now ≡ []) (λ p. spec.lines_from at text.now ≡ p.0 ∷ p.1) }
 {
     if !is_shebang(at, text) {
-        return step_token(at, text);
+        return step_matter(at, text);
     }
     let (token, rest) = shebang(at, text)?;
     let at = at + token.text().len();
-    let front = Front::Token;
+    let front = Front::Matter;
     Some((token, Lexer { rest, at, front }))
 }
 
@@ -356,6 +389,7 @@ fn step(front: Front, at: usize, text: &str) -> Option<(Token<'_>, Lexer<'_>)>
 {
     match front {
         Front::Token => step_token(at, text),
+        Front::Matter => step_matter(at, text),
         Front::Line => step_line(at, text),
         Front::Mark => step_mark(at, text),
     }

@@ -4,6 +4,7 @@
 mod bytes;
 mod comment;
 mod cut;
+mod frontmatter;
 mod identifier;
 mod kind;
 mod lexer;

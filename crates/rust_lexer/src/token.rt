@@ -105,12 +105,15 @@ impl<'a> Token<'a> {
         }
     }
 
-    /// Whether it is neither white space nor a comment, but for one that documents something, nor a byte order mark nor a
-    /// line `#!..` in front.
+    /// Whether it is neither white space nor a comment, but for one that documents something, nor a byte order mark, a
+    /// line `#!..` or frontmatter in front.
     pub fn is_significant(&self) -> bool
         ensures { result ≡ is_significant self.now }
     {
-        !self.is_blank() && self.kind != TokenKind::ByteOrderMark && self.kind != TokenKind::Shebang
+        match self.kind {
+            TokenKind::ByteOrderMark | TokenKind::Shebang | TokenKind::Frontmatter => false,
+            _ => !self.is_blank(),
+        }
     }
 
     /// Whether it is white space or a comment that documents nothing.

@@ -12,8 +12,8 @@ use Rattle.rust_cursor.specs.Elements.{one}
 use Rattle.rust_cursor.specs.Extents.{begins_item}
 use Rattle.rust_cursor.proofs.Leads.{LeadsTo, here, further, through, Forwards, when, bumped_leads, behind_closed_leads, behind_tree_leads, turns_leads, taken_leads_on}
 use Rattle.rust_paths.proofs.Leads.{name_leads, path_leads}
-use Rattle.rust_metas.specs.Literals.{is_literal_kind, is_truth, is_literal, is_ended, value, documentation}
-use Rattle.rust_metas.specs.Conditions.{comma_from, behind_comma, option_name, pair, named, if_named, ended, condition_with, conditions, condition}
+use Rattle.rust_metas.specs.Literals.{is_literal_kind, is_literal, is_ended, value, documentation}
+use Rattle.rust_metas.specs.Conditions.{comma_from, behind_comma, is_option_word, option_name, pair, named, if_named, ended, condition_with, conditions, condition}
 use Rattle.rust_metas.specs.Metas.{input, plain, is_call, unsafe_with, cfg_with, member, cfg_attr_with, meta_with, meta, doc}
 use Rattle.rust_metas.specs.Attributes.{is_doc, is_behind, behind_bracket, bracketed, opened, one_attribute, behind_docs_from, behind_docs, behind_attribute, attribute, attributes, outer_attributes, inner_attributes}
 
@@ -41,7 +41,7 @@ behind_comma_leads ts = comma_from_leads _ ts
 
 option_name_leads : Forwards option_name
 unfolding option_name
-option_name_leads ts = when (is_truth ts) (λ e. rw e (bumped_leads ts)) (λ e. rw e (name_leads ts))
+option_name_leads ts = when (is_option_word ts) (λ e. rw e (bumped_leads ts)) (λ e. rw e (name_leads ts))
 
 pair_leads : (key : List ℕ) → Forwards (pair key)
 unfolding pair
@@ -138,18 +138,18 @@ unfolding behind_docs
 behind_attribute_leads Outer ts = docs_leads _ ts
 behind_attribute_leads Inner ts = here
 
-attribute_leads : (anchor : ℕ) (style : DocStyle) → Forwards (attribute anchor style)
+attribute_leads : (style : DocStyle) → Forwards (attribute style)
 unfolding attribute
-attribute_leads anchor style ts = through (one_attribute_leads anchor style ts) (behind_attribute_leads style _)
+attribute_leads style ts = through (one_attribute_leads _ style ts) (behind_attribute_leads style _)
 
-attributes_leads : (anchor : ℕ) (style : DocStyle) → Forwards (attributes anchor style)
+attributes_leads : (style : DocStyle) → Forwards (attributes style)
 unfolding attributes
-attributes_leads anchor style ts = turns_leads (is_behind style) (one (attribute anchor style)) (attribute_leads anchor style) ts
+attributes_leads style ts = turns_leads (is_behind style) (one (attribute style)) (attribute_leads style) ts
 
-pub outer_attributes_leads : (anchor : ℕ) → Forwards (outer_attributes anchor)
+pub outer_attributes_leads : Forwards outer_attributes
 unfolding outer_attributes
-outer_attributes_leads anchor ts = attributes_leads anchor Outer ts
+outer_attributes_leads ts = attributes_leads Outer ts
 
-pub inner_attributes_leads : (anchor : ℕ) → Forwards (inner_attributes anchor)
+pub inner_attributes_leads : Forwards inner_attributes
 unfolding inner_attributes
-inner_attributes_leads anchor ts = attributes_leads anchor Inner ts
+inner_attributes_leads ts = attributes_leads Inner ts

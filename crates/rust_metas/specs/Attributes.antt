@@ -1,11 +1,11 @@
--- Attributes. The spans of their literals count from the anchor, which is the first argument.
+-- Attributes. The spans of their literals count from the attribute that they stand in.
 use Rattle.std.specs.Prelude.{ℕ, zero, suc, Bool, true, false, not, ◌==◌, ◌&&◌, ◌||◌, if◌then◌else◌, Option, Some, List}
 use Rattle.hir_input.specs.Attr.{MetaView}
 use Rattle.rust_lexer.specs.declared.kind.DocStyle.{DocStyle}
 use Rattle.rust_lexer.specs.declared.kind.DocStyle.TheVariants.{Outer, Inner}
 use Rattle.rust_cursor.specs.Tokens.{Tokens}
-use Rattle.rust_cursor.specs.Reader.{Reader, ◌>>=◌, pure, pass}
-use Rattle.rust_cursor.specs.Words.{symbol, kind, bump, bumped}
+use Rattle.rust_cursor.specs.Reader.{Reader, ◌>>=◌, pure, look, pass}
+use Rattle.rust_cursor.specs.Words.{symbol, kind, at, bump, bumped}
 use Rattle.rust_cursor.specs.Brackets.{behind_closed}
 use Rattle.rust_cursor.specs.Extents.{begins_item}
 use Rattle.rust_cursor.specs.Elements.{most, turns, one}
@@ -38,7 +38,7 @@ is_behind style ts = not (is_doc style ts || is_attribute style ts)
 abbrev pub behind_bracket : Tokens → Tokens
 behind_bracket ts = if begins_item ts then ts else behind_closed 91 ts
 
--- a meta in its bracket; what stands behind it there is passed over
+-- A meta in its bracket; what stands behind it there is passed over. Spans count from the anchor, which is the first argument.
 unfoldable pub bracketed : ℕ → Reader MetaView
 bracketed anchor = do
   _ ← bump
@@ -67,18 +67,20 @@ abbrev pub behind_attribute : DocStyle → Tokens → Tokens
 behind_attribute Outer ts = behind_docs ts
 behind_attribute Inner ts = ts
 
-unfoldable pub attribute : ℕ → DocStyle → Reader MetaView
-attribute anchor style = do
-  m ← one_attribute anchor style
+-- spans count from its first byte
+unfoldable pub attribute : DocStyle → Reader MetaView
+attribute style = do
+  start ← look at
+  m ← one_attribute start style
   _ ← pass (behind_attribute style)
   pure m
 
 -- the attributes of this style that come next
-unfoldable pub attributes : ℕ → DocStyle → Reader (List MetaView)
-attributes anchor style = turns (is_behind style) (one (attribute anchor style))
+unfoldable pub attributes : DocStyle → Reader (List MetaView)
+attributes style = turns (is_behind style) (one (attribute style))
 
-unfoldable pub outer_attributes : ℕ → Reader (List MetaView)
-outer_attributes anchor = attributes anchor Outer
+unfoldable pub outer_attributes : Reader (List MetaView)
+outer_attributes = attributes Outer
 
-unfoldable pub inner_attributes : ℕ → Reader (List MetaView)
-inner_attributes anchor = attributes anchor Inner
+unfoldable pub inner_attributes : Reader (List MetaView)
+inner_attributes = attributes Inner

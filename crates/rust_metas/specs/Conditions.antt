@@ -1,14 +1,16 @@
 -- Conditions of `cfg` and `cfg_attr`.
-use Rattle.std.specs.Prelude.{ℕ, zero, suc, ◌==◌, if◌then◌else◌, Option, Some, None, List, [], ◌∷◌, codes}
+use Rattle.std.specs.Prelude.{ℕ, zero, suc, Bool, true, false, ◌==◌, ◌||◌, if◌then◌else◌, Option, Some, None, List, [], ◌∷◌, codes}
 use Rattle.std.specs.Str.{bytes_eq}
+use Rattle.rust_lexer.specs.declared.kind.TokenKind.{TokenKind}
+use Rattle.rust_lexer.specs.declared.kind.TokenKind.TheVariants as kinds
 use Rattle.hir_input.specs.Cfg.{CfgView, invalid, atom, all_of, any_of, not_of, cfgs_from, flag, key_value}
 use Rattle.rust_cursor.specs.Tokens.{Tokens}
 use Rattle.rust_cursor.specs.Reader.{Reader, ◌>>=◌, pure, look, pass}
-use Rattle.rust_cursor.specs.Words.{symbol, word, kind, text, bump, bumped, is_at_end, is_at_open}
+use Rattle.rust_cursor.specs.Words.{symbol, kind, text, bump, bumped, is_at_end, is_at_open}
 use Rattle.rust_cursor.specs.Brackets.{behind_closed, behind_tree}
 use Rattle.rust_cursor.specs.Elements.{most, elements, one}
 use Rattle.rust_paths.specs.Names.{as_name, name}
-use Rattle.rust_metas.specs.Literals.{string_by, is_literal_kind, is_truth, is_ended}
+use Rattle.rust_metas.specs.Literals.{string_by, is_literal_kind, is_ended}
 
 -- ---- what stands between commas
 
@@ -22,9 +24,20 @@ behind_comma ts = comma_from most ts
 
 -- ---- conditions
 
--- an identifier, `true` or `false`
+abbrev pub is_word_kind : Option TokenKind → Bool
+is_word_kind (Some kinds.Ident) = true
+is_word_kind _ = false
+
+-- An option's name comes next as it is written: any word but `_`, keywords too. `r#true` and `r#false` keep their `r#`, since they name
+-- options and are not `true` and `false`.
+unfoldable pub is_option_word : Tokens → Bool
+is_option_word ts =
+    if bytes_eq (text ts) (codes "_") then false
+    else (if bytes_eq (text ts) (codes "r#true") || bytes_eq (text ts) (codes "r#false") then true else is_word_kind (kind ts))
+
+-- a word, or another identifier
 unfoldable pub option_name : Reader (Option (List ℕ))
-option_name ts = if is_truth ts then (as_name (Some (word ts)), bumped ts) else name ts
+option_name ts = if is_option_word ts then (as_name (Some (text ts)), bumped ts) else name ts
 
 -- ConfigurationNot has one condition
 abbrev pub not_from : List CfgView → CfgView

@@ -123,15 +123,11 @@ fn pass_behind(cursor: &mut Cursor<'_>, style: DocStyle)
 
 /// An attribute, and inner documentation behind an outer one, which documents nothing.
 #[tactic(auto, unfolding(crate::specs::Attributes::attribute))]
-fn attribute(
-    alloc: Global,
-    cursor: &mut Cursor<'_>,
-    anchor: usize,
-    style: DocStyle,
-) -> Result<Meta, AllocError>
-    ensures { Gives meta_view (spec.attribute anchor style cursor.old) result cursor.new }
+fn attribute(alloc: Global, cursor: &mut Cursor<'_>, style: DocStyle) -> Result<Meta, AllocError>
+    ensures { Gives meta_view (spec.attribute style cursor.old) result cursor.new }
 {
-    let meta = one_attribute(alloc, cursor, anchor, style)?;
+    let start = cursor.at();
+    let meta = one_attribute(alloc, cursor, start, style)?;
     pass_behind(cursor, style);
     Ok(meta)
 }
@@ -141,10 +137,9 @@ fn attribute(
 fn attributes(
     alloc: Global,
     cursor: &mut Cursor<'_>,
-    anchor: usize,
     style: DocStyle,
 ) -> Result<Vec<Meta>, AllocError>
-    ensures { Gives (λ v. map meta_view v.items) (spec.attributes anchor style cursor.old) result cursor.new }
+    ensures { Gives (λ v. map meta_view v.items) (spec.attributes style cursor.old) result cursor.new }
 {
     let mut metas = Vec::new(alloc);
     let most = Cursor::most_turns();
@@ -153,7 +148,7 @@ fn attributes(
             break;
         }
         let past = cursor.past();
-        let meta = attribute(alloc, cursor, anchor, style)?;
+        let meta = attribute(alloc, cursor, style)?;
         metas.push(meta)?;
         cursor.pass_beyond(past);
     }
@@ -163,35 +158,27 @@ fn attributes(
 /// Takes the outer attributes that come next, in order: those in `#[..]`, and the comments `///` and `/** .. */` as
 /// `doc = ".."`. What is no meta in its bracket is one without a path.
 ///
-/// Spans count from the anchor, a byte place in the text; what stands before it is at 0.
+/// Spans count from the first byte of the attribute that the literal stands in.
 ///
 /// # Errors
 ///
 /// `AllocError` where memory is refused. The cursor may then stand anywhere.
 #[tactic(auto, unfolding(crate::specs::Attributes::outer_attributes))]
-pub fn outer_attributes(
-    alloc: Global,
-    cursor: &mut Cursor<'_>,
-    anchor: usize,
-) -> Result<Vec<Meta>, AllocError>
-    ensures { Gives (λ v. map meta_view v.items) (spec.outer_attributes anchor cursor.old) result cursor.new }
+pub fn outer_attributes(alloc: Global, cursor: &mut Cursor<'_>) -> Result<Vec<Meta>, AllocError>
+    ensures { Gives (λ v. map meta_view v.items) (spec.outer_attributes cursor.old) result cursor.new }
 {
-    attributes(alloc, cursor, anchor, DocStyle::Outer)
+    attributes(alloc, cursor, DocStyle::Outer)
 }
 
 /// Takes the inner attributes that come next, in order: those in `#![..]`, and the comments `//!` and `/*! .. */` as
-/// `doc = ".."`. Spans count from the anchor, as in [`outer_attributes`].
+/// `doc = ".."`. Spans count as in [`outer_attributes`].
 ///
 /// # Errors
 ///
 /// `AllocError` where memory is refused. The cursor may then stand anywhere.
 #[tactic(auto, unfolding(crate::specs::Attributes::inner_attributes))]
-pub fn inner_attributes(
-    alloc: Global,
-    cursor: &mut Cursor<'_>,
-    anchor: usize,
-) -> Result<Vec<Meta>, AllocError>
-    ensures { Gives (λ v. map meta_view v.items) (spec.inner_attributes anchor cursor.old) result cursor.new }
+pub fn inner_attributes(alloc: Global, cursor: &mut Cursor<'_>) -> Result<Vec<Meta>, AllocError>
+    ensures { Gives (λ v. map meta_view v.items) (spec.inner_attributes cursor.old) result cursor.new }
 {
-    attributes(alloc, cursor, anchor, DocStyle::Inner)
+    attributes(alloc, cursor, DocStyle::Inner)
 }

@@ -7,9 +7,10 @@ ghost use Rattle.rust_cursor.specs.Reader.{Gives};
 ghost use Rattle.rust_paths.specs.Names.{as_name};
 ghost use Rattle.rust_metas.specs.Conditions as spec;
 
-use crate::literal::{is_ended, is_literal_kind, is_truth, string_by};
+use crate::literal::{is_ended, is_literal_kind, string_by};
 use hir_input::{CfgAtom, CfgExpr, Name};
 use rust_cursor::Cursor;
+use rust_lexer::TokenKind;
 use rust_paths::name;
 use std::alloc::{AllocError, Global};
 
@@ -39,15 +40,33 @@ fn name_from(text: String) -> Option<Name>
     Name::new(text)
 }
 
-/// Takes an identifier, `true` or `false`.
+/// Whether an option's name comes next as it is written: a word, or `r#true` or `r#false`, which are not `true` and `false`.
+#[tactic(auto, unfolding(crate::specs::Conditions::is_option_word))]
+fn is_option_word(cursor: &Cursor<'_>) -> bool
+    ensures { result ≡ spec.is_option_word cursor.now }
+{
+    match cursor.text() {
+        "_" => false,
+        "r#true" | "r#false" => true,
+        _ => is_word_kind(cursor.kind()),
+    }
+}
+
+fn is_word_kind(kind: Option<TokenKind>) -> bool
+    ensures { result ≡ spec.is_word_kind kind }
+{
+    matches!(kind, Some(TokenKind::Ident))
+}
+
+/// Takes a word, a keyword too, or another identifier.
 #[tactic(auto, unfolding(crate::specs::Conditions::option_name))]
 fn option_name(alloc: Global, cursor: &mut Cursor<'_>) -> Result<Option<Name>, AllocError>
     ensures { Gives (λ n. n) (spec.option_name cursor.old) result cursor.new }
 {
-    if !is_truth(cursor) {
+    if !is_option_word(cursor) {
         return name(alloc, cursor);
     }
-    let text = String::from_str(alloc, cursor.word())?;
+    let text = String::from_str(alloc, cursor.text())?;
     cursor.bump();
     Ok(name_from(text))
 }

@@ -85,7 +85,7 @@ pub(crate) fn is_literal_kind(kind: Option<TokenKind>) -> bool
 
 /// Whether `true` or `false` comes next.
 #[tactic(auto, unfolding(crate::specs::Literals::is_truth))]
-pub(crate) fn is_truth(cursor: &Cursor<'_>) -> bool
+fn is_truth(cursor: &Cursor<'_>) -> bool
     ensures { result ≡ spec.is_truth cursor.now }
 {
     matches!(cursor.word(), "true" | "false")

@@ -94,7 +94,7 @@ again_from (w ∷ ws) past text h =
 
 plain_tokens : (text : List ℕ) → IsPlain text → tokens text ≡ tokens_from 0 0 text
 unfolding tokens
-plain_tokens text h = rw (h.0, h.1) refl
+plain_tokens text h = rw (h.0, h.1, h.2) refl
 
 pub tokens_again : TokensAgain
 tokens_again ws text p h =

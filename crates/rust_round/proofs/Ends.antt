@@ -44,11 +44,11 @@ semicolon_end is_value done last a before ts s =
 
 -- up to a semicolon
 semicolon_taken : (is_value : Bool) (t : Trees) (ts : Tokens) → AreTrees t → GoesOn is_value t (mark 59) → Begins (trees_words t ++ mark 59 ∷ []) ts
-    → taking_rest is_value [] (ts.past, None) (nest 0 0 0 0 0 befores.End) ts ≡ (whole (spaced (trees_words t ++ mark 59 ∷ [])), behind (trees_words t ++ mark 59 ∷ []) ts)
+    → taking_rest is_value [] (0, None) (nest 0 0 0 0 0 befores.End) ts ≡ (whole (spaced (trees_words t ++ mark 59 ∷ [])), behind (trees_words t ++ mark 59 ∷ []) ts)
 semicolon_taken is_value t ts h g b =
     let ws = trees_words t in
     let us = behind ws ts in
-    let k = takes_header t is_value (mark 59) [] [] (ts.past, None) 0 befores.End ts h g b in
+    let k = takes_header t is_value (mark 59) [] [] (0, None) 0 befores.End ts h g b in
     k.1
     ∙ semicolon_end is_value (spaced ws) k.0 (angles_behind_all befores.End 0 t) (before_behind_all befores.End t) us (begins_right ws (mark 59 ∷ []) ts b).0
     ∙ ap (λ l. (whole l, bumped us)) (sym (and_words-append ws (mark 59 ∷ []) []))
@@ -99,7 +99,7 @@ item_block t b ts h i g begun e =
     let vs = tree_words (group curly b) in
     let us = behind ws ts in
     let same = behind_append ws vs ts in
-    let k = takes_header t false (open_of curly) (trees_words b ++ close_of curly ∷ []) [] (ts.past, None) 0 befores.End ts h g begun in
+    let k = takes_header t false (open_of curly) (trees_words b ++ close_of curly ∷ []) [] (0, None) 0 befores.End ts h g begun in
     item_rest_taking ts ∙ k.1
     ∙ block_taken b (spaced ws) k.0 (angles_behind_all befores.End 0 t) (before_behind_all befores.End t) us (block_last t false befores.End g) i (begins_right ws vs ts begun) (ap goes_on (sym same) ∙ e)
     ∙ ap (λ l. (whole_with us l, behind vs us)) (sym (and_words-append ws vs []))

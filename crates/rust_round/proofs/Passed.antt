@@ -7,7 +7,7 @@ use Rattle.rust_cursor.specs.declared.cursor.nest.Nest.{Nest}
 use Rattle.rust_cursor.specs.Tokens.{Tokens}
 use Rattle.rust_cursor.specs.Words.{symbol, bumped}
 use Rattle.rust_cursor.specs.Nests.{is_mark, behind_free, is_flat, nest_behind}
-use Rattle.rust_cursor.specs.Extents.{begins, begins_item, begins_behind, begins_within, opened_behind, last_behind}
+use Rattle.rust_cursor.specs.Extents.{begins, begins_item, begins_behind, begins_within, opened_behind}
 use Rattle.rust_cursor.proofs.Rests.{Behind, taking_rest, and_next, stops_here, ends_here, rest_more}
 use Rattle.rust_round.specs.Words.{Word}
 use Rattle.rust_round.specs.Trees.{Bracket, round, square, curly, open_of, close_of, Tree, single, group, Trees, no_trees, tree_and, tree_words, trees_words, IsTree, AreTrees, first_of, Holds, MayStand, GoesBehind, angles_behind, angles_behind_all, before_behind, behind_group, and_word, and_words}
@@ -45,14 +45,14 @@ takes_append is_value done last n m l ws vs ts first more =
     )
 
 word_taken : (is_value : Bool) (done : List ℕ) (last : Behind) (n m : Nest) (w : Word) (ts : Tokens) → Shows w ts → stops_here n ts ≡ false → nest_behind n ts ≡ m
-    → ends_here is_value (is_mark n.before) m ts ≡ false → taking_rest is_value done last n ts ≡ taking_rest is_value (and_word done w) (last_behind last.0 ts, opened_behind last.1 n ts) m (bumped ts)
+    → ends_here is_value (is_mark n.before) m ts ≡ false → taking_rest is_value done last n ts ≡ taking_rest is_value (and_word done w) (symbol ts, opened_behind last.1 n ts) m (bumped ts)
 word_taken is_value done last n m w ts s stop step end =
     rest_more is_value done last n m ts s.some stop step end
-    ∙ ap (λ t. taking_rest is_value t (last_behind last.0 ts, opened_behind last.1 n ts) m (bumped ts)) (next_word w done ts s)
+    ∙ ap (λ t. taking_rest is_value t (symbol ts, opened_behind last.1 n ts) m (bumped ts)) (next_word w done ts s)
 
 pub takes_word : (is_value : Bool) (done : List ℕ) (last : Behind) (n m : Nest) (w : Word) (ts : Tokens) → Shows w ts → stops_here n ts ≡ false → nest_behind n ts ≡ m
     → ends_here is_value (is_mark n.before) m ts ≡ false → Takes is_value done last n m (w ∷ []) ts
-takes_word is_value done last n m w ts s stop step end = ((last_behind last.0 ts, opened_behind last.1 n ts), word_taken is_value done last n m w ts s stop step end)
+takes_word is_value done last n m w ts s stop step end = ((symbol ts, opened_behind last.1 n ts), word_taken is_value done last n m w ts s stop step end)
 
 -- ---- in brackets
 

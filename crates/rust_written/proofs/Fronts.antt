@@ -54,18 +54,18 @@ none_here : (s : DocStyle) (w : Word) (ts : Tokens) → Shows w ts → documents
 unfolding is_behind
 none_here s w ts h d e = rw (not_doc s w ts h d, not_attribute s w ts h e) refl
 
-pub outer_none : (anchor : ℕ) (w : Word) (ts : Tokens) → Shows w ts → documents w.kind ≡ false → (trees.symbol_of w == 35) ≡ false → outer_attributes anchor ts ≡ ([], ts)
+pub outer_none : (w : Word) (ts : Tokens) → Shows w ts → documents w.kind ≡ false → (trees.symbol_of w == 35) ≡ false → outer_attributes ts ≡ ([], ts)
 unfolding outer_attributes attributes turns
-outer_none anchor w ts h d e = turns_stop (is_behind Outer) (one (attribute anchor Outer)) most [] ts (none_here Outer w ts h d e)
+outer_none w ts h d e = turns_stop (is_behind Outer) (one (attribute Outer)) most [] ts (none_here Outer w ts h d e)
 
-pub inner_none : (anchor : ℕ) (w : Word) (ts : Tokens) → Shows w ts → documents w.kind ≡ false → (trees.symbol_of w == 35) ≡ false → inner_attributes anchor ts ≡ ([], ts)
+pub inner_none : (w : Word) (ts : Tokens) → Shows w ts → documents w.kind ≡ false → (trees.symbol_of w == 35) ≡ false → inner_attributes ts ≡ ([], ts)
 unfolding inner_attributes attributes turns
-inner_none anchor w ts h d e = turns_stop (is_behind Inner) (one (attribute anchor Inner)) most [] ts (none_here Inner w ts h d e)
+inner_none w ts h d e = turns_stop (is_behind Inner) (one (attribute Inner)) most [] ts (none_here Inner w ts h d e)
 
 -- nor where nothing is left
-pub inner_empty : (anchor : ℕ) (ts : Tokens) → is_behind Inner ts ≡ true → inner_attributes anchor ts ≡ ([], ts)
+pub inner_empty : (ts : Tokens) → is_behind Inner ts ≡ true → inner_attributes ts ≡ ([], ts)
 unfolding inner_attributes attributes turns
-inner_empty anchor ts e = turns_stop (is_behind Inner) (one (attribute anchor Inner)) most [] ts e
+inner_empty ts e = turns_stop (is_behind Inner) (one (attribute Inner)) most [] ts e
 
 -- ---- visibilities
 
@@ -252,7 +252,7 @@ front_steps : (start : ℕ) (v : Front) (h : Head) (ts us vs : Tokens) → visib
 unfolding front_behind
 front_steps start v h ts us vs s m is = rw (s, m, is.head) refl
 
-front_found : (ts : Tokens) → outer_attributes (at ts) ts ≡ ([], ts) → front ts ≡ front_behind (at ts) [] ts
+front_found : (ts : Tokens) → outer_attributes ts ≡ ([], ts) → front ts ≡ front_behind (at ts) [] ts
 unfolding front
 front_found ts e = rw e refl
 
@@ -271,7 +271,7 @@ front_reads v w h more ts few e a b is =
     let same = behind_append (scope_words v.scope) ms ts in
     let fewer = fewer_left (scope_words v.scope) ts (begins_left (scope_words v.scope) (modified v.modifiers w more) ts split) in
     let heads_there : Heads h (behind ms us) = subst (Heads h) same is in
-    front_found ts (outer_none (at ts) (trees.word first.0) ts first.1 refl refl)
+    front_found ts (outer_none (trees.word first.0) ts first.1 refl refl)
     ∙ front_steps (at ts) v h ts us (behind ms us)
     (scope_reads v.scope (first_modifier v.modifiers w) (modified_from v.modifiers w more).0 ts (no_pub v.modifiers w e a) (scope_begins v w more ts b))
     (all_modifiers v.modifiers w more us (omega (arith, few, fewer)) a (begins_right (scope_words v.scope) (modified v.modifiers w more) ts split) heads_there.modifier)

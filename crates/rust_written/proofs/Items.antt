@@ -195,7 +195,7 @@ used_turns left v t f ts few is begun =
 -- ---- modules
 
 module_parts : (left start : ℕ) (v : Front) (m : NameRead) (semicolon : Bool) (b : BlockRead) (inner f : Found) (ts us vs rest : Tokens) → named ts ≡ (m, us) → eat 59 us ≡ (semicolon, vs)
-    → inside_unless semicolon (inside left start) nothing_found vs ≡ (b, (inner, rest))
+    → inside_unless semicolon (inside left) nothing_found vs ≡ (b, (inner, rest))
     → by_head (inside left) (depth_of left) heads.Module (front_at start v heads.Module) f ts
     ≡ (Some (module_from (named_node b.attrs m.name (front_view v) []) semicolon b.items), (and_parent (depth_of left) start rest.past kind.Module m (semicolon || b.is_ended) inner f, rest))
 module_parts left start v m semicolon b inner f ts us vs rest e g h = rw (e, g, h) refl
@@ -208,18 +208,18 @@ uneaten : (c : ℕ) (ts : Tokens) → (symbol ts == c) ≡ false → eat c ts �
 unfolding eat
 uneaten c ts e = rw e refl
 
-inside_listed : (left start : ℕ) (f : Found) (ts : Tokens) → (symbol ts == 123) ≡ true → inside (suc left) start f ts ≡ block_of start (turn left) f ts
+inside_listed : (left : ℕ) (f : Found) (ts : Tokens) → (symbol ts == 123) ≡ true → inside (suc left) f ts ≡ block_of (turn left) f ts
 unfolding inside turn
-inside_listed left start f ts e = rw e refl
+inside_listed left f ts e = rw e refl
 
-block_parts : (start : ℕ) (turn : Finder (Option ItemView)) (list : List ItemView) (f f' : Found) (ts us : Tokens) → inner_attributes start (bumped ts) ≡ ([], bumped ts) → finding (is_list_end false) turn f (bumped ts) ≡ (list, (f', us))
-    → eat 125 us ≡ (true, bumped us) → block_of start turn f ts ≡ (record { attrs = []; items = Some list; is_ended = true }, (f', bumped us))
-block_parts start turn list f f' ts us e g h = rw (e, g, h) refl
+block_parts : (turn : Finder (Option ItemView)) (list : List ItemView) (f f' : Found) (ts us : Tokens) → inner_attributes (bumped ts) ≡ ([], bumped ts) → finding (is_list_end false) turn f (bumped ts) ≡ (list, (f', us))
+    → eat 125 us ≡ (true, bumped us) → block_of turn f ts ≡ (record { attrs = []; items = Some list; is_ended = true }, (f', bumped us))
+block_parts turn list f f' ts us e g h = rw (e, g, h) refl
 
 -- the front of a module, and its name
 module_turn : (left : ℕ) (v : Front) (n : List ℕ) (more : List Word) (semicolon : Bool) (b : BlockRead) (inner f : Found) (ts vs rest : Tokens) → length ts.left ≤ most → IsNamed n → AreModifiers v.modifiers (codes "mod")
     → Begins (front_words v ++ trees.word (codes "mod") ∷ trees.word n ∷ more) ts → eat 59 (bumped (bumped (behind (front_words v) ts))) ≡ (semicolon, vs)
-    → inside_unless semicolon (inside left (at ts)) nothing_found vs ≡ (b, (inner, rest))
+    → inside_unless semicolon (inside left) nothing_found vs ≡ (b, (inner, rest))
     → turn left f ts ≡ (
       Some (module_from (named_node b.attrs (Some n) (front_view v) []) semicolon b.items),
       (and_parent (depth_of left) (at ts) rest.past kind.Module (named_at n (bumped (behind (front_words v) ts))) (semicolon || b.is_ended) inner f, rest),
@@ -316,11 +316,11 @@ item_some (used v t) = some_behind (front_words v) (trees.word (codes "use")) (u
 item_some (module_of v n is) = some_behind (front_words v) (trees.word (codes "mod")) (trees.word n ∷ open_mark 123 ∷ (words is ++ close_mark 125 ∷ []))
 
 -- before a module's items, and behind them
-inner_of : (is : Items) (anchor : ℕ) (ts : Tokens) → Begins (words is ++ close_mark 125 ∷ []) ts → inner_attributes anchor ts ≡ ([], ts)
-inner_of no_more anchor ts b = inner_none anchor (close_mark 125) ts b.0 refl refl
-inner_of (also i is) anchor ts b =
+inner_of : (is : Items) (ts : Tokens) → Begins (words is ++ close_mark 125 ∷ []) ts → inner_attributes ts ≡ ([], ts)
+inner_of no_more ts b = inner_none (close_mark 125) ts b.0 refl refl
+inner_of (also i is) ts b =
     let first = item_first i (words is) ts (begins_left (words (also i is)) (close_mark 125 ∷ []) ts b) in
-    inner_none anchor (trees.word first.0) ts first.1 refl refl
+    inner_none (trees.word first.0) ts first.1 refl refl
 
 closes_list : (ts : Tokens) → Shows (close_mark 125) ts → is_list_end false ts ≡ true
 unfolding is_list_end
@@ -363,9 +363,9 @@ listed_turns left v n is f ts deep few m a begun found =
     let fewer = behind_few v n tail ts few begun in
     let list = found mid fewer within most [] fewer in
     let block : BlockRead = record { attrs = []; items = Some (views is); is_ended = true } in
-    let held : inside (suc left) (at ts) nothing_found vs ≡ (block, (list.0, bumped end)) =
-    inside_listed left (at ts) nothing_found vs (ap (λ (c : ℕ). c == 123) brace.symbol_is)
-    ∙ block_parts (at ts) (turn left) (views is) nothing_found list.0 vs end (inner_of is (at ts) mid within) (finding_all left nothing_found mid ∙ list.1) (eaten 125 end (ap (λ (c : ℕ). c == 125) shut.symbol_is)) in
+    let held : inside (suc left) nothing_found vs ≡ (block, (list.0, bumped end)) =
+    inside_listed left nothing_found vs (ap (λ (c : ℕ). c == 123) brace.symbol_is)
+    ∙ block_parts (turn left) (views is) nothing_found list.0 vs end (inner_of is mid within) (finding_all left nothing_found mid ∙ list.1) (eaten 125 end (ap (λ (c : ℕ). c == 125) shut.symbol_is)) in
     let all = and_parent (depth_of (suc left)) (at ts) (bumped end).past kind.Module name true list.0 f in
     let rest : bumped end ≡ behind (item_words (module_of v n is)) ts =
     sym (behind_name v (codes "mod") n (open_mark 123 ∷ tail) ts ∙ behind_append (words is) (close_mark 125 ∷ []) mid) in (

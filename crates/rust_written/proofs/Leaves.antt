@@ -82,19 +82,19 @@ plain_parts : (a b : Bool) → (a || b) ≡ false → (a ≡ false) × (b ≡ fa
 plain_parts true b e = absurd cc
 plain_parts false b e = (refl, e)
 
-no_inner : (start : ℕ) (h b : Trees) (ts : Tokens) → IsPlainBlock b → Begins (trees_words h ++ braced b) ts → block_attributes start (block_behind h ts) ≡ []
+no_inner : (h b : Trees) (ts : Tokens) → IsPlainBlock b → Begins (trees_words h ++ braced b) ts → block_attributes (block_behind h ts) ≡ []
 unfolding block_attributes
-no_inner start h b ts p begun =
+no_inner h b ts p begun =
     let us = behind (trees_words h) ts in
     let inside : Begins (trees_words b ++ close_of curly ∷ []) (bumped us) = (begins_right (trees_words h) (braced b) ts begun).1 in
     let first : Shows (first_of b (close_of curly)) (bumped us) = shows_first b (close_of curly) [] (bumped us) inside in
     let plain = plain_parts (trees.symbol_of (first_of b (close_of curly)) == 35) (documents (first_of b (close_of curly)).kind) p in
-    ap (λ r. r.0) (inner_none start (first_of b (close_of curly)) (bumped us) first plain.1 plain.0)
+    ap (λ r. r.0) (inner_none (first_of b (close_of curly)) (bumped us) first plain.1 plain.0)
 
-function_reads : (start : ℕ) (v : Option Visibility) (n : NameRead) (block : Option Tokens) (ws : List Word) (ts us : Tokens) → named ts ≡ (n, us) → block_attributes start block ≡ [] → (e : Ends item_end block ws us)
-    → function start [] v ts ≡ (plain_read fn_kind [] v n (rest_is block ws us), behind ws us)
+function_reads : (v : Option Visibility) (n : NameRead) (block : Option Tokens) (ws : List Word) (ts us : Tokens) → named ts ≡ (n, us) → block_attributes block ≡ [] → (e : Ends item_end block ws us)
+    → function [] v ts ≡ (plain_read fn_kind [] v n (rest_is block ws us), behind ws us)
 unfolding function
-function_reads start v n block ws ts us m i e = rw (m, e, i) refl
+function_reads v n block ws ts us m i e = rw (m, e, i) refl
 
 block_reads : (k : PlainKind) (v : Option Visibility) (n : NameRead) (block : Option Tokens) (ws : List Word) (ts us : Tokens) → named ts ≡ (n, us) → (e : Ends item_end block ws us)
     → block_item k [] v ts ≡ (plain_read k [] v n (rest_is block ws us), behind ws us)
@@ -110,7 +110,7 @@ blocked_reads functions v n h b start ts m i j g f s begun e =
     let ends = block_ends h b (bumped ts) i j g begun e in (
       (named_at n ts).range,
       (rest_is block ws (bumped ts)).braces,
-      ap (λ r. (Some r.0, r.1)) (function_reads start (front_view v) (named_at n ts) block ws ts (bumped ts) (named_reads n ts m s) (no_inner start h b (bumped ts) f begun) ends),
+      ap (λ r. (Some r.0, r.1)) (function_reads (front_view v) (named_at n ts) block ws ts (bumped ts) (named_reads n ts m s) (no_inner h b (bumped ts) f begun) ends),
     )
 blocked_reads unions v n h b start ts m i j g f s begun e =
     let ws = trees_words h ++ braced b in
@@ -130,10 +130,10 @@ blocked_reads traits v n h b start ts m i j g f s begun e =
 
 -- ---- impls
 
-impl_steps : (start : ℕ) (is_trait : Bool) (block : Option Tokens) (ws : List Word) (ts : Tokens) → has_trait (behind ws ts).past ts ≡ is_trait → block_attributes start block ≡ [] → Ends item_end block ws ts
-    → implementation start [] ts ≡ (leaf_read (impl_item (node [] (spaced ws)) is_trait) kind.Impl no_name (rest_is block ws ts), behind ws ts)
+impl_steps : (is_trait : Bool) (block : Option Tokens) (ws : List Word) (ts : Tokens) → has_trait (behind ws ts).past ts ≡ is_trait → block_attributes block ≡ [] → Ends item_end block ws ts
+    → implementation [] ts ≡ (leaf_read (impl_item (node [] (spaced ws)) is_trait) kind.Impl no_name (rest_is block ws ts), behind ws ts)
 unfolding implementation
-impl_steps start is_trait block ws ts t i e = rw (e, i, t) refl
+impl_steps is_trait block ws ts t i e = rw (e, i, t) refl
 
 trait_is : (h : ImplHeader) (more : List Word) (ts : Tokens) → AreTrees (header_trees h) → IsImplHeader h → Begins (trees_words (header_trees h) ++ open_of curly ∷ more) ts
     → has_trait (behind (trees_words (header_trees h) ++ open_of curly ∷ more) ts).past ts ≡ is_some h.of_trait
@@ -150,7 +150,7 @@ impl_reads ms h b start ts i j is p begun e =
     let block = block_behind t ts in (
       None,
       (rest_is block ws ts).braces,
-      ap (λ r. (Some r.0, r.1)) (impl_steps start (is_some h.of_trait) block ws ts (trait_is h (trees_words b ++ close_of curly ∷ []) ts i is begun) (no_inner start t b ts p begun) (block_ends t b ts i j is.goes begun e)),
+      ap (λ r. (Some r.0, r.1)) (impl_steps (is_some h.of_trait) block ws ts (trait_is h (trees_words b ++ close_of curly ∷ []) ts i is begun) (no_inner t b ts p begun) (block_ends t b ts i j is.goes begun e)),
     )
 
 -- ---- statics, type aliases and constants

@@ -1,12 +1,16 @@
 -- Words are spelled by a text.
-use Rattle.std.proofs.Common.{◌≡◌, ℕ, ◌&&◌, Bool, true, false, List, [], ◌∷◌, ◌++◌, codes, refl, subst}
+use Rattle.std.proofs.Common.{◌≡◌, ◌≢◌, ◌<◌, ◌≤◌, ℕ, zero, suc, ◌&&◌, Bool, true, false, List, [], ◌∷◌, ◌++◌, length, get_or, codes, refl, sym, ap, ◌∙◌, subst, arith}
 use Rattle.std.specs.Prelude.{not, slice_index, map}
 use Rattle.std.specs.List.{list_all}
 use Rattle.std.proofs.lemmas.Bool.{and_parts}
+use Rattle.std.proofs.lemmas.Bool.Decides.{nat_tests}
 use Rattle.rust_lexer.specs.declared.kind.TokenKind.{TokenKind}
 use Rattle.rust_lexer.specs.declared.kind.TokenKind.TheVariants as kinds
 use Rattle.rust_lexer.specs.Bytes.{is_continuation}
 use Rattle.rust_lexer.specs.Cut.{symbol_kind, is_punctuation, first_cut}
+use Rattle.rust_cursor.specs.Elements.{most}
+use Rattle.rust_items.specs.LineEnds.{with_feeds}
+use Rattle.rust_items.proofs.LineEnds.{feeds_behind}
 use Rattle.rust_round.specs.Gaps.{white}
 use Rattle.rust_round.specs.Laws.{IsPlain}
 use Rattle.rust_round.specs.Standing.{is_letter, is_word_byte, ends_word, is_mark, IsAsciiWord}
@@ -87,10 +91,10 @@ spelled (w ∷ ws) e =
 
 -- ---- items
 
--- a text with a blank in front is no shebang line
+-- in front of a text with a blank in front stands nothing
 plain_blank : (z : List ℕ) → IsPlain (32 ∷ z)
 unfolding first_cut
-plain_blank z = (refl, refl)
+plain_blank z = (refl, refl, refl)
 
 plain_front : (v : Scope) (ms : List (List ℕ)) (w : List ℕ) (ws more : List Word) → IsPlain (spell (((scope_words v ++ map trees.word ms) ++ trees.word w ∷ ws) ++ more))
 plain_front unwritten [] w ws more = plain_blank _
@@ -110,8 +114,71 @@ plain_item (used v t) more = plain_front v.scope v.modifiers (codes "use") (use_
 plain_item (module_of v n is) more = plain_front v.scope v.modifiers (codes "mod") (trees.word n ∷ trees.open_mark 123 ∷ (words is ++ trees.close_mark 125 ∷ [])) more
 
 plain_items : (is : Items) → IsPlain (text_of is)
-plain_items no_more = (refl, refl)
+plain_items no_more = (refl, refl, refl)
 plain_items (also i is) = plain_item i (words is)
 
+-- ---- line ends
+
+word_byte : (b : ℕ) → is_word_byte b ≡ true → b ≢ 13
+word_byte b e = grind (arith, nat_tests)
+
+mark_byte : (b : ℕ) → is_mark b ≡ true → b ≢ 13
+mark_byte b e = grind (arith, nat_tests)
+
+letter_byte : (b : ℕ) → is_letter b ≡ true → b ≢ 13
+letter_byte b e = grind (arith, nat_tests)
+
+-- no carriage return stands in it
+abbrev Lacks : List ℕ → Type 0
+Lacks z = (i : ℕ) → i < length z → get_or z i 0 ≢ 13
+
+word_lacks : (z : List ℕ) → list_all is_word_byte z ≡ true → (i : ℕ) → i < length z → get_or z i 0 ≢ 13
+word_lacks [] e i l = absurd (omega arith)
+word_lacks (b ∷ z) e zero l = let word = and_parts (is_word_byte b) (list_all is_word_byte z) e in word_byte b word.0
+word_lacks (b ∷ z) e (suc i) l = let word = and_parts (is_word_byte b) (list_all is_word_byte z) e in word_lacks z word.1 i (omega arith)
+
+first_lacks : (b : ℕ) (z : List ℕ) → is_letter b ≡ true → Lacks z → Lacks (b ∷ z)
+first_lacks b z e h zero l = letter_byte b e
+first_lacks b z e h (suc i) l = h i (omega arith)
+
+mark_lacks : (of_kind : Bool) (rest : List ℕ) (b : ℕ) → is_mark_before of_kind rest b ≡ true → Lacks (b ∷ [])
+mark_lacks of_kind rest b e zero l =
+    let both = and_parts of_kind (is_mark b && not (is_continuation (slice_index rest 0))) e in
+    mark_byte b (and_parts (is_mark b) (not (is_continuation (slice_index rest 0))) both.1).0
+mark_lacks of_kind rest b e (suc i) l = absurd (omega arith)
+
+text_lacks : (k : TokenKind) (text rest : List ℕ) → stands_by k text rest ≡ true → Lacks text
+text_lacks kinds.Ident [] rest e = absurd cc
+text_lacks kinds.Ident (b ∷ z) rest e =
+    let word = ascii_word (b ∷ z) (and_parts (is_ascii_word (b ∷ z)) (ends_word (slice_index rest 0)) e).0 in first_lacks b z word.0 (word_lacks z word.1)
+text_lacks kinds.OpenDelim (b ∷ []) rest e = mark_lacks (is_opening b) rest b e
+text_lacks kinds.CloseDelim (b ∷ []) rest e = mark_lacks (not (is_opening b) && is_closing b) rest b e
+text_lacks kinds.Punct (b ∷ []) rest e = mark_lacks (not (is_opening b) && (not (is_closing b) && is_punctuation b)) rest b e
+text_lacks kinds.OpenDelim [] rest e = absurd cc
+text_lacks kinds.OpenDelim (b ∷ c ∷ z) rest e = absurd cc
+text_lacks kinds.CloseDelim [] rest e = absurd cc
+text_lacks kinds.CloseDelim (b ∷ c ∷ z) rest e = absurd cc
+text_lacks kinds.Punct [] rest e = absurd cc
+text_lacks kinds.Punct (b ∷ c ∷ z) rest e = absurd cc
+text_lacks _ text rest e = absurd cc
+
+feeds_lead : (l : Link) (text rest : List ℕ) → Lacks text → with_feeds rest ≡ rest → with_feeds (lead l (text ++ rest)) ≡ lead l (text ++ rest)
+feeds_lead joined text rest h e = feeds_behind text rest h ∙ ap (λ z. text ++ z) e
+feeds_lead apart text rest h e = ap (λ z. 32 ∷ z) (feeds_behind text rest h ∙ ap (λ z. text ++ z) e)
+feeds_lead free text rest h e = ap (λ z. 32 ∷ z) (feeds_behind text rest h ∙ ap (λ z. text ++ z) e)
+
+feeds_spell : (ws : List Word) → are_standing ws ≡ true → with_feeds (spell ws) ≡ spell ws
+feeds_spell [] e = refl
+feeds_spell (w ∷ ws) e =
+    let both = and_parts (stands_by w.kind w.text (spell ws)) (are_standing ws) e in
+    feeds_lead w.link w.text (spell ws) (text_lacks w.kind w.text (spell ws) both.0) (feeds_spell ws both.1)
+
 pub writable : Writable
-writable is are s l = record { are = are; plain = plain_items is; spells = spelled (words is) s; short = l }
+writable is are s l =
+    let e = sym (feeds_spell (words is) s) in
+    record {
+      are = are;
+      plain = subst (λ (z : List ℕ). IsPlain z) e (plain_items is);
+      spells = subst (λ (z : List ℕ). Spells (words is) z) e (spelled (words is) s);
+      short = subst (λ (z : List ℕ). length z ≤ most) e l;
+    }

@@ -59,7 +59,7 @@ comma_eaten : (ts : Tokens) → Shows (mark 44) ts → eat 44 ts ≡ (true, bump
 unfolding eat
 comma_eaten ts s = rw s.symbol_is refl
 
-field_steps : (v : Option Visibility) (ts us vs : Tokens) → outer_attributes 0 ts ≡ ([], ts) → visibility ts ≡ (v, us) → behind_field us ≡ vs → eat 44 vs ≡ (true, bumped vs) → field ts ≡ (v, bumped vs)
+field_steps : (v : Option Visibility) (ts us vs : Tokens) → outer_attributes ts ≡ ([], ts) → visibility ts ≡ (v, us) → behind_field us ≡ vs → eat 44 vs ≡ (true, bumped vs) → field ts ≡ (v, bumped vs)
 unfolding field
 field_steps v ts us vs o s f e = rw (o, s, f, e) refl
 
@@ -82,7 +82,7 @@ field_read f ts h is b =
     let plain = parts_of (trees.symbol_of begin == 35) (documents begin.kind) is.plain in
     let first = first_word f.scope begin ts (record { plain = plain.1; hash = plain.0 }) front shown in
     let comma : Shows (mark 44) vs = (begins_right (trees_words f.of_type) (mark 44 ∷ []) us rest).0 in
-    field_steps (field_view f) ts us vs (outer_none 0 first.0 ts first.2 first.1.plain first.1.hash) (field_scope f.scope begin ts is.begins front shown) (field_type_passed f.of_type [] us h is.passed rest) (comma_eaten vs comma)
+    field_steps (field_view f) ts us vs (outer_none first.0 ts first.2 first.1.plain first.1.hash) (field_scope f.scope begin ts is.begins front shown) (field_type_passed f.of_type [] us h is.passed rest) (comma_eaten vs comma)
     ∙ ap (λ k. (field_view f, k)) (sym (behind_append (scope_words f.scope) tail ts ∙ behind_append (trees_words f.of_type) (mark 44 ∷ []) us))
 
 -- ---- the fields of a tuple

@@ -18,6 +18,7 @@ use Rattle.rust_items.specs.declared.log.ProblemKind.TheVariants as problem
 use Rattle.rust_items.specs.Found.{Found, nothing_found, and_problem_at}
 use Rattle.rust_items.specs.Ids.{with_ids}
 use Rattle.rust_items.specs.Items.{finding, finding_from, is_list_end, turn}
+use Rattle.rust_items.specs.LineEnds.{with_feeds}
 use Rattle.rust_items.specs.SourceFiles.{read_of, found_in, items_in}
 use Rattle.rust_round.specs.Words.{Word, Spells, IsCutOff, AreTokens}
 use Rattle.rust_round.specs.Trees as trees
@@ -75,20 +76,20 @@ ends_list ts e = rw e refl
 
 -- ---- a text
 
-no_attributes : (is : Items) (ts : Tokens) → Begins (words is) ts → is_empty (behind (words is) ts) ≡ true → inner_attributes 0 ts ≡ ([], ts)
-no_attributes no_more ts b e = inner_empty 0 ts (end_inner ts e)
-no_attributes (also i is) ts b e = let first = item_first i (words is) ts b in inner_none 0 (trees.word first.0) ts first.1 refl refl
+no_attributes : (is : Items) (ts : Tokens) → Begins (words is) ts → is_empty (behind (words is) ts) ≡ true → inner_attributes ts ≡ ([], ts)
+no_attributes no_more ts b e = inner_empty ts (end_inner ts e)
+no_attributes (also i is) ts b e = let first = item_first i (words is) ts b in inner_none (trees.word first.0) ts first.1 refl refl
 
 abbrev turns_top : List ℕ → Tokens → Type 0
 turns_top text ts = read_of text ≡ finding_from (is_list_end true) (turn 128) most [] nothing_found ts
 
-all_turns : (text : List ℕ) → inner_attributes 0 (tokens_of text) ≡ ([], tokens_of text) → turns_top text (tokens_of text)
+all_turns : (text : List ℕ) → inner_attributes (tokens_of text) ≡ ([], tokens_of text) → turns_top text (tokens_of text)
 unfolding finding
 all_turns text e = ap (λ r. finding_from (is_list_end true) (turn 128) most [] nothing_found r.1) e
 
 -- what is read of a text, and found in it
 record IsReadOf (is : Items) (text : List ℕ) : Type 0 where
-  pub attributes : inner_attributes 0 (tokens_of text) ≡ ([], tokens_of text)
+  pub attributes : inner_attributes (tokens_of text) ≡ ([], tokens_of text)
   pub items : items_in text ≡ items_from (views is)
   pub rows : (found_in text).rows ≡ rows 0 is
 
@@ -96,22 +97,23 @@ same_rows : (at : Option ℕ) (f : Found) → (and_problem_at problem.Unterminat
 same_rows None f = refl
 same_rows (Some n) f = refl
 
-read_text : (is : Items) (text : List ℕ) → Writes is text → IsReadOf is text
+read_text : (is : Items) (text : List ℕ) → Writes is text → IsReadOf is (with_feeds text)
 unfolding items_in found_in
 read_text is text w =
-    let ts = tokens_of text in
-    let b = text_begins (words is) text (tokens_again (words is) text w.plain w.spells) (no_word_empty (words is) text w.spells) in
+    let feeds = with_feeds text in
+    let ts = tokens_of feeds in
+    let b = text_begins (words is) feeds (tokens_again (words is) feeds w.plain w.spells) (no_word_empty (words is) feeds w.spells) in
     let bound = w.short in
-    let count = text_few text in
+    let count = text_few feeds in
     let few : length ts.left ≤ most = omega (arith, bound, count) in
     let none = no_attributes is ts b.0 b.1 in
     let end = behind (words is) ts in
     let found = finds_reads is true 128 nothing_found ts (omega arith) few w.are b.0 (ends_list end b.1) (end_goes_on end b.1) most [] few in
-    let all = all_turns text none ∙ found.1 in
+    let all = all_turns feeds none ∙ found.1 in
     record {
       attributes = none;
       items = ap (λ r. items_from r.0) all;
-      rows = same_rows (read_of text).1.1.unended (read_of text).1.0 ∙ ap (λ r. r.1.0.rows) all ∙ found.2;
+      rows = same_rows (read_of feeds).1.1.unended (read_of feeds).1.0 ∙ ap (λ r. r.1.0.rows) all ∙ found.2;
     }
 
 pub read_again : ReadAgain
@@ -120,5 +122,5 @@ read_again is text file w s =
     record {
       ids = s.ids;
       are_ids = subst (λ l. AreIds l s.ids) r.rows s.are_ids;
-      syntax = s.syntax ∙ ap (λ a. source_file a.0 (with_ids (items_in text) s.ids).0) r.attributes ∙ ap (λ l. source_file [] (with_ids l s.ids).0) r.items;
+      syntax = s.syntax ∙ ap (λ a. source_file a.0 (with_ids (items_in (with_feeds text)) s.ids).0) r.attributes ∙ ap (λ l. source_file [] (with_ids l s.ids).0) r.items;
     }

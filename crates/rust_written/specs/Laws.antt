@@ -6,6 +6,7 @@ use Rattle.rust_ids.specs.Ids.{AreIds}
 use Rattle.rust_cursor.specs.Elements.{most}
 use Rattle.rust_items.specs.declared.source_file.SourceFile.{SourceFile}
 use Rattle.rust_items.specs.Ids.{with_ids}
+use Rattle.rust_items.specs.LineEnds.{with_feeds}
 use Rattle.rust_items.specs.SourceFiles.{IsSourceFile}
 use Rattle.rust_round.specs.Words.{Spells}
 use Rattle.rust_round.specs.Laws.{IsPlain}
@@ -13,12 +14,12 @@ use Rattle.rust_written.specs.Spelled.{are_standing, text_of}
 use Rattle.rust_written.specs.Written.{Items, words, views, rows, AreItems, outline}
 use Rattle.hir_input.specs.declared.ids.FileAstId.{FileAstId}
 
--- a text of so few bytes spells these items
+-- a text of so few bytes spells these items, with a line feed alone for each line's end
 pub record Writes (is : Items) (text : List ℕ) : Type 0 where
   pub are : AreItems 128 is
-  pub plain : IsPlain text
-  pub spells : Spells (words is) text
-  pub short : length text ≤ most
+  pub plain : IsPlain (with_feeds text)
+  pub spells : Spells (words is) (with_feeds text)
+  pub short : length (with_feeds text) ≤ most
 
 -- a text that spells items is read as exactly these, with the ids that they are to have
 pub record IsRead (is : Items) (file : SourceFile) : Type 0 where

@@ -13,7 +13,7 @@ use std::alloc::{AllocError, Global};
 /// How far tokens are taken, and what stands between their texts.
 #[derive(Clone, Copy)]
 pub(crate) enum Extent {
-    /// A token, or what stands in brackets, as written.
+    /// A token, or what stands in brackets, with a blank between each two that are not joined.
     Tree,
     /// A token, or what stands in brackets, with a blank between each two.
     Group,
@@ -192,19 +192,35 @@ impl<'t> Cursor<'t> {
         if self.symbol() == b'}' { opened } else { None }
     }
 
+    /// Whether nothing stands between the next token and one of this symbol before it, in a tree's text.
+    #[tactic(auto, unfolding(crate::specs::Extents::is_joined))]
+    fn is_joined(&self, last: u8) -> bool
+        ensures { result ≡ spec.is_joined last self.now }
+    {
+        let next = self.symbol();
+        if is_punctuation(last) && is_punctuation(next) {
+            return self.is_glued();
+        }
+        opens(last)
+            || closes(next)
+            || (last == 0 && opens(next))
+            || last == b':'
+            || matches!(next, b',' | b':')
+    }
+
     #[tactic(auto, unfolding(crate::specs::Extents::has_blank))]
-    fn has_blank(&self, extent: Extent, last: usize) -> bool
+    fn has_blank(&self, extent: Extent, last: u8) -> bool
         ensures { result ≡ spec.has_blank extent last self.now }
     {
         match extent {
-            Extent::Tree => self.at() != last,
+            Extent::Tree => !self.is_joined(last),
             Extent::Group | Extent::Value | Extent::Item | Extent::Macro => true,
         }
     }
 
     #[inline(always)]
     #[tactic(auto, unfolding(crate::specs::Extents::more))]
-    fn push_text(&self, extent: Extent, last: usize, text: &mut String) -> Result<(), AllocError>
+    fn push_text(&self, extent: Extent, last: u8, text: &mut String) -> Result<(), AllocError>
         ensures { OnOk result (string_bytes text.new
             ≡ spec.more extent last (string_bytes text.old) self.now) }
     {
@@ -218,16 +234,15 @@ impl<'t> Cursor<'t> {
         push_token(text, self.text())
     }
 
-    /// Takes one token, and tells where the last one ends that is no documentation.
+    /// Takes one token, and tells its symbol.
     #[inline(always)]
-    #[tactic(auto, unfolding(crate::specs::Extents::last_behind))]
-    fn bump_behind(&mut self, last: usize) -> usize
-        ensures value { result ≡ spec.last_behind last self.old }
+    fn bump_symbol(&mut self) -> u8
+        ensures value { result ≡ symbol self.old }
         ensures rest { self.new ≡ bumped self.old }
     {
-        let is_doc = self.is_at_doc();
+        let symbol = self.symbol();
         self.bump();
-        if is_doc { last } else { self.past() }
+        symbol
     }
 
     /// Whether a token comes next, in so many braces, that leaves one of them open.
@@ -247,7 +262,7 @@ impl<'t> Cursor<'t> {
         &mut self,
         extent: Extent,
         nest: &mut Nest,
-        last: &mut usize,
+        last: &mut u8,
         text: &mut String,
     ) -> Result<(), AllocError>
         requires braces { nest.old.braces + length self.old.left < 2 ^ 64 }
@@ -263,7 +278,7 @@ impl<'t> Cursor<'t> {
         'tokens: while self.is_inside(nest.braces) {
             self.nest_inside(nest);
             self.push_text(extent, *last, text)?;
-            *last = self.bump_behind(*last);
+            *last = self.bump_symbol();
         }
         Ok(())
     }
@@ -275,7 +290,7 @@ impl<'t> Cursor<'t> {
         // That brackets can be counted is known of a cursor that was looked into.
         let _ = &self.next;
         let mut text = String::new(alloc);
-        let mut last = self.past();
+        let mut last = 0;
         let mut opened = None;
         let mut nest = Nest::flat_behind(first_before(extent));
         'tokens: while !self.stops(extent, nest) {
@@ -293,7 +308,7 @@ impl<'t> Cursor<'t> {
                     block,
                 });
             }
-            last = self.bump_behind(last);
+            last = self.bump_symbol();
             self.take_inside(extent, &mut nest, &mut last, &mut text)?;
         }
         Ok(Excerpt {
@@ -310,8 +325,8 @@ impl<'t> Cursor<'t> {
         Ok(excerpt.text)
     }
 
-    /// Takes a token, or what stands in brackets, and gives the text: as written, but for a blank in the place of white space and
-    /// comments.
+    /// Takes a token, or what stands in brackets, and gives the texts of its tokens. White space and comments between them do not
+    /// count, but for what stands between two marks that are not joined, as in `- >`.
     pub fn tree_text(&mut self, alloc: Global) -> Result<String, AllocError>
         ensures { Gives string_bytes (spec.tree_text self.old) result self.new }
     {
@@ -359,6 +374,25 @@ fn push_token(text: &mut String, token: &str) -> Result<(), AllocError>
         [byte] if *byte < 128 => text.push(*byte as char),
         _ => text.push_str(token),
     }
+}
+
+fn opens(symbol: u8) -> bool
+    ensures { result ≡ spec.opens symbol }
+{
+    matches!(symbol, b'(' | b'[' | b'{')
+}
+
+fn closes(symbol: u8) -> bool
+    ensures { result ≡ spec.closes symbol }
+{
+    matches!(symbol, b')' | b']' | b'}')
+}
+
+/// Whether a symbol is no bracket.
+fn is_punctuation(symbol: u8) -> bool
+    ensures { result ≡ spec.is_punctuation symbol }
+{
+    symbol != 0 && !opens(symbol) && !closes(symbol)
 }
 
 fn first_before(extent: Extent) -> Before

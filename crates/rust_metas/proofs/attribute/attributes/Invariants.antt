@@ -5,4 +5,4 @@ use Rattle.rust_metas.specs.Attributes.{is_behind, attribute, attributes}
 use Rattle.rust_metas.proofs.attribute.attributes.Given as goal
 
 abbrev pub invariant-loop-turn : goal.invariant-loop-turn
-invariant-loop-turn l = turns_from (is_behind l.style) (one (attribute l.anchor l.style)) (l.most - l._turn) (map meta_view l.metas.items) l.cursor ≡ attributes l.anchor l.style l.fn.cursor
+invariant-loop-turn l = turns_from (is_behind l.style) (one (attribute l.style)) (l.most - l._turn) (map meta_view l.metas.items) l.cursor ≡ attributes l.style l.fn.cursor

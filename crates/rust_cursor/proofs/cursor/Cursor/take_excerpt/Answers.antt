@@ -19,29 +19,29 @@ nest_behind-requires c =
 pub take_inside-requires-clause-braces : goal.take_inside-requires-clause-braces
 take_inside-requires-clause-braces c =
     let some = taking_some c.args.extent c.tokens.nest c.tokens.self (sym c.stops.ensures ∙ c.tokens-test.true) in
-    let less = fewer c.tokens.nest c.nest_behind.new.nest c.tokens.self c.bump_behind-last.new.self some c.nest_behind.ensures c.bump_behind-last.ensures.rest in
+    let less = fewer c.tokens.nest c.nest_behind.new.nest c.tokens.self c.bump_symbol-last.new.self some c.nest_behind.ensures c.bump_symbol-last.ensures.rest in
     omega (arith, less.braces, c.tokens.invariant.braces)
 
 pub take_inside-requires-clause-inner : goal.take_inside-requires-clause-inner
 take_inside-requires-clause-inner c =
     let some = taking_some c.args.extent c.tokens.nest c.tokens.self (sym c.stops.ensures ∙ c.tokens-test.true) in
-    let less = fewer c.tokens.nest c.nest_behind.new.nest c.tokens.self c.bump_behind-last.new.self some c.nest_behind.ensures c.bump_behind-last.ensures.rest in
+    let less = fewer c.tokens.nest c.nest_behind.new.nest c.tokens.self c.bump_symbol-last.new.self some c.nest_behind.ensures c.bump_symbol-last.ensures.rest in
     omega (arith, less.inner, c.tokens.invariant.inner)
 
 pub tokens-smaller : goal.tokens-smaller
 tokens-smaller c =
     let some = taking_some c.args.extent c.tokens.nest c.tokens.self (sym c.stops.ensures ∙ c.tokens-test.true) in
-    let less = fewer c.tokens.nest c.nest_behind.new.nest c.tokens.self c.bump_behind-last.new.self some c.nest_behind.ensures c.bump_behind-last.ensures.rest in
+    let less = fewer c.tokens.nest c.nest_behind.new.nest c.tokens.self c.bump_symbol-last.new.self some c.nest_behind.ensures c.bump_symbol-last.ensures.rest in
     omega (arith, less.left, c.in_ok-take_inside.ensures.left)
 
 pub tokens-preserved : goal.tokens-preserved
 tokens-preserved c =
     let some = taking_some c.args.extent c.tokens.nest c.tokens.self (sym c.stops.ensures ∙ c.tokens-test.true) in
-    let less = fewer c.tokens.nest c.nest_behind.new.nest c.tokens.self c.bump_behind-last.new.self some c.nest_behind.ensures c.bump_behind-last.ensures.rest in
+    let less = fewer c.tokens.nest c.nest_behind.new.nest c.tokens.self c.bump_symbol-last.new.self some c.nest_behind.ensures c.bump_symbol-last.ensures.rest in
     let more = c.in_ok-take_inside.ensures in
     record {
-      same = more.same c.note_opened.new.opened ∙ taking_turn c.args.extent (string_bytes c.tokens.text) (string_bytes c.push_text.new.text) c.tokens.last c.bump_behind-last.result c.tokens.opened c.note_opened.new.opened c.tokens.nest c.nest_behind.new.nest c.is_mark-is_call.result c.tokens.self c.bump_behind-last.new.self (taken c.args.extent c.args.self.now)
-          (sym c.stops.ensures ∙ c.tokens-test.true) c.is_mark-is_call.ensures c.nest_behind.ensures (sym c.ends.ensures ∙ c.if-ends.false) c.in_ok-push_text.ensures c.bump_behind-last.ensures.value c.note_opened.ensures c.bump_behind-last.ensures.rest c.tokens.invariant.same;
+      same = more.same c.note_opened.new.opened ∙ taking_turn c.args.extent (string_bytes c.tokens.text) (string_bytes c.push_text.new.text) c.tokens.last c.bump_symbol-last.result c.tokens.opened c.note_opened.new.opened c.tokens.nest c.nest_behind.new.nest c.is_mark-is_call.result c.tokens.self c.bump_symbol-last.new.self (taken c.args.extent c.args.self.now)
+          (sym c.stops.ensures ∙ c.tokens-test.true) c.is_mark-is_call.ensures c.nest_behind.ensures (sym c.ends.ensures ∙ c.if-ends.false) c.in_ok-push_text.ensures c.bump_symbol-last.ensures.value c.note_opened.ensures c.bump_symbol-last.ensures.rest c.tokens.invariant.same;
       braces = omega (arith, less.braces, more.braces, c.tokens.invariant.braces);
       others = omega (arith, less.others, more.left, more.others, c.tokens.invariant.others);
       angles = omega (arith, less.angles, more.left, more.angles, c.tokens.invariant.angles);

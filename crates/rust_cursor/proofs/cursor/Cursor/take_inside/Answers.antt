@@ -22,17 +22,17 @@ nest_inside-requires-clause-inner c =
 pub tokens-smaller : goal.tokens-smaller
 tokens-smaller c =
     let is = inside c.args.extent c.tokens.nest c.nest_inside.new.nest c.tokens.self (sym c.is_inside.ensures ∙ c.tokens-test.true) c.nest_inside.ensures in
-    let less = fewer c.tokens.nest c.nest_inside.new.nest c.tokens.self c.bump_behind.new.self is.some is.after c.bump_behind.ensures.rest in
+    let less = fewer c.tokens.nest c.nest_inside.new.nest c.tokens.self c.bump_symbol.new.self is.some is.after c.bump_symbol.ensures.rest in
     omega (arith, less.left)
 
 pub tokens-preserved : goal.tokens-preserved
 tokens-preserved c =
     let is = inside c.args.extent c.tokens.nest c.nest_inside.new.nest c.tokens.self (sym c.is_inside.ensures ∙ c.tokens-test.true) c.nest_inside.ensures in
-    let less = fewer c.tokens.nest c.nest_inside.new.nest c.tokens.self c.bump_behind.new.self is.some is.after c.bump_behind.ensures.rest in
+    let less = fewer c.tokens.nest c.nest_inside.new.nest c.tokens.self c.bump_symbol.new.self is.some is.after c.bump_symbol.ensures.rest in
     record {
-      same = λ o. taking_turn c.args.extent (string_bytes c.tokens.text) (string_bytes c.push_text.new.text) c.tokens.last c.bump_behind.result o o c.tokens.nest c.nest_inside.new.nest (is_mark c.tokens.nest.before) c.tokens.self c.bump_behind.new.self
+      same = λ o. taking_turn c.args.extent (string_bytes c.tokens.text) (string_bytes c.push_text.new.text) c.tokens.last c.bump_symbol.result o o c.tokens.nest c.nest_inside.new.nest (is_mark c.tokens.nest.before) c.tokens.self c.bump_symbol.new.self
           (taking c.args.extent (string_bytes c.args.text.now) c.args.last.now o c.args.nest.now c.args.self.now)
-          is.goes refl is.after is.more c.in_ok-push_text.ensures c.bump_behind.ensures.value (is.opened o) c.bump_behind.ensures.rest (c.tokens.invariant.same o);
+          is.goes refl is.after is.more c.in_ok-push_text.ensures c.bump_symbol.ensures.value (is.opened o) c.bump_symbol.ensures.rest (c.tokens.invariant.same o);
       left = omega (arith, less.left, c.tokens.invariant.left);
       braces = omega (arith, less.braces, c.tokens.invariant.braces);
       inner = omega (arith, less.inner, c.tokens.invariant.inner);
