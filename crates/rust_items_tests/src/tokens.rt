@@ -9,6 +9,7 @@ fn name(kind: TokenKind) -> &'static str {
     match kind {
         TokenKind::ByteOrderMark => "mark",
         TokenKind::Shebang => "shebang",
+        TokenKind::Frontmatter => "frontmatter",
         TokenKind::Whitespace => "white",
         TokenKind::LineComment(None) | TokenKind::BlockComment(None) => "comment",
         TokenKind::LineComment(Some(DocStyle::Outer)) => "outer",
