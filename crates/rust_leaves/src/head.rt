@@ -3,7 +3,7 @@
 ghost use Rattle.std.specs.Prelude.{◌≡◌};
 ghost use Rattle.rust_leaves.specs.Heads as spec;
 
-use rust_cursor::Cursor;
+use rust_cursor::{Cursor, is_among};
 use rust_lexer::TokenKind;
 use rust_paths::has_name;
 
@@ -262,28 +262,17 @@ pub(crate) fn take_head(cursor: &mut Cursor<'_>) -> Head
     head
 }
 
+/// The words that may begin an item.
+const FIRST_WORDS: [&str; 15] = [
+    "pub", "fn", "use", "mod", "struct", "enum", "trait", "impl", "type", "static", "const",
+    "extern", "unsafe", "async", "macro",
+];
+
 #[tactic(auto, unfolding(crate::specs::Heads::is_first_word))]
 fn is_first_word(word: &str) -> bool
     ensures { result ≡ spec.is_first_word word.now }
 {
-    matches!(
-        word,
-        "pub"
-            | "fn"
-            | "use"
-            | "mod"
-            | "struct"
-            | "enum"
-            | "trait"
-            | "impl"
-            | "type"
-            | "static"
-            | "const"
-            | "extern"
-            | "unsafe"
-            | "async"
-            | "macro"
-    )
+    is_among(word, &FIRST_WORDS)
 }
 
 fn is_union(cursor: &Cursor<'_>) -> bool

@@ -6,7 +6,7 @@ ghost use Rattle.rust_paths.specs.Names as spec;
 ghost use Rattle.rust_paths.specs.Views.{placed_view};
 
 use hir_input::Name;
-use rust_cursor::Cursor;
+use rust_cursor::{Cursor, is_among};
 use rust_lexer::TokenKind;
 use std::alloc::{AllocError, Global};
 
@@ -24,72 +24,32 @@ pub struct PlacedName {
     pub range: TextRange,
 }
 
+/// The strict keywords of the edition 2021.
+const STRICT_KEYWORDS: [&str; 38] = [
+    "as", "async", "await", "break", "const", "continue", "crate", "dyn", "else", "enum", "extern",
+    "false", "fn", "for", "if", "impl", "in", "let", "loop", "match", "mod", "move", "mut", "pub",
+    "ref", "return", "self", "Self", "static", "struct", "super", "trait", "true", "type",
+    "unsafe", "use", "where", "while",
+];
+
 #[tactic(auto, unfolding(crate::specs::Names::is_strict_keyword))]
 fn is_strict_keyword(word: &str) -> bool
     ensures { result ≡ spec.is_strict_keyword word.now }
 {
-    matches!(
-        word,
-        "as" | "async"
-            | "await"
-            | "break"
-            | "const"
-            | "continue"
-            | "crate"
-            | "dyn"
-            | "else"
-            | "enum"
-            | "extern"
-            | "false"
-            | "fn"
-            | "for"
-            | "if"
-            | "impl"
-            | "in"
-            | "let"
-            | "loop"
-            | "match"
-            | "mod"
-            | "move"
-            | "mut"
-            | "pub"
-            | "ref"
-            | "return"
-            | "self"
-            | "Self"
-            | "static"
-            | "struct"
-            | "super"
-            | "trait"
-            | "true"
-            | "type"
-            | "unsafe"
-            | "use"
-            | "where"
-            | "while"
-    )
+    is_among(word, &STRICT_KEYWORDS)
 }
+
+/// Its reserved keywords.
+const RESERVED_KEYWORDS: [&str; 13] = [
+    "abstract", "become", "box", "do", "final", "macro", "override", "priv", "try", "typeof",
+    "unsized", "virtual", "yield",
+];
 
 #[tactic(auto, unfolding(crate::specs::Names::is_reserved_keyword))]
 fn is_reserved_keyword(word: &str) -> bool
     ensures { result ≡ spec.is_reserved_keyword word.now }
 {
-    matches!(
-        word,
-        "abstract"
-            | "become"
-            | "box"
-            | "do"
-            | "final"
-            | "macro"
-            | "override"
-            | "priv"
-            | "try"
-            | "typeof"
-            | "unsized"
-            | "virtual"
-            | "yield"
-    )
+    is_among(word, &RESERVED_KEYWORDS)
 }
 
 /// Whether a path may hold the keyword.

@@ -3,6 +3,7 @@
 ghost use Rattle.std.specs.Prelude.{◌≡◌, ◌+◌, ◌<◌, ◌^◌};
 ghost use Rattle.rust_cursor.specs.Nests as spec;
 
+use crate::among::is_among;
 use crate::cursor::Cursor;
 use rust_lexer::TokenKind;
 
@@ -344,43 +345,17 @@ fn free_behind(nest: Nest, symbol: u8) -> usize
     }
 }
 
+/// The keywords with which neither a type nor a value ends.
+const LEADING_KEYWORDS: [&str; 32] = [
+    "as", "async", "break", "const", "continue", "dyn", "else", "enum", "extern", "fn", "for",
+    "if", "impl", "in", "let", "loop", "match", "mod", "move", "mut", "pub", "ref", "return",
+    "static", "struct", "trait", "type", "unsafe", "use", "where", "while", "yield",
+];
+
 /// Whether neither a type nor a value ends with the word.
 #[tactic(auto, unfolding(crate::specs::Nests::leads_on))]
 fn leads_on(word: &str) -> bool
     ensures { result ≡ spec.leads_on word.now }
 {
-    matches!(
-        word,
-        "as" | "async"
-            | "break"
-            | "const"
-            | "continue"
-            | "dyn"
-            | "else"
-            | "enum"
-            | "extern"
-            | "fn"
-            | "for"
-            | "if"
-            | "impl"
-            | "in"
-            | "let"
-            | "loop"
-            | "match"
-            | "mod"
-            | "move"
-            | "mut"
-            | "pub"
-            | "ref"
-            | "return"
-            | "static"
-            | "struct"
-            | "trait"
-            | "type"
-            | "unsafe"
-            | "use"
-            | "where"
-            | "while"
-            | "yield"
-    )
+    is_among(word, &LEADING_KEYWORDS)
 }
