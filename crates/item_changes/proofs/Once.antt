@@ -200,7 +200,7 @@ none_between a b f =
     let olds = each_found (items_behind [] (pairs b f)) (items_in a f) (items_in b f) (items_alike a b f) (items_alike b b f) all in
     let news = each_found (items_behind [] (pairs b f)) (items_in b f) (items_in a f) (items_alike b b f) (items_alike a b f) all in
     ap (λ cs. cs ++ flat_map (came_change (items_in a f)) (items_in b f))
-        (none_from (left_change (items_in b f)) (items_in a f) (each_is _ _ (λ i q. nothing_left (find (is_same i) (items_in b f)) (enabled_item i) i.row q) (items_in a f) olds))
+    (none_from (left_change (items_in b f)) (items_in a f) (each_is _ _ (λ i q. nothing_left (find (is_same i) (items_in b f)) (enabled_item i) i.row q) (items_in a f) olds))
     ∙ none_from (came_change (items_in a f)) (items_in b f) (each_is _ _ (λ i q. nothing_came (find (is_same i) (items_in a f)) i q) (items_in b f) news)
 
 none_alike : (u w : Unfolding) → u.forest ≡ w.forest → changes u w ≡ []
