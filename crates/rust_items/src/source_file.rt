@@ -94,17 +94,10 @@ fn file_of(alloc: Global, text: &str, ends: &LineEnds) -> Result<SourceFile, All
     })
 }
 
-/// Reads the items of a text.
-///
-/// It answers for every text: what is no item is passed over and told among the problems. Lines may end with line feeds, or with
-/// carriage returns before them: only places tell which. The only error is that memory runs out.
-#[tactic(auto, using(crate::proofs::FilePlaces::same_file, crate::proofs::FilePlaces::file_placed, crate::proofs::FilePlaces::file_distinct))]
-pub fn read_source_file(alloc: Global, text: &str) -> Result<SourceFile, AllocError>
-    ensures file { IfOk result (λ file. spec.IsSourceFile text.now file) }
-    ensures placed { IfOk result (λ file. let items = items_of (syntax_view file.syntax) in
-        ArePlaces 0 (length text.now) items file.places.items []) }
-    ensures distinct { length text.now ≤ 2 ^ 32
-        → IfOk result (λ file. AllPairs (λ p q. p.id ≢ q.id) file.places.items) }
+/// What is read of a text, whichever line ends it has.
+#[tactic(auto, using(crate::proofs::FilePlaces::same_file))]
+fn read_file(alloc: Global, text: &str) -> Result<SourceFile, AllocError>
+    ensures { IfOk result (λ file. spec.IsSourceFile text.now file) }
 {
     if !has_return(text) {
         let ends = LineEnds::none(alloc, text);
@@ -112,4 +105,19 @@ pub fn read_source_file(alloc: Global, text: &str) -> Result<SourceFile, AllocEr
     }
     let (feeds, ends) = with_feeds(alloc, text)?;
     file_of(alloc, &feeds, &ends)
+}
+
+/// Reads the items of a text.
+///
+/// It answers for every text: what is no item is passed over and told among the problems. Lines may end with line feeds, or with
+/// carriage returns before them: only places tell which. The only error is that memory runs out.
+#[tactic(auto, using(crate::proofs::FilePlaces::file_placed, crate::proofs::FilePlaces::file_distinct))]
+pub fn read_source_file(alloc: Global, text: &str) -> Result<SourceFile, AllocError>
+    ensures file { IfOk result (λ file. spec.IsSourceFile text.now file) }
+    ensures placed { IfOk result (λ file. let items = items_of (syntax_view file.syntax) in
+        ArePlaces 0 (length text.now) items file.places.items []) }
+    ensures distinct { length text.now ≤ 2 ^ 32
+        → IfOk result (λ file. AllPairs (λ p q. p.id ≢ q.id) file.places.items) }
+{
+    read_file(alloc, text)
 }
