@@ -203,8 +203,8 @@ pub record IsLeaf (ts us : Tokens) (l : LeafRead) : Type 0 where
   pub name : IsNamed ts us l.named
   pub body : IsBraced ts us l.body
 
-module _ (start : ℕ) (attrs : List MetaView) (v : Option Visibility) (ts : Tokens) where
-  function_leaf : IsLeaf ts (function start attrs v ts).1 (function start attrs v ts).0
+module _ (attrs : List MetaView) (v : Option Visibility) (ts : Tokens) where
+  function_leaf : IsLeaf ts (function attrs v ts).1 (function attrs v ts).0
   unfolding function
   function_leaf = record { leads = through (named_leads ts) (item_end_leads _); id = refl; alone = refl; name = name_before (named_named ts) (item_end_leads _); body = braces_behind (named_leads ts) (item_end_braced _) }
 
@@ -255,7 +255,7 @@ module _ (start : ℕ) (attrs : List MetaView) (v : Option Visibility) (ts : Tok
   unfolding structure
   struct_leaf = record { leads = through (named_leads ts) (item_end_leads _); id = refl; alone = refl; name = name_before (named_named ts) (item_end_leads _); body = braces_behind (named_leads ts) (item_end_braced _) }
 
-  impl_leaf : IsLeaf ts (implementation start attrs ts).1 (implementation start attrs ts).0
+  impl_leaf : IsLeaf ts (implementation attrs ts).1 (implementation attrs ts).0
   unfolding implementation
   impl_leaf = record { leads = item_end_leads ts; id = refl; alone = refl; name = nameless; body = item_end_braced ts }
 
@@ -313,23 +313,23 @@ invocation_found attrs ts us p =
     }))
     (λ e. rw e p)
 
-leaf_by_found : (h : Head) (start : ℕ) (attrs : List MetaView) (v : Option Visibility) (ts us : Tokens) → TakesBy h ts us → LeafFound ts (leaf_by h start attrs v us).1 (leaf_by h start attrs v us).0
-leaf_by_found heads.Use start attrs v ts us t = leaf_taken (t.word (λ e. absurd cc)) (use_leaf start attrs v us)
-leaf_by_found heads.ExternCrate start attrs v ts us t = leaf_taken (t.word (λ e. absurd cc)) (crate_leaf start attrs v us)
-leaf_by_found heads.Fn start attrs v ts us t = leaf_taken (t.word (λ e. absurd cc)) (function_leaf start attrs v us)
-leaf_by_found heads.Impl start attrs v ts us t = leaf_taken (t.word (λ e. absurd cc)) (impl_leaf start attrs v us)
-leaf_by_found heads.Trait start attrs v ts us t = leaf_taken (t.word (λ e. absurd cc)) (trait_leaf start attrs v us)
-leaf_by_found heads.Struct start attrs v ts us t = leaf_taken (t.word (λ e. absurd cc)) (struct_leaf start attrs v us)
-leaf_by_found heads.Union start attrs v ts us t = leaf_taken (t.word (λ e. absurd cc)) (union_leaf start attrs v us)
-leaf_by_found heads.Enum start attrs v ts us t = leaf_taken (t.word (λ e. absurd cc)) (enum_leaf start attrs v us)
-leaf_by_found heads.Const start attrs v ts us t = leaf_taken (t.word (λ e. absurd cc)) (const_leaf start attrs v us)
-leaf_by_found heads.Static start attrs v ts us t = leaf_taken (t.word (λ e. absurd cc)) (static_leaf start attrs v us)
-leaf_by_found heads.TypeAlias start attrs v ts us t = leaf_taken (t.word (λ e. absurd cc)) (type_alias_leaf start attrs v us)
-leaf_by_found heads.MacroDef start attrs v ts us t = leaf_taken (t.word (λ e. absurd cc)) (macro_def_leaf start attrs v us)
-leaf_by_found heads.MacroRules start attrs v ts us t = leaf_taken (t.word (λ e. absurd cc)) (macro_rules_leaf start attrs v us)
-leaf_by_found _ start attrs v ts us t = invocation_found attrs ts us t.leads
+leaf_by_found : (h : Head) (attrs : List MetaView) (v : Option Visibility) (ts us : Tokens) → TakesBy h ts us → LeafFound ts (leaf_by h attrs v us).1 (leaf_by h attrs v us).0
+leaf_by_found heads.Use attrs v ts us t = leaf_taken (t.word (λ e. absurd cc)) (use_leaf attrs v us)
+leaf_by_found heads.ExternCrate attrs v ts us t = leaf_taken (t.word (λ e. absurd cc)) (crate_leaf attrs v us)
+leaf_by_found heads.Fn attrs v ts us t = leaf_taken (t.word (λ e. absurd cc)) (function_leaf attrs v us)
+leaf_by_found heads.Impl attrs v ts us t = leaf_taken (t.word (λ e. absurd cc)) (impl_leaf attrs v us)
+leaf_by_found heads.Trait attrs v ts us t = leaf_taken (t.word (λ e. absurd cc)) (trait_leaf attrs v us)
+leaf_by_found heads.Struct attrs v ts us t = leaf_taken (t.word (λ e. absurd cc)) (struct_leaf attrs v us)
+leaf_by_found heads.Union attrs v ts us t = leaf_taken (t.word (λ e. absurd cc)) (union_leaf attrs v us)
+leaf_by_found heads.Enum attrs v ts us t = leaf_taken (t.word (λ e. absurd cc)) (enum_leaf attrs v us)
+leaf_by_found heads.Const attrs v ts us t = leaf_taken (t.word (λ e. absurd cc)) (const_leaf attrs v us)
+leaf_by_found heads.Static attrs v ts us t = leaf_taken (t.word (λ e. absurd cc)) (static_leaf attrs v us)
+leaf_by_found heads.TypeAlias attrs v ts us t = leaf_taken (t.word (λ e. absurd cc)) (type_alias_leaf attrs v us)
+leaf_by_found heads.MacroDef attrs v ts us t = leaf_taken (t.word (λ e. absurd cc)) (macro_def_leaf attrs v us)
+leaf_by_found heads.MacroRules attrs v ts us t = leaf_taken (t.word (λ e. absurd cc)) (macro_rules_leaf attrs v us)
+leaf_by_found _ attrs v ts us t = invocation_found attrs ts us t.leads
 
 -- behind what stands in front of an item
 pub leaf_found : (h : FrontRead) (ts us : Tokens) → TakesBy h.head ts us → LeafFound ts (leaf h us).1 (leaf h us).0
 unfolding leaf
-leaf_found h ts us t = leaf_by_found h.head h.start h.attrs h.visibility ts us t
+leaf_found h ts us t = leaf_by_found h.head h.attrs h.visibility ts us t
