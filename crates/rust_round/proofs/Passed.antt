@@ -94,7 +94,7 @@ takes_braced : (ws : List Word) (is_value : Bool) (done : List ℕ) (last : Behi
 takes_braced [] is_value done last n m ts b h = (last.0, ap (λ k. taking_rest is_value done last k ts) h)
 takes_braced (w ∷ ws) is_value done last n m ts b h =
     let mid = nest_behind n ts in
-    let end = last_behind last.0 ts in
+    let end = symbol ts in
     let first = word_taken is_value done last n mid w ts b.0 (braced_goes n ts h.0) refl (ends_not is_value (is_mark n.before) mid ts h.1) in
     let rest = takes_braced ws is_value (and_word done w) (end, last.1) mid m (bumped ts) b.1 h.2 in
     (rest.0, first ∙ ap (λ o. taking_rest is_value (and_word done w) (end, o) mid (bumped ts)) (opened_same last.1 n ts h.0) ∙ rest.1)
@@ -153,7 +153,7 @@ pub takes_braces : (is_value : Bool) (is : Trees) (done : List ℕ) (last : Behi
     → (end : ℕ) × (taking_rest is_value done last (nest 0 0 0 0 a before) ts ≡ taking_rest is_value (and_words done (open_of curly ∷ trees_words is)) (end, Some ts) (nest 1 0 0 0 a before) (behind (trees_words is) (bumped ts)))
 takes_braces is_value is done last a before ts h s b =
     let n = nest 1 0 0 0 a before in
-    let end = last_behind last.0 ts in
+    let end = symbol ts in
     let first = word_taken is_value done last (nest 0 0 0 0 a before) n (open_of curly) ts s (flat_stops a before ts (open_no_end curly ts s) (open_begins curly a before ts s)) (out_enter 0 0 a before ts s)
     (ends_not is_value (is_mark before) n ts refl) in
     let opened : opened_behind last.1 (nest 0 0 0 0 a before) ts ≡ Some ts = rw s.symbol_is refl in
