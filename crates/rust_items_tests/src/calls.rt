@@ -38,7 +38,7 @@ fn is_tree(alloc: Global, tokens: &str, tree: &str, next: &str) -> Result<bool, 
 
 #[test]
 fn what_is_taken_as_a_tree(rt: HostRuntime) -> Result<(), Fail> {
-    assert!(rt; is_tree(rt.alloc(), "( a } b", "( a", "}")?);
+    assert!(rt; is_tree(rt.alloc(), "( a } b", "(a", "}")?);
     assert!(rt; is_tree(rt.alloc(), "r#a b", "r#a", "b")?);
     Ok(())
 }
