@@ -1,0 +1,4 @@
+pub mod Skeletons
+pub mod Changes
+pub mod Inner
+pub mod Views
