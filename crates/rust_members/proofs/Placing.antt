@@ -1,0 +1,224 @@
+-- Members stand where they are read.
+use Rattle.std.proofs.Common.{◌≡◌, ◌<◌, ◌≤◌, ◌==◌, ◌-◌, ◌^◌, ℕ, zero, suc, Bool, true, false, Option, Some, None, List, [], ◌∷◌, ◌++◌, map, length, refl, sym, ◌∙◌, arith, append_assoc, append-nil}
+use Rattle.std.specs.Prelude.{option_to_list, IfOk, Result, Ok, Err, Vec}
+use Rattle.std.specs.declared.alloc.AllocError.{AllocError}
+use Rattle.std.specs.declared.alloc.Global.{Global}
+use Rattle.hir_input.specs.declared.ids.AstIdKind.{AstIdKind}
+use Rattle.hir_input.specs.declared.ids.AstIdKind.TheVariants as kind
+use Rattle.hir_input.specs.declared.ast.Visibility.{Visibility}
+use Rattle.hir_input.specs.Attr.{MetaView}
+use Rattle.rust_cursor.specs.Tokens.{Tokens, tokens_of}
+use Rattle.rust_cursor.specs.Reader.{Reader}
+use Rattle.rust_cursor.specs.Words.{symbol, at, eat, is_at_end, is_pair, bumped}
+use Rattle.rust_cursor.specs.Elements.{most, beyond, turns_from, turns, perhaps}
+use Rattle.rust_cursor.specs.declared.cursor.generics.Reach.TheVariants as reaches
+use Rattle.rust_cursor.proofs.Leads.{LeadsTo, here, further, through, when, bumped_leads, eat_leads, behind_tree_leads, behind_angles_leads, reached_leads, beyond_leads, takes, takes_leads}
+use Rattle.rust_cursor.proofs.Laid.{IsLaid, behind, past_within, at_behind, taken_behind, takes_strict, tokens_laid}
+use Rattle.rust_paths.specs.declared.names.TextRange.{TextRange}
+use Rattle.rust_paths.specs.Visibilities.{visibility}
+use Rattle.rust_paths.proofs.Leads.{visibility_leads}
+use Rattle.rust_metas.specs.Attributes.{outer_attributes, inner_attributes}
+use Rattle.rust_metas.proofs.Leads.{outer_attributes_leads, inner_attributes_leads}
+use Rattle.rust_leaves.specs.Fronts.{front}
+use Rattle.rust_leaves.specs.Leaves.{LeafRead, named}
+use Rattle.rust_items.specs.Places.{IsNameIn}
+use Rattle.rust_items.proofs.Leads.{IsBraced, braced, IsNamed, by_token, LeafFound, IsTaken, front_takes, front_start, leaf_found, named_leads, named_named, behind_others_leads}
+use Rattle.rust_members.specs.declared.member.MemberKind.{MemberKind}
+use Rattle.rust_members.specs.declared.member.MemberKind.TheVariants as member
+use Rattle.rust_members.specs.declared.member.Member.{Member}
+use Rattle.rust_members.specs.Members.{MemberRead, moved}
+use Rattle.rust_members.specs.Parts.{Told, told_of, body_of, kept, leaf_kept, associated, begins_generics, behind_operand, is_variant_end, behind_operands, behind_variant, behind_part, part_of, part}
+use Rattle.rust_members.specs.Lists.{turn, is_over, members_from, members_in, cut_out}
+use Rattle.rust_members.specs.Places.{IsPlaced, ArePlaced}
+use Rattle.rust_members.specs.Views.{member_view}
+use Rattle.rust_members.proofs.Moving.{placed_widened, members_fit, members_moved}
+
+-- ---- lists of members
+
+joined : (from mid low to : ℕ) (xs ys : List MemberRead) → from ≤ low → mid ≤ low → mid ≤ to → ArePlaced from mid xs → ArePlaced low to ys → ArePlaced from to (xs ++ ys)
+joined from mid low to [] ys a b c p q = placed_widened from to low to ys a (omega arith) q
+joined from mid low to (x ∷ xs) ys a b c p q =
+    let begins : from ≤ x.range.start = p.0.begins in
+    let ends : x.range.end ≤ mid = p.0.ends in
+    (record { begins = omega arith; some = p.0.some; ends = omega arith; name = p.0.name; body = p.0.body }, joined x.range.end mid low to xs ys (omega arith) b c p.1 q)
+
+-- these members were found between what was given and what is left
+pub record AreFound (ts us : Tokens) (ms : List MemberRead) : Type 0 where
+  pub leads : LeadsTo ts us
+  pub placed : ArePlaced ts.past us.past ms
+
+none_found : {ts us : Tokens} → LeadsTo ts us → AreFound ts us []
+none_found p = record { leads = p; placed = tt }
+
+-- what a reader finds in tokens that end before this place
+abbrev pub Finds : ℕ → Reader (Option MemberRead) → Type 0
+Finds end reader = (ts : Tokens) → IsLaid end ts → AreFound ts (reader ts).1 (option_to_list (reader ts).0)
+
+found_more : (end : ℕ) (ts us vs ws : Tokens) (xs ys : List MemberRead) → IsLaid end ts → LeadsTo us vs → AreFound ts us xs → AreFound vs ws ys → AreFound ts ws (xs ++ ys)
+found_more end ts us vs ws xs ys laid p a b =
+    let first = behind end a.leads laid in
+    let next = behind end p first.laid in
+    let last = behind end b.leads next.laid in
+    record {
+      leads = through a.leads (through p b.leads);
+      placed = joined ts.past us.past vs.past ws.past xs ys (omega arith) (omega arith) (omega arith) a.placed b.placed;
+    }
+
+-- a list that was found behind members
+record IsListed (ts : Tokens) (done : List MemberRead) (r : List MemberRead × Tokens) : Type 0 where
+  pub new : List MemberRead
+  pub list : r.0 ≡ done ++ new
+  pub found : AreFound ts r.1 new
+
+module _ (end : ℕ) (ends : Tokens → Bool) (reader : Reader (Option MemberRead)) (f : Finds end reader) where
+  list_end : (done : List MemberRead) (ts : Tokens) → IsListed ts done (done, ts)
+  list_end done ts = record { new = []; list = sym (append-nil done); found = none_found here }
+
+  list_more : (done : List MemberRead) (ts : Tokens) (r : List MemberRead × Tokens) → IsLaid end ts → IsListed (beyond ts.past (reader ts).1) (done ++ option_to_list (reader ts).0) r → IsListed ts done r
+  list_more done ts r laid rest = record {
+    new = option_to_list (reader ts).0 ++ rest.new;
+    list = rest.list ∙ append_assoc done (option_to_list (reader ts).0) rest.new;
+    found = found_more end ts _ _ _ (option_to_list (reader ts).0) rest.new laid (beyond_leads ts.past (reader ts).1) (f ts laid) rest.found;
+  }
+
+  list_from : (n : ℕ) (done : List MemberRead) (ts : Tokens) → IsLaid end ts → IsListed ts done (turns_from ends (perhaps reader) n done ts)
+  list_from zero done ts laid = list_end done ts
+  list_from (suc n) done ts laid =
+      let first = behind end (f ts laid).leads laid in
+      let next = behind end (beyond_leads ts.past (reader ts).1) first.laid in
+      let rest = list_from n (done ++ option_to_list (reader ts).0) (beyond ts.past (reader ts).1) next.laid in
+      when (ends ts) (λ e. rw e (list_end done ts)) (λ e. rw e (list_more done ts _ laid rest))
+
+  list_found : (ts : Tokens) → IsLaid end ts → AreFound ts (turns ends (perhaps reader) ts).1 (turns ends (perhaps reader) ts).0
+  unfolding turns
+  list_found ts laid = let l = list_from most [] ts laid in rw l.list l.found
+
+-- ---- names and bodies
+
+name_in : (end : ℕ) (ts us : Tokens) (name : Option TextRange) → IsLaid end ts → IsNamed ts us name → IsNameIn (record { start = at ts; end = us.past }) name
+name_in end ts us None laid n = tt
+name_in end ts us (Some range) laid (by_token t before some later) =
+    let first = behind end before laid in
+    let strict = taken_behind end t first.laid some in
+    let next = behind end (bumped_leads t) first.laid in
+    let last = behind end later next.laid in
+    (first.place, strict, last.past)
+
+braces_in : (end : ℕ) (ts us : Tokens) (body : Option TextRange) → IsLaid end ts → IsBraced ts us body → IsNameIn (record { start = at ts; end = us.past }) body
+braces_in end ts us None laid n = tt
+braces_in end ts us (Some range) laid (braced b before some t) =
+    let first = behind end before laid in
+    let strict = takes_strict end (takes b here some (takes_leads t)) first.laid in
+    (first.place, strict, omega arith)
+
+body_in : (k : MemberKind) (range : TextRange) (body : Option TextRange) → IsNameIn range body → IsNameIn range (body_of k body)
+body_in member.Function range body h = h
+body_in _ range body h = tt
+
+-- ---- of a trait or an impl
+
+kept_found : (end : ℕ) (ts us : Tokens) (l : LeafRead) (o : Option Told) → IsLaid end ts → IsTaken ts us l → AreFound ts us (option_to_list (kept (at ts) us.past l o))
+kept_found end ts us l None laid t = none_found (takes_leads t.takes)
+kept_found end ts us l (Some told) laid t = record {
+  leads = takes_leads t.takes;
+  placed = (record {
+    begins = at_behind end ts laid;
+    some = takes_strict end t.takes laid;
+    ends = omega arith;
+    name = name_in end ts us l.named laid t.leaf.name;
+    body = body_in told.kind (record { start = at ts; end = us.past }) l.body (braces_in end ts us l.body laid t.leaf.body);
+  }, tt);
+}
+
+leaf_kept_found : (end : ℕ) (ts us : Tokens) (o : Option LeafRead) → IsLaid end ts → LeafFound ts us o → AreFound ts (leaf_kept (at ts) o us).1 (option_to_list (leaf_kept (at ts) o us).0)
+leaf_kept_found end ts us None laid p = none_found (through p (behind_others_leads us))
+leaf_kept_found end ts us (Some l) laid t = kept_found end ts us l (told_of l.item) laid t
+
+associated_found : (end : ℕ) → Finds end associated
+unfolding associated
+associated_found end ts laid =
+    when (is_at_end ts) (λ e. rw e (none_found (bumped_leads ts)))
+    (λ e. rw (e, front_start ts) (leaf_kept_found end ts _ _ laid (leaf_found (front ts).0 ts (front ts).1 (front_takes ts))))
+
+-- ---- of an enum, a struct or a union
+
+behind_operand_leads : (ts : Tokens) → LeadsTo ts (behind_operand ts)
+behind_operand_leads ts = when (begins_generics ts) (λ e. rw e (further (further (behind_angles_leads _)))) (λ e. rw e (behind_tree_leads ts))
+
+behind_operands_leads : (n : ℕ) (ts : Tokens) → LeadsTo ts (behind_operands n ts)
+behind_operands_leads zero ts = here
+behind_operands_leads (suc n) ts = when (is_variant_end ts) (λ e. rw e here) (λ e. rw e (through (behind_operand_leads ts) (behind_operands_leads n _)))
+
+behind_variant_leads : (ts : Tokens) → LeadsTo ts (behind_variant ts)
+unfolding behind_variant
+behind_variant_leads ts = behind_operands_leads _ ts
+
+behind_part_leads : (k : MemberKind) (ts : Tokens) → LeadsTo ts (behind_part k ts)
+behind_part_leads member.Variant ts = behind_variant_leads ts
+behind_part_leads _ ts = reached_leads reaches.Field ts
+
+part_placed : (end : ℕ) (ts us vs ps qs : Tokens) (k : MemberKind) (attrs : List MetaView) (v : Option Visibility) (name : Option TextRange) → IsLaid end ts → LeadsTo ts us → IsNamed us vs name → LeadsTo vs ps → LeadsTo ps qs
+    → ArePlaced ts.past qs.past (option_to_list (part_of k (at ts) attrs v name ps.past))
+part_placed end ts us vs ps qs k attrs v None laid a n b c = tt
+part_placed end ts us vs ps qs k attrs v (Some name) laid a (by_token t before some later) b c =
+    let to_name = behind end (through a before) laid in
+    let strict = taken_behind end t to_name.laid some in
+    let next = behind end (bumped_leads t) to_name.laid in
+    let last = behind end (through later b) next.laid in
+    let after = behind end c last.laid in (
+      record { begins = at_behind end ts laid; some = omega arith; ends = after.past; name = (to_name.place, strict, last.past); body = tt },
+      tt,
+    )
+
+part_found : (end : ℕ) (k : MemberKind) → Finds end (part k)
+unfolding part
+part_found end k ts laid =
+    let a = outer_attributes ts in
+    let v = visibility a.1 in
+    let n = named v.1 in
+    let before = through (outer_attributes_leads ts) (visibility_leads a.1) in
+    let rest = behind_part_leads k n.1 in
+    let comma = eat_leads 44 (behind_part k n.1) in
+    record {
+      leads = through before (through (named_leads v.1) (through rest comma));
+      placed = part_placed end ts v.1 n.1 (behind_part k n.1) _ k a.0 v.0 n.0.range laid before (named_named v.1) rest comma;
+    }
+
+-- ---- all
+
+turn_found : (end : ℕ) (k : AstIdKind) → Finds end (turn k)
+unfolding turn
+turn_found end kind.Enum = part_found end member.Variant
+turn_found end kind.Struct = part_found end member.Field
+turn_found end kind.Union = part_found end member.Field
+turn_found end _ = associated_found end
+
+from_placed : (end : ℕ) (k : AstIdKind) (ts : Tokens) → IsLaid end ts → ArePlaced 0 end (members_from k ts)
+unfolding members_from
+from_placed end k ts laid =
+    let inner_leads : LeadsTo ts (inner_attributes (bumped ts)).1 = further (inner_attributes_leads (bumped ts)) in
+    let first = behind end inner_leads laid in
+    let found = list_found end is_over (turn k) (turn_found end k) (inner_attributes (bumped ts)).1 first.laid in
+    let last = behind end found.leads first.laid in
+    when (symbol ts == 123)
+    (λ e. rw e (placed_widened 0 end _ _ _ (omega arith) (past_within end _ last.laid) found.placed))
+    (λ e. rw e tt)
+
+-- the members of a text stand in it
+pub members_placed : (k : AstIdKind) (text : List ℕ) → ArePlaced 0 (length text) (members_in k text)
+members_placed k text = from_placed (length text) k (tokens_of text) (tokens_laid text)
+
+-- ---- members of a part of a text
+
+module _ (k : AstIdKind) (text part : List ℕ) (range : TextRange) (cut : Some part ≡ cut_out text range) (ms : List MemberRead) (read : ms ≡ members_in k part) where
+  here_placed : ArePlaced 0 (length part) ms
+  here_placed = rw read (members_placed k part)
+
+  -- they fit where they stand in the text
+  pub part_fits : range.end < 2 ^ 64 → ArePlaced 0 (18446744073709551615 - range.start) ms
+  part_fits fits = members_fit text part range ms fits (sym cut) here_placed
+
+  -- where they are moved, they stand in the range
+  pub part_moved : (r : Result (Vec Member Global) AllocError) → IfOk r (λ v. map member_view v.items ≡ map (moved range.start) ms) → IfOk r (λ v. ArePlaced range.start range.end (map member_view v.items))
+  part_moved (Ok v) e = rw e (members_moved text part range ms (sym cut) here_placed)
+  part_moved (Err e) h = tt

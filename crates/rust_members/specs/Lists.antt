@@ -1,0 +1,56 @@
+-- The members in the braces of an item.
+use Rattle.std.specs.Prelude.{ℕ, Bool, ◌==◌, ◌&&◌, ◌||◌, nat_le, nat_lt, if◌then◌else◌, Option, Some, None, List, [], map, length, slice_index, slice_range}
+use Rattle.hir_input.specs.declared.ids.AstIdKind.{AstIdKind}
+use Rattle.hir_input.specs.declared.ids.AstIdKind.TheVariants as kind
+use Rattle.rust_cursor.specs.Tokens.{Tokens, tokens_of}
+use Rattle.rust_cursor.specs.Reader.{Reader}
+use Rattle.rust_cursor.specs.Words.{symbol, is_empty, bumped}
+use Rattle.rust_cursor.specs.Elements.{turns, perhaps}
+use Rattle.rust_paths.specs.declared.names.TextRange.{TextRange}
+use Rattle.rust_metas.specs.Attributes.{inner_attributes}
+use Rattle.rust_members.specs.declared.member.MemberKind.TheVariants as member
+use Rattle.rust_members.specs.Members.{MemberRead, moved}
+use Rattle.rust_members.specs.Parts.{associated, part}
+
+-- a member of an item of this kind, or none
+unfoldable pub turn : AstIdKind → Reader (Option MemberRead)
+turn kind.Enum = part member.Variant
+turn kind.Struct = part member.Field
+turn kind.Union = part member.Field
+turn _ = associated
+
+-- a list of members ends with the text, and before its `}`
+unfoldable pub is_over : Tokens → Bool
+is_over ts = is_empty ts || symbol ts == 125
+
+abbrev pub list : AstIdKind → Reader (List MemberRead)
+list k = turns is_over (perhaps (turn k))
+
+-- behind the `{` inner attributes may stand
+unfoldable pub members_from : AstIdKind → Tokens → List MemberRead
+members_from k ts = if symbol ts == 123 then (list k (inner_attributes (bumped ts)).1).0 else []
+
+-- the members in a text that begins with the `{` of an item of this kind
+abbrev pub members_in : AstIdKind → List ℕ → List MemberRead
+members_in k text = members_from k (tokens_of text)
+
+-- ---- in a text
+
+-- a place at which no character is cut
+abbrev pub is_boundary : List ℕ → ℕ → Bool
+is_boundary text at = nat_le at (length text) && (nat_le (length text) at || (nat_lt (slice_index text at) 128 || nat_le 192 (slice_index text at)))
+
+abbrev pub is_cut : List ℕ → TextRange → Bool
+is_cut text range = nat_le range.start range.end && (is_boundary text range.start && is_boundary text range.end)
+
+-- what stands in a range of a text, if that cuts no character
+abbrev pub cut_out : List ℕ → TextRange → Option (List ℕ)
+cut_out text range = if is_cut text range then Some (slice_range text range.start range.end) else None
+
+abbrev pub members_at : AstIdKind → ℕ → Option (List ℕ) → List MemberRead
+members_at k place None = []
+members_at k place (Some braces) = map (moved place) (members_in k braces)
+
+-- the members in these braces of a text, at their places in it
+abbrev pub members : AstIdKind → List ℕ → TextRange → List MemberRead
+members k text body = members_at k body.start (cut_out text body)

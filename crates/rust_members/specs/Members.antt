@@ -1,0 +1,30 @@
+-- Members: what stands in the braces of an item, one level deep.
+use Rattle.std.specs.Prelude.{ℕ, ◌+◌, Option, option_map, List}
+use Rattle.hir_input.specs.declared.ast.Visibility.{Visibility}
+use Rattle.hir_input.specs.Attr.{MetaView}
+use Rattle.rust_paths.specs.declared.names.TextRange.{TextRange}
+use Rattle.rust_members.specs.declared.member.MemberKind.{MemberKind}
+
+-- a member: where its name, all of it with its attributes, and its body stand in the text that was read
+pub record MemberRead : Type 0 where
+  pub kind : MemberKind
+  pub name : Option TextRange
+  pub range : TextRange
+  pub body : Option TextRange
+  pub attrs : List MetaView
+  pub visibility : Option Visibility
+
+-- ---- the same in a text with so many bytes in front
+
+abbrev pub moved_range : ℕ → TextRange → TextRange
+moved_range by r = record { start = by + r.start; end = by + r.end }
+
+abbrev pub moved : ℕ → MemberRead → MemberRead
+moved by m = record {
+  kind = m.kind;
+  name = option_map (moved_range by) m.name;
+  range = moved_range by m.range;
+  body = option_map (moved_range by) m.body;
+  attrs = m.attrs;
+  visibility = m.visibility;
+}

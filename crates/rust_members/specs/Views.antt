@@ -1,0 +1,13 @@
+-- What was read, as plain data.
+use Rattle.std.specs.Prelude.{map}
+use Rattle.hir_input.specs.Attr.{meta_view}
+use Rattle.rust_members.specs.declared.member.Member.{Member}
+use Rattle.rust_members.specs.declared.associated.Told as code_told
+use Rattle.rust_members.specs.Members.{MemberRead}
+use Rattle.rust_members.specs.Parts.{Told}
+
+abbrev pub member_view : Member → MemberRead
+member_view m = record { kind = m.kind; name = m.name; range = m.range; body = m.body; attrs = map meta_view m.attrs.items; visibility = m.visibility }
+
+abbrev pub told_view : code_told.Told → Told
+told_view t = record { kind = t.kind; attrs = map meta_view t.attrs.items; visibility = t.visibility }

@@ -1,0 +1,116 @@
+//! What stands in a trait or an impl.
+
+ghost use Rattle.std.specs.Prelude.{◌≡◌, option_map};
+ghost use Rattle.hir_input.specs.Syntax.{item_view};
+ghost use Rattle.rust_cursor.specs.Reader.{Gives};
+ghost use Rattle.rust_leaves.specs.Views.{front_view, leaf_view};
+ghost use Rattle.rust_members.specs.Parts as spec;
+ghost use Rattle.rust_members.specs.Views.{member_view, told_view};
+
+use crate::member::{Member, MemberKind};
+use hir_input::Meta;
+use hir_input::ast::{Item, Visibility};
+use rust_cursor::Cursor;
+use rust_leaves::{Front, Leaf, pass_others, take_front, take_leaf};
+use rust_paths::TextRange;
+use std::alloc::{AllocError, Global};
+
+/// What an item is as a member.
+#[derive(Drop)]
+struct Told {
+    kind: MemberKind,
+    attrs: Vec<Meta>,
+    visibility: Option<Visibility>,
+}
+
+#[tactic(auto, using(hir_input::proofs::SyntaxViews::item_views))]
+fn told_of(item: Item) -> Option<Told>
+    ensures { option_map told_view result ≡ spec.told_of (item_view item) }
+{
+    match item {
+        Item::Fn(function) => Some(Told {
+            kind: MemberKind::Function,
+            attrs: function.attrs,
+            visibility: function.visibility,
+        }),
+        Item::TypeAlias(alias) => Some(Told {
+            kind: MemberKind::TypeAlias,
+            attrs: alias.attrs,
+            visibility: alias.visibility,
+        }),
+        Item::Const(constant) => Some(Told {
+            kind: MemberKind::Constant,
+            attrs: constant.attrs,
+            visibility: constant.visibility,
+        }),
+        Item::MacroCall(call) => Some(Told {
+            kind: MemberKind::MacroCall,
+            attrs: call.attrs,
+            visibility: None,
+        }),
+        _ => None,
+    }
+}
+
+/// The braces of a function alone.
+fn body_of(kind: MemberKind, body: Option<TextRange>) -> Option<TextRange>
+    ensures { result ≡ spec.body_of kind body }
+{
+    match kind {
+        MemberKind::Function => body,
+        _ => None,
+    }
+}
+
+fn kept(leaf: Leaf<'_>, start: usize, end: usize) -> Option<Member>
+    ensures { option_map member_view result ≡ spec.kept start end (leaf_view leaf.entry) (spec.told_of (item_view leaf.entry.item)) }
+{
+    let (name, body) = (leaf.named, leaf.body);
+    match told_of(leaf.item) {
+        Some(told) => Some(Member {
+            kind: told.kind,
+            name,
+            range: TextRange { start, end },
+            body: body_of(told.kind, body),
+            attrs: told.attrs,
+            visibility: told.visibility,
+        }),
+        None => None,
+    }
+}
+
+fn behind_front(
+    alloc: Global,
+    cursor: &mut Cursor<'_>,
+    front: Front,
+) -> Result<Option<Member>, AllocError>
+    ensures { Gives (option_map member_view) (spec.behind_front (front_view front) cursor.old) result cursor.new }
+{
+    let start = front.start;
+    match take_leaf(alloc, cursor, front)? {
+        Some(leaf) => {
+            let end = cursor.past();
+            Ok(kept(leaf, start, end))
+        }
+        None => {
+            pass_others(cursor);
+            Ok(None)
+        }
+    }
+}
+
+/// Takes a member of a trait or an impl, or tokens that begin none.
+#[tactic(auto, unfolding(crate::specs::Parts::associated))]
+pub(crate) fn associated(
+    alloc: Global,
+    cursor: &mut Cursor<'_>,
+) -> Result<Option<Member>, AllocError>
+    ensures { Gives (option_map member_view) (spec.associated cursor.old) result cursor.new }
+{
+    if cursor.is_at_end() {
+        cursor.bump();
+        return Ok(None);
+    }
+    let front = take_front(alloc, cursor)?;
+    behind_front(alloc, cursor, front)
+}

@@ -1,0 +1,37 @@
+//! Members.
+
+use hir_input::Meta;
+use hir_input::ast::Visibility;
+use rust_paths::TextRange;
+
+/// What a member is.
+#[derive(Clone, Copy, Debug, PartialEq, Eq)]
+pub enum MemberKind {
+    /// A function of a trait or an impl.
+    Function,
+    /// A constant of a trait or an impl.
+    Constant,
+    /// A type of a trait or an impl.
+    TypeAlias,
+    /// A macro call in a trait or an impl.
+    MacroCall,
+    /// A variant of an enum.
+    Variant,
+    /// A field of a struct or a union.
+    Field,
+}
+
+/// A member of an item, with its places in bytes of the text.
+#[derive(Debug, Drop)]
+pub struct Member {
+    pub kind: MemberKind,
+    /// Where its name stands, if it has one.
+    pub name: Option<TextRange>,
+    /// Where it stands with its attributes, up to the comma of a variant or a field.
+    pub range: TextRange,
+    /// The braces of a function.
+    pub body: Option<TextRange>,
+    /// Its attributes, and the inner ones of a function.
+    pub attrs: Vec<Meta>,
+    pub visibility: Option<Visibility>,
+}

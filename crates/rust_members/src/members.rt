@@ -1,0 +1,160 @@
+//! Lists of members.
+
+ghost use Rattle.std.specs.Prelude.{◌≡◌, ◌++◌, ◌+◌, ◌-◌, ◌<◌, ◌^◌, IfOk, OnOk, map, option_map, option_to_list};
+ghost use Rattle.rust_cursor.specs.Reader.{Gives};
+ghost use Rattle.rust_members.specs.Lists as spec;
+ghost use Rattle.rust_members.specs.Members.{moved, moved_range};
+ghost use Rattle.rust_members.specs.Places.{ArePlaced, FitsMoved, IsPlaced};
+ghost use Rattle.rust_members.specs.Views.{member_view};
+
+use crate::associated::associated;
+use crate::cut::cut_out;
+use crate::member::{Member, MemberKind};
+use crate::part::part;
+use hir_input::AstIdKind;
+use rust_cursor::Cursor;
+use rust_metas::inner_attributes;
+use rust_paths::TextRange;
+use std::alloc::{AllocError, Global};
+
+#[tactic(auto, unfolding(crate::specs::Lists::is_over))]
+fn is_over(cursor: &Cursor<'_>) -> bool
+    ensures { result ≡ spec.is_over cursor.now }
+{
+    cursor.is_empty() || cursor.symbol() == b'}'
+}
+
+/// Takes a member of an item of the kind, or tokens that begin none.
+#[tactic(auto, unfolding(crate::specs::Lists::turn))]
+fn turn(
+    alloc: Global,
+    cursor: &mut Cursor<'_>,
+    kind: AstIdKind,
+) -> Result<Option<Member>, AllocError>
+    ensures { Gives (option_map member_view) (spec.turn kind cursor.old) result cursor.new }
+{
+    match kind {
+        AstIdKind::Enum => part(alloc, cursor, MemberKind::Variant),
+        AstIdKind::Struct | AstIdKind::Union => part(alloc, cursor, MemberKind::Field),
+        _ => associated(alloc, cursor),
+    }
+}
+
+fn push_some(members: &mut Vec<Member>, member: Option<Member>) -> Result<(), AllocError>
+    ensures { OnOk result (map member_view members.new.items ≡ map member_view members.old.items ++ option_to_list (option_map member_view member)) }
+{
+    match member {
+        Some(member) => {
+            members.push(member)?;
+            Ok(())
+        }
+        None => Ok(()),
+    }
+}
+
+#[tactic(auto, unfolding(rust_cursor::specs::Elements::turns), using(rust_cursor::proofs::Turns::turns_stop))]
+fn list(
+    alloc: Global,
+    cursor: &mut Cursor<'_>,
+    kind: AstIdKind,
+) -> Result<Vec<Member>, AllocError>
+    ensures { Gives (λ v. map member_view v.items) (spec.list kind cursor.old) result cursor.new }
+{
+    let mut members = Vec::new(alloc);
+    let most = Cursor::most_turns();
+    for _turn in 0..most {
+        if is_over(cursor) {
+            break;
+        }
+        let past = cursor.past();
+        let member = turn(alloc, cursor, kind)?;
+        push_some(&mut members, member)?;
+        cursor.pass_beyond(past);
+    }
+    Ok(members)
+}
+
+/// The members in a text that begins with the `{` of an item.
+#[tactic(auto, unfolding(crate::specs::Lists::members_from))]
+fn members_in(alloc: Global, kind: AstIdKind, text: &str) -> Result<Vec<Member>, AllocError>
+    ensures { IfOk result (λ v. map member_view v.items ≡ spec.members_in kind text.now) }
+{
+    let mut cursor = Cursor::new(text);
+    if cursor.symbol() != b'{' {
+        return Ok(Vec::new(alloc));
+    }
+    cursor.bump();
+    let _attrs = inner_attributes(alloc, &mut cursor)?;
+    list(alloc, &mut cursor, kind)
+}
+
+fn moved_range(range: TextRange, by: usize) -> TextRange
+    requires start { by + range.start < 2 ^ 64 }
+    requires end { by + range.end < 2 ^ 64 }
+    ensures { result ≡ moved_range by range }
+{
+    TextRange {
+        start: by + range.start,
+        end: by + range.end,
+    }
+}
+
+fn moved_name(name: Option<TextRange>, by: usize) -> Option<TextRange>
+    requires { FitsMoved by name }
+    ensures { result ≡ option_map (moved_range by) name }
+{
+    match name {
+        Some(name) => Some(moved_range(name, by)),
+        None => None,
+    }
+}
+
+/// The member in a text with so many bytes in front.
+#[tactic(auto, using(crate::proofs::Moving::name_fits))]
+fn moved(member: Member, by: usize) -> Member
+    requires { IsPlaced 0 (18446744073709551615 - by) (member_view member) }
+    ensures { member_view result ≡ moved by (member_view member) }
+{
+    Member {
+        kind: member.kind,
+        name: moved_name(member.name, by),
+        range: moved_range(member.range, by),
+        body: moved_name(member.body, by),
+        attrs: member.attrs,
+        visibility: member.visibility,
+    }
+}
+
+fn all_moved(alloc: Global, members: Vec<Member>, by: usize) -> Result<Vec<Member>, AllocError>
+    requires { ArePlaced 0 (18446744073709551615 - by) (map member_view members.items) }
+    ensures { IfOk result (λ v. map member_view v.items ≡ map (moved by) (map member_view members.items)) }
+{
+    let mut all = Vec::with_capacity(alloc, members.len())?;
+    for member in members {
+        all.push(moved(member, by))?;
+    }
+    Ok(all)
+}
+
+/// Reads the members in the braces of an item of this kind, which are this range of a text.
+///
+/// It answers for every text: what is no member is passed over, and in a range that is none of the text is none. An item of
+/// another kind than a trait, an impl, an enum, a struct or a union is read as a trait is. The only error is that memory
+/// runs out.
+pub fn read_members(
+    alloc: Global,
+    kind: AstIdKind,
+    text: &str,
+    body: TextRange,
+) -> Result<Vec<Member>, AllocError>
+    ensures read { IfOk result (λ v. map member_view v.items ≡ spec.members kind text.now body) }
+    ensures placed { IfOk result (λ v. ArePlaced body.start body.end (map member_view v.items)) }
+{
+    match cut_out(text, body) {
+        Some(braces) => {
+            let members = members_in(alloc, kind, braces)?;
+            all_moved(alloc, members, body.start)
+        }
+        None => Ok(Vec::new(alloc)),
+    }
+}
