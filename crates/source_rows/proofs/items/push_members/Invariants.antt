@@ -1,0 +1,8 @@
+use Rattle.std.proofs.Common.{◌≡◌, ◌++◌, map, take}
+use Rattle.rust_members.specs.Views.{member_view}
+use Rattle.source_rows.specs.Parts.{member_part}
+use Rattle.source_rows.specs.Views.{part_view}
+use Rattle.source_rows.proofs.items.push_members.Given as goal
+
+abbrev pub invariant-loop-member : goal.invariant-loop-member
+invariant-loop-member l = map part_view l.parts.items ≡ map part_view l.initial.parts.items ++ map (member_part l.text l.path) (map member_view (take l.member-index l.members))

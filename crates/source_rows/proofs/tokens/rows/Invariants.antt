@@ -1,0 +1,11 @@
+use Rattle.std.proofs.Common.{◌≡◌, ◌++◌, map, length}
+use Rattle.source_skeleton.specs.Views.{row_view}
+use Rattle.source_rows.specs.Rows.{rows}
+use Rattle.source_rows.specs.Views.{part_view}
+use Rattle.source_rows.proofs.tokens.rows.Given as goal
+
+abbrev pub invariant-loop-left : goal.invariant-loop-left
+invariant-loop-left l = map row_view l.rows.items ++ rows l.has_docs l.text (map part_view l.left) ≡ rows l.has_docs l.text (map part_view l.fn.parts)
+
+abbrev pub decreases-loop-left : goal.decreases-loop-left
+decreases-loop-left l = length l.left

@@ -1,0 +1,6 @@
+pub mod Labels
+pub mod Headers
+pub mod Parts
+pub mod Rows
+pub mod Views
+pub mod Inner

@@ -1,0 +1,108 @@
+-- The items of a text and their members, as parts of it.
+use Rattle.std.specs.Prelude.{ℕ, Bool, true, false, nat_lt, List, [], ◌∷◌, ◌++◌, map, filter, codes, Option, Some, None}
+use Rattle.hir_input.specs.declared.ids.AstIdKind.{AstIdKind}
+use Rattle.hir_input.specs.declared.ids.AstIdKind.TheVariants as kind
+use Rattle.rust_paths.specs.declared.names.TextRange.{TextRange}
+use Rattle.rust_items.specs.declared.source_file.ItemPlace.{ItemPlace}
+use Rattle.rust_members.specs.declared.member.MemberKind.{MemberKind}
+use Rattle.rust_members.specs.declared.member.MemberKind.TheVariants as member
+use Rattle.rust_members.specs.Members.{MemberRead}
+use Rattle.rust_members.specs.Lists.{members}
+use Rattle.source_rows.specs.Labels.{item_word, member_word, text_at, text_at_some, Around, path_of, label}
+use Rattle.source_rows.specs.Headers.{header}
+
+-- a part: what it is called, where it is told, where it stands, the name that counts among the tokens around it, and the braces whose tokens do not count
+pub record Part : Type 0 where
+  pub label : List ℕ
+  pub at : ℕ
+  pub range : TextRange
+  pub kept : Option TextRange
+  pub body : Option TextRange
+
+-- at its name, or where it begins
+abbrev pub told_at : TextRange → Option TextRange → ℕ
+told_at range None = range.start
+told_at range (Some name) = name.start
+
+-- ---- members
+
+-- the order of variants and of fields is that of their names around
+abbrev pub kept_name : MemberKind → Option TextRange → Option TextRange
+kept_name member.Variant name = name
+kept_name member.Field name = name
+kept_name _ name = None
+
+abbrev pub member_path : List ℕ → List ℕ → Option TextRange → List ℕ
+member_path text path name = path ++ codes "::" ++ text_at_some text name
+
+abbrev pub member_part : List ℕ → List ℕ → MemberRead → Part
+member_part text path m = record {
+  label = label (member_word m.kind) (member_path text path m.name);
+  at = told_at m.range m.name;
+  range = m.range;
+  kept = kept_name m.kind m.name;
+  body = m.body;
+}
+
+-- items of these kinds have members
+abbrev pub has_members : AstIdKind → Bool
+has_members kind.Trait = true
+has_members kind.Impl = true
+has_members kind.Enum = true
+has_members kind.Struct = true
+has_members kind.Union = true
+has_members _ = false
+
+abbrev pub members_in : AstIdKind → List ℕ → Bool → Option TextRange → List MemberRead
+members_in k text true (Some body) = members k text body
+members_in k text _ body = []
+
+abbrev pub member_parts : List ℕ → List ℕ → ItemPlace → List Part
+member_parts text path s = map (member_part text path) (members_in s.id.kind text (has_members s.id.kind) s.body)
+
+-- ---- items
+
+-- an item's name as it is written; without one, its header
+abbrev pub name_of : List ℕ → TextRange → Option TextRange → List ℕ
+name_of text range None = header (text_at text range)
+name_of text range (Some name) = text_at text name
+
+-- the braces of a function alone
+abbrev pub fn_body : AstIdKind → Option TextRange → Option TextRange
+fn_body kind.Fn body = body
+fn_body _ body = None
+
+abbrev pub item_part : List ℕ → ItemPlace → Part
+item_part path s = record {
+  label = label (item_word s.id.kind) path;
+  at = told_at s.range s.name;
+  range = s.range;
+  kept = None;
+  body = fn_body s.id.kind s.body;
+}
+
+abbrev pub item_path : List ℕ → List Around → ItemPlace → List ℕ
+item_path text around s = path_of around ++ name_of text s.range s.name
+
+-- an item, and behind it its members
+abbrev pub parts_of : List ℕ → List Around → ItemPlace → List Part
+parts_of text around s = item_part (item_path text around s) s ∷ member_parts text (item_path text around s) s
+
+-- the modules that end behind a place
+abbrev pub still_open : ℕ → List Around → List Around
+still_open place around = filter (λ a. nat_lt place a.end) around
+
+-- what stands around an item that follows this one, where these stand around it
+abbrev pub behind : List ℕ → List Around → AstIdKind → ItemPlace → List Around
+behind text around kind.Module s = around ++ record { end = s.range.end; name = text_at_some text s.name } ∷ []
+behind text around _ s = around
+
+abbrev pub parts_from : List ℕ → List Around → List ItemPlace → List Part
+parts_from text around [] = []
+parts_from text around (s ∷ ss) =
+    let open_around = still_open s.range.start around in
+    parts_of text open_around s ++ parts_from text (behind text open_around s.id.kind s) ss
+
+-- the parts of a text with items that stand so, in preorder
+abbrev pub parts : List ℕ → List ItemPlace → List Part
+parts text items = parts_from text [] items

@@ -1,0 +1,269 @@
+//! The items of a text and their members, as parts of it.
+
+ghost use Rattle.std.specs.Prelude.{◌≡◌, ◌++◌, ◌∷◌, [], IfOk, OnOk, map, string_bytes};
+ghost use Rattle.rust_members.specs.Views.{member_view};
+ghost use Rattle.source_rows.specs.Labels.{path_of};
+ghost use Rattle.source_rows.specs.Parts as spec;
+ghost use Rattle.source_rows.specs.Views.{around_view, part_view};
+
+use crate::headers::header;
+use crate::labels::{item_word, member_word, push_label, text_at, text_at_some};
+use hir_input::AstIdKind;
+use rust_items::ItemPlace;
+use rust_members::{Member, MemberKind, TextRange, read_members};
+use std::alloc::{AllocError, Global};
+
+/// An item or a member of one, as a part of a text.
+#[derive(Debug, Drop)]
+pub struct Part {
+    /// What it is called, as in `fn Circle::area`.
+    pub label: String,
+    /// Where it is told: at its name, or where it begins.
+    pub at: usize,
+    pub range: TextRange,
+    /// A name that counts among the tokens around it.
+    pub kept: Option<TextRange>,
+    /// The braces whose tokens do not count.
+    pub body: Option<TextRange>,
+}
+
+/// A module around an item: where it ends, and its name.
+#[derive(Clone, Copy)]
+pub(crate) struct Around<'t> {
+    pub end: usize,
+    pub name: &'t str,
+}
+
+fn told_at(range: TextRange, name: Option<TextRange>) -> usize
+    ensures { result ≡ spec.told_at range name }
+{
+    match name {
+        Some(name) => name.start,
+        None => range.start,
+    }
+}
+
+fn kept_name(kind: MemberKind, name: Option<TextRange>) -> Option<TextRange>
+    ensures { result ≡ spec.kept_name kind name }
+{
+    match kind {
+        MemberKind::Variant | MemberKind::Field => name,
+        _ => None,
+    }
+}
+
+fn member_path(
+    alloc: Global,
+    text: &str,
+    path: &str,
+    name: Option<TextRange>,
+) -> Result<String, AllocError>
+    ensures { IfOk result (λ out. string_bytes out ≡ spec.member_path text.now path.now name) }
+{
+    let mut out = String::from_str(alloc, path)?;
+    out.push_str("::")?;
+    out.push_str(text_at_some(text, name))?;
+    Ok(out)
+}
+
+fn member_part(
+    alloc: Global,
+    text: &str,
+    path: &str,
+    member: &Member,
+) -> Result<Part, AllocError>
+    ensures { IfOk result (λ part. part_view part ≡ spec.member_part text.now path.now (member_view member.now)) }
+{
+    let path = member_path(alloc, text, path, member.name)?;
+    let mut label = String::new(alloc);
+    push_label(&mut label, member_word(member.kind), &path)?;
+    Ok(Part {
+        label,
+        at: told_at(member.range, member.name),
+        range: member.range,
+        kept: kept_name(member.kind, member.name),
+        body: member.body,
+    })
+}
+
+fn push_members(
+    alloc: Global,
+    text: &str,
+    path: &str,
+    members: &[Member],
+    parts: &mut Vec<Part>,
+) -> Result<(), AllocError>
+    ensures { let more = map (spec.member_part text.now path.now) (map member_view members.now) in
+        OnOk result (map part_view parts.new.items ≡ map part_view parts.old.items ++ more) }
+{
+    for member in members {
+        let part = member_part(alloc, text, path, member)?;
+        parts.push(part)?;
+    }
+    Ok(())
+}
+
+fn has_members(kind: AstIdKind) -> bool
+    ensures { result ≡ spec.has_members kind }
+{
+    matches!(
+        kind,
+        AstIdKind::Trait
+            | AstIdKind::Impl
+            | AstIdKind::Enum
+            | AstIdKind::Struct
+            | AstIdKind::Union
+    )
+}
+
+fn members_in(
+    alloc: Global,
+    kind: AstIdKind,
+    text: &str,
+    body: Option<TextRange>,
+) -> Result<Vec<Member>, AllocError>
+    ensures { IfOk result (λ v. map member_view v.items ≡ spec.members_in kind text.now (spec.has_members kind) body) }
+{
+    if !has_members(kind) {
+        return Ok(Vec::new(alloc));
+    }
+    match body {
+        Some(body) => read_members(alloc, kind, text, body),
+        None => Ok(Vec::new(alloc)),
+    }
+}
+
+fn push_name(
+    alloc: Global,
+    text: &str,
+    item: &ItemPlace,
+    out: &mut String,
+) -> Result<(), AllocError>
+    ensures { let name = spec.name_of text.now item.now.range item.now.name in
+        OnOk result (string_bytes out.new ≡ string_bytes out.old ++ name) }
+{
+    match item.name {
+        Some(name) => out.push_str(text_at(text, name)),
+        None => {
+            let header = header(alloc, text_at(text, item.range))?;
+            out.push_str(&header)
+        }
+    }
+}
+
+fn push_path(around: &[Around<'_>], out: &mut String) -> Result<(), AllocError>
+    ensures { OnOk result (string_bytes out.new ≡ string_bytes out.old ++ path_of (map around_view around.now)) }
+{
+    for module in around {
+        out.push_str(module.name)?;
+        out.push_str("::")?;
+    }
+    Ok(())
+}
+
+fn item_path(
+    alloc: Global,
+    text: &str,
+    around: &[Around<'_>],
+    item: &ItemPlace,
+) -> Result<String, AllocError>
+    ensures { IfOk result (λ out. string_bytes out ≡ spec.item_path text.now (map around_view around.now) item.now) }
+{
+    let mut out = String::new(alloc);
+    push_path(around, &mut out)?;
+    push_name(alloc, text, item, &mut out)?;
+    Ok(out)
+}
+
+fn fn_body(kind: AstIdKind, body: Option<TextRange>) -> Option<TextRange>
+    ensures { result ≡ spec.fn_body kind body }
+{
+    match kind {
+        AstIdKind::Fn => body,
+        _ => None,
+    }
+}
+
+fn item_part(alloc: Global, path: &str, item: &ItemPlace) -> Result<Part, AllocError>
+    ensures { IfOk result (λ part. part_view part ≡ spec.item_part path.now item.now) }
+{
+    let mut label = String::new(alloc);
+    push_label(&mut label, item_word(item.id.kind), path)?;
+    Ok(Part {
+        label,
+        at: told_at(item.range, item.name),
+        range: item.range,
+        kept: None,
+        body: fn_body(item.id.kind, item.body),
+    })
+}
+
+/// Adds an item, and behind it its members.
+fn push_item(
+    alloc: Global,
+    text: &str,
+    around: &[Around<'_>],
+    item: &ItemPlace,
+    parts: &mut Vec<Part>,
+) -> Result<(), AllocError>
+    ensures { let more = spec.parts_of text.now (map around_view around.now) item.now in
+        OnOk result (map part_view parts.new.items ≡ map part_view parts.old.items ++ more) }
+{
+    let path = item_path(alloc, text, around, item)?;
+    let part = item_part(alloc, &path, item)?;
+    parts.push(part)?;
+    let members = members_in(alloc, item.id.kind, text, item.body)?;
+    push_members(alloc, text, &path, &members, parts)
+}
+
+/// The modules that end behind a place.
+fn still_open<'t>(
+    alloc: Global,
+    place: usize,
+    around: &[Around<'t>],
+) -> Result<Vec<Around<'t>>, AllocError>
+    ensures { IfOk result (λ v. map around_view v.items ≡ spec.still_open place (map around_view around.now)) }
+{
+    let mut left = Vec::new(alloc);
+    for module in around {
+        if place < module.end {
+            left.push(*module)?;
+        }
+    }
+    Ok(left)
+}
+
+/// Adds a module to those around what follows.
+fn enter<'t>(
+    text: &'t str,
+    item: &ItemPlace,
+    around: &mut Vec<Around<'t>>,
+) -> Result<(), AllocError>
+    ensures { OnOk result (map around_view around.new.items ≡ spec.behind text.now (map around_view around.old.items) item.now.id.kind item.now) }
+{
+    match item.id.kind {
+        AstIdKind::Module => {
+            around.push(Around {
+                end: item.range.end,
+                name: text_at_some(text, item.name),
+            })?;
+            Ok(())
+        }
+        _ => Ok(()),
+    }
+}
+
+/// The items of a text, which stand so in preorder, and behind each its members.
+#[tactic(auto, using(crate::proofs::Steps::parts_more))]
+pub fn parts(alloc: Global, text: &str, items: &[ItemPlace]) -> Result<Vec<Part>, AllocError>
+    ensures { IfOk result (λ v. map part_view v.items ≡ spec.parts text.now items.now) }
+{
+    let mut parts = Vec::new(alloc);
+    let mut around = Vec::new(alloc);
+    for item in items {
+        around = still_open(alloc, item.range.start, &around)?;
+        push_item(alloc, text, &around, item, &mut parts)?;
+        enter(text, item, &mut around)?;
+    }
+    Ok(parts)
+}

@@ -1,0 +1,143 @@
+//! The parts of a text as rows, each with its own tokens.
+
+ghost use Rattle.std.specs.Prelude.{◌≡◌, ◌++◌, IfOk, OnOk, map};
+ghost use Rattle.std.specs.List.{flat_map};
+ghost use Rattle.source_skeleton.specs.Views.{row_view};
+ghost use Rattle.source_rows.specs.Rows as spec;
+ghost use Rattle.source_rows.specs.Views.{part_view};
+
+use crate::labels::text_at;
+use crate::items::Part;
+use rust_members::TextRange;
+use source_skeleton::{Hole, Row, skeleton};
+use std::alloc::{AllocError, Global};
+
+/// Adds what stands between braces.
+fn push_inside(body: Option<TextRange>, holes: &mut Vec<Hole>) -> Result<(), AllocError>
+    ensures { OnOk result (holes.new.items ≡ holes.old.items ++ spec.inside body) }
+{
+    let Some(body) = body else {
+        return Ok(());
+    };
+    if body.start >= body.end {
+        return Ok(());
+    }
+    holes.push(Hole {
+        start: body.start + 1,
+        end: body.end - 1,
+    })?;
+    Ok(())
+}
+
+/// What stands between the braces of functions, which are no tokens of the text's skeleton.
+pub fn bodies(alloc: Global, parts: &[Part]) -> Result<Vec<Hole>, AllocError>
+    ensures { IfOk result (λ v. v.items ≡ spec.bodies (map part_view parts.now)) }
+{
+    let mut holes = Vec::new(alloc);
+    for part in parts {
+        push_inside(part.body, &mut holes)?;
+    }
+    Ok(holes)
+}
+
+/// Adds what of a part are no tokens of those around it.
+fn push_outside(
+    range: TextRange,
+    kept: Option<TextRange>,
+    holes: &mut Vec<Hole>,
+) -> Result<(), AllocError>
+    ensures { OnOk result (holes.new.items ≡ holes.old.items ++ spec.outside range kept) }
+{
+    let Some(name) = kept else {
+        holes.push(Hole {
+            start: range.start,
+            end: range.end,
+        })?;
+        return Ok(());
+    };
+    holes.push(Hole {
+        start: range.start,
+        end: name.start,
+    })?;
+    holes.push(Hole {
+        start: name.end,
+        end: range.end,
+    })?;
+    Ok(())
+}
+
+/// Adds the same of those of some parts, in preorder, that begin before a place.
+#[tactic(auto, using(crate::proofs::Steps::begun_more, crate::proofs::Steps::begun_stop))]
+fn push_begun(place: usize, parts: &[Part], holes: &mut Vec<Hole>) -> Result<(), AllocError>
+    ensures { OnOk result (holes.new.items ≡ holes.old.items ++ spec.begun place (map part_view parts.now)) }
+{
+    for part in parts {
+        if part.range.start >= place {
+            return Ok(());
+        }
+        push_outside(part.range, part.kept, holes)?;
+    }
+    Ok(())
+}
+
+/// What of a part are no tokens of its own, where these come behind it.
+fn holes(alloc: Global, part: &Part, behind: &[Part]) -> Result<Vec<Hole>, AllocError>
+    ensures { IfOk result (λ v. v.items ≡ spec.holes (part_view part.now) (map part_view behind.now)) }
+{
+    let mut holes = Vec::new(alloc);
+    push_inside(part.body, &mut holes)?;
+    push_begun(part.range.end, behind, &mut holes)?;
+    Ok(holes)
+}
+
+fn moved_back(alloc: Global, by: usize, holes: &[Hole]) -> Result<Vec<Hole>, AllocError>
+    ensures { IfOk result (λ v. v.items ≡ map (spec.moved_back by) holes.now) }
+{
+    let mut moved = Vec::with_capacity(alloc, holes.len())?;
+    for hole in holes {
+        moved.push(Hole {
+            start: hole.start.saturating_sub(by),
+            end: hole.end.saturating_sub(by),
+        })?;
+    }
+    Ok(moved)
+}
+
+fn row<'t>(
+    alloc: Global,
+    text: &'t str,
+    part: &Part,
+    behind: &[Part],
+    has_docs: bool,
+) -> Result<Row<'t>, AllocError>
+    ensures { IfOk result (λ row. row_view row ≡ spec.row has_docs text.now (part_view part.now) (map part_view behind.now)) }
+{
+    let holes = holes(alloc, part, behind)?;
+    let holes = moved_back(alloc, part.range.start, &holes)?;
+    let own = skeleton(alloc, text_at(text, part.range), &holes, has_docs)?;
+    let label = String::from_str(alloc, &part.label)?;
+    Ok(Row {
+        label,
+        at: part.at,
+        own,
+    })
+}
+
+/// Each part of a text, which come in preorder, with its own tokens. Documentation counts where that is asked.
+pub fn rows<'t>(
+    alloc: Global,
+    text: &'t str,
+    parts: &[Part],
+    has_docs: bool,
+) -> Result<Vec<Row<'t>>, AllocError>
+    ensures { IfOk result (λ v. map row_view v.items ≡ spec.rows has_docs text.now (map part_view parts.now)) }
+{
+    let mut rows = Vec::new(alloc);
+    let mut left = parts;
+    while let [part, behind @ ..] = left {
+        let row = row(alloc, text, part, behind, has_docs)?;
+        rows.push(row)?;
+        left = behind;
+    }
+    Ok(rows)
+}
