@@ -1,0 +1,215 @@
+//! What others can see of a file became another.
+#![tactic(auto)]
+
+ghost use Rattle.std.specs.Prelude.{◌≡◌, ◌++◌, ◌↔◌, IfOk, IsTrue, OnOk, map, string_bytes};
+ghost use Rattle.source_rows.specs.Views.{part_view};
+ghost use Rattle.source_skeleton.specs.Views.{change_view};
+ghost use Rattle.source_changes.specs.Changes as spec;
+ghost use Rattle.source_changes.specs.Views.{side_view, source_view};
+
+use line_index::{LineIndex, Position};
+use rust_items::read_source_file;
+use source_rows::{Part, bodies, parts, rows};
+use source_skeleton::{Change, ChangeKind, changes, same_texts, skeleton};
+use std::alloc::{AllocError, Global};
+
+/// A file: its path as it is to be written, and its text.
+#[derive(Clone, Copy)]
+pub struct Source<'a> {
+    pub path: &'a str,
+    pub text: &'a str,
+}
+
+/// What became of a file in another.
+#[derive(Debug, Drop)]
+pub struct Compared {
+    /// A line for each change of an item or of a member of one.
+    pub text: String,
+    /// Whether others see the same of both.
+    pub is_same: bool,
+}
+
+/// The items of a text, and behind each its members.
+fn parts_of(alloc: Global, text: &str) -> Result<Vec<Part>, AllocError>
+    ensures { IfOk result (λ v. spec.AreParts text.now (map part_view v.items)) }
+{
+    let file = read_source_file(alloc, text)?;
+    let parts = parts(alloc, text, &file.places)?;
+    Ok(parts)
+}
+
+/// What others can see of a text.
+fn seen<'t>(
+    alloc: Global,
+    text: &'t str,
+    parts: &[Part],
+    has_docs: bool,
+) -> Result<Vec<&'t str>, AllocError>
+    ensures { IfOk result (λ v. map (λ t. t.now) v.items ≡ spec.seen has_docs text.now (map part_view parts.now)) }
+{
+    let bodies = bodies(alloc, parts)?;
+    skeleton(alloc, text, &bodies, has_docs)
+}
+
+fn change_word(kind: ChangeKind) -> &'static str
+    ensures { result.now ≡ spec.change_word kind }
+{
+    match kind {
+        ChangeKind::Removed => "removed ",
+        ChangeKind::Added => "added ",
+        ChangeKind::Changed => "changed ",
+    }
+}
+
+/// The line of a change.
+fn push_line(
+    path: &str,
+    position: Position,
+    change: &Change<'_>,
+    out: &mut String,
+) -> Result<(), AllocError>
+    ensures { let line = spec.line_text path.now position (change_view change.now) in
+        OnOk result (string_bytes out.new ≡ string_bytes out.old ++ line) }
+{
+    let (line, column) = (position.line, position.column);
+    write!(out, "{path}:{line}:{column}: ")?;
+    out.push_str(change_word(change.kind))?;
+    out.push_str(change.label)?;
+    out.push_str("\n")
+}
+
+/// A file, with what finds the lines of its places.
+#[derive(Drop)]
+struct Side<'a> {
+    path: &'a str,
+    lines: LineIndex<'a>,
+}
+
+impl<'a> Side<'a> {
+    fn push(&mut self, change: &Change<'_>, out: &mut String) -> Result<(), AllocError>
+        ensures text { let line = spec.change_line (side_view self.old) (change_view change.now) in
+            OnOk result (string_bytes out.new ≡ string_bytes out.old ++ line) }
+        ensures same { side_view self.new ≡ side_view self.old }
+    {
+        push_line(self.path, self.lines.position(change.at), change, out)
+    }
+}
+
+/// The line of a change, from the file in which its row stands.
+fn push_between(
+    old: &mut Side<'_>,
+    new: &mut Side<'_>,
+    change: &Change<'_>,
+    out: &mut String,
+) -> Result<(), AllocError>
+    ensures text { let line = spec.line_between (side_view old.old) (side_view new.old) (change_view change.now) in
+        OnOk result (string_bytes out.new ≡ string_bytes out.old ++ line) }
+    ensures old { side_view old.new ≡ side_view old.old }
+    ensures new { side_view new.new ≡ side_view new.old }
+{
+    match change.kind {
+        ChangeKind::Removed => old.push(change, out),
+        ChangeKind::Added | ChangeKind::Changed => new.push(change, out),
+    }
+}
+
+fn side_from<'a>(source: Source<'a>) -> Side<'a>
+    ensures { side_view result ≡ source_view source.entry }
+{
+    Side {
+        path: source.path,
+        lines: LineIndex::new(source.text),
+    }
+}
+
+fn lines(
+    alloc: Global,
+    old: Source<'_>,
+    new: Source<'_>,
+    changes: &[Change<'_>],
+) -> Result<String, AllocError>
+    ensures { let lines = spec.change_lines (source_view old.entry) (source_view new.entry) (map change_view changes.now) in
+        IfOk result (λ text. string_bytes text ≡ lines) }
+{
+    let (mut olds, mut news) = (side_from(old), side_from(new));
+    let mut out = String::new(alloc);
+    for change in changes {
+        push_between(&mut olds, &mut news, change, &mut out)?;
+    }
+    Ok(out)
+}
+
+/// The lines of what became of the parts of a file in another.
+fn lines_of(
+    alloc: Global,
+    old: Source<'_>,
+    new: Source<'_>,
+    olds: &[Part],
+    news: &[Part],
+    has_docs: bool,
+) -> Result<String, AllocError>
+    ensures { let lines = spec.lines_between has_docs (source_view old.entry) (source_view new.entry) (map part_view olds.now) (map part_view news.now) in
+        IfOk result (λ text. string_bytes text ≡ lines) }
+{
+    let old_rows = rows(alloc, old.text, olds, has_docs)?;
+    let new_rows = rows(alloc, new.text, news, has_docs)?;
+    let changes = changes(alloc, &old_rows, &new_rows)?;
+    lines(alloc, old, new, &changes)
+}
+
+/// Whether others can see the same of two texts.
+fn is_same(
+    alloc: Global,
+    old: &str,
+    olds: &[Part],
+    new: &str,
+    news: &[Part],
+    has_docs: bool,
+) -> Result<bool, AllocError>
+    ensures { IfOk result (λ same. IsTrue same
+        ↔ (spec.seen has_docs old.now (map part_view olds.now) ≡ spec.seen has_docs new.now (map part_view news.now))) }
+{
+    let old_texts = seen(alloc, old, olds, has_docs)?;
+    let new_texts = seen(alloc, new, news, has_docs)?;
+    Ok(same_texts(&old_texts, &new_texts))
+}
+
+/// The lines of what became of the parts of a file in another; none where others see the same of both.
+fn text_of(
+    alloc: Global,
+    is_same: bool,
+    old: Source<'_>,
+    new: Source<'_>,
+    olds: &[Part],
+    news: &[Part],
+    has_docs: bool,
+) -> Result<String, AllocError>
+    ensures { let lines = spec.lines is_same has_docs (source_view old.entry) (source_view new.entry) (map part_view olds.now) (map part_view news.now) in
+        IfOk result (λ text. string_bytes text ≡ lines) }
+{
+    if is_same {
+        return Ok(String::new(alloc));
+    }
+    lines_of(alloc, old, new, olds, news, has_docs)
+}
+
+/// Compares what others can see of two files: every token but those between the braces of functions and comments, and
+/// documentation only where that is asked.
+///
+/// It tells in a line what was removed of the old file's items and of their members, and then what was added or changed. Where
+/// nothing of that became another, the files differ in the order of these or in what stands in none of them. The only error is
+/// want of memory.
+pub fn compare(
+    alloc: Global,
+    old: Source<'_>,
+    new: Source<'_>,
+    has_docs: bool,
+) -> Result<Compared, AllocError>
+    ensures { IfOk result (spec.IsCompared has_docs (source_view old.entry) (source_view new.entry)) }
+{
+    let olds = parts_of(alloc, old.text)?;
+    let news = parts_of(alloc, new.text)?;
+    let is_same = is_same(alloc, old.text, &olds, new.text, &news, has_docs)?;
+    let text = text_of(alloc, is_same, old, new, &olds, &news, has_docs)?;
+    Ok(Compared { text, is_same })
+}
