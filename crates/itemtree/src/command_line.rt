@@ -176,8 +176,16 @@ fn tags<'a>(alloc: Global) -> Result<Command<'a>, Error> {
 fn changed<'a>(alloc: Global) -> Result<Command<'a>, Error> {
     let old = Arg::new(alloc, "old").value_name("OLD").required(true);
     let new = Arg::new(alloc, "new").value_name("NEW").required(true);
-    let about = "Lists what of the item tree became another; its status is that of diff";
-    let command = on_files(alloc, "changed", about)?.arg(old)?.arg(new)?;
+    let tree = flag(
+        alloc,
+        "tree",
+        "Compare the item trees alone, which keep no signatures, fields, values or members",
+    );
+    let about = "Lists what became another but for bodies of functions; its status is that of diff";
+    let command = on_files(alloc, "changed", about)?
+        .arg(tree)?
+        .arg(old)?
+        .arg(new)?;
     Ok(command)
 }
 

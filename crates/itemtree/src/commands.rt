@@ -22,7 +22,7 @@ const FILES_A_TIME: usize = 64;
 /// Back to the begin of the line on a terminal, and nothing on it.
 const CLEARED: &str = "\r\x1b[K";
 
-/// How trees differ whose items are the same.
+/// How files differ whose items are the same.
 const ONLY_ORDER: &str = "the order of items or the attributes of the file differ";
 
 /// Why a run ends early.
@@ -251,15 +251,76 @@ fn finish(run: Run<'_>, matches: &ArgMatches<'_>) -> Result<u8, Failure> {
     }
 }
 
-/// Lists the changes between two trees. The status is that of `diff`: 0 where they are equal, 1 where they differ, 2 where
-/// one cannot be had.
+/// Tells what became of a file in another. The status is that of `diff`: 0 where nothing did, and else 1.
+fn tell(
+    rt: &HostRuntime,
+    old_path: &str,
+    new_path: &str,
+    lines: &str,
+    is_same: bool,
+) -> Result<u8, Failure> {
+    if is_same {
+        return Ok(0);
+    }
+    rt.stdout().write_all(lines.as_bytes())?;
+    if lines.is_empty() {
+        writeln!(rt.stdout(), "{old_path} and {new_path}: {ONLY_ORDER}")?;
+    }
+    Ok(1)
+}
+
+/// Two files that there is no memory to compare.
+fn unmatched(rt: &HostRuntime, old: Source<'_>, new: Source<'_>) -> u8 {
+    let (old_path, new_path) = (old.path, new.path);
+    let _ = eprintln!(rt; "itemtree: {old_path} and {new_path}: out of memory");
+    2
+}
+
+/// Lists the changes between two trees; status 2 where one cannot be had.
+fn compare_trees(
+    rt: &HostRuntime,
+    options: &Options,
+    old: Source<'_>,
+    new: Source<'_>,
+) -> Result<u8, Failure> {
+    match changed(rt.alloc(), old, new, options) {
+        Ok(compared) => tell(rt, old.path, new.path, &compared.text, compared.is_same),
+        Err(CompareError::Old(error)) => unread(rt, old.path, error),
+        Err(CompareError::New(error)) => unread(rt, new.path, error),
+        Err(CompareError::OutOfMemory) => Ok(unmatched(rt, old, new)),
+    }
+}
+
+/// Lists the changes of what others can see of two files.
+fn compare_seen(
+    rt: &HostRuntime,
+    old: Source<'_>,
+    new: Source<'_>,
+    has_docs: bool,
+) -> Result<u8, Failure> {
+    let olds = source_changes::Source {
+        path: old.path,
+        text: old.text,
+    };
+    let news = source_changes::Source {
+        path: new.path,
+        text: new.text,
+    };
+    match source_changes::compare(rt.alloc(), olds, news, has_docs) {
+        Ok(compared) => tell(rt, old.path, new.path, &compared.text, compared.is_same),
+        Err(_) => Ok(unmatched(rt, old, new)),
+    }
+}
+
+/// Lists the changes between two files, or between their trees where that is asked. The status is that of `diff`: 0 where
+/// they are equal, 1 where they differ, 2 where one cannot be read.
 fn compare(
     rt: &HostRuntime,
     options: &Options,
+    inner: &ArgMatches<'_>,
     old_path: &str,
     new_path: &str,
 ) -> Result<u8, Failure> {
-    let alloc = rt.alloc();
     let (old, new) = match (read(rt, old_path), read(rt, new_path)) {
         (Ok(old), Ok(new)) => (old, new),
         (Err(error), _) => return unread(rt, old_path, error),
@@ -273,22 +334,10 @@ fn compare(
         path: new_path,
         text: &new,
     };
-    match changed(alloc, olds, news, options) {
-        Ok(compared) if compared.is_same => Ok(0),
-        Ok(compared) => {
-            rt.stdout().write_all(compared.text.as_bytes())?;
-            if compared.text.is_empty() {
-                writeln!(rt.stdout(), "{old_path} and {new_path}: {ONLY_ORDER}")?;
-            }
-            Ok(1)
-        }
-        Err(CompareError::Old(error)) => unread(rt, old_path, error),
-        Err(CompareError::New(error)) => unread(rt, new_path, error),
-        Err(CompareError::OutOfMemory) => {
-            let _ = eprintln!(rt; "itemtree: {old_path} and {new_path}: out of memory");
-            Ok(2)
-        }
+    if inner.get_flag("tree") {
+        return compare_trees(rt, options, olds, news);
     }
+    compare_seen(rt, olds, news, inner.get_flag("docs"))
 }
 
 fn unread(rt: &HostRuntime, path: &str, error: impl Display + Drop) -> Result<u8, Failure> {
@@ -314,7 +363,7 @@ pub(crate) fn run_command(rt: &HostRuntime, matches: &ArgMatches<'_>) -> Result<
         }
     };
     if let (Some(old), Some(new)) = (inner.get_str("old"), inner.get_str("new")) {
-        return compare(rt, &options, old, new);
+        return compare(rt, &options, inner, old, new);
     }
     if name == "request" {
         return write_request(rt, options, inner);
