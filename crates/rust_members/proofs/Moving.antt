@@ -74,7 +74,7 @@ cut_length text part range e = ⊎_elim
     let order : range.start ≤ range.end = leb-true range.start range.end tests.0 in
     let within : range.end ≤ length text = (boundary_of text range.end (and_parts (is_boundary text range.start) (is_boundary text range.end) tests.1).1).0 in
     let long : length (slice_range text range.start range.end) ≡ range.end - range.start =
-        length-take-le (range.end - range.start) (drop range.start text) (omega (arith, length-drop range.start text)) in
+    length-take-le (range.end - range.start) (drop range.start text) (omega (arith, length-drop range.start text)) in
     let one : length part ≡ range.end - range.start = ap length (some_part part (slice_range text range.start range.end) (sym same)) ∙ long in
     (omega arith, within))
     (λ (t : is_cut text range ≡ false). let none : None ≡ Some part = rw t at e in absurd cc)

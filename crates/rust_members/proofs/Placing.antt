@@ -121,13 +121,16 @@ kept_found : (end : ℕ) (ts us : Tokens) (l : LeafRead) (o : Option Told) → I
 kept_found end ts us l None laid t = none_found (takes_leads t.takes)
 kept_found end ts us l (Some told) laid t = record {
   leads = takes_leads t.takes;
-  placed = (record {
-    begins = at_behind end ts laid;
-    some = takes_strict end t.takes laid;
-    ends = omega arith;
-    name = name_in end ts us l.named laid t.leaf.name;
-    body = body_in told.kind (record { start = at ts; end = us.past }) l.body (braces_in end ts us l.body laid t.leaf.body);
-  }, tt);
+  placed = (
+    record {
+      begins = at_behind end ts laid;
+      some = takes_strict end t.takes laid;
+      ends = omega arith;
+      name = name_in end ts us l.named laid t.leaf.name;
+      body = body_in told.kind (record { start = at ts; end = us.past }) l.body (braces_in end ts us l.body laid t.leaf.body);
+    },
+    tt,
+  );
 }
 
 leaf_kept_found : (end : ℕ) (ts us : Tokens) (o : Option LeafRead) → IsLaid end ts → LeafFound ts us o → AreFound ts (leaf_kept (at ts) o us).1 (option_to_list (leaf_kept (at ts) o us).0)

@@ -53,11 +53,7 @@ fn push_some(members: &mut Vec<Member>, member: Option<Member>) -> Result<(), Al
 }
 
 #[tactic(auto, unfolding(rust_cursor::specs::Elements::turns), using(rust_cursor::proofs::Turns::turns_stop))]
-fn list(
-    alloc: Global,
-    cursor: &mut Cursor<'_>,
-    kind: AstIdKind,
-) -> Result<Vec<Member>, AllocError>
+fn list(alloc: Global, cursor: &mut Cursor<'_>, kind: AstIdKind) -> Result<Vec<Member>, AllocError>
     ensures { Gives (λ v. map member_view v.items) (spec.list kind cursor.old) result cursor.new }
 {
     let mut members = Vec::new(alloc);

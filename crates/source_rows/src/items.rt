@@ -66,12 +66,7 @@ fn member_path(
     Ok(out)
 }
 
-fn member_part(
-    alloc: Global,
-    text: &str,
-    path: &str,
-    member: &Member,
-) -> Result<Part, AllocError>
+fn member_part(alloc: Global, text: &str, path: &str, member: &Member) -> Result<Part, AllocError>
     ensures { IfOk result (λ part. part_view part ≡ spec.member_part text.now path.now (member_view member.now)) }
 {
     let path = member_path(alloc, text, path, member.name)?;
@@ -108,11 +103,7 @@ fn has_members(kind: AstIdKind) -> bool
 {
     matches!(
         kind,
-        AstIdKind::Trait
-            | AstIdKind::Impl
-            | AstIdKind::Enum
-            | AstIdKind::Struct
-            | AstIdKind::Union
+        AstIdKind::Trait | AstIdKind::Impl | AstIdKind::Enum | AstIdKind::Struct | AstIdKind::Union
     )
 }
 

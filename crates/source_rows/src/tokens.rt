@@ -6,8 +6,8 @@ ghost use Rattle.source_skeleton.specs.Views.{row_view};
 ghost use Rattle.source_rows.specs.Rows as spec;
 ghost use Rattle.source_rows.specs.Views.{part_view};
 
-use crate::labels::text_at;
 use crate::items::Part;
+use crate::labels::text_at;
 use rust_members::TextRange;
 use source_skeleton::{Hole, Row, skeleton};
 use std::alloc::{AllocError, Global};

@@ -152,7 +152,7 @@ pub step : (items pushed : List code_item.Item) (x : code_item.Item) (rows : Lis
 step items pushed x rows i row all h e p v inv =
     let more : map item_view pushed ≡ map item_view items ++ item_view x ∷ [] = ap (map item_view) p ∙ map-append item_view items (x ∷ []) in
     let before : map item_view items ++ items_behind (rows_of items) (row_view row ∷ map row_view (drop (i + 1) rows)) ≡ all =
-        ap (λ (xs : List code_row.Row). map item_view items ++ items_behind (rows_of items) (map row_view xs)) (sym (drop_next rows i row h e)) ∙ inv in
+    ap (λ (xs : List code_row.Row). map item_view items ++ items_behind (rows_of items) (map row_view xs)) (sym (drop_next rows i row h e)) ∙ inv in
     subst (λ (xs : List Item). xs ++ items_behind (map row_of xs) (map row_view (drop (i + 1) rows)) ≡ all) (sym more)
     (one_more (map item_view items) (row_view row) (map row_view (drop (i + 1) rows)) (item_view x) all before v)
 
