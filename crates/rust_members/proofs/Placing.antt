@@ -1,5 +1,5 @@
 -- Members stand where they are read.
-use Rattle.std.proofs.Common.{◌≡◌, ◌<◌, ◌≤◌, ◌==◌, ◌-◌, ◌^◌, ℕ, zero, suc, Bool, true, false, Option, Some, None, List, [], ◌∷◌, ◌++◌, map, length, refl, sym, ◌∙◌, arith, append_assoc, append-nil}
+use Rattle.std.proofs.Common.{◌≡◌, ◌<◌, ◌≤◌, ◌==◌, ◌-◌, ◌^◌, ℕ, zero, suc, Bool, Option, Some, None, List, [], ◌∷◌, ◌++◌, map, length, sym, ◌∙◌, arith, append_assoc, append-nil}
 use Rattle.std.specs.Prelude.{option_to_list, IfOk, Result, Ok, Err, Vec}
 use Rattle.std.specs.declared.alloc.AllocError.{AllocError}
 use Rattle.std.specs.declared.alloc.Global.{Global}
@@ -9,7 +9,7 @@ use Rattle.hir_input.specs.declared.ast.Visibility.{Visibility}
 use Rattle.hir_input.specs.Attr.{MetaView}
 use Rattle.rust_cursor.specs.Tokens.{Tokens, tokens_of}
 use Rattle.rust_cursor.specs.Reader.{Reader}
-use Rattle.rust_cursor.specs.Words.{symbol, at, eat, is_at_end, is_pair, bumped}
+use Rattle.rust_cursor.specs.Words.{symbol, at, is_at_end, bumped}
 use Rattle.rust_cursor.specs.Elements.{most, beyond, turns_from, turns, perhaps}
 use Rattle.rust_cursor.specs.declared.cursor.generics.Reach.TheVariants as reaches
 use Rattle.rust_cursor.proofs.Leads.{LeadsTo, here, further, through, when, bumped_leads, eat_leads, behind_tree_leads, behind_angles_leads, reached_leads, beyond_leads, takes, takes_leads}
@@ -29,7 +29,7 @@ use Rattle.rust_members.specs.declared.member.Member.{Member}
 use Rattle.rust_members.specs.Members.{MemberRead, moved}
 use Rattle.rust_members.specs.Parts.{Told, told_of, body_of, kept, leaf_kept, associated, begins_generics, behind_operand, is_variant_end, behind_operands, behind_variant, behind_part, part_of, part}
 use Rattle.rust_members.specs.Lists.{turn, is_over, members_from, members_in, cut_out}
-use Rattle.rust_members.specs.Places.{IsPlaced, ArePlaced}
+use Rattle.rust_members.specs.Places.{ArePlaced}
 use Rattle.rust_members.specs.Views.{member_view}
 use Rattle.rust_members.proofs.Moving.{placed_widened, members_fit, members_moved}
 

@@ -5,7 +5,7 @@ use Rattle.std.proofs.Math.Seq.{drop-cons}
 use Rattle.std.proofs.lemmas.Bool.Decides.{nat_tests}
 use Rattle.rust_lexer.specs.Piece.{Piece}
 use Rattle.rust_lexer.specs.Symbol.{symbol_of}
-use Rattle.rust_cursor.specs.Tokens.{Tokens, end_of}
+use Rattle.rust_cursor.specs.Tokens.{Tokens}
 use Rattle.rust_cursor.specs.Words.{by_first, rest, word_by, symbol, word, text, is_empty, bumped}
 use Rattle.source_skeleton.specs.declared.kept.Hole.{Hole}
 use Rattle.source_rows.specs.declared.items.Part as code_part

@@ -3,7 +3,7 @@ use Rattle.std.specs.Prelude.{ℕ, Bool, ◌==◌, ◌&&◌, ◌||◌, not, if�
 use Rattle.std.specs.Str.{bytes_eq}
 use Rattle.rust_lexer.specs.Piece.{Piece}
 use Rattle.rust_lexer.specs.Symbol.{symbol_of}
-use Rattle.rust_cursor.specs.Tokens.{Tokens, tokens_of}
+use Rattle.rust_cursor.specs.Tokens.{tokens_of}
 use Rattle.rust_cursor.specs.Words.{word_by}
 use Rattle.rust_cursor.specs.Angles.{behind_angles}
 use Rattle.rust_leaves.specs.Fronts.{front}

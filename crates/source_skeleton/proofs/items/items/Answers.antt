@@ -1,5 +1,5 @@
-use Rattle.std.proofs.Common.{rules, arith, refl, ◌∙◌, sym, subst}
-use Rattle.source_skeleton.specs.Inner.{CountsAll, item_view}
+use Rattle.std.proofs.Common.{rules, refl, ◌∙◌, sym, subst}
+use Rattle.source_skeleton.specs.Inner.{CountsAll}
 use Rattle.source_skeleton.specs.Views.{row_view}
 use Rattle.source_skeleton.proofs.Tables.{counted_like, counted_within, one_counted, rows_of, rows_pushed, step}
 use Rattle.source_skeleton.proofs.items.items.Goals as goal
