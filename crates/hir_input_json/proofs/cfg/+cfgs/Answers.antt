@@ -6,6 +6,10 @@ use Rattle.hir_input_json.proofs.Inside.{depth_field, depth_get, field_before}
 use Rattle.hir_input_json.proofs.Held.{field_without}
 use Rattle.hir_input_json.proofs.Attrs.{cfg_reads_itself}
 use Rattle.hir_input.proofs.CfgLemmas.{cfg_views}
+use Rattle.std.proofs.lemmas.Grind.{common_steps}
+use Rattle.hir_input.specs.Cfg.{cfg_view}
+use Rattle.hir_input_json.specs.Cfgs.{cfg}
+use Rattle.hir_input_json.proofs.Lists.{read_next, read_rest}
 use Rattle.hir_input_json.proofs.cfg.+cfgs.Goals as goal
 
 pub cfg_by-cfgs_in-requires : goal.cfg_by-cfgs_in-requires
@@ -65,3 +69,15 @@ cfg_by-returns-in_ok-new-in-Some-inner t c = grind (arith, field_without, cfg_vi
 
 pub cfg_by-returns-in-None : goal.cfg_by-returns-in-None
 cfg_by-returns-in-None t c = grind (arith, field_without, cfg_views)
+
+pub cfgs_of-loop-item-preserved : goal.cfgs_of-loop-item-preserved
+cfgs_of-loop-item-preserved t c = (
+  read_next cfg_view cfg _ _ _ _ _ _ _ _ _ c.loop-item.invariant.0 c.in-Some.ensures.steps.0 c.cfg_of.ensures c.in_ok-read.ensures c.in_ok-push.ensures.items,
+  read_rest _ _ _ _ c.in-Some.ensures.steps.0 c.loop-item.invariant.1,
+)
+
+pub cfgs_of-returns-in_err-read : goal.cfgs_of-returns-in_err-read
+cfgs_of-returns-in_err-read t c = grind arith
+
+pub cfgs_of-returns : goal.cfgs_of-returns
+cfgs_of-returns t c = grind (arith, common_steps)

@@ -4,6 +4,10 @@ use Rattle.hir_input.proofs.SyntaxViews.{item_views}
 use Rattle.hir_input_json.proofs.Held.{field_without}
 use Rattle.hir_input_json.proofs.Inside.{depth_found_in}
 use Rattle.hir_input_json.proofs.Items.{item_reads_itself}
+use Rattle.std.proofs.lemmas.Grind.{common_steps}
+use Rattle.hir_input.specs.Syntax.{item_view}
+use Rattle.hir_input_json.specs.Items.{item}
+use Rattle.hir_input_json.proofs.Lists.{read_next, read_rest}
 use Rattle.hir_input_json.proofs.item.+items.Goals as goal
 
 pub item_in-returns-in_err-word_at : goal.item_in-returns-in_err-word_at
@@ -53,3 +57,15 @@ module_of-returns-in_err-items t c = grind (arith, field_without, depth_found_in
 
 pub module_of-returns : goal.module_of-returns
 module_of-returns t c = grind (arith, field_without, depth_found_in, item_views)
+
+pub items_of-loop-item-preserved : goal.items_of-loop-item-preserved
+items_of-loop-item-preserved t c = (
+  read_next item_view item _ _ _ _ _ _ _ _ _ c.loop-item.invariant.0 c.in-Some.ensures.steps.0 c.item_of.ensures c.in_ok-read.ensures c.in_ok-push.ensures.items,
+  read_rest _ _ _ _ c.in-Some.ensures.steps.0 c.loop-item.invariant.1,
+)
+
+pub items_of-returns-in_err-read : goal.items_of-returns-in_err-read
+items_of-returns-in_err-read t c = grind arith
+
+pub items_of-returns : goal.items_of-returns
+items_of-returns t c = grind (arith, common_steps)
