@@ -1,102 +1,31 @@
 //! A file with an item of each kind.
-use crate::attributes::{condition, word, words};
-use crate::items::{
-    constant, enum_item, extern_block, extern_crate, function, impl_item, macro_call, macro_def,
-    macro_rules, module, static_item, trait_item, tuple_struct, type_alias, union_item, use_of,
-};
-use crate::use_trees::nested;
-use crate::words::{push, within};
-use hir_input::PathKind;
-use hir_input::ast::{ExternItem, Item, Syntax, TupleField, Visibility};
+use crate::written::syntax;
+use hir_input::ast::Syntax;
+use hir_input_json::Fault;
 use std::alloc::{AllocError, Global};
 
-fn field(visibility: Result<Visibility, AllocError>) -> Result<TupleField, AllocError> {
-    let visibility = Some(visibility?);
-    Ok(TupleField { visibility })
-}
-
-// `#[b] #[cfg(x)] pub(in crate::type) fn f() {}`
-fn decorated(alloc: Global) -> Result<Item, AllocError> {
-    let mut attrs = words(alloc, &["b"])?;
-    push(&mut attrs, condition(alloc, "x"))?;
-    let visibility = within(alloc, PathKind::Crate, "type")?;
-    function(alloc, 2, attrs, Some(visibility))
-}
-
-// `pub struct S(pub(crate) A, pub(super) B, pub(in m) C);`
-fn guarded(alloc: Global) -> Result<Item, AllocError> {
-    let mut fields = Vec::new(alloc);
-    push(&mut fields, field(Ok(Visibility::PubCrate)))?;
-    push(&mut fields, field(Ok(Visibility::PubSuper)))?;
-    push(&mut fields, field(within(alloc, PathKind::Plain, "m")))?;
-    tuple_struct(alloc, 3, fields)
-}
-
-// The function, the struct and `impl S {}`.
-fn push_inner(alloc: Global, items: &mut Vec<Item>) -> Result<(), AllocError> {
-    push(items, decorated(alloc))?;
-    push(items, guarded(alloc))?;
-    push(items, Ok(impl_item(alloc, 4)))
-}
-
-// `#[a] pub(super) mod m { .. }`, with these.
-fn inline(alloc: Global) -> Result<Item, AllocError> {
-    let mut items = Vec::new(alloc);
-    push_inner(alloc, &mut items)?;
-    let mut module = module(alloc, 1, "m", Some(Visibility::PubSuper), Some(items))?;
-    push(&mut module.attrs, word(alloc, "a"))?;
-    Ok(Item::Module(module))
-}
-
-// `extern { m!(); }`
-fn foreign(alloc: Global) -> Result<Item, AllocError> {
-    let mut items = Vec::new(alloc);
-    items.push(ExternItem::MacroCall(macro_call(alloc, 6)?))?;
-    Ok(extern_block(alloc, 5, items))
-}
-
-// `mod TEXT;`
-fn outline(
-    alloc: Global,
-    hash: u16,
-    text: &str,
-    visibility: Option<Visibility>,
-) -> Result<Item, AllocError> {
-    Ok(Item::Module(module(alloc, hash, text, visibility, None)?))
-}
-
-// `trait`, `macro_rules` and `mod n;`, and then `union`, `enum` and `type`.
-fn push_types(alloc: Global, items: &mut Vec<Item>) -> Result<(), AllocError> {
-    push(items, trait_item(alloc, 7))?;
-    push(items, macro_rules(alloc, 8))?;
-    push(items, outline(alloc, 9, "n", None))?;
-    push(items, union_item(alloc, 10))?;
-    push(items, enum_item(alloc, 11))?;
-    push(items, type_alias(alloc, 12))
-}
-
-// `use a::{*, self as b, {c, {d::*}}};`
-fn use_nested(alloc: Global) -> Result<Item, AllocError> {
-    Ok(use_of(alloc, 17, nested(alloc)?))
-}
-
-// `static`, `const`, `macro`, `extern crate` and `use`.
-fn push_values(alloc: Global, items: &mut Vec<Item>) -> Result<(), AllocError> {
-    push(items, static_item(alloc, 13))?;
-    push(items, constant(alloc, 14))?;
-    push(items, macro_def(alloc, 15))?;
-    push(items, extern_crate(alloc, 16))?;
-    push(items, use_nested(alloc))
-}
-
-// All of the file, and last `pub(self) mod o;` with this hash.
-fn push_all(alloc: Global, items: &mut Vec<Item>, last: u16) -> Result<(), AllocError> {
-    push(items, inline(alloc))?;
-    push(items, foreign(alloc))?;
-    push_types(alloc, items)?;
-    push_values(alloc, items)?;
-    push(items, outline(alloc, last, "o", Some(Visibility::PubSelf)))
-}
+/// Up to the hash of the last item.
+const ITEMS: &str =
+    r#"{"root":"source_file","attrs":[{"meta":"path","path":["plain","t"]}],"items":[
+{"is":"module","hash":1,"name":"m","vis":"super","attrs":[{"meta":"path","path":["plain","a"]}],"items":[
+{"is":"fn","hash":2,"name":"f","vis":{"in":["crate","type"]},"attrs":[
+{"meta":"path","path":["plain","b"]},{"meta":"cfg","cfg":"x"}]},
+{"is":"struct","hash":3,"name":"S","vis":"pub","fields":["crate","super",{"in":["plain","m"]}]},
+{"is":"impl","hash":4}]},
+{"is":"extern_block","hash":5,"items":[{"is":"macro_call","hash":6,"path":["plain","m"]}]},
+{"is":"trait","hash":7,"name":"T","vis":"crate"},
+{"is":"macro_rules","hash":8,"name":"m"},
+{"is":"module","hash":9,"name":"n","semicolon":true},
+{"is":"union","hash":10,"name":"U"},
+{"is":"enum","hash":11,"name":"E"},
+{"is":"type_alias","hash":12,"name":"A"},
+{"is":"static","hash":13,"name":"X"},
+{"is":"const","hash":14,"name":"C"},
+{"is":"macro_def","hash":15,"name":"d"},
+{"is":"extern_crate","hash":16,"name":"e","rename":"_"},
+{"is":"use","hash":17,"tree":{"path":["plain","a"],"list":[{"star":true},{"path":["super",0],"rename":"b"},
+{"list":[{"path":["plain","c"]},{"list":[{"path":["plain","d"],"star":true}]}]}]}},
+{"is":"module","name":"o","vis":"self","semicolon":true,"hash":"#;
 
 /// A file with an item of each kind:
 ///
@@ -127,8 +56,12 @@ fn push_all(alloc: Global, items: &mut Vec<Item>, last: u16) -> Result<(), Alloc
 /// The hash of an item is its place among all, each counted before those that stand in it, from 1 on. The last item has
 /// this hash, in place of 18.
 pub fn file(alloc: Global, last: u16) -> Result<Syntax, AllocError> {
-    let mut items = Vec::new(alloc);
-    push_all(alloc, &mut items, last)?;
-    let attrs = words(alloc, &["t"])?;
-    Ok(Syntax::SourceFile { attrs, items })
+    let mut text = String::from_str(alloc, ITEMS)?;
+    write!(text, "{last}}}]}}")?;
+    match syntax(alloc, text.as_str()) {
+        Ok(syntax) => Ok(syntax),
+        // (no page of this is that of a file with items)
+        Err(Fault::WrongForm { .. }) => Ok(Syntax::Error),
+        Err(Fault::OutOfMemory) => Err(AllocError),
+    }
 }

@@ -11,3 +11,4 @@ pub mod items;
 pub mod memory;
 pub mod use_trees;
 pub mod words;
+mod written;
