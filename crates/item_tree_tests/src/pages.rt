@@ -1,5 +1,6 @@
 //! A Rust text and the page of its tree, ids and all, as rust-analyzer prints it.
 use crate::lowered::{edition, tree_of};
+use hir_input::EditionYear;
 use rust_items::read_source_file;
 use std::alloc::Global;
 use std::test::Fail;
@@ -25,7 +26,7 @@ pub(self) mod inline {
 
 // The page of a text in a crate without options.
 fn page(alloc: Global, text: &str) -> Result<String, Fail> {
-    let file = read_source_file(alloc, text)?;
+    let file = read_source_file(alloc, text, EditionYear::E2024)?;
     let tree = tree_of(alloc, &file.syntax)?;
     Ok(tree.pretty_print(alloc, &edition(alloc))?)
 }

@@ -1,5 +1,6 @@
 //! Blocks of Rust texts: which parts are items and macro calls, and which ids they have.
 use crate::blocks::page_of;
+use hir_input::EditionYear;
 use hir_input::ast::{BlockExpr, Stmt, Tail};
 use rust_items::read_block;
 use std::alloc::Global;
@@ -94,7 +95,7 @@ const SHAPES: [(&str, &str); 28] = [
 fn blocks_have_their_parts(rt: HostRuntime) -> Result<(), Fail> {
     let alloc = rt.alloc();
     for (text, shape) in SHAPES {
-        let block = read_block(alloc, text)?.block;
+        let block = read_block(alloc, text, EditionYear::E2024)?.block;
         assert_eq!(rt; shape_of(alloc, &block)?.as_str(), shape, "of {text}");
     }
     Ok(())
@@ -138,14 +139,14 @@ m!(...);
 #[test]
 fn a_block_has_its_page(rt: HostRuntime) -> Result<(), Fail> {
     let alloc = rt.alloc();
-    let block = read_block(alloc, BLOCK)?.block;
+    let block = read_block(alloc, BLOCK, EditionYear::E2024)?.block;
     assert_eq!(rt; page_of(alloc, &block)?.as_str(), PAGE);
     Ok(())
 }
 
 // Whether a block is read whole, if it is read.
 fn is_whole(alloc: Global) -> Option<bool> {
-    match read_block(alloc, BLOCK) {
+    match read_block(alloc, BLOCK, EditionYear::E2024) {
         Ok(read) => Some(read.block.stmts.len() == 6 && read.places.len() == 6),
         Err(_) => None,
     }
@@ -162,7 +163,7 @@ fn a_block_is_whole_or_refused_when_memory_is_refused(rt: HostRuntime) -> Result
 
 // The places with the braces in them, and the problems.
 fn told(alloc: Global, text: &str) -> Result<String, Fail> {
-    let read = read_block(alloc, text)?;
+    let read = read_block(alloc, text, EditionYear::E2024)?;
     let mut told = String::new(alloc);
     for place in &read.places {
         let (start, end) = (place.range.start, place.range.end);

@@ -1,4 +1,5 @@
 //! Reading is whole or refused when a request for memory is refused, and tells the braces that items end with.
+use hir_input::EditionYear;
 use rust_items::read_source_file;
 use std::alloc::Global;
 use std::test::Fail;
@@ -17,7 +18,7 @@ struct S(pub u8);
 
 // Whether the text is read whole, if it is read.
 fn is_whole(alloc: Global) -> Option<bool> {
-    match read_source_file(alloc, TEXT) {
+    match read_source_file(alloc, TEXT, EditionYear::E2024) {
         Ok(file) => Some(file.places.len() == 7 && file.problems.is_empty()),
         Err(_) => None,
     }
@@ -34,7 +35,7 @@ fn a_text_is_whole_or_refused_when_memory_is_refused(rt: HostRuntime) -> Result<
 
 // The texts of the braces that items end with, and `-` for those that end with none.
 fn bodies(alloc: Global, text: &str) -> Result<String, Fail> {
-    let file = read_source_file(alloc, text)?;
+    let file = read_source_file(alloc, text, EditionYear::E2024)?;
     let mut shown = String::new(alloc);
     for place in &file.places {
         let body = match place.body {

@@ -5,6 +5,7 @@ use crate::request::write_request;
 use crate::serve::answer_lines;
 use crate::tags::write_tags;
 use clap::ArgMatches;
+use hir_input::EditionYear;
 use itemtree_commands::{
     CompareError, Options, changed, check, duplicates, find, imports, outline, outline_json, page,
     push_tags,
@@ -296,6 +297,7 @@ fn compare_seen(
     rt: &HostRuntime,
     old: Source<'_>,
     new: Source<'_>,
+    edition: EditionYear,
     has_docs: bool,
 ) -> Result<u8, Failure> {
     let olds = source_changes::Source {
@@ -306,7 +308,7 @@ fn compare_seen(
         path: new.path,
         text: new.text,
     };
-    match source_changes::compare(rt.alloc(), olds, news, has_docs) {
+    match source_changes::compare(rt.alloc(), olds, news, edition, has_docs) {
         Ok(compared) => tell(rt, old.path, new.path, &compared.text, compared.is_same),
         Err(_) => Ok(unmatched(rt, old, new)),
     }
@@ -337,7 +339,8 @@ fn compare(
     if inner.get_flag("tree") {
         return compare_trees(rt, options, olds, news);
     }
-    compare_seen(rt, olds, news, inner.get_flag("docs"))
+    let has_docs = inner.get_flag("docs");
+    compare_seen(rt, olds, news, options.edition.year, has_docs)
 }
 
 fn unread(rt: &HostRuntime, path: &str, error: impl Display + Drop) -> Result<u8, Failure> {

@@ -1,17 +1,7 @@
 //! The reserved words of the editions, and the attributes that are left out where nothing else is asked.
 use hir_input::{Edition, EditionYear, Name};
+use rust_paths::{KEYWORDS, KEYWORDS_SINCE_2018, KEYWORDS_SINCE_2024};
 use std::alloc::{AllocError, Global};
-
-const RESERVED: [&str; 43] = [
-    "abstract", "as", "become", "box", "break", "const", "continue", "do", "else", "enum",
-    "extern", "false", "final", "fn", "for", "if", "impl", "in", "let", "loop", "macro", "match",
-    "mod", "move", "mut", "override", "priv", "pub", "ref", "return", "static", "struct", "trait",
-    "true", "type", "typeof", "unsafe", "unsized", "use", "virtual", "where", "while", "yield",
-];
-
-const SINCE_2018: [&str; 4] = ["async", "await", "dyn", "try"];
-
-const SINCE_2024: [&str; 1] = ["gen"];
 
 /// The attributes that rust-analyzer leaves out of an item tree.
 const SKIPPED: [&str; 13] = [
@@ -62,15 +52,15 @@ pub(crate) fn skipped(alloc: Global, keeps_docs: bool) -> Result<Vec<Name>, Allo
     Ok(names)
 }
 
-/// The edition of a year, with its reserved words.
+/// The edition of a year, with its keywords as the reserved words.
 pub(crate) fn edition(alloc: Global, year: EditionYear) -> Result<Edition, AllocError> {
     let mut reserved = Vec::new(alloc);
-    push_names(alloc, &RESERVED, &mut reserved)?;
+    push_names(alloc, &KEYWORDS, &mut reserved)?;
     if year != EditionYear::E2015 {
-        push_names(alloc, &SINCE_2018, &mut reserved)?;
+        push_names(alloc, &KEYWORDS_SINCE_2018, &mut reserved)?;
     }
     if year == EditionYear::E2024 {
-        push_names(alloc, &SINCE_2024, &mut reserved)?;
+        push_names(alloc, &KEYWORDS_SINCE_2024, &mut reserved)?;
     }
     Ok(Edition { year, reserved })
 }

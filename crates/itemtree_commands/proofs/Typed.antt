@@ -1,6 +1,7 @@
 -- Where texts write items that have the same outline, their trees are equal.
 use Rattle.std.proofs.Common.{◌≡◌, ℕ, Bool, List, IsTrue, ap, ◌∙◌, sym}
 use Rattle.std.specs.Prelude.{◌↔◌, false}
+use Rattle.hir_input.specs.declared.edition.EditionYear.{EditionYear}
 use Rattle.hir_input.specs.Syntax.{SyntaxView, syntax_view}
 use Rattle.hir_input.specs.Bodies.{without_bodies}
 use Rattle.item_tree.specs.CrateView.{crate_view}
@@ -17,7 +18,7 @@ kept_alike : (krate : CrateData) (skipped : List (List ℕ)) (s t : SyntaxView) 
 kept_alike krate skipped s t e =
     sym (kept_without_bodies false (crate_view krate) skipped s) ∙ ap (kept_syntax false (crate_view krate) skipped) e ∙ kept_without_bodies false (crate_view krate) skipped t
 
-pub same_tree : (krate : CrateData) (skipped : List (List ℕ)) (old new : List ℕ) (t u : SourceTree) (same : Bool) → IsTreeOf krate skipped old t → IsTreeOf krate skipped new u → (IsTrue same ↔ (t.tree ≡ u.tree))
+pub same_tree : (krate : CrateData) (skipped : List (List ℕ)) (edition : EditionYear) (old new : List ℕ) (t u : SourceTree) (same : Bool) → IsTreeOf krate skipped edition old t → IsTreeOf krate skipped edition new u → (IsTrue same ↔ (t.tree ≡ u.tree))
     → IsSameWhereTyped old new same
-same_tree krate skipped old new t u same l r d before after w x e =
-    d.1 (l.tree ∙ kept_alike krate skipped (syntax_view l.file.syntax) (syntax_view r.file.syntax) (typing_inside before after old new l.file r.file w x e l.is_read r.is_read) ∙ sym r.tree)
+same_tree krate skipped edition old new t u same l r d before after w x e =
+    d.1 (l.tree ∙ kept_alike krate skipped (syntax_view l.file.syntax) (syntax_view r.file.syntax) (typing_inside edition before after old new l.file r.file w x e l.is_read r.is_read) ∙ sym r.tree)

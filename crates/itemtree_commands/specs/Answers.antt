@@ -9,6 +9,7 @@ use Rattle.source_listing.specs.Lines.{Choice, Source, outline_text, problem_lin
 use Rattle.source_listing.specs.Objects.{json_line}
 use Rattle.source_listing.specs.Pages.{without_ids}
 use Rattle.source_listing.specs.Repeated.{repeated_lines}
+use Rattle.source_listing.specs.Uses.{FilePlaces, placed}
 use Rattle.source_listing.specs.Search.{Query, found_lines}
 use Rattle.source_listing.specs.Tags.{tags}
 use Rattle.source_tree.specs.declared.SourceTree.{SourceTree}
@@ -22,7 +23,7 @@ use Rattle.itemtree_commands.specs.declared.CompareError.TheVariants.{Old, New, 
 
 -- the tree of a text under the options
 abbrev pub HasTree : Options → List ℕ → SourceTree → Type 0
-HasTree o = IsTreeOf o.krate o.skipped.items
+HasTree o = IsTreeOf o.krate o.skipped.items o.edition.year
 
 -- which items are listed
 abbrev pub choice : Options → Option ℕ → Choice
@@ -38,13 +39,17 @@ abbrev pub IsJson : Options → Option ℕ → Source → List ℕ → Type 0
 IsJson o depth s out =
     (t : SourceTree) × HasTree o s.text t × (out ≡ json_line s o.edition.reserved.items t.places.items (choice o depth) t.tree)
 
+-- the places of the items and of the use trees
+abbrev pub all_places : SourceTree → FilePlaces
+all_places t = placed t.places.items t.use_trees.items
+
 -- the lines of the imports
 abbrev pub AreImports : Options → Source → List ℕ → Type 0
-AreImports o s out = (t : SourceTree) × HasTree o s.text t × (out ≡ import_lines s o.edition.reserved.items t.places.items t.tree.forest)
+AreImports o s out = (t : SourceTree) × HasTree o s.text t × (out ≡ import_lines s o.edition.reserved.items (all_places t) t.tree.forest)
 
 -- the lines of those that repeat an earlier one
 abbrev pub AreRepeated : Options → Source → List ℕ → Type 0
-AreRepeated o s out = (t : SourceTree) × HasTree o s.text t × (out ≡ repeated_lines s o.edition.reserved.items t.places.items t.tree.forest)
+AreRepeated o s out = (t : SourceTree) × HasTree o s.text t × (out ≡ repeated_lines s o.edition.reserved.items (all_places t) t.tree.forest)
 
 -- the lines of the items that are looked for
 abbrev pub AreFound : Options → Query → Source → List ℕ → Type 0
@@ -70,7 +75,7 @@ IsCheck o s c =
 
 -- the command has no answer: the text has no tree, or memory is wanting
 abbrev pub HasNoTree : Options → List ℕ → SourceError → Type 0
-HasNoTree o = IsRefused o.krate o.skipped.items
+HasNoTree o = IsRefused o.krate o.skipped.items o.edition.year
 
 -- a file, and where its items stand
 abbrev pub side : Source → SourceTree → Side

@@ -72,7 +72,13 @@ fn read(alloc: Global, text: &str, options: &Options) -> Result<SourceTree, Sour
     ensures short { OnOk result (length text.now ≤ 2 ^ 32) }
     ensures refused { IfErr result (spec.HasNoTree options.now text.now) }
 {
-    source_tree(alloc, text, &options.krate, &options.skipped)
+    source_tree(
+        alloc,
+        text,
+        options.edition.year,
+        &options.krate,
+        &options.skipped,
+    )
 }
 
 /// `itemtree outline`: a line for each item, or for those in fewer than so many others.
@@ -183,7 +189,14 @@ pub fn imports(alloc: Global, source: Source<'_>, options: &Options) -> Result<S
 {
     let file = read(alloc, source.text, options)?;
     let edition = &options.edition;
-    let text = source_listing::import_lines(alloc, source, &file.places, &file.tree, edition)?;
+    let text = source_listing::import_lines(
+        alloc,
+        source,
+        &file.places,
+        &file.use_trees,
+        &file.tree,
+        edition,
+    )?;
     Ok(text)
 }
 
@@ -201,7 +214,14 @@ pub fn duplicates(
 {
     let file = read(alloc, source.text, options)?;
     let edition = &options.edition;
-    let text = source_listing::repeated_lines(alloc, source, &file.places, &file.tree, edition)?;
+    let text = source_listing::repeated_lines(
+        alloc,
+        source,
+        &file.places,
+        &file.use_trees,
+        &file.tree,
+        edition,
+    )?;
     Ok(text)
 }
 

@@ -2,6 +2,7 @@
 use Rattle.std.proofs.Common.{◌≡◌, ◌<◌, ◌≤◌, ◌+◌, ℕ, true, false, List, [], ◌∷◌, ◌++◌, length, ap, arith, length-append}
 use Rattle.std.specs.List.{filter}
 use Rattle.std.proofs.lemmas.List.Elements.{All-head, All-tail}
+use Rattle.hir_input.specs.declared.edition.EditionYear.{EditionYear}
 use Rattle.rust_lexer.specs.Piece.{Piece}
 use Rattle.rust_lexer.specs.Tokens.{tokens, is_significant, text_of, AreInPlace}
 use Rattle.rust_lexer.proofs.Laws.{AreSome, tokens_lossless, tokens_placed, tokens_not_empty}
@@ -91,8 +92,8 @@ laid_from end place (t ∷ ts) p s h =
     let same : place + length t.text ≡ end_of t = omega arith in
     when (is_significant t) (λ e. rw e ((omega arith, some), rw same at laid)) (λ e. rw e (earlier end (place + length t.text) place _ (omega arith) laid))
 
-pub tokens_laid : (text : List ℕ) → IsLaid (length text) (tokens_of text)
+pub tokens_laid : (edition : EditionYear) (text : List ℕ) → IsLaid (length text) (tokens_of edition text)
 unfolding tokens_of
-tokens_laid text =
+tokens_laid edition text =
     let whole : length (text_of (tokens text)) ≡ length text = ap length (tokens_lossless text) in
     record { laid = laid_from (length text) 0 (tokens text) (tokens_placed text) (tokens_not_empty text) (omega arith) }

@@ -4,6 +4,7 @@ use Rattle.std.proofs.lemmas.Bool.{cases_Bool, eqb-true}
 use Rattle.std.specs.Prelude.{if◌then◌else◌}
 use Rattle.rust_lexer.specs.Piece.{Piece}
 use Rattle.rust_lexer.specs.Symbol.{symbol_of}
+use Rattle.rust_cursor.specs.declared.cursor.nest.Before.{Before}
 use Rattle.rust_cursor.specs.declared.cursor.nest.Nest.{Nest}
 use Rattle.rust_cursor.specs.declared.cursor.generics.Reach.{Reach}
 use Rattle.rust_cursor.specs.declared.cursor.generics.Reach.TheVariants as reaches
@@ -11,7 +12,7 @@ use Rattle.rust_cursor.specs.declared.cursor.texts.Extent.{Extent}
 use Rattle.rust_cursor.specs.Tokens.{Tokens}
 use Rattle.rust_cursor.specs.Reader.{Reader}
 use Rattle.rust_cursor.specs.Words.{is_close, word_by, by_first, symbol, word, is_empty, is_at_open, is_at_end, bumped, taken_if, eat, eat_word, is_pair, eat_pair}
-use Rattle.rust_cursor.specs.Nests.{flat, is_mark, nest_behind}
+use Rattle.rust_cursor.specs.Nests.{begun, flat, is_mark, nest_behind}
 use Rattle.rust_cursor.specs.Brackets.{is_closing, closing, to_closing, behind_closing, behind_closed, behind_tree}
 use Rattle.rust_cursor.specs.Elements.{beyond, turns_from, turns}
 use Rattle.rust_cursor.specs.Extents.{stops, ends, opened_behind, block_at, taking, taken}
@@ -135,9 +136,9 @@ taking_leads e done last opened nest ts =
     from_last (λ ts. (done : List ℕ) (last : ℕ) (opened : Option Tokens) (nest : Nest) → LeadsTo ts (taking e done last opened nest ts).1)
     (λ ts n done last opened nest. rw (taking_stop e done last opened nest ts (stops_empty e nest ts n)) here) (λ ts n inner. taking_next e ts inner) ts done last opened nest
 
-pub taken_leads_on : (e : Extent) → Forwards (taken e)
+pub taken_leads_on : (before : Before) (e : Extent) → Forwards (taken before e)
 unfolding taken
-taken_leads_on e ts = taking_leads e _ _ _ _ ts
+taken_leads_on before e ts = taking_leads e _ _ _ _ ts
 
 -- ---- angle brackets
 
@@ -158,7 +159,7 @@ reaching_leads r nest ts =
 
 pub reached_leads : (r : Reach) (ts : Tokens) → LeadsTo ts (reached r ts)
 unfolding reached
-reached_leads r ts = reaching_leads r flat ts
+reached_leads r ts = reaching_leads r begun ts
 
 pub behind_angles_leads : (ts : Tokens) → LeadsTo ts (behind_angles ts)
 unfolding behind_angles
@@ -258,8 +259,8 @@ block_next e start ts some inner done last opened nest p h =
     (λ s. when (ends e (is_mark nest.before) (nest_behind nest ts) ts) (λ f. rw (taking_end e done last opened nest ts s f) (block_closed start opened nest ts some h))
     (λ f. rw (taking_more e done last opened nest ts s f) (inner _ _ _ _ (through p (bumped_leads ts)) (opened_next start opened nest ts some p h))))
 
-pub taken_block : (e : Extent) (ts : Tokens) → HasBlock ts (taken e ts).1 (taken e ts).0.block
+pub taken_block : (before : Before) (e : Extent) (ts : Tokens) → HasBlock ts (taken before e ts).1 (taken before e ts).0.block
 unfolding taken
-taken_block e ts =
+taken_block before e ts =
     from_last (EndsWithBlock e ts) (λ us n done last opened nest p h. rw (taking_stop e done last opened nest us (stops_empty e nest us n)) no_block)
     (λ us n inner. block_next e ts us n inner) ts _ _ _ _ here none

@@ -6,6 +6,7 @@ pub mod Depth
 pub mod Scans
 pub mod Reaches
 pub mod Leads
+pub mod Matched
 pub mod Laid
 pub mod Rests
 pub mod White

@@ -1,5 +1,6 @@
 -- Steps of what passes over angle brackets.
 use Rattle.std.proofs.Common.{◌≡◌, ℕ, true, false, Option, List, [], ◌∷◌, refl, sym, ap, ◌∙◌}
+use Rattle.hir_input.specs.declared.edition.EditionYear.{EditionYear}
 use Rattle.rust_lexer.specs.Piece.{Piece}
 use Rattle.rust_cursor.specs.declared.cursor.nest.Nest.{Nest}
 use Rattle.rust_cursor.specs.declared.cursor.generics.Reach.{Reach}
@@ -18,25 +19,25 @@ pub reaching_stop : (r : Reach) (nest : Nest) (ts : Tokens) → is_reached r nes
 unfolding reaching
 reaching_stop r nest ts s = stop_from r nest ts ts.left s
 
-end_from : (r : Reach) (nest : Nest) (past : ℕ) (left : List Piece) (u : Option ℕ) → (let here : Tokens = record { past = past; left = left; unended = u } in
+end_from : (r : Reach) (nest : Nest) (past : ℕ) (left : List Piece) (u : Option ℕ) (y : EditionYear) → (let here : Tokens = record { past = past; left = left; unended = u; edition = y } in
     is_reached r nest here ≡ false → is_closed r (nest_behind nest here) ≡ true → reaching r nest here ≡ bumped here)
 unfolding is_reached is_empty reaching
-end_from r nest past [] u s f = absurd cc
-end_from r nest past (t ∷ ts) u s f = rw (s, f) refl
+end_from r nest past [] u y s f = absurd cc
+end_from r nest past (t ∷ ts) u y s f = rw (s, f) refl
 
 -- the next token is the last
 pub reaching_end : (r : Reach) (nest : Nest) (ts : Tokens) → is_reached r nest ts ≡ false → is_closed r (nest_behind nest ts) ≡ true → reaching r nest ts ≡ bumped ts
-reaching_end r nest ts s f = end_from r nest ts.past ts.left ts.unended s f
+reaching_end r nest ts s f = end_from r nest ts.past ts.left ts.unended ts.edition s f
 
-more_from : (r : Reach) (nest : Nest) (past : ℕ) (left : List Piece) (u : Option ℕ) → (let here : Tokens = record { past = past; left = left; unended = u } in
+more_from : (r : Reach) (nest : Nest) (past : ℕ) (left : List Piece) (u : Option ℕ) (y : EditionYear) → (let here : Tokens = record { past = past; left = left; unended = u; edition = y } in
     is_reached r nest here ≡ false → is_closed r (nest_behind nest here) ≡ false → reaching r nest here ≡ reaching r (nest_behind nest here) (bumped here))
 unfolding is_reached is_empty reaching bumped
-more_from r nest past [] u s f = absurd cc
-more_from r nest past (t ∷ ts) u s f = rw (s, f) refl
+more_from r nest past [] u y s f = absurd cc
+more_from r nest past (t ∷ ts) u y s f = rw (s, f) refl
 
 -- a token is passed over, and more
 pub reaching_more : (r : Reach) (nest : Nest) (ts : Tokens) → is_reached r nest ts ≡ false → is_closed r (nest_behind nest ts) ≡ false → reaching r nest ts ≡ reaching r (nest_behind nest ts) (bumped ts)
-reaching_more r nest ts s f = more_from r nest ts.past ts.left ts.unended s f
+reaching_more r nest ts s f = more_from r nest ts.past ts.left ts.unended ts.edition s f
 
 -- where a token is passed over, one is left
 pub reaching_some : (r : Reach) (nest : Nest) (ts : Tokens) → is_reached r nest ts ≡ false → is_empty ts ≡ false

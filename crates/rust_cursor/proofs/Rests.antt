@@ -7,8 +7,8 @@ use Rattle.rust_cursor.specs.declared.cursor.texts.Extent.{Extent}
 use Rattle.rust_cursor.specs.declared.cursor.texts.Extent.TheVariants as extents
 use Rattle.rust_cursor.specs.Tokens.{Tokens}
 use Rattle.rust_cursor.specs.Words.{symbol, text, is_empty, is_at_doc, bumped}
-use Rattle.rust_cursor.specs.Nests.{flat, is_flat, is_mark, is_whole, nest_behind}
-use Rattle.rust_cursor.specs.Extents.{ExcerptRead, excerpt, begins, stops, ends, goes_on, opened_behind, block_at, has_blank, more, taking, taken, item_rest, value_rest}
+use Rattle.rust_cursor.specs.Nests.{begun, flat, is_flat, is_mark, is_whole, nest_behind}
+use Rattle.rust_cursor.specs.Extents.{ExcerptRead, excerpt, begins, stops, ends, goes_on, opened_behind, block_at, has_blank, more, taking, taken, impl_rest, item_rest, value_rest}
 use Rattle.rust_cursor.proofs.Scans.{taking_more, taking_end}
 
 -- what is left of an item that ends with a semicolon, or of one that may end with a block
@@ -30,6 +30,10 @@ item_rest_taking ts = refl
 pub value_rest_taking : (ts : Tokens) → value_rest ts ≡ taking_rest true [] (0, None) flat ts
 unfolding taking_rest rest_extent taken
 value_rest_taking ts = refl
+
+pub impl_rest_taking : (ts : Tokens) → impl_rest ts ≡ taking_rest false [] (0, None) begun ts
+unfolding taking_rest rest_extent taken
+impl_rest_taking ts = refl
 
 -- a text with that of the next token behind
 abbrev pub and_next : List ℕ → Tokens → List ℕ

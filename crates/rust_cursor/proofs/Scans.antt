@@ -1,5 +1,6 @@
 -- Steps of what takes texts.
 use Rattle.std.proofs.Common.{◌≡◌, ℕ, true, false, Bool, Option, None, List, [], ◌∷◌, refl, sym, ap, ◌∙◌}
+use Rattle.hir_input.specs.declared.edition.EditionYear.{EditionYear}
 use Rattle.rust_lexer.specs.Piece.{Piece}
 use Rattle.rust_cursor.specs.declared.cursor.nest.Nest.{Nest}
 use Rattle.rust_cursor.specs.declared.cursor.texts.Extent.{Extent}
@@ -19,29 +20,29 @@ pub taking_stop : (e : Extent) (done : List ℕ) (last : ℕ) (opened : Option T
 unfolding taking
 taking_stop e done last opened nest ts s = stop_from e done last opened nest ts ts.left s
 
-end_from : (e : Extent) (done : List ℕ) (last : ℕ) (opened : Option Tokens) (nest : Nest) (past : ℕ) (left : List Piece) (u : Option ℕ) → (let here : Tokens = record { past = past; left = left; unended = u } in
+end_from : (e : Extent) (done : List ℕ) (last : ℕ) (opened : Option Tokens) (nest : Nest) (past : ℕ) (left : List Piece) (u : Option ℕ) (y : EditionYear) → (let here : Tokens = record { past = past; left = left; unended = u; edition = y } in
     stops e nest here ≡ false → ends e (is_mark nest.before) (nest_behind nest here) here ≡ true
     → taking e done last opened nest here ≡ (excerpt (more e last done here) (is_whole (nest_behind nest here)) (block_at (opened_behind opened nest here) here), bumped here))
 unfolding stops is_empty taking
-end_from e done last opened nest past [] u s f = absurd cc
-end_from e done last opened nest past (t ∷ ts) u s f = rw (s, f) refl
+end_from e done last opened nest past [] u y s f = absurd cc
+end_from e done last opened nest past (t ∷ ts) u y s f = rw (s, f) refl
 
 -- the next token is the last
 pub taking_end : (e : Extent) (done : List ℕ) (last : ℕ) (opened : Option Tokens) (nest : Nest) (ts : Tokens) → stops e nest ts ≡ false → ends e (is_mark nest.before) (nest_behind nest ts) ts ≡ true
     → taking e done last opened nest ts ≡ (excerpt (more e last done ts) (is_whole (nest_behind nest ts)) (block_at (opened_behind opened nest ts) ts), bumped ts)
-taking_end e done last opened nest ts s f = end_from e done last opened nest ts.past ts.left ts.unended s f
+taking_end e done last opened nest ts s f = end_from e done last opened nest ts.past ts.left ts.unended ts.edition s f
 
-more_from : (e : Extent) (done : List ℕ) (last : ℕ) (opened : Option Tokens) (nest : Nest) (past : ℕ) (left : List Piece) (u : Option ℕ) → (let here : Tokens = record { past = past; left = left; unended = u } in
+more_from : (e : Extent) (done : List ℕ) (last : ℕ) (opened : Option Tokens) (nest : Nest) (past : ℕ) (left : List Piece) (u : Option ℕ) (y : EditionYear) → (let here : Tokens = record { past = past; left = left; unended = u; edition = y } in
     stops e nest here ≡ false → ends e (is_mark nest.before) (nest_behind nest here) here ≡ false
     → taking e done last opened nest here ≡ taking e (more e last done here) (symbol here) (opened_behind opened nest here) (nest_behind nest here) (bumped here))
 unfolding stops is_empty taking bumped
-more_from e done last opened nest past [] u s f = absurd cc
-more_from e done last opened nest past (t ∷ ts) u s f = rw (s, f) refl
+more_from e done last opened nest past [] u y s f = absurd cc
+more_from e done last opened nest past (t ∷ ts) u y s f = rw (s, f) refl
 
 -- the next token is taken, and more
 pub taking_more : (e : Extent) (done : List ℕ) (last : ℕ) (opened : Option Tokens) (nest : Nest) (ts : Tokens) → stops e nest ts ≡ false → ends e (is_mark nest.before) (nest_behind nest ts) ts ≡ false
     → taking e done last opened nest ts ≡ taking e (more e last done ts) (symbol ts) (opened_behind opened nest ts) (nest_behind nest ts) (bumped ts)
-taking_more e done last opened nest ts s f = more_from e done last opened nest ts.past ts.left ts.unended s f
+taking_more e done last opened nest ts s f = more_from e done last opened nest ts.past ts.left ts.unended ts.edition s f
 
 -- where something is taken, something is left
 pub taking_some : (e : Extent) (nest : Nest) (ts : Tokens) → stops e nest ts ≡ false → is_empty ts ≡ false

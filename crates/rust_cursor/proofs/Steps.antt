@@ -1,5 +1,6 @@
 -- Steps up to a bracket that closes.
 use Rattle.std.proofs.Common.{◌≡◌, ℕ, true, false, Option, List, [], ◌∷◌, refl}
+use Rattle.hir_input.specs.declared.edition.EditionYear.{EditionYear}
 use Rattle.rust_lexer.specs.Piece.{Piece}
 use Rattle.rust_cursor.specs.declared.cursor.nest.Nest.{Nest}
 use Rattle.rust_cursor.specs.Tokens.{Tokens}
@@ -17,15 +18,15 @@ pub closing_stop : (bracket : ℕ) (nest : Nest) (ts : Tokens) → is_closing br
 unfolding closing
 closing_stop bracket nest ts e = stop_from bracket nest ts ts.left e
 
-more_from : (bracket : ℕ) (nest : Nest) (past : ℕ) (left : List Piece) (u : Option ℕ) → (let here : Tokens = record { past = past; left = left; unended = u } in
+more_from : (bracket : ℕ) (nest : Nest) (past : ℕ) (left : List Piece) (u : Option ℕ) (y : EditionYear) → (let here : Tokens = record { past = past; left = left; unended = u; edition = y } in
     is_closing bracket nest here ≡ false → closing bracket nest here ≡ closing bracket (nest_behind nest here) (bumped here))
 unfolding is_closing is_empty closing bumped
-more_from bracket nest past [] u e = absurd cc
-more_from bracket nest past (t ∷ ts) u e = rw e refl
+more_from bracket nest past [] u y e = absurd cc
+more_from bracket nest past (t ∷ ts) u y e = rw e refl
 
 -- a token is passed over, and more
 pub closing_more : (bracket : ℕ) (nest : Nest) (ts : Tokens) → is_closing bracket nest ts ≡ false → closing bracket nest ts ≡ closing bracket (nest_behind nest ts) (bumped ts)
-closing_more bracket nest ts e = more_from bracket nest ts.past ts.left ts.unended e
+closing_more bracket nest ts e = more_from bracket nest ts.past ts.left ts.unended ts.edition e
 
 -- where a token is passed over, one is left
 pub closing_some : (bracket : ℕ) (nest : Nest) (ts : Tokens) → is_closing bracket nest ts ≡ false → is_empty ts ≡ false

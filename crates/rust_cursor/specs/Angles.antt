@@ -9,7 +9,7 @@ use Rattle.rust_cursor.specs.declared.cursor.generics.Reach.{Reach}
 use Rattle.rust_cursor.specs.declared.cursor.generics.Reach.TheVariants as reaches
 use Rattle.rust_cursor.specs.Tokens.{Tokens}
 use Rattle.rust_cursor.specs.Words.{symbol, word, kind, is_empty, is_at_end, bumped}
-use Rattle.rust_cursor.specs.Nests.{flat, is_flat, is_mark, nest_behind}
+use Rattle.rust_cursor.specs.Nests.{begun, is_flat, is_mark, nest_behind}
 use Rattle.rust_cursor.specs.Extents.{begins}
 
 abbrev pub is_lifetime : Option TokenKind → Bool
@@ -65,7 +65,7 @@ unfoldable pub reaching : Reach → Nest → Tokens → Tokens
 reaching reach nest ts = reaching_from reach nest ts ts.left
 
 unfoldable pub reached : Reach → Tokens → Tokens
-reached reach ts = reaching reach flat ts
+reached reach ts = reaching reach begun ts
 
 -- What is left behind the `>` that closes a `<`, if that comes next; before a semicolon, a bracket that closes or what begins an item where none does.
 unfoldable pub behind_angles : Tokens → Tokens

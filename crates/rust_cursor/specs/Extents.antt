@@ -154,17 +154,13 @@ taking_from e done last opened nest ts (_ ∷ more_left) =
 unfoldable pub taking : Extent → List ℕ → ℕ → Option Tokens → Nest → Reader ExcerptRead
 taking e done last opened nest ts = taking_from e done last opened nest ts ts.left
 
--- what comes first stands behind this: in the brackets of a macro's parameters any tokens may stand
-abbrev pub first_before : Extent → Before
-first_before extents.Macro = befores.Mark
-first_before _ = befores.End
-
-unfoldable pub taken : Extent → Reader ExcerptRead
-taken e ts = taking e [] 0 None (flat_behind (first_before e)) ts
+-- where what comes first stands behind this
+unfoldable pub taken : Before → Extent → Reader ExcerptRead
+taken before e ts = taking e [] 0 None (flat_behind before) ts
 
 abbrev pub text_taken : Extent → Reader (List ℕ)
 text_taken e = do
-  read ← taken e
+  read ← taken befores.End e
   pure read.text
 
 -- the text of a token, or of what stands in brackets with these
@@ -173,16 +169,20 @@ tree_text = text_taken extents.Tree
 
 -- the same with a blank between each two tokens, and whether the brackets are closed
 abbrev pub tree_body : Reader ExcerptRead
-tree_body = taken extents.Group
+tree_body = taken befores.End extents.Group
 
 -- What is left of an item that ends with a semicolon, as `type`, `static` and `const`, and whether it ends so.
 abbrev pub value_rest : Reader ExcerptRead
-value_rest = taken extents.Value
+value_rest = taken befores.End extents.Value
 
 -- what is left of an item that ends with a semicolon or a block, and whether it ends so
 abbrev pub item_rest : Reader ExcerptRead
-item_rest = taken extents.Item
+item_rest = taken befores.End extents.Item
 
--- what is left of a macro with parameters, which ends so too
+-- the same behind the word `impl`, where nothing has ended: a type may begin with `!` or `impl`
+abbrev pub impl_rest : Reader ExcerptRead
+impl_rest = taken befores.Other extents.Item
+
+-- what is left of a macro with parameters, which ends so too: in their brackets any tokens may stand
 abbrev pub macro_rest : Reader ExcerptRead
-macro_rest = taken extents.Macro
+macro_rest = taken befores.Mark extents.Macro

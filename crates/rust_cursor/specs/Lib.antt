@@ -3,6 +3,7 @@ pub mod Reader
 pub mod Words
 pub mod Nests
 pub mod Brackets
+pub mod Matched
 pub mod Elements
 pub mod Extents
 pub mod Angles

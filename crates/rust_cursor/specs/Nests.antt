@@ -131,6 +131,10 @@ flat_behind before = record { braces = 0; others = 0; free = 0; angles = 0; inne
 abbrev pub flat : Nest
 flat = flat_behind befores.End
 
+-- in no bracket, where a type begins
+abbrev pub begun : Nest
+begun = flat_behind befores.Other
+
 -- no bracket in braces was left open, and none closed nothing
 abbrev pub is_whole : Nest → Bool
 is_whole nest = nest.inner == 0 && not nest.is_torn

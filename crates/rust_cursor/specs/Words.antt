@@ -85,7 +85,7 @@ rest (t ∷ ts) = ts
 
 -- what is left behind the next token
 unfoldable pub bumped : Tokens → Tokens
-bumped ts = record { past = by_first ts.past end_of ts.left; left = rest ts.left; unended = ts.unended }
+bumped ts = record { past = by_first ts.past end_of ts.left; left = rest ts.left; unended = ts.unended; edition = ts.edition }
 
 abbrev pub bump : Reader (Unit {0})
 bump ts = (tt, bumped ts)

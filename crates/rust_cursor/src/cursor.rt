@@ -12,6 +12,7 @@ mod passing;
 mod taking;
 mod texts;
 
+use hir_input::EditionYear;
 use rust_lexer::{Lexer, Token, TokenKind};
 use std::marker::Model;
 pub use texts::Excerpt;
@@ -26,6 +27,7 @@ pub struct Cursor<'t> {
     lexer: Lexer<'t>,
     /// The place of the last token that the lexer gave, if it is not ended.
     last: Option<usize>,
+    edition: EditionYear,
 }
 
 impl<'t> Model for Cursor<'t> {
@@ -36,7 +38,7 @@ impl<'t> Model for Cursor<'t> {
 
     ghost coded = { coded_tokens };
 
-    ghost view = { λ c. record { past = c.past; left = left_of c.next c.lexer; unended = last_unended c.last c.lexer } };
+    ghost view = { λ c. record { past = c.past; left = left_of c.next c.lexer; unended = last_unended c.last c.lexer; edition = c.edition } };
 
     ghost invariant = { λ c. length (left_of c.next c.lexer) < 2 ^ 64 };
 }
@@ -90,10 +92,10 @@ fn find_significant<'t>(
 }
 
 impl<'t> Cursor<'t> {
-    /// The tokens of a text.
+    /// The tokens of a text of an edition.
     #[tactic(auto, unfolding(crate::specs::Tokens::tokens_of), using(crate::proofs::Few::few))]
-    pub fn new(text: &'t str) -> Self
-        ensures { result ≡ tokens_of text.now }
+    pub fn new(text: &'t str, edition: EditionYear) -> Self
+        ensures { result ≡ tokens_of edition text.now }
     {
         let mut lexer = Lexer::new(text);
         let mut last = None;
@@ -104,6 +106,7 @@ impl<'t> Cursor<'t> {
             next,
             lexer,
             last,
+            edition,
         }
     }
 
@@ -120,7 +123,15 @@ impl<'t> Cursor<'t> {
             next,
             lexer: self.lexer.copy(),
             last: self.last,
+            edition: self.edition,
         }
+    }
+
+    /// The edition of the text.
+    pub fn edition(&self) -> EditionYear
+        ensures { result ≡ self.now.edition }
+    {
+        self.edition
     }
 
     /// The byte place behind the last token that was taken, at first 0.

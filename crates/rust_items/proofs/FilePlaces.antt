@@ -2,6 +2,7 @@
 use Rattle.std.proofs.Common.{true, ◌≡◌, ◌≢◌, ◌<◌, ◌≤◌, ◌+◌, ◌-◌, ℕ, zero, suc, Option, Some, List, [], ◌∷◌, map, length, refl, sym, ap, subst, ◌∙◌, arith, get_or}
 use Rattle.std.specs.Prelude.{option_map, AllPairs}
 use Rattle.std.proofs.lemmas.List.{length-map}
+use Rattle.hir_input.specs.declared.edition.EditionYear.{EditionYear}
 use Rattle.hir_input.specs.declared.ids.AstIdKind.{AstIdKind}
 use Rattle.hir_input.specs.declared.ids.FileAstId.{FileAstId}
 use Rattle.hir_input.specs.Syntax.{ItemView, ItemViews, plain_item, const_item, struct_item, bare_module, listed_module, use_item, extern_crate, bare_extern_block, listed_extern_block, impl_item, macro_call, macro_rules, asm_item, items_of, syntax_view}
@@ -19,11 +20,12 @@ use Rattle.rust_items.specs.declared.blocks.SourceBlock.{SourceBlock}
 use Rattle.rust_items.specs.Blocks.{IsBlock, IsBlockOf}
 use Rattle.rust_items.specs.Found.{nothing_found}
 use Rattle.rust_items.specs.Ids.{held_with_ids, with_ids}
-use Rattle.rust_items.specs.Places.{id_of, held, IsPlace, ArePlaces, nothing, placed}
+use Rattle.rust_items.specs.Places.{Telling, id_of, name_of, IsWritten, held, IsPlace, ArePlaces, nothing, placed}
+use Rattle.rust_items.proofs.Names.{IsToken, told_behind, told_written}
 use Rattle.rust_items.specs.LineEnds.{with_feeds, returns_from, place_by, place_in, moved_span}
 use Rattle.rust_items.specs.SourceFiles.{places, behind_attributes, found_in, items_in, IsFile, IsSourceFile}
 use Rattle.rust_items.proofs.LineEnds.{returns_count, place_rises_in, place_within, moved_place, places_moved}
-use Rattle.rust_items.proofs.Places.{few, widened, row_kind, place_kind, place_span, Adds, adds_problem_at, items_found}
+use Rattle.rust_items.proofs.Places.{few, widened, retold, row_kind, place_kind, place_span, Adds, adds_problem_at, items_found}
 
 -- ---- ids
 
@@ -49,6 +51,21 @@ held_id n (macro_call c) ids = refl
 held_id n (macro_rules m name) ids = refl
 held_id n (asm_item m) ids = refl
 
+held_name : (n : Numbers) (i : ItemView) (ids : List FileAstId) → name_of (held_with_ids n i ids).0 ≡ name_of i
+held_name n (plain_item k m) ids = refl
+held_name n (const_item m) ids = refl
+held_name n (struct_item m _) ids = refl
+held_name n (bare_module m semicolon) ids = refl
+held_name n (listed_module m semicolon is) ids = refl
+held_name n (use_item u) ids = refl
+held_name n (extern_crate m rename) ids = refl
+held_name n (bare_extern_block m) ids = refl
+held_name n (listed_extern_block m is) ids = refl
+held_name n (impl_item m is_trait) ids = refl
+held_name n (macro_call c) ids = refl
+held_name n (macro_rules m name) ids = refl
+held_name n (asm_item m) ids = refl
+
 held_items : (n : Numbers) (i : ItemView) (ids : List FileAstId) → held (held_with_ids n i ids).0 ≡ (with_ids (held i) ids).0
 held_items n (listed_module m semicolon is) ids = refl
 held_items n (listed_extern_block m is) ids = refl
@@ -59,8 +76,8 @@ held_ids n (listed_module m semicolon is) ids = refl
 held_ids n (listed_extern_block m is) ids = refl
 held_ids n _ ids = refl
 
-numbered_place : (from to : ℕ) (i : ItemView) (p : ItemPlace) (id : FileAstId) (ids : List FileAstId) → id.kind ≡ p.id.kind → IsPlace from to i p
-    → IsPlace from to (held_with_ids (record { hash = id.hash; number = id.number }) i ids).0 (record { id = id; range = p.range; name = p.name; body = p.body })
+numbered_place : {N : Telling} (from to : ℕ) (i : ItemView) (p : ItemPlace) (id : FileAstId) (ids : List FileAstId) → id.kind ≡ p.id.kind → IsPlace N from to i p
+    → IsPlace N from to (held_with_ids (record { hash = id.hash; number = id.number }) i ids).0 (record { id = id; range = p.range; name = p.name; body = p.body })
 numbered_place from to i p id ids same place =
     let n : Numbers = record { hash = id.hash; number = id.number } in
     record {
@@ -70,6 +87,7 @@ numbered_place from to i p id ids same place =
       ends = place.ends;
       name = place.name;
       body = place.body;
+      named = λ other. rw (held_name n i ids) (place.named (λ e. other (same ∙ e)));
     }
 
 head_kind : (k l : AstIdKind) (ks ls : List AstIdKind) → k ∷ ks ≡ l ∷ ls → k ≡ l
@@ -79,8 +97,8 @@ tail_kinds : (k l : AstIdKind) (ks ls : List AstIdKind) → k ∷ ks ≡ l ∷ l
 tail_kinds k l ks ls e = cc
 
 -- items that take ids of the kinds of their places have the places with these ids
-numbered : {from to : ℕ} {is : ItemViews} {ps rest : List ItemPlace} → ArePlaces from to is ps rest → (ids : List FileAstId) → map id_kind ids ≡ map place_kind ps
-    → ArePlaces from to (with_ids is ids).0 (places ids (map place_span ps)) (places (with_ids is ids).1 (map place_span rest)) × (map id_kind (with_ids is ids).1 ≡ map place_kind rest)
+numbered : {N : Telling} {from to : ℕ} {is : ItemViews} {ps rest : List ItemPlace} → ArePlaces N from to is ps rest → (ids : List FileAstId) → map id_kind ids ≡ map place_kind ps
+    → ArePlaces N from to (with_ids is ids).0 (places ids (map place_span ps)) (places (with_ids is ids).1 (map place_span rest)) × (map id_kind (with_ids is ids).1 ≡ map place_kind rest)
 numbered nothing ids e = (nothing, e)
 numbered (placed place inside behind) [] e = absurd cc
 numbered {from} {to} (placed {i = i} {is = is} {p = p} {ps = ps} {mid = mid} place inside behind) (id ∷ ids) e =
@@ -108,22 +126,22 @@ none_left (id ∷ ids) = refl
 -- ---- a text
 
 -- what is found in a text
-record IsText (text : List ℕ) : Type 0 where
+record IsText (edition : EditionYear) (text : List ℕ) : Type 0 where
   pub ps : List ItemPlace
-  pub adds : Adds nothing_found (found_in text) ps
-  pub are : ArePlaces 0 (length text) (items_in text) ps []
+  pub adds : Adds nothing_found (found_in edition text) ps
+  pub are : ArePlaces (IsToken (tokens_of edition text)) 0 (length text) (items_in edition text) ps []
 
-text_found : (text : List ℕ) → IsText text
+text_found : (edition : EditionYear) (text : List ℕ) → IsText edition text
 unfolding found_in items_in
-text_found text =
-    let whole = tokens_laid text in
-    let first = behind (length text) (inner_attributes_leads (tokens_of text)) whole in
-    let found = items_found (length text) true 128 nothing_found (behind_attributes text) first.laid in
+text_found edition text =
+    let whole = tokens_laid edition text in
+    let first = behind (length text) (inner_attributes_leads (tokens_of edition text)) whole in
+    let found = items_found (length text) true 128 nothing_found (behind_attributes edition text) first.laid in
     let last = behind (length text) found.leads first.laid in
     record {
       ps = found.places;
       adds = adds_problem_at _ _ found.adds;
-      are = widened 0 (length text) (omega arith) (past_within (length text) _ last.laid) found.are;
+      are = widened 0 (length text) (omega arith) (past_within (length text) _ last.laid) (retold (told_behind (inner_attributes_leads (tokens_of edition text))) found.are);
     }
 
 spans_moved : (place : ℕ → ℕ) (ps : List ItemPlace) → map (moved_span place) (map place_span ps) ≡ map place_span (map (moved_place place) ps)
@@ -135,34 +153,34 @@ kinds_moved place [] = refl
 kinds_moved place (p ∷ ps) = ap (λ l. p.id.kind ∷ l) (kinds_moved place ps)
 
 -- the ids of a file have the kinds of its places
-kinds : (text : List ℕ) (place : ℕ → ℕ) (file : SourceFile) (is : IsFile text place file) → map id_kind is.ids ≡ map place_kind (text_found text).ps
-kinds text place file is =
-    kinds_same is.ids (found_in text).rows is.are_ids.as_many (λ k l. (is.are_ids.each k l).kind)
-    ∙ (text_found text).adds.rows
+kinds : (edition : EditionYear) (text : List ℕ) (place : ℕ → ℕ) (file : SourceFile) (is : IsFile edition text place file) → map id_kind is.ids ≡ map place_kind (text_found edition text).ps
+kinds edition text place file is =
+    kinds_same is.ids (found_in edition text).rows is.are_ids.as_many (λ k l. (is.are_ids.each k l).kind)
+    ∙ (text_found edition text).adds.rows
 
 -- the places of a text are those of its items
-pub file_placed : (text : List ℕ) (file : SourceFile) → IsSourceFile text file → ArePlaces 0 (length text) (items_of (syntax_view file.syntax)) file.places.items []
-file_placed text file is =
+pub file_placed : (edition : EditionYear) (text : List ℕ) (file : SourceFile) → IsSourceFile edition text file → ArePlaces (IsWritten text) 0 (length text) (items_of (syntax_view file.syntax)) file.places.items []
+file_placed edition text file is =
     let feeds = with_feeds text in
     let place = place_in text in
-    let t = text_found feeds in
-    let moved = places_moved place (length feeds) (place_rises_in text) t.are 0 (length text) (omega arith) (place_within text) (omega arith) in
-    let all = numbered moved is.ids (kinds feeds place file is ∙ sym (kinds_moved place t.ps)) in
-    rw (is.syntax, is.places, t.adds.spans, spans_moved place t.ps) (rw (none_left (with_ids (items_in feeds) is.ids).1) at all.0)
+    let t = text_found edition feeds in
+    let moved = places_moved place (length feeds) (place_rises_in text) (IsToken (tokens_of edition feeds)) (IsWritten text) (told_written edition text) t.are 0 (length text) (omega arith) (place_within text) (omega arith) in
+    let all = numbered moved is.ids (kinds edition feeds place file is ∙ sym (kinds_moved place t.ps)) in
+    rw (is.syntax, is.places, t.adds.spans, spans_moved place t.ps) (rw (none_left (with_ids (items_in edition feeds) is.ids).1) at all.0)
 
 -- what is read of a text with line feeds alone is read of the text
-pub same_file : (text feeds : List ℕ) (len : ℕ) (returns : List ℕ) (file : SourceFile) → feeds ≡ with_feeds text → len ≡ length (with_feeds text) → returns ≡ returns_from 0 text
-    → IsFile feeds (place_by len returns) file → IsSourceFile text file
+pub same_file : (edition : EditionYear) (text feeds : List ℕ) (len : ℕ) (returns : List ℕ) (file : SourceFile) → feeds ≡ with_feeds text → len ≡ length (with_feeds text) → returns ≡ returns_from 0 text
+    → IsFile edition feeds (place_by len returns) file → IsSourceFile edition text file
 unfolding place_in
-same_file text feeds len returns file f l r is =
-    subst (λ (p : List ℕ × (ℕ × List ℕ)). IsFile p.0 (place_by p.1.0 p.1.1) file)
+same_file edition text feeds len returns file f l r is =
+    subst (λ (p : List ℕ × (ℕ × List ℕ)). IsFile edition p.0 (place_by p.1.0 p.1.1) file)
     (let e : (feeds, (len, returns)) ≡ (with_feeds text, (length (with_feeds text), returns_from 0 text)) = cc in e) is
 
-pub same_block : (text feeds : List ℕ) (len : ℕ) (returns : List ℕ) (read : SourceBlock) → feeds ≡ with_feeds text → len ≡ length (with_feeds text) → returns ≡ returns_from 0 text
-    → IsBlockOf feeds (place_by len returns) read → IsBlock text read
+pub same_block : (edition : EditionYear) (text feeds : List ℕ) (len : ℕ) (returns : List ℕ) (read : SourceBlock) → feeds ≡ with_feeds text → len ≡ length (with_feeds text) → returns ≡ returns_from 0 text
+    → IsBlockOf edition feeds (place_by len returns) read → IsBlock edition text read
 unfolding place_in
-same_block text feeds len returns read f l r is =
-    subst (λ (p : List ℕ × (ℕ × List ℕ)). IsBlockOf p.0 (place_by p.1.0 p.1.1) read)
+same_block edition text feeds len returns read f l r is =
+    subst (λ (p : List ℕ × (ℕ × List ℕ)). IsBlockOf edition p.0 (place_by p.1.0 p.1.1) read)
     (let e : (feeds, (len, returns)) ≡ (with_feeds text, (length (with_feeds text), returns_from 0 text)) = cc in e) is
 
 -- ---- ids differ
@@ -179,16 +197,16 @@ places_at (id ∷ ids) (s ∷ spans) zero d e l = refl
 places_at (id ∷ ids) (s ∷ spans) (suc k) d e l = places_at ids spans k d (omega arith) (omega arith)
 
 -- no two places of a text that is not too long have one id
-pub file_distinct : (text : List ℕ) (file : SourceFile) → IsSourceFile text file → length text ≤ 4294967296 → AllPairs (λ p q. p.id ≢ q.id) file.places.items
-file_distinct text file is short i j d before within same =
+pub file_distinct : (edition : EditionYear) (text : List ℕ) (file : SourceFile) → IsSourceFile edition text file → length text ≤ 4294967296 → AllPairs (λ p q. p.id ≢ q.id) file.places.items
+file_distinct edition text file is short i j d before within same =
     let feeds = with_feeds text in
-    let t = text_found feeds in
-    let rows = (found_in feeds).rows in
-    let spans = map (moved_span (place_in text)) (found_in feeds).spans in
+    let t = text_found edition feeds in
+    let rows = (found_in edition feeds).rows in
+    let spans = map (moved_span (place_in text)) (found_in edition feeds).spans in
     let fewer : length feeds ≤ length text = omega (arith, returns_count 0 text) in
     let as_many : length is.ids ≡ length rows = is.are_ids.as_many in
     let row_count : length rows ≡ length t.ps = sym (length-map rows row_kind) ∙ ap length t.adds.rows ∙ length-map t.ps place_kind in
-    let span_count : length spans ≡ length t.ps = length-map (found_in feeds).spans (moved_span (place_in text)) ∙ ap length t.adds.spans ∙ length-map t.ps place_span in
+    let span_count : length spans ≡ length t.ps = length-map (found_in edition feeds).spans (moved_span (place_in text)) ∙ ap length t.adds.spans ∙ length-map t.ps place_span in
     let bounded : length t.ps ≤ 0 + (length feeds - 0) = few t.are in
     let pairs : length is.ids ≡ length spans = omega arith in
     let place_count : length file.places.items ≡ length is.ids = ap length is.places ∙ places_length is.ids spans pairs in

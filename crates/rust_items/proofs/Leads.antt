@@ -1,47 +1,54 @@
 -- What is left behind items that hold none is left of the tokens before them, and what they are.
-use Rattle.std.proofs.Common.{◌≡◌, ◌==◌, ◌&&◌, ℕ, zero, suc, true, false, Option, Some, None, List, [], codes, refl, ap, ◌∙◌, arith}
+use Rattle.std.proofs.Common.{◌≡◌, ◌==◌, ◌&&◌, ℕ, zero, suc, Bool, true, false, Option, Some, None, List, [], codes, refl, ap, ◌∙◌, arith}
 use Rattle.std.specs.Prelude.{is_some}
+use Rattle.std.specs.Option.{option_or}
 use Rattle.std.specs.Str.{bytes_eq}
 use Rattle.std.proofs.lemmas.Bool.{and_parts}
 use Rattle.hir_input.specs.declared.ids.AstIdKind.{AstIdKind}
+use Rattle.hir_input.specs.declared.ids.AstIdKind.TheVariants as ast
 use Rattle.hir_input.specs.declared.ids.FileAstId.{FileAstId}
 use Rattle.hir_input.specs.declared.ast.Visibility.{Visibility}
 use Rattle.hir_input.specs.Attr.{MetaView}
 use Rattle.hir_input.specs.Syntax.{PlainKind, union_kind, enum_kind, trait_kind, no_items}
 use Rattle.rust_cursor.specs.Tokens.{Tokens}
-use Rattle.rust_cursor.specs.Words.{symbol, word, kind, text, at, is_empty, is_at_open, bumped}
+use Rattle.rust_cursor.specs.Words.{symbol, word, kind, text, at, eat_word, is_empty, is_at_open, bumped}
 use Rattle.rust_cursor.specs.Extents.{ExcerptRead, tree_body}
 use Rattle.rust_cursor.proofs.Leads.{LeadsTo, here, further, through, Forwards, when, bumped_leads, eat_leads, eat_word_leads, behind_tree_leads, taken_leads_on, Takes, takes, takes_leads, takes_behind, takes_before, symbol_some, word_none, HasBlock, no_block, block, taken_block}
 use Rattle.rust_paths.specs.declared.names.TextRange.{TextRange}
 use Rattle.rust_paths.specs.Names.{Placed, placed_name}
 use Rattle.rust_paths.specs.Paths.{path}
-use Rattle.rust_paths.proofs.Leads.{placed_name_leads, placed_next, path_leads, visibility_leads, use_tree_leads, rename_leads}
+use Rattle.rust_paths.proofs.Leads.{placed_name_leads, placed_next, path_leads, visibility_leads, use_tree_leads}
 use Rattle.rust_metas.proofs.Leads.{outer_attributes_leads}
 use Rattle.rust_leaves.specs.declared.head.Head.{Head}
 use Rattle.rust_leaves.specs.declared.head.Head.TheVariants as heads
 use Rattle.rust_leaves.specs.Heads.{is_literal_kind, behind_abi, is_modifier, behind_modifier, behind_modifiers_from, behind_modifiers, head_by, behind_head, head, is_behind_others, behind_others_from, behind_others}
 use Rattle.rust_cursor.specs.Words.{is_at_end}
-use Rattle.rust_leaves.specs.Leaves.{LeafRead, range_to, name_read, named, named_or, item_end, macro_end, value_end, semicolon_end, call_end}
-use Rattle.rust_leaves.specs.Kinds.{function, block_item, union_item, enumeration, trait_item, macro_def, type_alias, static_value, constant, structure, implementation, crate_item, use_declaration, macro_definition, is_called, invocation, leaf_by, leaf}
+use Rattle.rust_leaves.specs.Leaves.{LeafRead, range_to, name_read, named, named_or, alias, alias_if, renamed, impl_end, item_end, macro_end, value_end, semicolon_end, call_end}
+use Rattle.rust_leaves.specs.Kinds.{function, block_item, union_item, enumeration, trait_item, macro_def, type_alias, static_value, constant, structure, implementation, told_at, crate_item, use_declaration, macro_definition, is_called, invocation, leaf_by, leaf}
 use Rattle.rust_leaves.specs.Fronts.{FrontRead, front_behind, front}
-use Rattle.rust_items.specs.Places.{id_of, held}
+use Rattle.rust_items.specs.Places.{id_of, name_of, held}
+use Rattle.rust_items.proofs.Names.{IsToken, untold, told_behind, named_told, named_or_told}
 
 -- ---- texts
 
 tree_body_leads : Forwards tree_body
-tree_body_leads ts = taken_leads_on _ ts
+tree_body_leads ts = taken_leads_on _ _ ts
 
 item_end_leads : Forwards item_end
 unfolding item_end
-item_end_leads ts = taken_leads_on _ ts
+item_end_leads ts = taken_leads_on _ _ ts
+
+impl_end_leads : Forwards impl_end
+unfolding impl_end
+impl_end_leads ts = taken_leads_on _ _ ts
 
 macro_end_leads : Forwards macro_end
 unfolding macro_end
-macro_end_leads ts = taken_leads_on _ ts
+macro_end_leads ts = taken_leads_on _ _ ts
 
 value_end_leads : Forwards value_end
 unfolding value_end
-value_end_leads ts = taken_leads_on _ ts
+value_end_leads ts = taken_leads_on _ _ ts
 
 semicolon_end_leads : (read : ExcerptRead) → Forwards (semicolon_end read)
 semicolon_end_leads read ts = eat_leads _ ts
@@ -156,6 +163,35 @@ unfolding named_or
 named_or_named keyword some ts =
     when (bytes_eq (word ts) keyword) (λ e. rw e (by_token ts here (word_some keyword some ts e) here)) (λ e. rw e (named_named ts))
 
+alias_leads : Forwards alias
+unfolding alias
+alias_leads ts = when (bytes_eq (word ts) (codes "_")) (λ e. rw e (bumped_leads ts)) (λ e. rw e (named_leads ts))
+
+alias_named : (ts : Tokens) → IsNamed ts (alias ts).1 (alias ts).0.range
+unfolding alias
+alias_named ts = when (bytes_eq (word ts) (codes "_")) (λ e. rw e (by_token ts here (word_some (codes "_") refl ts e) here)) (λ e. rw e (named_named ts))
+
+alias_if_leads : (found : Bool) → Forwards (alias_if found)
+alias_if_leads true ts = alias_leads ts
+alias_if_leads false ts = here
+
+renamed_leads : Forwards renamed
+unfolding renamed
+renamed_leads ts = through (eat_word_leads (codes "as") ts) (alias_if_leads _ _)
+
+either_named : {ts us vs : Tokens} (a b : Option TextRange) → LeadsTo ts us → IsNamed us vs a → IsNamed ts vs b → IsNamed ts vs (option_or a b)
+either_named (Some r) b p n m = name_behind p n
+either_named None b p n m = m
+
+told_if : (range : Option TextRange) (found : Bool) (ts us : Tokens) → IsNamed ts us range → LeadsTo ts us → IsNamed ts (alias_if found us).1 (told_at range (alias_if found us).0)
+told_if range true ts us m p = either_named (alias us).0.range range p (alias_named us) (name_before m (alias_leads us))
+told_if range false ts us m p = m
+
+told_named : (range : Option TextRange) (ts us : Tokens) → IsNamed ts us range → LeadsTo ts us → IsNamed ts (renamed us).1 (told_at range (renamed us).0)
+unfolding renamed
+told_named range ts us m p =
+    told_if range (eat_word (codes "as") us).0 ts (eat_word (codes "as") us).1 (name_before m (eat_word_leads (codes "as") us)) (through p (eat_word_leads (codes "as") us))
+
 -- ---- braces
 
 -- the braces that an item ends with: their `{` is a token between what was given and what is left, and another comes behind it
@@ -173,21 +209,25 @@ block_braced (block b before some t) = braced b before some t
 
 item_end_braced : (ts : Tokens) → IsBraced ts (item_end ts).1 (item_end ts).0.braces
 unfolding item_end
-item_end_braced ts = block_braced (taken_block _ ts)
+item_end_braced ts = block_braced (taken_block _ _ ts)
+
+impl_end_braced : (ts : Tokens) → IsBraced ts (impl_end ts).1 (impl_end ts).0.braces
+unfolding impl_end
+impl_end_braced ts = block_braced (taken_block _ _ ts)
 
 macro_end_braced : (ts : Tokens) → IsBraced ts (macro_end ts).1 (macro_end ts).0.braces
 unfolding macro_end
-macro_end_braced ts = block_braced (taken_block _ ts)
+macro_end_braced ts = block_braced (taken_block _ _ ts)
 
 value_end_braced : (ts : Tokens) → IsBraced ts (value_end ts).1 (value_end ts).0.braces
 unfolding value_end
-value_end_braced ts = block_braced (taken_block _ ts)
+value_end_braced ts = block_braced (taken_block _ _ ts)
 
 call_end_braced : (ts : Tokens) → IsBraced ts (call_end ts).1 (call_end ts).0.braces
 unfolding call_end
 call_end_braced ts =
     when (is_at_open ts)
-    (λ e. rw e (when (symbol ts == 123) (λ f. rw f (block_braced (taken_block _ ts))) (λ f. rw f unbraced)))
+    (λ e. rw e (when (symbol ts == 123) (λ f. rw f (block_braced (taken_block _ _ ts))) (λ f. rw f unbraced)))
     (λ e. rw e unbraced)
 
 -- ---- items that hold none
@@ -202,14 +242,15 @@ pub record IsLeaf (ts us : Tokens) (l : LeafRead) : Type 0 where
   pub alone : held l.item ≡ no_items
   pub name : IsNamed ts us l.named
   pub body : IsBraced ts us l.body
+  pub told : (l.kind ≡ ast.ExternCrate → ⊥) → IsToken ts (name_of l.item) l.named
 
 module _ (attrs : List MetaView) (v : Option Visibility) (ts : Tokens) where
   function_leaf : IsLeaf ts (function attrs v ts).1 (function attrs v ts).0
   unfolding function
-  function_leaf = record { leads = through (named_leads ts) (item_end_leads _); id = refl; alone = refl; name = name_before (named_named ts) (item_end_leads _); body = braces_behind (named_leads ts) (item_end_braced _) }
+  function_leaf = record { leads = through (named_leads ts) (item_end_leads _); id = refl; alone = refl; name = name_before (named_named ts) (item_end_leads _); body = braces_behind (named_leads ts) (item_end_braced _); told = λ _. named_told ts }
 
   block_leaf : (k : PlainKind) → IsLeaf ts (block_item k attrs v ts).1 (block_item k attrs v ts).0
-  block_leaf k = record { leads = through (named_leads ts) (item_end_leads _); id = refl; alone = refl; name = name_before (named_named ts) (item_end_leads _); body = braces_behind (named_leads ts) (item_end_braced _) }
+  block_leaf k = record { leads = through (named_leads ts) (item_end_leads _); id = refl; alone = refl; name = name_before (named_named ts) (item_end_leads _); body = braces_behind (named_leads ts) (item_end_braced _); told = λ _. named_told ts }
 
   union_leaf : IsLeaf ts (union_item attrs v ts).1 (union_item attrs v ts).0
   unfolding union_item
@@ -225,11 +266,11 @@ module _ (attrs : List MetaView) (v : Option Visibility) (ts : Tokens) where
 
   macro_def_leaf : IsLeaf ts (macro_def attrs v ts).1 (macro_def attrs v ts).0
   unfolding macro_def
-  macro_def_leaf = record { leads = through (named_leads ts) (macro_end_leads _); id = refl; alone = refl; name = name_before (named_named ts) (macro_end_leads _); body = braces_behind (named_leads ts) (macro_end_braced _) }
+  macro_def_leaf = record { leads = through (named_leads ts) (macro_end_leads _); id = refl; alone = refl; name = name_before (named_named ts) (macro_end_leads _); body = braces_behind (named_leads ts) (macro_end_braced _); told = λ _. named_told ts }
 
   type_alias_leaf : IsLeaf ts (type_alias attrs v ts).1 (type_alias attrs v ts).0
   unfolding type_alias
-  type_alias_leaf = record { leads = through (named_leads ts) (value_end_leads _); id = refl; alone = refl; name = name_before (named_named ts) (value_end_leads _); body = braces_behind (named_leads ts) (value_end_braced _) }
+  type_alias_leaf = record { leads = through (named_leads ts) (value_end_leads _); id = refl; alone = refl; name = name_before (named_named ts) (value_end_leads _); body = braces_behind (named_leads ts) (value_end_braced _); told = λ _. named_told ts }
 
   static_leaf : IsLeaf ts (static_value attrs v ts).1 (static_value attrs v ts).0
   unfolding static_value
@@ -239,6 +280,7 @@ module _ (attrs : List MetaView) (v : Option Visibility) (ts : Tokens) where
     alone = refl;
     name = name_behind (eat_word_leads _ ts) (name_before (named_named _) (value_end_leads _));
     body = braces_behind (through (eat_word_leads _ ts) (named_leads _)) (value_end_braced _);
+    told = λ _. told_behind (eat_word_leads _ ts) _ _ (named_told _);
   }
 
   const_leaf : IsLeaf ts (constant attrs v ts).1 (constant attrs v ts).0
@@ -249,29 +291,31 @@ module _ (attrs : List MetaView) (v : Option Visibility) (ts : Tokens) where
     alone = refl;
     name = name_before (named_named ts) (through (eat_word_leads _ _) (value_end_leads _));
     body = braces_behind (through (named_leads ts) (eat_word_leads _ _)) (value_end_braced _);
+    told = λ _. named_told ts;
   }
 
   struct_leaf : IsLeaf ts (structure attrs v ts).1 (structure attrs v ts).0
   unfolding structure
-  struct_leaf = record { leads = through (named_leads ts) (item_end_leads _); id = refl; alone = refl; name = name_before (named_named ts) (item_end_leads _); body = braces_behind (named_leads ts) (item_end_braced _) }
+  struct_leaf = record { leads = through (named_leads ts) (item_end_leads _); id = refl; alone = refl; name = name_before (named_named ts) (item_end_leads _); body = braces_behind (named_leads ts) (item_end_braced _); told = λ _. named_told ts }
 
   impl_leaf : IsLeaf ts (implementation attrs ts).1 (implementation attrs ts).0
   unfolding implementation
-  impl_leaf = record { leads = item_end_leads ts; id = refl; alone = refl; name = nameless; body = item_end_braced ts }
+  impl_leaf = record { leads = impl_end_leads ts; id = refl; alone = refl; name = nameless; body = impl_end_braced ts; told = λ _. untold }
 
   crate_leaf : IsLeaf ts (crate_item attrs v ts).1 (crate_item attrs v ts).0
   unfolding crate_item
   crate_leaf = record {
-    leads = through (named_or_leads (codes "self") ts) (through (rename_leads _) (eat_leads _ _));
+    leads = through (named_or_leads (codes "self") ts) (through (renamed_leads _) (eat_leads _ _));
     id = refl;
     alone = refl;
-    name = name_before (named_or_named (codes "self") refl ts) (through (rename_leads _) (eat_leads _ _));
+    name = name_before (told_named (named_or (codes "self") ts).0.range ts (named_or (codes "self") ts).1 (named_or_named (codes "self") refl ts) (named_or_leads (codes "self") ts)) (eat_leads _ _);
     body = unbraced;
+    told = λ other. absurd (other refl);
   }
 
   use_leaf : IsLeaf ts (use_declaration attrs v ts).1 (use_declaration attrs v ts).0
   unfolding use_declaration
-  use_leaf = record { leads = through (use_tree_leads ts) (eat_leads _ _); id = refl; alone = refl; name = nameless; body = unbraced }
+  use_leaf = record { leads = through (use_tree_leads ts) (eat_leads _ _); id = refl; alone = refl; name = nameless; body = unbraced; told = λ _. untold }
 
   macro_rules_leaf : IsLeaf ts (macro_definition attrs ts).1 (macro_definition attrs ts).0
   unfolding macro_definition
@@ -281,6 +325,7 @@ module _ (attrs : List MetaView) (v : Option Visibility) (ts : Tokens) where
     alone = refl;
     name = name_before (named_or_named (codes "try") refl ts) (call_end_leads _);
     body = braces_behind (named_or_leads (codes "try") ts) (call_end_braced _);
+    told = λ _. named_or_told 116 (codes "ry") refl ts;
   }
 
 -- an item of tokens, one at least
@@ -291,7 +336,7 @@ pub record IsTaken (ts us : Tokens) (l : LeafRead) : Type 0 where
 leaf_taken : {ts us vs : Tokens} {l : LeafRead} → Takes ts us → IsLeaf us vs l → IsTaken ts vs l
 leaf_taken t l = record {
   takes = takes_before t l.leads;
-  leaf = record { leads = through (takes_leads t) l.leads; id = l.id; alone = l.alone; name = name_behind (takes_leads t) l.name; body = braces_behind (takes_leads t) l.body };
+  leaf = record { leads = through (takes_leads t) l.leads; id = l.id; alone = l.alone; name = name_behind (takes_leads t) l.name; body = braces_behind (takes_leads t) l.body; told = λ other. told_behind (takes_leads t) _ _ (l.told other) };
 }
 
 -- an item, or none
@@ -309,7 +354,7 @@ invocation_found attrs ts us p =
     when (is_some (path us).0 && is_called (path us).1)
     (λ e. rw e (record {
       takes = takes (path us).1 (through p (path_leads us)) (called_some (path us).1 (and_parts (is_some (path us).0) (is_called (path us).1) e).1) (call_end_leads _);
-      leaf = record { leads = through p (through (path_leads us) (further (call_end_leads _))); id = refl; alone = refl; name = nameless; body = braces_behind (through p (through (path_leads us) (further here))) (call_end_braced _) };
+      leaf = record { leads = through p (through (path_leads us) (further (call_end_leads _))); id = refl; alone = refl; name = nameless; body = braces_behind (through p (through (path_leads us) (further here))) (call_end_braced _); told = λ _. untold };
     }))
     (λ e. rw e p)
 

@@ -1,6 +1,7 @@
 pub mod Steps
 pub mod Parts
 pub mod Numbering
+pub mod Names
 pub mod Leads
 pub mod Places
 pub mod LineEnds

@@ -1,18 +1,18 @@
 -- Texts with line feeds alone.
-use Rattle.std.proofs.Common.{◌≡◌, ◌≢◌, ◌<◌, ◌≤◌, ◌+◌, ◌-◌, ◌==◌, ◌&&◌, ◌++◌, ℕ, zero, suc, Bool, true, false, List, [], ◌∷◌, map, length, get_or, if◌then◌else◌, Option, Some, None, refl, sym, ap, ◌∙◌, arith, append_assoc, append-nil, length-append, lit<, ⊎_elim}
-use Rattle.std.specs.Prelude.{nat_le, nat_lt, option_map, cond}
-use Rattle.std.specs.List.{prefix_len}
+use Rattle.std.proofs.Common.{◌≡◌, ◌≢◌, ◌<◌, ◌≤◌, ◌+◌, ◌-◌, ◌==◌, ◌++◌, ℕ, zero, suc, Bool, true, false, List, [], ◌∷◌, map, length, get_or, take, drop, if◌then◌else◌, Option, Some, None, refl, sym, ap, ◌∙◌, arith, append_assoc, append-nil, length-append, lit<, ⊎_elim}
+use Rattle.std.specs.Prelude.{nat_le, nat_lt, option_map, slice_range}
+use Rattle.std.specs.List.{prefix_len, list_any}
 use Rattle.std.specs.List.Sorted.{IsPartitionPoint}
 use Rattle.std.specs.Str.Pattern.{FindsChar}
 use Rattle.std.proofs.lemmas.Str.Pattern.{split_parts}
 use Rattle.std.proofs.Math.Nat.{eq-or-lt_of_le}
-use Rattle.std.proofs.lemmas.Bool.{ne_eqb, cases_Bool}
+use Rattle.std.proofs.lemmas.Bool.{ne_eqb, cases_Bool, and_parts, eqb-true}
 use Rattle.std.proofs.lemmas.Bool.Decides.{nat_tests}
 use Rattle.hir_input.specs.Syntax.{ItemViews}
 use Rattle.rust_paths.specs.declared.names.TextRange.{TextRange}
 use Rattle.rust_items.specs.declared.source_file.ItemPlace.{ItemPlace}
 use Rattle.rust_items.specs.LineEnds.{is_return, with_feeds, returns_from, place_by, place_in, moved_range}
-use Rattle.rust_items.specs.Places.{IsBodyIn, IsNameIn, IsPlace, ArePlaces, nothing, placed}
+use Rattle.rust_items.specs.Places.{Telling, name_of, IsBodyIn, IsNameIn, IsPlace, ArePlaces, nothing, placed}
 
 -- ---- where no return stands
 
@@ -177,12 +177,112 @@ pub place_rises_in : (text : List ℕ) (m n : ℕ) → m < n → n ≤ length (w
 unfolding place_in
 place_rises_in text m n l h = place_rises (length (with_feeds text)) (returns_from 0 text) m n l h
 
+-- ---- what stands in a text
+
+below_none : (m at : ℕ) (z : List ℕ) → m ≤ at → prefix_len (λ q. nat_lt q m) (returns_from at z) ≡ 0
+below_none m at z h =
+    prefix_at (λ q. nat_lt q m) (returns_from at z) 0 (omega arith) (λ k d l. absurd (omega arith))
+    (λ k d l b. let above : at ≤ get_or (returns_from at z) k d = returns_above at z k d b in not_below (get_or (returns_from at z) k d) m (omega arith))
+  where
+    not_below : (x m : ℕ) → m ≤ x → nat_lt x m ≡ false
+    not_below x m h = grind (arith, nat_tests)
+
+-- so many returns stand before a place
+abbrev before : ℕ → ℕ → List ℕ → ℕ
+before place at z = prefix_len (λ q. nat_lt q place) (returns_from at z)
+
+-- a part without a line feed stands behind the returns before it, and none is in it
+abbrev IsHeld : ℕ → List ℕ → ℕ → List ℕ → Type 0
+IsHeld at z n mid = (take (length mid) (drop (n + before (at + n) at z) z) ≡ mid) × (before (at + (n + length mid)) at z ≡ before (at + n) at z)
+
+tail_same : (b c : ℕ) (x y : List ℕ) → b ∷ x ≡ c ∷ y → x ≡ y
+tail_same b c x y e = cc
+
+head_same : (b c : ℕ) (x y : List ℕ) → b ∷ x ≡ c ∷ y → b ≡ c
+head_same b c x y e = cc
+
+feed_first : (z rest : List ℕ) (b c : ℕ) → is_return b z ≡ true → with_feeds z ≡ c ∷ rest → (c == 10) ≡ true
+feed_first [] rest b c r e = let none : false ≡ true = (and_parts (b == 13) false r).1 in absurd cc
+feed_first (d ∷ z) rest b c r e =
+    let feed : (d == 10) ≡ true = (and_parts (b == 13) (d == 10) r).1 in
+    let ten : d ≡ 10 = eqb-true d 10 feed in
+    let other : is_return d z ≡ false = rw ten refl in
+    let same : d ∷ with_feeds z ≡ c ∷ rest = rw other at e in
+    let first : d ≡ c = head_same d c _ _ same in
+    rw (← first) feed
+
+before_return : (place at b : ℕ) (z : List ℕ) → is_return b z ≡ true → at < place → before place at (b ∷ z) ≡ suc (before place at z)
+before_return place at b z r l = let below : nat_lt at place ≡ true = grind (arith, nat_tests) in rw r (rw below (omega arith))
+
+before_other : (place at b : ℕ) (z : List ℕ) → is_return b z ≡ false → before place at (b ∷ z) ≡ before place (suc at) z
+before_other place at b z r = rw r refl
+
+held_return : (at b n : ℕ) (z mid : List ℕ) → is_return b z ≡ true → 0 < n → IsHeld at z n mid → IsHeld at (b ∷ z) n mid
+held_return at b n z mid r l i =
+    let first = before_return (at + n) at b z r (omega arith) in
+    let last = before_return (at + (n + length mid)) at b z r (omega arith) in
+    let more : n + before (at + n) at (b ∷ z) ≡ suc (n + before (at + n) at z) = omega arith in
+    (ap (λ m. take (length mid) (drop m (b ∷ z))) more ∙ i.0, last ∙ ap suc i.1 ∙ sym first)
+
+held_other : (at b n : ℕ) (z mid : List ℕ) → is_return b z ≡ false → IsHeld (suc at) z n mid → IsHeld at (b ∷ z) (suc n) mid
+held_other at b n z mid r i =
+    let first : before (at + suc n) at (b ∷ z) ≡ before (suc at + n) (suc at) z = before_other _ at b z r ∙ ap (λ p. before p (suc at) z) (omega arith) in
+    let last : before (at + (suc n + length mid)) at (b ∷ z) ≡ before (suc at + (n + length mid)) (suc at) z = before_other _ at b z r ∙ ap (λ p. before p (suc at) z) (omega arith) in
+    let more : suc n + before (at + suc n) at (b ∷ z) ≡ suc (n + before (suc at + n) (suc at) z) = omega arith in
+    (ap (λ m. take (length mid) (drop m (b ∷ z))) more ∙ i.0, last ∙ i.1 ∙ sym first)
+
+held_first : (at b c : ℕ) (z mid : List ℕ) → is_return b z ≡ false → b ≡ c → IsHeld (suc at) z 0 mid → IsHeld at (b ∷ z) 0 (c ∷ mid)
+held_first at b c z mid r e i =
+    let none : before (at + 0) at (b ∷ z) ≡ 0 = before_other _ at b z r ∙ below_none (at + 0) (suc at) z (omega arith) in
+    let next : before (suc at + 0) (suc at) z ≡ 0 = below_none (suc at + 0) (suc at) z (omega arith) in
+    let rest : take (length mid) z ≡ mid = rw next at i.0 in
+    let last : before (at + (0 + suc (length mid))) at (b ∷ z) ≡ before (suc at + (0 + length mid)) (suc at) z = before_other _ at b z r ∙ ap (λ p. before p (suc at) z) (omega arith) in
+    (ap (λ m. take (suc (length mid)) (drop (0 + m) (b ∷ z))) none ∙ ap (λ x. x ∷ take (length mid) z) e ∙ ap (λ l. c ∷ l) rest, last ∙ i.1 ∙ next ∙ sym none)
+
+held_part : (at : ℕ) (z front mid back : List ℕ) → with_feeds z ≡ front ++ (mid ++ back) → list_any (λ c. c == 10) mid ≡ false → IsHeld at z (length front) mid
+held_part at [] [] [] back e h = (refl, refl)
+held_part at [] [] (m ∷ mid) back e h = absurd cc
+held_part at [] (f ∷ front) mid back e h = absurd cc
+held_part at (b ∷ z) [] [] back e h = (refl, refl)
+held_part at (b ∷ z) [] (m ∷ mid) back e h =
+    ⊎_elim (λ (r : is_return b z ≡ true). let ten = feed_first z (mid ++ back) b m r (rw r at e) in let wrong : true ≡ false = rw ten at h in absurd cc)
+    (λ (r : is_return b z ≡ false). let same : b ∷ with_feeds z ≡ m ∷ (mid ++ back) = rw r at e in
+    held_first at b m z mid r (head_same b m _ _ same) (held_part (suc at) z [] mid back (tail_same b m _ _ same) (any_tail m mid h)))
+    (cases_Bool (is_return b z))
+  where
+    any_tail : (m : ℕ) (mid : List ℕ) → list_any (λ c. c == 10) (m ∷ mid) ≡ false → list_any (λ c. c == 10) mid ≡ false
+    any_tail m mid h = ⊎_elim (λ (e : (m == 10) ≡ true). let wrong : true ≡ false = rw e at h in absurd cc) (λ (e : (m == 10) ≡ false). rw e at h) (cases_Bool (m == 10))
+held_part at (b ∷ z) (f ∷ front) mid back e h =
+    ⊎_elim (λ (r : is_return b z ≡ true). held_return at b (suc (length front)) z mid r (omega arith) (held_part at z (f ∷ front) mid back (rw r at e) h))
+    (λ (r : is_return b z ≡ false). let same : b ∷ with_feeds z ≡ f ∷ (front ++ (mid ++ back)) = rw r at e in held_other at b (length front) z mid r (held_part (suc at) z front mid back (tail_same b f _ _ same) h))
+    (cases_Bool (is_return b z))
+
+place_held : (z : List ℕ) (m : ℕ) → m ≤ length (with_feeds z) → place_in z m ≡ m + before m 0 z
+unfolding place_in
+place_held z m l = rw (le_true m (length (with_feeds z)) l) refl
+
+-- a part of the text with line feeds alone that holds none stands in the text
+pub part_moved : (z front mid back : List ℕ) → with_feeds z ≡ front ++ (mid ++ back) → list_any (λ c. c == 10) mid ≡ false → slice_range z (place_in z (length front)) (place_in z (length front + length mid)) ≡ mid
+part_moved z front mid back e h =
+    let n = length front in
+    let len : length (with_feeds z) ≡ n + (length mid + length back) = ap length e ∙ length-append front (mid ++ back) ∙ ap (λ m. n + m) (length-append mid back) in
+    let held = held_part 0 z front mid back e h in
+    let start = place_held z n (omega arith) in
+    let end = place_held z (n + length mid) (omega arith) in
+    let first : 0 + n ≡ n = omega arith in
+    let last : 0 + (n + length mid) ≡ n + length mid = omega arith in
+    let same : before (n + length mid) 0 z ≡ before n 0 z = ap (λ k. before k 0 z) (sym last) ∙ held.1 ∙ ap (λ k. before k 0 z) first in
+    let part : take (length mid) (drop (n + before n 0 z) z) ≡ mid = ap (λ k. take (length mid) (drop (n + before k 0 z) z)) (sym first) ∙ held.0 in
+    let many : (n + length mid + before (n + length mid) 0 z) - (n + before n 0 z) ≡ length mid = omega arith in
+    rw (start, end) (ap (λ m. take m (drop (n + before n 0 z) z)) many ∙ part)
+
 -- ---- the places of items
 
 abbrev pub moved_place : (ℕ → ℕ) → ItemPlace → ItemPlace
 moved_place place p = record { id = p.id; range = moved_range place p.range; name = option_map (moved_range place) p.name; body = option_map (moved_range place) p.body }
 
-module _ (place : ℕ → ℕ) (end : ℕ) (rises : (m n : ℕ) → m < n → n ≤ end → place m < place n) where
+module _ (place : ℕ → ℕ) (end : ℕ) (rises : (m n : ℕ) → m < n → n ≤ end → place m < place n)
+    (N M : Telling) (told : (o : Option (List ℕ)) (r : Option TextRange) → N o r → M o (option_map (moved_range place) r)) where
   place_le : (m n : ℕ) → m ≤ n → n ≤ end → place m ≤ place n
   place_le m n l h = ⊎_elim (λ (k : m ≡ n). let e = ap place k in omega arith) (λ (k : m < n). let r = rises m n k h in omega arith) (eq-or-lt_of_le l)
 
@@ -197,13 +297,13 @@ module _ (place : ℕ → ℕ) (end : ℕ) (rises : (m n : ℕ) → m < n → n 
       let second : place (b.start + 1) < place b.end = rises (b.start + 1) b.end (omega (arith, h.1)) (omega (arith, h.2)) in
       (place_le r.start b.start h.0 (omega (arith, h.1, h.2)), omega arith, ap place h.2)
 
-  pub places_moved : {from to : ℕ} {is : ItemViews} {ps rest : List ItemPlace} → ArePlaces from to is ps rest → (low high : ℕ) → low ≤ place from → place to ≤ high → to ≤ end
-      → ArePlaces low high is (map (moved_place place) ps) (map (moved_place place) rest)
+  pub places_moved : {from to : ℕ} {is : ItemViews} {ps rest : List ItemPlace} → ArePlaces N from to is ps rest → (low high : ℕ) → low ≤ place from → place to ≤ high → to ≤ end
+      → ArePlaces M low high is (map (moved_place place) ps) (map (moved_place place) rest)
   places_moved nothing low high l h e = nothing
   places_moved {from} {to} (placed {i = i} {p = p} at inside behind) low high l h e =
       let within : p.range.end ≤ end = omega (arith, at.ends) in
       let begins : place from ≤ place p.range.start = place_le from p.range.start at.begins (omega (arith, at.some)) in
       let ends : place p.range.end ≤ place to = place_le p.range.end to at.ends e in
       let next : place p.range.start < place (p.range.start + 1) = rises p.range.start (p.range.start + 1) (omega arith) (omega (arith, at.some)) in
-      let here : IsPlace low high i (moved_place place p) = record { id = at.id; begins = omega arith; some = rises p.range.start p.range.end at.some within; ends = omega arith; name = moved_name p.range p.name within at.name; body = moved_body p.range p.body within at.body } in
+      let here : IsPlace M low high i (moved_place place p) = record { id = at.id; begins = omega arith; some = rises p.range.start p.range.end at.some within; ends = omega arith; name = moved_name p.range p.name within at.name; body = moved_body p.range p.body within at.body; named = λ other. told (name_of i) p.name (at.named other) } in
       placed here (places_moved inside (place p.range.start + 1) (place p.range.end) (omega arith) (omega arith) within) (places_moved behind (place p.range.end) high (omega arith) h e)

@@ -22,41 +22,48 @@ use Rattle.rust_items.specs.declared.log.ItemSpan.{ItemSpan}
 use Rattle.rust_items.specs.declared.log.ProblemKind.{ProblemKind}
 use Rattle.rust_items.specs.declared.log.ProblemKind.TheVariants as problem
 use Rattle.rust_items.specs.declared.source_file.ItemPlace.{ItemPlace}
-use Rattle.rust_items.specs.Found.{Found, Finder, nothing_found, and_problem, and_problem_if, and_problem_at, and_all}
+use Rattle.rust_items.specs.Found.{Found, Finder, nothing_found, and_problem, and_problem_if, and_problem_at, and_use_trees, and_all}
 use Rattle.rust_leaves.specs.Leaves.{LeafRead, NameRead, no_name, named}
 use Rattle.rust_leaves.specs.Kinds.{node, named_node}
 use Rattle.rust_leaves.specs.Fronts.{FrontRead, front}
 use Rattle.rust_items.specs.Items.{BlockRead, and_flaw, and_item, and_leaf, and_parent, leaf_found, leaf_turn, finding_from, finding, is_list_end, block_of, as_extern, extern_kept, extern_found, extern_turn, extern_inside, extern_block, one_more, unmatched, inside_unless, module_with, by_head, turn_with, inside, turn, depth_of, items}
-use Rattle.rust_items.specs.Places.{id_of, held, IsNameIn, IsBodyIn, IsPlace, ArePlaces, nothing, placed}
+use Rattle.rust_items.specs.Places.{Telling, id_of, name_of, held, IsNameIn, IsBodyIn, IsPlace, ArePlaces, nothing, placed}
 use Rattle.rust_items.proofs.Leads.{IsNamed, nameless, by_token, name_behind, name_before, IsBraced, unbraced, braced, blank, IsLeaf, IsTaken, LeafFound, TakesBy, front_takes, front_start, named_leads, named_named, behind_others_leads}
 use Rattle.rust_items.proofs.Leads as leads
+use Rattle.rust_items.proofs.Names.{IsToken, untold, told_behind, named_told}
 
 -- ---- places
 
 -- with more places behind
-framed : {from to : ℕ} {is : ItemViews} {ps rest : List ItemPlace} (more : List ItemPlace) → ArePlaces from to is ps rest → ArePlaces from to is (ps ++ more) (rest ++ more)
+framed : {N : Telling} {from to : ℕ} {is : ItemViews} {ps rest : List ItemPlace} (more : List ItemPlace) → ArePlaces N from to is ps rest → ArePlaces N from to is (ps ++ more) (rest ++ more)
 framed more nothing = nothing
 framed more (placed p inside behind) = placed p (framed more inside) (framed more behind)
 
 -- from an earlier place on and up to a later one
-pub widened : {from to : ℕ} {is : ItemViews} {ps rest : List ItemPlace} (low high : ℕ) → low ≤ from → to ≤ high → ArePlaces from to is ps rest → ArePlaces low high is ps rest
+pub widened : {N : Telling} {from to : ℕ} {is : ItemViews} {ps rest : List ItemPlace} (low high : ℕ) → low ≤ from → to ≤ high → ArePlaces N from to is ps rest → ArePlaces N low high is ps rest
 widened low high l h nothing = nothing
 widened low high l h (placed {to = to} {p = p} place inside behind) =
     let begins = place.begins in
     let ends = place.ends in
-    placed (record { id = place.id; begins = omega arith; some = place.some; ends = omega arith; name = place.name; body = place.body }) inside (widened p.range.end high (omega arith) h behind)
+    placed (record { id = place.id; begins = omega arith; some = place.some; ends = omega arith; name = place.name; body = place.body; named = place.named }) inside (widened p.range.end high (omega arith) h behind)
+
+-- where something else is told of the names
+pub retold : {N M : Telling} {from to : ℕ} {is : ItemViews} {ps rest : List ItemPlace} → ((o : Option (List ℕ)) (r : Option TextRange) → N o r → M o r) → ArePlaces N from to is ps rest → ArePlaces M from to is ps rest
+retold f nothing = nothing
+retold f (placed {i = i} {p = p} place inside behind) =
+    placed (record { id = place.id; begins = place.begins; some = place.some; ends = place.ends; name = place.name; body = place.body; named = λ other. f (name_of i) p.name (place.named other) }) (retold f inside) (retold f behind)
 
 -- more items behind
-joined : (from mid low to : ℕ) (xs ys : List ItemView) (ps ms rest : List ItemPlace) → from ≤ low → mid ≤ low → mid ≤ to
-    → ArePlaces from mid (items_from xs) ps ms → ArePlaces low to (items_from ys) ms rest → ArePlaces from to (items_from (xs ++ ys)) ps rest
+joined : {N : Telling} (from mid low to : ℕ) (xs ys : List ItemView) (ps ms rest : List ItemPlace) → from ≤ low → mid ≤ low → mid ≤ to
+    → ArePlaces N from mid (items_from xs) ps ms → ArePlaces N low to (items_from ys) ms rest → ArePlaces N from to (items_from (xs ++ ys)) ps rest
 joined from mid low to [] ys ps ms rest a b c nothing q = widened from to a (omega arith) q
 joined from mid low to (x ∷ xs) ys ps ms rest a b c (placed {p = p} place inside behind) q =
     let begins = place.begins in
     let ends = place.ends in
-    placed (record { id = place.id; begins = place.begins; some = place.some; ends = omega arith; name = place.name; body = place.body }) inside (joined p.range.end mid low to xs ys _ ms rest (omega arith) b c behind q)
+    placed (record { id = place.id; begins = place.begins; some = place.some; ends = omega arith; name = place.name; body = place.body; named = place.named }) inside (joined p.range.end mid low to xs ys _ ms rest (omega arith) b c behind q)
 
 -- there are no more items than bytes
-pub few : {from to : ℕ} {is : ItemViews} {ps rest : List ItemPlace} → ArePlaces from to is ps rest → length ps ≤ length rest + (to - from)
+pub few : {N : Telling} {from to : ℕ} {is : ItemViews} {ps rest : List ItemPlace} → ArePlaces N from to is ps rest → length ps ≤ length rest + (to - from)
 few nothing = omega arith
 few (placed place inside behind) =
     let begins = place.begins in
@@ -100,6 +107,9 @@ pub adds_problem_at : {f g : Found} {ps : List ItemPlace} (kind : ProblemKind) (
 adds_problem_at kind None a = a
 adds_problem_at kind (Some place) a = adds_problem kind place a
 
+adds_use_trees : {f g : Found} {ps : List ItemPlace} (starts : List ℕ) → Adds f g ps → Adds f (and_use_trees starts g) ps
+adds_use_trees starts a = record { rows = a.rows; spans = a.spans }
+
 adds_more : {f g h : Found} {ps qs : List ItemPlace} → Adds f g ps → Adds g h qs → Adds f h (ps ++ qs)
 adds_more {f} {g} {h} {ps} {qs} a b = record {
   rows = b.rows ∙ ap (λ l. l ++ map place_kind qs) a.rows ∙ append_assoc (map row_kind f.rows) (map place_kind ps) (map place_kind qs)
@@ -130,7 +140,7 @@ pub record AreFound (ts us : Tokens) (f g : Found) (is : ItemViews) : Type 0 whe
   pub leads : LeadsTo ts us
   pub places : List ItemPlace
   pub adds : Adds f g places
-  pub are : ArePlaces ts.past us.past is places []
+  pub are : ArePlaces (IsToken ts) ts.past us.past is places []
 
 none_found : {ts us : Tokens} (f g : Found) → LeadsTo ts us → Adds f g [] → AreFound ts us f g no_items
 none_found f g p a = record { leads = p; places = []; adds = a; are = nothing }
@@ -149,7 +159,7 @@ found_more end ts us vs ws f g h xs ys laid p a b =
       leads = through a.leads (through p b.leads);
       places = a.places ++ b.places;
       adds = adds_more a.adds b.adds;
-      are = joined ts.past us.past vs.past ws.past xs ys (a.places ++ b.places) b.places [] (omega arith) (omega arith) (omega arith) (framed b.places a.are) b.are;
+      are = joined ts.past us.past vs.past ws.past xs ys (a.places ++ b.places) b.places [] (omega arith) (omega arith) (omega arith) (framed b.places a.are) (retold (told_behind (through a.leads p)) b.are);
     }
 
 -- ---- lists
@@ -205,18 +215,18 @@ body_in end ts us (Some range) laid (braced b before some t) =
     let strict = takes_strict end t next.laid in
     (first.place, omega arith, refl)
 
-place_is : (end : ℕ) (ts us : Tokens) (i : ItemView) (k : AstIdKind) (body name : Option TextRange) → IsLaid end ts → Takes ts us → id_of i ≡ Some (blank k) → IsNamed ts us name → IsBraced ts us body
-    → IsPlace ts.past us.past i (unnumbered k (at ts) us.past body name)
-place_is end ts us i k body name laid t e n b =
-    record { id = e; begins = at_behind end ts laid; some = takes_strict end t laid; ends = omega arith; name = name_in end ts us name laid n; body = body_in end ts us body laid b }
+place_is : (end : ℕ) (ts us : Tokens) (i : ItemView) (k : AstIdKind) (body name : Option TextRange) → IsLaid end ts → Takes ts us → id_of i ≡ Some (blank k) → IsNamed ts us name → IsBraced ts us body → ((k ≡ kind.ExternCrate → ⊥) → IsToken ts (name_of i) name)
+    → IsPlace (IsToken ts) ts.past us.past i (unnumbered k (at ts) us.past body name)
+place_is end ts us i k body name laid t e n b spelled =
+    record { id = e; begins = at_behind end ts laid; some = takes_strict end t laid; ends = omega arith; name = name_in end ts us name laid n; body = body_in end ts us body laid b; named = spelled }
 
 -- an item that holds none
 leaf_is : (end : ℕ) (ts us : Tokens) (depth : ℕ) (l : LeafRead) (f : Found) → IsLaid end ts → IsTaken ts us l → AreFound ts us f (and_leaf depth (at ts) us.past l f) (item_and l.item no_items)
 leaf_is end ts us depth l f laid t = record {
   leads = takes_leads t.takes;
   places = unnumbered l.kind (at ts) us.past l.body l.named ∷ [];
-  adds = adds_problem_at _ l.too_deep (adds_item f depth (at ts) us.past l.body l.kind l.name l.named l.is_ended);
-  are = placed (place_is end ts us l.item l.kind l.body l.named laid t.takes t.leaf.id t.leaf.name t.leaf.body) (rw t.leaf.alone nothing) nothing;
+  adds = adds_use_trees l.use_trees (adds_problem_at _ l.too_deep (adds_item f depth (at ts) us.past l.body l.kind l.name l.named l.is_ended));
+  are = placed (place_is end ts us l.item l.kind l.body l.named laid t.takes t.leaf.id t.leaf.name t.leaf.body t.leaf.told) (rw t.leaf.alone nothing) nothing;
 }
 
 -- the items of a block, if there is one
@@ -226,14 +236,14 @@ listed (Some is) = items_from is
 
 -- an item that holds these
 parent_is : (end : ℕ) (ts ms us : Tokens) (f g : Found) (depth : ℕ) (k : AstIdKind) (n : NameRead) (is_ended : Bool) (i : ItemView) (is : ItemViews) → IsLaid end ts → Takes ts ms → AreFound ms us nothing_found g is
-    → id_of i ≡ Some (blank k) → held i ≡ is → IsNamed ts ms n.range → AreFound ts us f (and_parent depth (at ts) us.past k n is_ended g f) (item_and i no_items)
-parent_is end ts ms us f g depth k n is_ended i is laid t b e same name =
+    → id_of i ≡ Some (blank k) → held i ≡ is → IsNamed ts ms n.range → IsToken ts (name_of i) n.range → AreFound ts us f (and_parent depth (at ts) us.past k n is_ended g f) (item_and i no_items)
+parent_is end ts ms us f g depth k n is_ended i is laid t b e same name spelled =
     let strict = takes_strict end t laid in
     record {
       leads = through (takes_leads t) b.leads;
       places = unnumbered k (at ts) us.past None n.range ∷ b.places;
       adds = adds_more (adds_item f depth (at ts) us.past None k n.hashed n.range is_ended) (adds_all _ g b.places b.adds);
-      are = placed (place_is end ts us i k None n.range laid (takes_before t b.leads) e (name_before name b.leads) unbraced) (rw same (widened (at ts + 1) us.past (omega arith) (omega arith) b.are)) nothing;
+      are = placed (place_is end ts us i k None n.range laid (takes_before t b.leads) e (name_before name b.leads) unbraced (λ _. spelled)) (rw same (widened (at ts + 1) us.past (omega arith) (omega arith) (retold (told_behind (takes_leads t)) b.are))) nothing;
     }
 
 -- ---- items that hold none
@@ -275,7 +285,7 @@ block_found end turn t f ts laid =
       leads = through open_leads (through list.leads close_leads);
       places = list.places;
       adds = list.adds;
-      are = widened ts.past _ first.past last.past list.are;
+      are = widened ts.past _ first.past last.past (retold (told_behind open_leads) list.are);
     }
 
 no_block_found : (f : Found) (ts : Tokens) → AreFound ts ts f f no_items
@@ -315,6 +325,10 @@ extern_id : (attrs : List MetaView) (is : Option (List ItemView)) → id_of (ext
 extern_id attrs None = refl
 extern_id attrs (Some is) = refl
 
+extern_name : (n : NodeView) (is : Option (List ItemView)) → name_of (extern_block_from n is) ≡ None
+extern_name n None = refl
+extern_name n (Some is) = refl
+
 extern_held : (n : NodeView) (is : Option (List ItemView)) → held (extern_block_from n is) ≡ listed is
 extern_held n None = refl
 extern_held n (Some is) = refl
@@ -324,7 +338,7 @@ extern_block_found : (end : ℕ) (ts us : Tokens) (depth : ℕ) (attrs : List Me
 unfolding extern_block
 extern_block_found end ts us depth attrs f laid t =
     let first = behind end (takes_leads t) laid in
-    parent_is end ts us _ f _ depth kind.ExternBlock no_name _ _ _ laid t (extern_inside_found end (one_more depth) nothing_found us first.laid) (extern_id _ _) (extern_held _ _) nameless
+    parent_is end ts us _ f _ depth kind.ExternBlock no_name _ _ _ laid t (extern_inside_found end (one_more depth) nothing_found us first.laid) (extern_id _ _) (extern_held _ _) nameless (rw (extern_name _ _) untold)
 
 -- ---- modules
 
@@ -336,6 +350,10 @@ module_id attrs name v semicolon (Some is) = refl
 module_held : (n : NamedView) (semicolon : Bool) (is : Option (List ItemView)) → held (module_from n semicolon is) ≡ listed is
 module_held n semicolon None = refl
 module_held n semicolon (Some is) = refl
+
+module_name : (n : NamedView) (semicolon : Bool) (is : Option (List ItemView)) → name_of (module_from n semicolon is) ≡ n.name
+module_name n semicolon None = refl
+module_name n semicolon (Some is) = refl
 
 module _ (end : ℕ) (inside : Finder BlockRead) (finds : FindsIn end inside) (depth : ℕ) where
   unless_found : (semicolon : Bool) → FindsIn end (inside_unless semicolon inside)
@@ -349,7 +367,7 @@ module _ (end : ℕ) (inside : Finder BlockRead) (finds : FindsIn end inside) (d
       let first = behind end (through (takes_leads t) name_leads) laid in
       let b = unless_found (eat 59 (named us).1).0 nothing_found (eat 59 (named us).1).1 first.laid in
       rw s (parent_is end ts (eat 59 (named us).1).1 _ f _ depth kind.Module (named us).0 _ _ _ laid (takes_before t name_leads) b (module_id _ _ _ _ _) (module_held _ _ _)
-      (name_behind (takes_leads t) (name_before (named_named us) (eat_leads 59 (named us).1))))
+      (name_behind (takes_leads t) (name_before (named_named us) (eat_leads 59 (named us).1))) (rw (module_name _ _ _) (told_behind (takes_leads t) _ _ (named_told us))))
 
   head_found : (head : Head) (ts us : Tokens) (h : FrontRead) (f : Found) → h.start ≡ at ts → IsLaid end ts → TakesBy head ts us → TakesBy h.head ts us
       → AreFound ts (by_head inside depth head h f us).1.1 f (by_head inside depth head h f us).1.0 (items_from (option_to_list (by_head inside depth head h f us).0))

@@ -1,6 +1,7 @@
 -- Blocks: statements one after another, and what stands last.
 use Rattle.std.specs.Prelude.{◌≡◌, ℕ, zero, suc, Bool, true, not, ◌==◌, ◌&&◌, ◌||◌, if◌then◌else◌, Option, Some, None, List, [], ◌∷◌, ◌++◌, map, codes}
 use Rattle.std.specs.Str.{bytes_eq}
+use Rattle.hir_input.specs.declared.edition.EditionYear.{EditionYear}
 use Rattle.hir_input.specs.declared.ids.AstIdKind.TheVariants as kind
 use Rattle.hir_input.specs.declared.ids.FileAstId.{FileAstId}
 use Rattle.hir_input.specs.Attr.{MetaView}
@@ -149,31 +150,31 @@ tail_with_id t ids = t
 -- ---- a text
 
 -- a block that begins with no brace goes up to the end of the text
-abbrev pub is_bare : List ℕ → Bool
-is_bare text = not (eat 123 (tokens_of text)).0
+abbrev pub is_bare : EditionYear → List ℕ → Bool
+is_bare edition text = not (eat 123 (tokens_of edition text)).0
 
 -- the inner attributes of a block, and what is behind them
-abbrev pub attributes_of : List ℕ → List MetaView × Tokens
-attributes_of text = inner_attributes (eat 123 (tokens_of text)).1
+abbrev pub attributes_of : EditionYear → List ℕ → List MetaView × Tokens
+attributes_of edition text = inner_attributes (eat 123 (tokens_of edition text)).1
 
 -- the parts of a block, what is found beside them, and what is left
-abbrev pub body_of : List ℕ → BodyRead × (Found × Tokens)
-body_of text = parts (is_bare text) nothing_found (attributes_of text).1
+abbrev pub body_of : EditionYear → List ℕ → BodyRead × (Found × Tokens)
+body_of edition text = parts (is_bare edition text) nothing_found (attributes_of edition text).1
 
 -- What is found in a block, as in a file: that a token is not ended is told of the text's last one alone.
-unfoldable pub found_of : List ℕ → Found
-found_of text = and_problem_at problem.Unterminated (body_of text).1.1.unended (body_of text).1.0
+unfoldable pub found_of : EditionYear → List ℕ → Found
+found_of edition text = and_problem_at problem.Unterminated (body_of edition text).1.1.unended (body_of edition text).1.0
 
 -- what is read of a block without returns, with the places that these have in another
-pub record IsBlockOf (text : List ℕ) (place : ℕ → ℕ) (read : SourceBlock) : Type 0 where
+pub record IsBlockOf (edition : EditionYear) (text : List ℕ) (place : ℕ → ℕ) (read : SourceBlock) : Type 0 where
   -- each item and each macro call has its id
   pub ids : List FileAstId
-  pub are_ids : AreIds (found_of text).rows ids
-  pub value : block_view read.block ≡ (let stmts = stmts_with_ids (body_of text).0.stmts ids in
-      block_expr (attributes_of text).0 stmts.0 (tail_with_id (body_of text).0.tail stmts.1))
-  pub places : read.places.items ≡ places ids (map (moved_span place) (found_of text).spans)
-  pub problems : read.problems.items ≡ map (moved_problem place) (found_of text).problems
+  pub are_ids : AreIds (found_of edition text).rows ids
+  pub value : block_view read.block ≡ (let stmts = stmts_with_ids (body_of edition text).0.stmts ids in
+      block_expr (attributes_of edition text).0 stmts.0 (tail_with_id (body_of edition text).0.tail stmts.1))
+  pub places : read.places.items ≡ places ids (map (moved_span place) (found_of edition text).spans)
+  pub problems : read.problems.items ≡ map (moved_problem place) (found_of edition text).problems
 
--- what is read of a block
-abbrev pub IsBlock : List ℕ → SourceBlock → Type 0
-IsBlock text read = IsBlockOf (with_feeds text) (place_in text) read
+-- what is read of a block of an edition
+abbrev pub IsBlock : EditionYear → List ℕ → SourceBlock → Type 0
+IsBlock edition text read = IsBlockOf edition (with_feeds text) (place_in text) read

@@ -14,7 +14,7 @@ use Rattle.rust_leaves.specs.declared.head.Head.{Head}
 use Rattle.rust_leaves.specs.declared.head.Head.TheVariants as heads
 use Rattle.rust_items.specs.declared.log.ItemSpan.{ItemSpan}
 use Rattle.rust_items.specs.declared.log.ProblemKind.TheVariants as problem
-use Rattle.rust_items.specs.Found.{Found, Finder, nothing_found, and_problem, and_problem_if, and_problem_at, and_row, and_all}
+use Rattle.rust_items.specs.Found.{Found, Finder, nothing_found, and_problem, and_problem_if, and_problem_at, and_row, and_use_trees, and_all}
 use Rattle.rust_leaves.specs.Fronts.{FrontRead, front}
 use Rattle.rust_leaves.specs.Heads.{behind_others}
 use Rattle.rust_leaves.specs.Leaves.{NameRead, LeafRead, no_name, named}
@@ -43,7 +43,8 @@ and_item depth start end body kind name named is_ended f =
     and_flaw is_ended (is_none named && needs_name kind) start (and_row (record { depth = depth; kind = kind; name = name }) (span_of start end body named) f)
 
 abbrev pub and_leaf : ℕ → ℕ → ℕ → LeafRead → Found → Found
-and_leaf depth start end l f = and_problem_at problem.TooDeep l.too_deep (and_item depth start end l.body l.kind l.name l.named l.is_ended f)
+and_leaf depth start end l f =
+    and_use_trees l.use_trees (and_problem_at problem.TooDeep l.too_deep (and_item depth start end l.body l.kind l.name l.named l.is_ended f))
 
 abbrev pub leaf_kept : ℕ → ℕ → ℕ → LeafRead → Found → Option ItemView × Found
 leaf_kept depth start end l f = (Some l.item, and_leaf depth start end l f)

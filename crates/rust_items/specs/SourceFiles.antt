@@ -1,5 +1,6 @@
 -- Source files.
 use Rattle.std.specs.Prelude.{◌≡◌, ℕ, true, List, [], ◌∷◌, map}
+use Rattle.hir_input.specs.declared.edition.EditionYear.{EditionYear}
 use Rattle.hir_input.specs.declared.ids.FileAstId.{FileAstId}
 use Rattle.hir_input.specs.Syntax.{ItemView, ItemViews, source_file, items_from, syntax_view}
 use Rattle.rust_cursor.specs.Tokens.{Tokens, tokens_of}
@@ -20,31 +21,32 @@ places [] spans = []
 places (id ∷ ids) [] = []
 places (id ∷ ids) (s ∷ spans) = record { id = id; range = s.range; name = s.name; body = s.body } ∷ places ids spans
 
--- the text behind its inner attributes
-abbrev pub behind_attributes : List ℕ → Tokens
-behind_attributes text = (inner_attributes (tokens_of text)).1
+-- the text of an edition behind its inner attributes
+abbrev pub behind_attributes : EditionYear → List ℕ → Tokens
+behind_attributes edition text = (inner_attributes (tokens_of edition text)).1
 
 -- the items of a text without their ids, what is found beside them, and what is left
-abbrev pub read_of : List ℕ → List ItemView × (Found × Tokens)
-read_of text = items true 128 nothing_found (behind_attributes text)
+abbrev pub read_of : EditionYear → List ℕ → List ItemView × (Found × Tokens)
+read_of edition text = items true 128 nothing_found (behind_attributes edition text)
 
 -- What is found in a text. That a token is not ended is told of the last one alone; an open `'` ends with its line and is not told.
-unfoldable pub found_in : List ℕ → Found
-found_in text = and_problem_at problem.Unterminated (read_of text).1.1.unended (read_of text).1.0
+unfoldable pub found_in : EditionYear → List ℕ → Found
+found_in edition text = and_problem_at problem.Unterminated (read_of edition text).1.1.unended (read_of edition text).1.0
 
 -- the items of a text, without their ids
-unfoldable pub items_in : List ℕ → ItemViews
-items_in text = items_from (read_of text).0
+unfoldable pub items_in : EditionYear → List ℕ → ItemViews
+items_in edition text = items_from (read_of edition text).0
 
 -- what is read of a text without returns, with the places that these have in another
-pub record IsFile (text : List ℕ) (place : ℕ → ℕ) (file : SourceFile) : Type 0 where
+pub record IsFile (edition : EditionYear) (text : List ℕ) (place : ℕ → ℕ) (file : SourceFile) : Type 0 where
   -- each item has its id
   pub ids : List FileAstId
-  pub are_ids : AreIds (found_in text).rows ids
-  pub syntax : syntax_view file.syntax ≡ source_file (inner_attributes (tokens_of text)).0 (with_ids (items_in text) ids).0
-  pub places : file.places.items ≡ places ids (map (moved_span place) (found_in text).spans)
-  pub problems : file.problems.items ≡ map (moved_problem place) (found_in text).problems
+  pub are_ids : AreIds (found_in edition text).rows ids
+  pub syntax : syntax_view file.syntax ≡ source_file (inner_attributes (tokens_of edition text)).0 (with_ids (items_in edition text) ids).0
+  pub places : file.places.items ≡ places ids (map (moved_span place) (found_in edition text).spans)
+  pub use_trees : file.use_trees.items ≡ map place (found_in edition text).use_trees
+  pub problems : file.problems.items ≡ map (moved_problem place) (found_in edition text).problems
 
--- what is read of a text
-abbrev pub IsSourceFile : List ℕ → SourceFile → Type 0
-IsSourceFile text file = IsFile (with_feeds text) (place_in text) file
+-- what is read of a text of an edition
+abbrev pub IsSourceFile : EditionYear → List ℕ → SourceFile → Type 0
+IsSourceFile edition text file = IsFile edition (with_feeds text) (place_in text) file

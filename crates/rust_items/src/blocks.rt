@@ -17,7 +17,7 @@ use crate::log::{Log, Problem, ProblemKind};
 use crate::source_file::{ItemPlace, places};
 use crate::turn::{Extent, push_item};
 use hir_input::ast::{BlockExpr, Item, MacroCall, Stmt, Tail};
-use hir_input::{AstIdKind, Meta};
+use hir_input::{AstIdKind, EditionYear, Meta};
 use rust_cursor::Cursor;
 use rust_ids::assign;
 use rust_leaves::{Call, front_behind, is_item, pass_statement, statement_call};
@@ -320,10 +320,15 @@ pub struct SourceBlock {
 
 /// What is read of a block's text with line feeds alone.
 #[tactic(auto, unfolding(crate::specs::Blocks::found_of))]
-fn block_of(alloc: Global, text: &str, ends: &LineEnds) -> Result<SourceBlock, AllocError>
-    ensures { IfOk result (λ read. spec.IsBlockOf text.now (place_by ends.now.len ends.now.returns.items) read) }
+fn block_of(
+    alloc: Global,
+    text: &str,
+    edition: EditionYear,
+    ends: &LineEnds,
+) -> Result<SourceBlock, AllocError>
+    ensures { IfOk result (λ read. spec.IsBlockOf edition text.now (place_by ends.now.len ends.now.returns.items) read) }
 {
-    let mut cursor = Cursor::new(text);
+    let mut cursor = Cursor::new(text, edition);
     let is_top = !cursor.eat(b'{');
     let attrs = inner_attributes(alloc, &mut cursor)?;
     let mut log = Log::new(alloc);
@@ -342,7 +347,8 @@ fn block_of(alloc: Global, text: &str, ends: &LineEnds) -> Result<SourceBlock, A
     })
 }
 
-/// Reads a block expression from its text, with its braces; a text that begins with none is that between them.
+/// Reads a block expression from its text, with its braces; a text that begins with none is that between them. The edition tells
+/// which words are names.
 ///
 /// It answers for every text. Statements that are neither items nor macro calls are not read, nor are the blocks in them. Places
 /// and spans count from the start of the text, and the ids count the items and the macro calls of this block alone: those of the
@@ -352,13 +358,17 @@ fn block_of(alloc: Global, text: &str, ends: &LineEnds) -> Result<SourceBlock, A
 ///
 /// `AllocError` where memory is refused.
 #[tactic(auto, using(crate::proofs::FilePlaces::same_block))]
-pub fn read_block(alloc: Global, text: &str) -> Result<SourceBlock, AllocError>
-    ensures { IfOk result (λ read. spec.IsBlock text.now read) }
+pub fn read_block(
+    alloc: Global,
+    text: &str,
+    edition: EditionYear,
+) -> Result<SourceBlock, AllocError>
+    ensures { IfOk result (λ read. spec.IsBlock edition text.now read) }
 {
     if !has_return(text) {
         let ends = LineEnds::none(alloc, text);
-        return block_of(alloc, text, &ends);
+        return block_of(alloc, text, edition, &ends);
     }
     let (feeds, ends) = with_feeds(alloc, text)?;
-    block_of(alloc, &feeds, &ends)
+    block_of(alloc, &feeds, edition, &ends)
 }

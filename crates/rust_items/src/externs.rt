@@ -72,6 +72,7 @@ fn kept<'t>(
         Some(item) => {
             push_item(log, extent, leaf.kind, leaf.name, leaf.named, leaf.is_ended)?;
             log.push_problem_at(ProblemKind::TooDeep, leaf.too_deep)?;
+            log.push_use_trees(leaf.use_trees)?;
             Ok(Some(item))
         }
         None => {

@@ -83,6 +83,17 @@ impl LineEnds {
         at + self.returns.partition_point(|feed| *feed < at)
     }
 
+    pub(crate) fn places(&self, alloc: Global, places: &[usize]) -> Result<Vec<usize>, AllocError>
+        ensures { IfOk result (λ v. v.items
+            ≡ map (spec.place_by self.now.len self.now.returns.items) places.now) }
+    {
+        let mut moved = Vec::with_capacity(alloc, places.len())?;
+        for at in places {
+            moved.push(self.place(*at))?;
+        }
+        Ok(moved)
+    }
+
     fn range(&self, range: TextRange) -> TextRange
         ensures { result ≡ spec.moved_range (spec.place_by self.now.len self.now.returns.items) range }
     {

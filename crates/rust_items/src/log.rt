@@ -1,13 +1,14 @@
 //! What is found beside the items.
 
 ghost use Rattle.std.specs.Prelude.{◌≡◌, OnOk};
+ghost use Rattle.rust_paths.specs.Views.{starts_view};
 ghost use Rattle.rust_items.specs.Found as spec;
 ghost use Rattle.rust_items.specs.Found.{log_view};
 ghost use Rattle.rust_items.specs.Items as items;
 
 use hir_input::AstIdKind;
 use rust_ids::Node;
-use rust_paths::TextRange;
+use rust_paths::{TextRange, TreeStarts};
 use std::alloc::{AllocError, Global};
 
 /// Where an item stands with its attributes, and where its name stands and the braces that it ends with.
@@ -42,11 +43,12 @@ pub struct Problem {
     pub at: usize,
 }
 
-/// The rows that ids are made from, the places, and the problems.
+/// The rows that ids are made from, the places, where use trees begin, and the problems.
 #[derive(Drop)]
 pub(crate) struct Log<'t> {
     pub rows: Vec<Node<'t>>,
     pub spans: Vec<ItemSpan>,
+    pub use_trees: Vec<usize>,
     pub problems: Vec<Problem>,
 }
 
@@ -57,6 +59,7 @@ impl<'t> Log<'t> {
         Log {
             rows: Vec::new(alloc),
             spans: Vec::new(alloc),
+            use_trees: Vec::new(alloc),
             problems: Vec::new(alloc),
         }
     }
@@ -103,12 +106,19 @@ impl<'t> Log<'t> {
         Ok(())
     }
 
+    pub(crate) fn push_use_trees(&mut self, starts: TreeStarts) -> Result<(), AllocError>
+        ensures { OnOk result (log_view self.new ≡ spec.and_use_trees (starts_view starts) (log_view self.old)) }
+    {
+        starts.push_to(&mut self.use_trees)
+    }
+
     /// Adds all of another behind.
     pub(crate) fn append(&mut self, mut more: Log<'t>) -> Result<(), AllocError>
         ensures { OnOk result (log_view self.new ≡ spec.and_all (log_view more.entry) (log_view self.old)) }
     {
         self.rows.append(&mut more.rows)?;
         self.spans.append(&mut more.spans)?;
+        self.use_trees.append(&mut more.use_trees)?;
         self.problems.append(&mut more.problems)?;
         Ok(())
     }

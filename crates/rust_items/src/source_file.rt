@@ -4,22 +4,23 @@ ghost use Rattle.std.specs.Prelude.{◌≡◌, ◌≢◌, ◌≤◌, ◌^◌, []
 ghost use Rattle.hir_input.specs.Syntax.{items_of, syntax_view};
 ghost use Rattle.rust_items.specs.Found.{log_view};
 ghost use Rattle.rust_items.specs.LineEnds.{moved_span, place_by};
-ghost use Rattle.rust_items.specs.Places.{ArePlaces};
+ghost use Rattle.rust_items.specs.Places.{ArePlaces, IsWritten};
 ghost use Rattle.rust_items.specs.SourceFiles as spec;
 
 use crate::ids::{Supply, items_with_ids};
 use crate::items::{MOST_DEPTH, items};
 use crate::line_ends::{LineEnds, has_return, with_feeds};
 use crate::log::{ItemSpan, Log, Problem, ProblemKind};
-use hir_input::FileAstId;
 use hir_input::ast::Syntax;
+use hir_input::{EditionYear, FileAstId};
 use rust_cursor::Cursor;
 use rust_ids::assign;
 use rust_metas::inner_attributes;
 use rust_paths::TextRange;
 use std::alloc::{AllocError, Global};
 
-/// Where an item stands: its id, its bytes with its attributes, and those of its name.
+/// Where an item stands: its id, its bytes with its attributes, and those of its name: of an extern crate that of the name or the `_`
+/// behind its `as`.
 #[derive(Clone, Copy, Debug, PartialEq, Eq)]
 pub struct ItemPlace {
     pub id: FileAstId,
@@ -37,6 +38,10 @@ pub struct SourceFile {
     pub syntax: Syntax,
     /// The places of the items, in preorder.
     pub places: Vec<ItemPlace>,
+    /// The first bytes of the use trees of the uses, each before those in it; those of a use stand in its range. A tree whose
+    /// path can not be read has none, nor has what stands in its list. So they are in the order of the numbers that the imports
+    /// of a use have for its trees.
+    pub use_trees: Vec<usize>,
     /// What is wrong with the text, in order.
     pub problems: Vec<Problem>,
 }
@@ -72,52 +77,63 @@ pub(crate) fn places(
     Ok(places)
 }
 
-/// What is read of a text with line feeds alone.
+/// What is read of a text of an edition with line feeds alone.
 #[tactic(auto, unfolding(crate::specs::SourceFiles::found_in, crate::specs::SourceFiles::items_in), using(crate::proofs::Numbering::with_ids_list))]
-fn file_of(alloc: Global, text: &str, ends: &LineEnds) -> Result<SourceFile, AllocError>
-    ensures { IfOk result (λ file. spec.IsFile text.now (place_by ends.now.len ends.now.returns.items) file) }
+fn file_of(
+    alloc: Global,
+    text: &str,
+    edition: EditionYear,
+    ends: &LineEnds,
+) -> Result<SourceFile, AllocError>
+    ensures { IfOk result (λ file. spec.IsFile edition text.now (place_by ends.now.len ends.now.returns.items) file) }
 {
-    let mut cursor = Cursor::new(text);
+    let mut cursor = Cursor::new(text, edition);
     let attrs = inner_attributes(alloc, &mut cursor)?;
     let mut log = Log::new(alloc);
     let items = items(alloc, &mut cursor, true, MOST_DEPTH, &mut log)?;
     log.push_problem_at(ProblemKind::Unterminated, cursor.unended())?;
     let ids = assign(alloc, &log.rows)?;
     let places = places(alloc, &ids, &log.spans, ends)?;
+    let use_trees = ends.places(alloc, &log.use_trees)?;
     let problems = ends.problems(alloc, &log.problems)?;
     let mut supply = Supply { rest: &ids };
     let items = items_with_ids(alloc, items, &mut supply)?;
     Ok(SourceFile {
         syntax: Syntax::SourceFile { attrs, items },
         places,
+        use_trees,
         problems,
     })
 }
 
 /// What is read of a text, whichever line ends it has.
 #[tactic(auto, using(crate::proofs::FilePlaces::same_file))]
-fn read_file(alloc: Global, text: &str) -> Result<SourceFile, AllocError>
-    ensures { IfOk result (λ file. spec.IsSourceFile text.now file) }
+fn read_file(alloc: Global, text: &str, edition: EditionYear) -> Result<SourceFile, AllocError>
+    ensures { IfOk result (λ file. spec.IsSourceFile edition text.now file) }
 {
     if !has_return(text) {
         let ends = LineEnds::none(alloc, text);
-        return file_of(alloc, text, &ends);
+        return file_of(alloc, text, edition, &ends);
     }
     let (feeds, ends) = with_feeds(alloc, text)?;
-    file_of(alloc, &feeds, &ends)
+    file_of(alloc, &feeds, edition, &ends)
 }
 
-/// Reads the items of a text.
+/// Reads the items of a text. The edition tells which words are names.
 ///
 /// It answers for every text: what is no item is passed over and told among the problems. Lines may end with line feeds, or with
 /// carriage returns before them: only places tell which. The only error is that memory runs out.
 #[tactic(auto, using(crate::proofs::FilePlaces::file_placed, crate::proofs::FilePlaces::file_distinct))]
-pub fn read_source_file(alloc: Global, text: &str) -> Result<SourceFile, AllocError>
-    ensures file { IfOk result (λ file. spec.IsSourceFile text.now file) }
+pub fn read_source_file(
+    alloc: Global,
+    text: &str,
+    edition: EditionYear,
+) -> Result<SourceFile, AllocError>
+    ensures file { IfOk result (λ file. spec.IsSourceFile edition text.now file) }
     ensures placed { IfOk result (λ file. let items = items_of (syntax_view file.syntax) in
-        ArePlaces 0 (length text.now) items file.places.items []) }
+        ArePlaces (IsWritten text.now) 0 (length text.now) items file.places.items []) }
     ensures distinct { length text.now ≤ 2 ^ 32
         → IfOk result (λ file. AllPairs (λ p q. p.id ≢ q.id) file.places.items) }
 {
-    read_file(alloc, text)
+    read_file(alloc, text, edition)
 }

@@ -85,6 +85,7 @@ fn kept<'t>(
     };
     push_item(log, extent, leaf.kind, leaf.name, leaf.named, leaf.is_ended)?;
     log.push_problem_at(ProblemKind::TooDeep, leaf.too_deep)?;
+    log.push_use_trees(leaf.use_trees)?;
     Ok(Some(leaf.item))
 }
 

@@ -1,5 +1,6 @@
 -- The items that hold no items, kind by kind. Each begins behind its attributes, its visibility, its modifiers and its word.
 use Rattle.std.specs.Prelude.{ℕ, Bool, ◌==◌, ◌&&◌, if◌then◌else◌, Option, Some, None, is_some, List, [], ◌++◌, codes}
+use Rattle.std.specs.Option.{option_or}
 use Rattle.hir_input.specs.declared.ids.AstIdKind.{AstIdKind}
 use Rattle.hir_input.specs.declared.ids.AstIdKind.TheVariants as kind
 use Rattle.hir_input.specs.declared.ids.SyntaxContext.TheVariants as context
@@ -13,13 +14,14 @@ use Rattle.hir_input.specs.Syntax.{NodeView, NamedView, PlainKind, fn_kind, unio
 use Rattle.rust_cursor.specs.Tokens.{Tokens}
 use Rattle.rust_cursor.specs.Reader.{Reader, ◌>>=◌, pure, look}
 use Rattle.rust_cursor.specs.Words.{symbol, eat, eat_word, bumped, is_at_open}
+use Rattle.rust_paths.specs.declared.names.TextRange.{TextRange}
 use Rattle.rust_paths.specs.Paths.{path}
-use Rattle.rust_paths.specs.UseTrees.{Found, use_tree, rename}
+use Rattle.rust_paths.specs.UseTrees.{Found, use_tree}
 use Rattle.rust_leaves.specs.declared.head.Head.{Head}
 use Rattle.rust_leaves.specs.declared.head.Head.TheVariants as head
 use Rattle.rust_leaves.specs.Fronts.{FrontRead}
 use Rattle.rust_leaves.specs.Texts.{bare, last_text}
-use Rattle.rust_leaves.specs.Leaves.{NameRead, RestRead, LeafRead, no_name, named, named_or, past, bare_end, item_end, macro_end, value_end, call_end, block_attributes, struct_fields, has_trait}
+use Rattle.rust_leaves.specs.Leaves.{NameRead, RestRead, LeafRead, no_name, named, named_or, renamed, rename_of, past, bare_end, impl_end, item_end, macro_end, value_end, call_end, block_attributes, struct_fields, has_trait}
 
 -- the ids are given later
 abbrev pub node : List MetaView → List ℕ → NodeView
@@ -29,7 +31,7 @@ abbrev pub named_node : List MetaView → Option (List ℕ) → Option Visibilit
 named_node attrs name visibility body = record { node = node attrs body; name = name; visibility = visibility }
 
 abbrev pub leaf_read : ItemView → AstIdKind → NameRead → RestRead → LeafRead
-leaf_read item kind n r = record { item = item; kind = kind; name = n.hashed; named = n.range; body = r.braces; is_ended = r.is_ended; too_deep = None }
+leaf_read item kind n r = record { item = item; kind = kind; name = n.hashed; named = n.range; body = r.braces; is_ended = r.is_ended; too_deep = None; use_trees = [] }
 
 abbrev pub plain_read : PlainKind → List MetaView → Option Visibility → NameRead → RestRead → LeafRead
 plain_read k attrs visibility n r = leaf_read (plain_item k (named_node attrs n.name visibility r.body)) (ast_kind k) n r
@@ -103,17 +105,22 @@ structure attrs visibility = do
 unfoldable pub implementation : List MetaView → Reader LeafRead
 implementation attrs = do
   header ← look here
-  r ← item_end
+  r ← impl_end
   end ← look past
   pure (leaf_read (impl_item (node (attrs ++ block_attributes r.block) r.body) (has_trait end header)) kind.Impl no_name r)
 
--- ExternCrate
+-- the place of the name that an extern crate is told by: the one behind its `as`, or else its own
+abbrev pub told_at : Option TextRange → Option NameRead → Option TextRange
+told_at range None = range
+told_at range (Some alias) = option_or alias.range range
+
+-- ExternCrate: its id is made from its own name
 unfoldable pub crate_item : List MetaView → Option Visibility → Reader LeafRead
 crate_item attrs visibility = do
   n ← named_or (codes "self")
-  alias ← rename
+  alias ← renamed
   semicolon ← eat 59
-  pure (leaf_read (extern_crate (named_node attrs n.name visibility []) alias) kind.ExternCrate n (bare_end semicolon))
+  pure (leaf_read (extern_crate (named_node attrs n.name visibility []) (rename_of alias)) kind.ExternCrate (record { name = n.name; hashed = n.hashed; range = told_at n.range alias }) (bare_end semicolon))
 
 abbrev pub use_read : List MetaView → Option Visibility → Found (Option UseTreeView) → Bool → LeafRead
 use_read attrs visibility tree is_ended = record {
@@ -124,6 +131,7 @@ use_read attrs visibility tree is_ended = record {
   body = None;
   is_ended = is_ended;
   too_deep = tree.too_deep;
+  use_trees = tree.starts;
 }
 
 -- UseDeclaration
@@ -147,7 +155,7 @@ is_called ts = symbol ts == 33 && is_at_open (bumped ts)
 abbrev pub called : List MetaView → Option PathNode → List ℕ → RestRead → LeafRead
 called attrs path last r =
     let c = macro_call (record { node = node attrs r.body; path = path; expand_to = expand_to.Items; ctxt = context.Root year.E2024 }) in
-    record { item = c; kind = kind.MacroCall; name = last; named = None; body = r.braces; is_ended = r.is_ended; too_deep = None }
+    record { item = c; kind = kind.MacroCall; name = last; named = None; body = r.braces; is_ended = r.is_ended; too_deep = None; use_trees = [] }
 
 -- a macro's name is hashed as the last word of its path
 abbrev pub call_behind : List MetaView → Option PathNode → List ℕ → Reader LeafRead

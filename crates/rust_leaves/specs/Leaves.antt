@@ -1,15 +1,16 @@
 -- What items are made of, but for those that hold items.
-use Rattle.std.specs.Prelude.{ℕ, Bool, false, ◌==◌, ◌&&◌, ◌||◌, if◌then◌else◌, Option, Some, None, List, []}
+use Rattle.std.specs.Prelude.{ℕ, Bool, false, ◌==◌, ◌&&◌, ◌||◌, if◌then◌else◌, Option, Some, None, List, [], codes}
 use Rattle.std.specs.Str.{bytes_eq}
 use Rattle.hir_input.specs.declared.ids.AstIdKind.{AstIdKind}
+use Rattle.hir_input.specs.declared.ast.Rename.{Rename}
 use Rattle.hir_input.specs.declared.ast.Visibility.{Visibility}
 use Rattle.hir_input.specs.Attr.{MetaView}
 use Rattle.hir_input.specs.Syntax.{FieldsView, ItemView, record_fields, tuple_fields, no_fields}
 use Rattle.rust_cursor.specs.Tokens.{Tokens}
 use Rattle.rust_cursor.specs.Reader.{Reader, ◌>>=◌, pure, look, pass}
-use Rattle.rust_cursor.specs.Words.{symbol, word, text, at, eat, bumped, is_at_open}
+use Rattle.rust_cursor.specs.Words.{symbol, word, text, at, eat, eat_word, bumped, is_at_open}
 use Rattle.rust_cursor.specs.Elements.{elements, one}
-use Rattle.rust_cursor.specs.Extents.{ExcerptRead, tree_body, item_rest, macro_rest, value_rest}
+use Rattle.rust_cursor.specs.Extents.{ExcerptRead, tree_body, impl_rest, item_rest, macro_rest, value_rest}
 use Rattle.rust_cursor.specs.Angles.{behind_angles, behind_field, is_trait_impl}
 use Rattle.rust_paths.specs.declared.names.TextRange.{TextRange}
 use Rattle.rust_paths.specs.Names.{Placed, placed_name, as_name}
@@ -31,7 +32,7 @@ pub record RestRead : Type 0 where
   pub braces : Option TextRange
 
 -- an item that holds no items: with what its id is made from, the places of its name and of the braces that it ends with, whether it is
--- ended, and a use list that is too deep
+-- ended, a use list that is too deep, and where the use trees of a use begin
 pub record LeafRead : Type 0 where
   pub item : ItemView
   pub kind : AstIdKind
@@ -40,6 +41,7 @@ pub record LeafRead : Type 0 where
   pub body : Option TextRange
   pub is_ended : Bool
   pub too_deep : Option ℕ
+  pub use_trees : List ℕ
 
 -- ---- names
 
@@ -54,12 +56,33 @@ name_read (Some p) text = record { name = Some p.name; hashed = bare text; range
 unfoldable pub named : Reader NameRead
 named ts = (name_read (placed_name ts).0 (text ts), (placed_name ts).1)
 
+-- where the next token stands
+abbrev pub next_range : Tokens → TextRange
+next_range ts = record { start = at ts; end = (bumped ts).past }
+
 -- the same where one keyword is a name too: `self` of a crate, `try` of a macro
 unfoldable pub named_or : List ℕ → Reader NameRead
 named_or keyword ts =
     if bytes_eq (word ts) keyword
-    then (record { name = as_name (Some (word ts)); hashed = word ts; range = Some (record { start = at ts; end = (bumped ts).past }) }, bumped ts)
+    then (record { name = as_name (Some (word ts)); hashed = word ts; range = Some (next_range ts) }, bumped ts)
     else named ts
+
+-- behind `as`: a name, or `_`, which is none
+unfoldable pub alias : Reader NameRead
+alias ts = if bytes_eq (word ts) (codes "_") then (record { name = None; hashed = []; range = Some (next_range ts) }, bumped ts) else named ts
+
+abbrev pub alias_if : Bool → Reader (Option NameRead)
+alias_if found ts = if found then (Some (alias ts).0, (alias ts).1) else (None, ts)
+
+-- `as` and what is behind it
+unfoldable pub renamed : Reader (Option NameRead)
+renamed = do
+  found ← eat_word (codes "as")
+  alias_if found
+
+abbrev pub rename_of : Option NameRead → Option Rename
+rename_of None = None
+rename_of (Some alias) = Some (record { name = alias.name })
 
 -- ---- ends
 
@@ -83,6 +106,13 @@ past ts = ts.past
 unfoldable pub item_end : Reader RestRead
 item_end = do
   read ← item_rest
+  end ← look past
+  pure (rest_read read end)
+
+-- the same of an impl
+unfoldable pub impl_end : Reader RestRead
+impl_end = do
+  read ← impl_rest
   end ← look past
   pure (rest_read read end)
 

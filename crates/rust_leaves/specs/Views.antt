@@ -4,6 +4,7 @@ use Rattle.hir_input.specs.declared.ast.TupleField.{TupleField}
 use Rattle.hir_input.specs.declared.ast.Visibility.{Visibility}
 use Rattle.hir_input.specs.Attr.{meta_view}
 use Rattle.hir_input.specs.Syntax.{call_view, item_view}
+use Rattle.rust_paths.specs.Views.{starts_view}
 use Rattle.rust_leaves.specs.declared.named.Named.{Named}
 use Rattle.rust_leaves.specs.declared.named.Rest.{Rest}
 use Rattle.rust_leaves.specs.declared.leaf.Leaf.{Leaf}
@@ -20,7 +21,7 @@ abbrev pub rest_view : Rest → RestRead
 rest_view r = record { body = string_bytes r.body; is_ended = r.is_ended; block = r.block; braces = r.braces }
 
 abbrev pub leaf_view : Leaf → LeafRead
-leaf_view l = record { item = item_view l.item; kind = l.kind; name = l.name.now; named = l.named; body = l.body; is_ended = l.is_ended; too_deep = l.too_deep }
+leaf_view l = record { item = item_view l.item; kind = l.kind; name = l.name.now; named = l.named; body = l.body; is_ended = l.is_ended; too_deep = l.too_deep; use_trees = starts_view l.use_trees }
 
 abbrev pub front_view : Front → FrontRead
 front_view f = record { start = f.start; attrs = map meta_view f.attrs.items; visibility = f.visibility; head = f.head }

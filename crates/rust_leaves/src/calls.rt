@@ -12,7 +12,7 @@ use crate::texts::{bare, last_text};
 use hir_input::ast::{Item, MacroCall, MacroRules, PathNode};
 use hir_input::{AstIdKind, EditionYear, ExpandTo, Meta, SyntaxContext};
 use rust_cursor::Cursor;
-use rust_paths::path;
+use rust_paths::{TreeStarts, path};
 use std::alloc::{AllocError, Global};
 
 #[tactic(auto, unfolding(crate::specs::Kinds::macro_definition), using(hir_input::proofs::SyntaxViews::item_views))]
@@ -40,6 +40,7 @@ pub(crate) fn macro_definition<'t>(
         body: rest.braces,
         is_ended: rest.is_ended,
         too_deep: None,
+        use_trees: TreeStarts::none(alloc),
     })
 }
 
@@ -84,6 +85,7 @@ fn call_behind<'t>(
         body: rest.braces,
         is_ended: rest.is_ended,
         too_deep: None,
+        use_trees: TreeStarts::none(alloc),
     })
 }
 

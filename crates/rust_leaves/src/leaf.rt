@@ -9,7 +9,7 @@ ghost use Rattle.rust_leaves.specs.Views.{front_view, leaf_view};
 use crate::calls::{invocation, macro_definition};
 use crate::front::Front;
 use crate::head::Head;
-use crate::named::{item_end, item_name, macro_end, value_end, with_inner};
+use crate::named::{impl_end, item_end, item_name, macro_end, value_end, with_inner};
 use crate::structs::{has_trait, structure};
 use crate::uses::{crate_item, use_declaration};
 use hir_input::ast::{
@@ -17,7 +17,7 @@ use hir_input::ast::{
 };
 use hir_input::{AstIdKind, Meta};
 use rust_cursor::Cursor;
-use rust_paths::TextRange;
+use rust_paths::{TextRange, TreeStarts};
 use std::alloc::{AllocError, Global};
 
 /// An item that was read and holds no items.
@@ -36,6 +36,8 @@ pub struct Leaf<'t> {
     pub is_ended: bool,
     /// The place of a list of a use that is too deep.
     pub too_deep: Option<usize>,
+    /// Where the use trees of a use begin.
+    pub use_trees: TreeStarts,
 }
 
 #[tactic(auto, unfolding(crate::specs::Kinds::function), using(hir_input::proofs::SyntaxViews::item_views))]
@@ -66,6 +68,7 @@ fn function<'t>(
         body: rest.braces,
         is_ended: rest.is_ended,
         too_deep: None,
+        use_trees: TreeStarts::none(alloc),
     })
 }
 
@@ -96,6 +99,7 @@ fn union_item<'t>(
         body: rest.braces,
         is_ended: rest.is_ended,
         too_deep: None,
+        use_trees: TreeStarts::none(alloc),
     })
 }
 
@@ -126,6 +130,7 @@ fn enumeration<'t>(
         body: rest.braces,
         is_ended: rest.is_ended,
         too_deep: None,
+        use_trees: TreeStarts::none(alloc),
     })
 }
 
@@ -156,6 +161,7 @@ fn trait_item<'t>(
         body: rest.braces,
         is_ended: rest.is_ended,
         too_deep: None,
+        use_trees: TreeStarts::none(alloc),
     })
 }
 
@@ -186,6 +192,7 @@ fn macro_def<'t>(
         body: rest.braces,
         is_ended: rest.is_ended,
         too_deep: None,
+        use_trees: TreeStarts::none(alloc),
     })
 }
 
@@ -216,6 +223,7 @@ fn type_alias<'t>(
         body: rest.braces,
         is_ended: rest.is_ended,
         too_deep: None,
+        use_trees: TreeStarts::none(alloc),
     })
 }
 
@@ -247,6 +255,7 @@ fn static_value<'t>(
         body: rest.braces,
         is_ended: rest.is_ended,
         too_deep: None,
+        use_trees: TreeStarts::none(alloc),
     })
 }
 
@@ -278,6 +287,7 @@ fn constant<'t>(
         body: rest.braces,
         is_ended: rest.is_ended,
         too_deep: None,
+        use_trees: TreeStarts::none(alloc),
     })
 }
 
@@ -290,7 +300,7 @@ fn implementation<'t>(
     ensures { Gives leaf_view (spec.implementation (map meta_view attrs.items) cursor.old) result cursor.new }
 {
     let header = cursor.ahead();
-    let rest = item_end(alloc, cursor)?;
+    let rest = impl_end(alloc, cursor)?;
     let is_trait_impl = has_trait(&header, cursor.past());
     let attrs = with_inner(alloc, attrs, rest.block)?;
     let item = Item::Impl(Impl {
@@ -308,6 +318,7 @@ fn implementation<'t>(
         body: rest.braces,
         is_ended: rest.is_ended,
         too_deep: None,
+        use_trees: TreeStarts::none(alloc),
     })
 }
 

@@ -6,6 +6,7 @@ ghost use Rattle.rust_paths.specs.Views.{placed_view};
 ghost use Rattle.hir_input.specs.Attr.{meta_view};
 ghost use Rattle.rust_cursor.specs.Extents.{excerpt_view};
 ghost use Rattle.rust_cursor.specs.Reader.{Gives};
+ghost use Rattle.rust_cursor.specs.Words.{bumped};
 ghost use Rattle.rust_leaves.specs.Leaves as spec;
 ghost use Rattle.rust_leaves.specs.Views.{name_view, rest_view};
 
@@ -76,6 +77,17 @@ fn name_from(text: String) -> Option<Name>
     Name::new(text)
 }
 
+/// Takes a token, and tells where it stands.
+pub(crate) fn next_range(cursor: &mut Cursor<'_>) -> TextRange
+    ensures value { result ≡ spec.next_range cursor.old }
+    ensures rest { cursor.new ≡ bumped cursor.old }
+{
+    let start = cursor.at();
+    cursor.bump();
+    let end = cursor.past();
+    TextRange { start, end }
+}
+
 /// Takes the name of an item, which may be this keyword: `self` of a crate, `try` of a macro.
 #[tactic(auto, unfolding(crate::specs::Leaves::named_or))]
 pub(crate) fn item_name_or<'t>(
@@ -90,10 +102,7 @@ pub(crate) fn item_name_or<'t>(
         return item_name(alloc, cursor);
     }
     let name = name_from(String::from_str(alloc, hashed)?);
-    let start = cursor.at();
-    cursor.bump();
-    let end = cursor.past();
-    let range = Some(TextRange { start, end });
+    let range = Some(next_range(cursor));
     Ok(Named {
         name,
         hashed,
@@ -133,6 +142,15 @@ pub(crate) fn item_end<'t>(alloc: Global, cursor: &mut Cursor<'t>) -> Result<Res
     ensures { Gives rest_view (spec.item_end cursor.old) result cursor.new }
 {
     let excerpt = cursor.item_rest(alloc)?;
+    Ok(rest_of(excerpt, cursor.past()))
+}
+
+/// The same of an impl, behind its word.
+#[tactic(auto, unfolding(crate::specs::Leaves::impl_end))]
+pub(crate) fn impl_end<'t>(alloc: Global, cursor: &mut Cursor<'t>) -> Result<Rest<'t>, AllocError>
+    ensures { Gives rest_view (spec.impl_end cursor.old) result cursor.new }
+{
+    let excerpt = cursor.impl_rest(alloc)?;
     Ok(rest_of(excerpt, cursor.past()))
 }
 

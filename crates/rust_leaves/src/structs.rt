@@ -14,7 +14,7 @@ use hir_input::ast::{Item, Struct, StructKind, TupleField, Visibility};
 use hir_input::{AstIdKind, Meta};
 use rust_cursor::Cursor;
 use rust_metas::outer_attributes;
-use rust_paths::visibility;
+use rust_paths::{TreeStarts, visibility};
 use std::alloc::{AllocError, Global};
 
 /// Behind `impl`, whether the items are those of a trait, of an impl that ends at a place.
@@ -117,5 +117,6 @@ pub(crate) fn structure<'t>(
         body: rest.braces,
         is_ended: rest.is_ended,
         too_deep: None,
+        use_trees: TreeStarts::none(alloc),
     })
 }

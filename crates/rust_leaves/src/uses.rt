@@ -3,36 +3,62 @@
 ghost use Rattle.std.specs.Prelude.{◌≡◌, map, option_map};
 ghost use Rattle.hir_input.specs.Attr.{meta_view};
 ghost use Rattle.rust_cursor.specs.Reader.{Gives};
-ghost use Rattle.rust_paths.specs.UseTrees as trees;
 ghost use Rattle.rust_leaves.specs.Kinds as spec;
-ghost use Rattle.rust_leaves.specs.Views.{leaf_view};
+ghost use Rattle.rust_leaves.specs.Leaves as leaves;
+ghost use Rattle.rust_leaves.specs.Views.{leaf_view, name_view};
 
 use crate::leaf::Leaf;
-use crate::named::item_name_or;
+use crate::named::{Named, item_name, item_name_or, next_range};
 use hir_input::ast::{ExternCrate, Item, Rename, Use, Visibility};
 use hir_input::{AstIdKind, Meta};
 use rust_cursor::Cursor;
-use rust_paths::{name, use_tree};
+use rust_paths::{TextRange, TreeStarts, use_tree};
 use std::alloc::{AllocError, Global};
 
-#[tactic(auto, unfolding(rust_paths::specs::UseTrees::alias))]
-fn alias(alloc: Global, cursor: &mut Cursor<'_>) -> Result<Rename, AllocError>
-    ensures { Gives (λ r. r) (trees.alias cursor.old) result cursor.new }
+/// Takes what stands behind `as`: a name, or `_`, which is none.
+#[tactic(auto, unfolding(crate::specs::Leaves::alias))]
+fn alias<'t>(alloc: Global, cursor: &mut Cursor<'t>) -> Result<Named<'t>, AllocError>
+    ensures { Gives name_view (leaves.alias cursor.old) result cursor.new }
 {
-    let name = name(alloc, cursor)?;
-    cursor.eat_word("_");
-    Ok(Rename { name })
+    if cursor.word() != "_" {
+        return item_name(alloc, cursor);
+    }
+    let range = Some(next_range(cursor));
+    Ok(Named {
+        name: None,
+        hashed: "",
+        range,
+    })
 }
 
 /// Takes `as` and what stands behind it, if it comes next.
-#[tactic(auto, unfolding(rust_paths::specs::UseTrees::rename))]
-fn rename(alloc: Global, cursor: &mut Cursor<'_>) -> Result<Option<Rename>, AllocError>
-    ensures { Gives (λ r. r) (trees.rename cursor.old) result cursor.new }
+#[tactic(auto, unfolding(crate::specs::Leaves::renamed))]
+fn renamed<'t>(alloc: Global, cursor: &mut Cursor<'t>) -> Result<Option<Named<'t>>, AllocError>
+    ensures { Gives (option_map name_view) (leaves.renamed cursor.old) result cursor.new }
 {
     if !cursor.eat_word("as") {
         return Ok(None);
     }
     Ok(Some(alias(alloc, cursor)?))
+}
+
+/// The place of the name that an extern crate is told by.
+fn told_at(named: Option<TextRange>, alias: &Option<Named<'_>>) -> Option<TextRange>
+    ensures { result ≡ spec.told_at named (option_map name_view alias.now) }
+{
+    match alias {
+        Some(alias) => alias.range.or(named),
+        None => named,
+    }
+}
+
+fn rename_of(alias: Option<Named<'_>>) -> Option<Rename>
+    ensures { result ≡ leaves.rename_of (option_map name_view alias.entry) }
+{
+    match alias {
+        Some(alias) => Some(Rename { name: alias.name }),
+        None => None,
+    }
 }
 
 #[tactic(auto, unfolding(crate::specs::Kinds::crate_item), using(hir_input::proofs::SyntaxViews::item_views))]
@@ -45,7 +71,8 @@ pub(crate) fn crate_item<'t>(
     ensures { Gives leaf_view (spec.crate_item (map meta_view attrs.items) visibility cursor.old) result cursor.new }
 {
     let named = item_name_or(alloc, cursor, "self")?;
-    let rename = rename(alloc, cursor)?;
+    let alias = renamed(alloc, cursor)?;
+    let told_at = told_at(named.range, &alias);
     let is_ended = cursor.eat(b';');
     let item = Item::ExternCrate(ExternCrate {
         hash: 0,
@@ -53,17 +80,18 @@ pub(crate) fn crate_item<'t>(
         attrs,
         name: named.name,
         visibility,
-        rename,
+        rename: rename_of(alias),
         body: String::new(alloc),
     });
     Ok(Leaf {
         item,
         kind: AstIdKind::ExternCrate,
         name: named.hashed,
-        named: named.range,
+        named: told_at,
         body: None,
         is_ended,
         too_deep: None,
+        use_trees: TreeStarts::none(alloc),
     })
 }
 
@@ -94,5 +122,6 @@ pub(crate) fn use_declaration<'t>(
         body: None,
         is_ended,
         too_deep: found.too_deep,
+        use_trees: found.starts,
     })
 }

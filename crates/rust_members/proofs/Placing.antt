@@ -3,6 +3,7 @@ use Rattle.std.proofs.Common.{◌≡◌, ◌<◌, ◌≤◌, ◌==◌, ◌-◌, 
 use Rattle.std.specs.Prelude.{option_to_list, IfOk, Result, Ok, Err, Vec}
 use Rattle.std.specs.declared.alloc.AllocError.{AllocError}
 use Rattle.std.specs.declared.alloc.Global.{Global}
+use Rattle.hir_input.specs.declared.edition.EditionYear.{EditionYear}
 use Rattle.hir_input.specs.declared.ids.AstIdKind.{AstIdKind}
 use Rattle.hir_input.specs.declared.ids.AstIdKind.TheVariants as kind
 use Rattle.hir_input.specs.declared.ast.Visibility.{Visibility}
@@ -11,8 +12,7 @@ use Rattle.rust_cursor.specs.Tokens.{Tokens, tokens_of}
 use Rattle.rust_cursor.specs.Reader.{Reader}
 use Rattle.rust_cursor.specs.Words.{symbol, at, is_at_end, bumped}
 use Rattle.rust_cursor.specs.Elements.{most, beyond, turns_from, turns, perhaps}
-use Rattle.rust_cursor.specs.declared.cursor.generics.Reach.TheVariants as reaches
-use Rattle.rust_cursor.proofs.Leads.{LeadsTo, here, further, through, when, bumped_leads, eat_leads, behind_tree_leads, behind_angles_leads, reached_leads, beyond_leads, takes, takes_leads}
+use Rattle.rust_cursor.proofs.Leads.{LeadsTo, here, further, through, when, bumped_leads, eat_leads, behind_tree_leads, behind_angles_leads, beyond_leads, takes, takes_leads}
 use Rattle.rust_cursor.proofs.Laid.{IsLaid, behind, past_within, at_behind, taken_behind, takes_strict, tokens_laid}
 use Rattle.rust_paths.specs.declared.names.TextRange.{TextRange}
 use Rattle.rust_paths.specs.Visibilities.{visibility}
@@ -26,8 +26,9 @@ use Rattle.rust_items.proofs.Leads.{IsBraced, braced, IsNamed, by_token, LeafFou
 use Rattle.rust_members.specs.declared.member.MemberKind.{MemberKind}
 use Rattle.rust_members.specs.declared.member.MemberKind.TheVariants as member
 use Rattle.rust_members.specs.declared.member.Member.{Member}
+use Rattle.rust_members.specs.declared.part.Stand.{Stand}
 use Rattle.rust_members.specs.Members.{MemberRead, moved}
-use Rattle.rust_members.specs.Parts.{Told, told_of, body_of, kept, leaf_kept, associated, begins_generics, behind_operand, is_variant_end, behind_operands, behind_variant, behind_part, part_of, part}
+use Rattle.rust_members.specs.Parts.{Told, told_of, body_of, kept, leaf_kept, associated, opens_generics, is_pair_here, behind_operand, is_part_end, behind_operands, behind_value, is_type_end, behind_type_part, behind_type_parts, behind_type, behind_part, part_of, part}
 use Rattle.rust_members.specs.Lists.{turn, is_over, members_from, members_in, cut_out}
 use Rattle.rust_members.specs.Places.{ArePlaced}
 use Rattle.rust_members.specs.Views.{member_view}
@@ -145,20 +146,33 @@ associated_found end ts laid =
 
 -- ---- of an enum, a struct or a union
 
-behind_operand_leads : (ts : Tokens) → LeadsTo ts (behind_operand ts)
-behind_operand_leads ts = when (begins_generics ts) (λ e. rw e (further (further (behind_angles_leads _)))) (λ e. rw e (behind_tree_leads ts))
+behind_operand_leads : (stand : Stand) (ts : Tokens) → LeadsTo ts (behind_operand stand ts)
+behind_operand_leads stand ts =
+    when (opens_generics stand ts) (λ e. rw e (behind_angles_leads ts))
+    (λ e. rw e (when (is_pair_here stand ts) (λ f. rw f (further (bumped_leads _))) (λ f. rw f (behind_tree_leads ts))))
 
-behind_operands_leads : (n : ℕ) (ts : Tokens) → LeadsTo ts (behind_operands n ts)
-behind_operands_leads zero ts = here
-behind_operands_leads (suc n) ts = when (is_variant_end ts) (λ e. rw e here) (λ e. rw e (through (behind_operand_leads ts) (behind_operands_leads n _)))
+behind_operands_leads : (n : ℕ) (stand : Stand) (ts : Tokens) → LeadsTo ts (behind_operands n stand ts)
+behind_operands_leads zero stand ts = here
+behind_operands_leads (suc n) stand ts = when (is_part_end stand ts) (λ e. rw e here) (λ e. rw e (through (behind_operand_leads stand ts) (behind_operands_leads n _ _)))
 
-behind_variant_leads : (ts : Tokens) → LeadsTo ts (behind_variant ts)
-unfolding behind_variant
-behind_variant_leads ts = behind_operands_leads _ ts
+behind_value_leads : (ts : Tokens) → LeadsTo ts (behind_value ts)
+unfolding behind_value
+behind_value_leads ts = behind_operands_leads _ _ ts
+
+behind_type_part_leads : (ts : Tokens) → LeadsTo ts (behind_type_part ts)
+behind_type_part_leads ts = when (symbol ts == 60) (λ e. rw e (behind_angles_leads ts)) (λ e. rw e (behind_tree_leads ts))
+
+behind_type_parts_leads : (n : ℕ) (ts : Tokens) → LeadsTo ts (behind_type_parts n ts)
+behind_type_parts_leads zero ts = here
+behind_type_parts_leads (suc n) ts = when (is_type_end ts) (λ e. rw e here) (λ e. rw e (through (behind_type_part_leads ts) (behind_type_parts_leads n _)))
+
+behind_type_leads : (ts : Tokens) → LeadsTo ts (behind_type ts)
+unfolding behind_type
+behind_type_leads ts = behind_type_parts_leads _ ts
 
 behind_part_leads : (k : MemberKind) (ts : Tokens) → LeadsTo ts (behind_part k ts)
-behind_part_leads member.Variant ts = behind_variant_leads ts
-behind_part_leads _ ts = reached_leads reaches.Field ts
+behind_part_leads member.Variant ts = behind_value_leads ts
+behind_part_leads _ ts = through (behind_type_leads ts) (behind_value_leads _)
 
 part_placed : (end : ℕ) (ts us vs ps qs : Tokens) (k : MemberKind) (attrs : List MetaView) (v : Option Visibility) (name : Option TextRange) → IsLaid end ts → LeadsTo ts us → IsNamed us vs name → LeadsTo vs ps → LeadsTo ps qs
     → ArePlaced ts.past qs.past (option_to_list (part_of k (at ts) attrs v name ps.past))
@@ -208,14 +222,14 @@ from_placed end k ts laid =
     (λ e. rw e tt)
 
 -- the members of a text stand in it
-pub members_placed : (k : AstIdKind) (text : List ℕ) → ArePlaced 0 (length text) (members_in k text)
-members_placed k text = from_placed (length text) k (tokens_of text) (tokens_laid text)
+pub members_placed : (edition : EditionYear) (k : AstIdKind) (text : List ℕ) → ArePlaced 0 (length text) (members_in edition k text)
+members_placed edition k text = from_placed (length text) k (tokens_of edition text) (tokens_laid edition text)
 
 -- ---- members of a part of a text
 
-module _ (k : AstIdKind) (text part : List ℕ) (range : TextRange) (cut : Some part ≡ cut_out text range) (ms : List MemberRead) (read : ms ≡ members_in k part) where
+module _ (edition : EditionYear) (k : AstIdKind) (text part : List ℕ) (range : TextRange) (cut : Some part ≡ cut_out text range) (ms : List MemberRead) (read : ms ≡ members_in edition k part) where
   here_placed : ArePlaced 0 (length part) ms
-  here_placed = rw read (members_placed k part)
+  here_placed = rw read (members_placed edition k part)
 
   -- they fit where they stand in the text
   pub part_fits : range.end < 2 ^ 64 → ArePlaced 0 (18446744073709551615 - range.start) ms

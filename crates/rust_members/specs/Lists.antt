@@ -1,5 +1,6 @@
 -- The members in the braces of an item.
 use Rattle.std.specs.Prelude.{ℕ, Bool, ◌==◌, ◌&&◌, ◌||◌, nat_le, nat_lt, if◌then◌else◌, Option, Some, None, List, [], map, length, slice_index, slice_range}
+use Rattle.hir_input.specs.declared.edition.EditionYear.{EditionYear}
 use Rattle.hir_input.specs.declared.ids.AstIdKind.{AstIdKind}
 use Rattle.hir_input.specs.declared.ids.AstIdKind.TheVariants as kind
 use Rattle.rust_cursor.specs.Tokens.{Tokens, tokens_of}
@@ -30,9 +31,9 @@ list k = turns is_over (perhaps (turn k))
 unfoldable pub members_from : AstIdKind → Tokens → List MemberRead
 members_from k ts = if symbol ts == 123 then (list k (inner_attributes (bumped ts)).1).0 else []
 
--- the members in a text that begins with the `{` of an item of this kind
-abbrev pub members_in : AstIdKind → List ℕ → List MemberRead
-members_in k text = members_from k (tokens_of text)
+-- the members in a text of an edition that begins with the `{` of an item of this kind
+abbrev pub members_in : EditionYear → AstIdKind → List ℕ → List MemberRead
+members_in edition k text = members_from k (tokens_of edition text)
 
 -- ---- in a text
 
@@ -47,10 +48,10 @@ is_cut text range = nat_le range.start range.end && (is_boundary text range.star
 abbrev pub cut_out : List ℕ → TextRange → Option (List ℕ)
 cut_out text range = if is_cut text range then Some (slice_range text range.start range.end) else None
 
-abbrev pub members_at : AstIdKind → ℕ → Option (List ℕ) → List MemberRead
-members_at k place None = []
-members_at k place (Some braces) = map (moved place) (members_in k braces)
+abbrev pub members_at : EditionYear → AstIdKind → ℕ → Option (List ℕ) → List MemberRead
+members_at edition k place None = []
+members_at edition k place (Some braces) = map (moved place) (members_in edition k braces)
 
 -- the members in these braces of a text, at their places in it
-abbrev pub members : AstIdKind → List ℕ → TextRange → List MemberRead
-members k text body = members_at k body.start (cut_out text body)
+abbrev pub members : EditionYear → AstIdKind → List ℕ → TextRange → List MemberRead
+members edition k text body = members_at edition k body.start (cut_out text body)

@@ -1,14 +1,16 @@
 -- One member: of a trait or an impl, of an enum, of a struct or a union.
-use Rattle.std.specs.Prelude.{ℕ, zero, suc, Bool, ◌==◌, ◌&&◌, ◌||◌, if◌then◌else◌, Option, Some, None, List}
+use Rattle.std.specs.Prelude.{ℕ, zero, suc, Bool, true, false, not, ◌==◌, ◌&&◌, ◌||◌, if◌then◌else◌, Option, Some, None, List, codes}
+use Rattle.std.specs.Str.{bytes_eq}
 use Rattle.hir_input.specs.declared.ast.Visibility.{Visibility}
 use Rattle.hir_input.specs.Attr.{MetaView}
 use Rattle.hir_input.specs.Syntax.{ItemView, plain_item, fn_kind, type_alias_kind, const_item, macro_call}
 use Rattle.rust_cursor.specs.Tokens.{Tokens}
 use Rattle.rust_cursor.specs.Reader.{Reader, ◌>>=◌, pure, look, pass}
-use Rattle.rust_cursor.specs.Words.{symbol, at, is_at_end, is_pair, eat, bumped}
+use Rattle.rust_cursor.specs.Words.{symbol, word, at, is_at_end, is_at_open, is_pair, eat, bumped}
+use Rattle.rust_cursor.specs.Nests.{can_end}
 use Rattle.rust_cursor.specs.Brackets.{behind_tree}
 use Rattle.rust_cursor.specs.Elements.{most}
-use Rattle.rust_cursor.specs.Angles.{behind_angles, behind_field}
+use Rattle.rust_cursor.specs.Angles.{behind_angles}
 use Rattle.rust_paths.specs.declared.names.TextRange.{TextRange}
 use Rattle.rust_paths.specs.Visibilities.{visibility}
 use Rattle.rust_metas.specs.Attributes.{outer_attributes}
@@ -18,6 +20,8 @@ use Rattle.rust_leaves.specs.Leaves.{LeafRead, named}
 use Rattle.rust_leaves.specs.Kinds.{leaf}
 use Rattle.rust_members.specs.declared.member.MemberKind.{MemberKind}
 use Rattle.rust_members.specs.declared.member.MemberKind.TheVariants as member
+use Rattle.rust_members.specs.declared.part.Stand.{Stand}
+use Rattle.rust_members.specs.declared.part.Stand.TheVariants as stands
 use Rattle.rust_members.specs.Members.{MemberRead}
 
 -- ---- of a trait or an impl
@@ -65,29 +69,103 @@ behind_front h ts = leaf_kept h.start (leaf h ts).0 (leaf h ts).1
 unfoldable pub associated : Reader (Option MemberRead)
 associated ts = if is_at_end ts then (None, bumped ts) else behind_front (front ts).0 (front ts).1
 
--- ---- of an enum, a struct or a union
+-- ---- values
 
--- in what stands behind a variant's name, generics follow a `::`; elsewhere a `<` compares or shifts
-abbrev pub begins_generics : Tokens → Bool
-begins_generics ts = is_pair 58 58 ts && symbol (bumped (bumped ts)) == 60
+-- In a value `<` opens generics where an operand begins, behind `::`, and in the type behind `as` or `->`; elsewhere it compares or shifts.
+abbrev pub opens_generics : Stand → Tokens → Bool
+opens_generics stands.Ended ts = false
+opens_generics stands.Parameters ts = false
+opens_generics _ ts = symbol ts == 60
 
-abbrev pub behind_operand : Tokens → Tokens
-behind_operand ts = if begins_generics ts then behind_angles (bumped (bumped ts)) else behind_tree ts
+-- behind an operand or a type
+abbrev pub ended : Stand → Stand
+ended stands.Begun = stands.Ended
+ended stands.Type = stands.TypeEnded
+ended stand = stand
 
-abbrev pub is_variant_end : Tokens → Bool
-is_variant_end ts = is_at_end ts || symbol ts == 44
+-- behind `::`, or a word with which no operand ends: it goes on
+abbrev pub going_on : Stand → Stand
+going_on stands.Ended = stands.Begun
+going_on stands.TypeEnded = stands.Type
+going_on stand = stand
 
-abbrev pub behind_operands : ℕ → Tokens → Tokens
-behind_operands zero ts = ts
-behind_operands (suc n) ts = if is_variant_end ts then ts else behind_operands n (behind_operand ts)
+-- behind another mark: an operand begins, but a type may begin with `&` or `*`, and a closure's parameters with `|`
+abbrev pub behind_mark : Stand → ℕ → Stand
+behind_mark stands.Begun c = if c == 124 then stands.Parameters else stands.Begun
+behind_mark stands.Ended c = stands.Begun
+behind_mark stands.Parameters c = if c == 124 then stands.Begun else stands.Parameters
+behind_mark stands.Type c = stands.Type
+behind_mark stands.TypeEnded c = stands.Begun
 
--- what is left from the comma or the bracket that closes on that ends a variant
-unfoldable pub behind_variant : Tokens → Tokens
-behind_variant ts = behind_operands most ts
+abbrev pub has_ended : Stand → Bool
+has_ended stands.Ended = true
+has_ended stands.TypeEnded = true
+has_ended _ = false
+
+-- an operand, or a type, may end with the next token; `?` stands behind one
+abbrev pub can_end_here : Tokens → Bool
+can_end_here ts = is_at_open ts || (can_end ts || symbol ts == 63)
+
+-- `::`, `->`, and an operator of two marks that would mean something else each by itself: `<<` and `||`
+abbrev pub is_pair_here : Stand → Tokens → Bool
+is_pair_here stand ts = is_pair 58 58 ts || (is_pair 45 62 ts || has_ended stand && (is_pair 60 60 ts || is_pair 124 124 ts))
+
+-- in a closure's parameters only its `|` counts
+abbrev pub stand_outside : Stand → Tokens → Stand
+stand_outside stand ts =
+    if bytes_eq (word ts) (codes "as") || is_pair 45 62 ts then stands.Type
+    else (if is_pair 58 58 ts then going_on stand
+    else (if opens_generics stand ts || can_end_here ts then ended stand
+    else (if symbol ts == 0 then going_on stand else behind_mark stand (symbol ts))))
+
+-- where what is behind the next token stands, or behind the brackets that it opens
+abbrev pub stand_behind : Stand → Tokens → Stand
+stand_behind stands.Parameters ts = behind_mark stands.Parameters (symbol ts)
+stand_behind stand ts = stand_outside stand ts
+
+abbrev pub behind_operand : Stand → Tokens → Tokens
+behind_operand stand ts =
+    if opens_generics stand ts then behind_angles ts
+    else (if is_pair_here stand ts then bumped (bumped ts) else behind_tree ts)
+
+abbrev pub is_parameters : Stand → Bool
+is_parameters stands.Parameters = true
+is_parameters _ = false
+
+-- the comma or the bracket that closes that ends a variant or a field
+abbrev pub is_part_end : Stand → Tokens → Bool
+is_part_end stand ts = is_at_end ts || (symbol ts == 44 && not (is_parameters stand))
+
+abbrev pub behind_operands : ℕ → Stand → Tokens → Tokens
+behind_operands zero stand ts = ts
+behind_operands (suc n) stand ts =
+    if is_part_end stand ts then ts else behind_operands n (stand_behind stand ts) (behind_operand stand ts)
+
+-- what is left from the end of a variant or a field on, behind its name or its type
+unfoldable pub behind_value : Tokens → Tokens
+behind_value ts = behind_operands most stands.Ended ts
+
+-- ---- types
+
+-- a field's type ends before its value, too
+abbrev pub is_type_end : Tokens → Bool
+is_type_end ts = is_at_end ts || (symbol ts == 44 || symbol ts == 61)
+
+abbrev pub behind_type_part : Tokens → Tokens
+behind_type_part ts = if symbol ts == 60 then behind_angles ts else behind_tree ts
+
+abbrev pub behind_type_parts : ℕ → Tokens → Tokens
+behind_type_parts zero ts = ts
+behind_type_parts (suc n) ts = if is_type_end ts then ts else behind_type_parts n (behind_type_part ts)
+
+unfoldable pub behind_type : Tokens → Tokens
+behind_type ts = behind_type_parts most ts
 
 abbrev pub behind_part : MemberKind → Tokens → Tokens
-behind_part member.Variant ts = behind_variant ts
-behind_part _ ts = behind_field ts
+behind_part member.Variant ts = behind_value ts
+behind_part _ ts = behind_value (behind_type ts)
+
+-- ---- of an enum, a struct or a union
 
 -- without a name it is none
 abbrev pub part_of : MemberKind → ℕ → List MetaView → Option Visibility → Option TextRange → ℕ → Option MemberRead

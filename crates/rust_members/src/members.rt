@@ -11,7 +11,7 @@ use crate::associated::associated;
 use crate::cut::cut_out;
 use crate::member::{Member, MemberKind};
 use crate::part::part;
-use hir_input::AstIdKind;
+use hir_input::{AstIdKind, EditionYear};
 use rust_cursor::Cursor;
 use rust_metas::inner_attributes;
 use rust_paths::TextRange;
@@ -70,12 +70,17 @@ fn list(alloc: Global, cursor: &mut Cursor<'_>, kind: AstIdKind) -> Result<Vec<M
     Ok(members)
 }
 
-/// The members in a text that begins with the `{` of an item.
+/// The members in a text of an edition that begins with the `{` of an item.
 #[tactic(auto, unfolding(crate::specs::Lists::members_from))]
-fn members_in(alloc: Global, kind: AstIdKind, text: &str) -> Result<Vec<Member>, AllocError>
-    ensures { IfOk result (λ v. map member_view v.items ≡ spec.members_in kind text.now) }
+fn members_in(
+    alloc: Global,
+    kind: AstIdKind,
+    text: &str,
+    edition: EditionYear,
+) -> Result<Vec<Member>, AllocError>
+    ensures { IfOk result (λ v. map member_view v.items ≡ spec.members_in edition kind text.now) }
 {
-    let mut cursor = Cursor::new(text);
+    let mut cursor = Cursor::new(text, edition);
     if cursor.symbol() != b'{' {
         return Ok(Vec::new(alloc));
     }
@@ -132,7 +137,7 @@ fn all_moved(alloc: Global, members: Vec<Member>, by: usize) -> Result<Vec<Membe
     Ok(all)
 }
 
-/// Reads the members in the braces of an item of this kind, which are this range of a text.
+/// Reads the members in the braces of an item of this kind, which are this range of a text of an edition.
 ///
 /// It answers for every text: what is no member is passed over, and in a range that is none of the text is none. An item of
 /// another kind than a trait, an impl, an enum, a struct or a union is read as a trait is. The only error is that memory
@@ -142,13 +147,14 @@ pub fn read_members(
     kind: AstIdKind,
     text: &str,
     body: TextRange,
+    edition: EditionYear,
 ) -> Result<Vec<Member>, AllocError>
-    ensures read { IfOk result (λ v. map member_view v.items ≡ spec.members kind text.now body) }
+    ensures read { IfOk result (λ v. map member_view v.items ≡ spec.members edition kind text.now body) }
     ensures placed { IfOk result (λ v. ArePlaced body.start body.end (map member_view v.items)) }
 {
     match cut_out(text, body) {
         Some(braces) => {
-            let members = members_in(alloc, kind, braces)?;
+            let members = members_in(alloc, kind, braces, edition)?;
             all_moved(alloc, members, body.start)
         }
         None => Ok(Vec::new(alloc)),

@@ -15,46 +15,198 @@ use rust_metas::outer_attributes;
 use rust_paths::{TextRange, visibility};
 use std::alloc::{AllocError, Global};
 
-fn begins_generics(cursor: &Cursor<'_>) -> bool
-    ensures { result ≡ spec.begins_generics cursor.now }
-{
-    if !cursor.is_pair(b':', b':') {
-        return false;
-    }
-    let mut behind = cursor.ahead();
-    behind.bump();
-    behind.bump();
-    behind.symbol() == b'<'
+/// Where a token of a value stands.
+#[derive(Clone, Copy)]
+enum Stand {
+    /// An operand begins.
+    Begun,
+    /// An operand has ended.
+    Ended,
+    /// Between the `|` of a closure's parameters.
+    Parameters,
+    /// A type begins, behind `as` or `->`.
+    Type,
+    /// It may have ended.
+    TypeEnded,
 }
 
-fn pass_operand(cursor: &mut Cursor<'_>)
-    ensures { cursor.new ≡ spec.behind_operand cursor.old }
+fn opens_generics(cursor: &Cursor<'_>, stand: Stand) -> bool
+    ensures { result ≡ spec.opens_generics stand cursor.now }
 {
-    if begins_generics(cursor) {
+    match stand {
+        Stand::Ended | Stand::Parameters => false,
+        Stand::Begun | Stand::Type | Stand::TypeEnded => cursor.symbol() == b'<',
+    }
+}
+
+fn ended(stand: Stand) -> Stand
+    ensures { result ≡ spec.ended stand }
+{
+    match stand {
+        Stand::Begun => Stand::Ended,
+        Stand::Type => Stand::TypeEnded,
+        Stand::Ended | Stand::Parameters | Stand::TypeEnded => stand,
+    }
+}
+
+fn going_on(stand: Stand) -> Stand
+    ensures { result ≡ spec.going_on stand }
+{
+    match stand {
+        Stand::Ended => Stand::Begun,
+        Stand::TypeEnded => Stand::Type,
+        Stand::Begun | Stand::Parameters | Stand::Type => stand,
+    }
+}
+
+fn behind_mark(stand: Stand, symbol: u8) -> Stand
+    ensures { result ≡ spec.behind_mark stand symbol }
+{
+    match stand {
+        Stand::Begun => {
+            if symbol == b'|' {
+                Stand::Parameters
+            } else {
+                Stand::Begun
+            }
+        }
+        Stand::Parameters => {
+            if symbol == b'|' {
+                Stand::Begun
+            } else {
+                Stand::Parameters
+            }
+        }
+        Stand::Ended | Stand::TypeEnded => Stand::Begun,
+        Stand::Type => Stand::Type,
+    }
+}
+
+fn has_ended(stand: Stand) -> bool
+    ensures { result ≡ spec.has_ended stand }
+{
+    matches!(stand, Stand::Ended | Stand::TypeEnded)
+}
+
+fn can_end_here(cursor: &Cursor<'_>) -> bool
+    ensures { result ≡ spec.can_end_here cursor.now }
+{
+    cursor.is_at_open() || cursor.can_end() || cursor.symbol() == b'?'
+}
+
+fn is_pair_here(cursor: &Cursor<'_>, stand: Stand) -> bool
+    ensures { result ≡ spec.is_pair_here stand cursor.now }
+{
+    if cursor.is_pair(b':', b':') || cursor.is_pair(b'-', b'>') {
+        return true;
+    }
+    has_ended(stand) && (cursor.is_pair(b'<', b'<') || cursor.is_pair(b'|', b'|'))
+}
+
+fn stand_outside(cursor: &Cursor<'_>, stand: Stand) -> Stand
+    ensures { result ≡ spec.stand_outside stand cursor.now }
+{
+    if cursor.word() == "as" || cursor.is_pair(b'-', b'>') {
+        return Stand::Type;
+    }
+    if cursor.is_pair(b':', b':') {
+        return going_on(stand);
+    }
+    if opens_generics(cursor, stand) || can_end_here(cursor) {
+        return ended(stand);
+    }
+    match cursor.symbol() {
+        0 => going_on(stand),
+        symbol => behind_mark(stand, symbol),
+    }
+}
+
+/// Where what is behind the next token stands, or behind the brackets that it opens.
+fn stand_behind(cursor: &Cursor<'_>, stand: Stand) -> Stand
+    ensures { result ≡ spec.stand_behind stand cursor.now }
+{
+    match stand {
+        Stand::Parameters => behind_mark(stand, cursor.symbol()),
+        Stand::Begun | Stand::Ended | Stand::Type | Stand::TypeEnded => stand_outside(
+            cursor, stand,
+        ),
+    }
+}
+
+fn pass_operand(cursor: &mut Cursor<'_>, stand: Stand)
+    ensures { cursor.new ≡ spec.behind_operand stand cursor.old }
+{
+    if opens_generics(cursor, stand) {
+        cursor.pass_angles();
+        return;
+    }
+    if is_pair_here(cursor, stand) {
         cursor.bump();
         cursor.bump();
+        return;
+    }
+    cursor.pass_tree();
+}
+
+fn is_parameters(stand: Stand) -> bool
+    ensures { result ≡ spec.is_parameters stand }
+{
+    matches!(stand, Stand::Parameters)
+}
+
+fn is_part_end(cursor: &Cursor<'_>, stand: Stand) -> bool
+    ensures { result ≡ spec.is_part_end stand cursor.now }
+{
+    if cursor.is_at_end() {
+        return true;
+    }
+    cursor.symbol() == b',' && !is_parameters(stand)
+}
+
+/// Passes over what is left of a variant or a field, behind its name or its type.
+#[tactic(auto, unfolding(crate::specs::Parts::behind_value), using(crate::proofs::Steps::operands_more, crate::proofs::Steps::operands_stop))]
+fn pass_value(cursor: &mut Cursor<'_>)
+    ensures { cursor.new ≡ spec.behind_value cursor.old }
+{
+    let most = Cursor::most_turns();
+    let mut stand = Stand::Ended;
+    for _turn in 0..most {
+        if is_part_end(cursor, stand) {
+            break;
+        }
+        let behind = stand_behind(cursor, stand);
+        pass_operand(cursor, stand);
+        stand = behind;
+    }
+}
+
+fn is_type_end(cursor: &Cursor<'_>) -> bool
+    ensures { result ≡ spec.is_type_end cursor.now }
+{
+    cursor.is_at_end() || matches!(cursor.symbol(), b',' | b'=')
+}
+
+fn pass_type_part(cursor: &mut Cursor<'_>)
+    ensures { cursor.new ≡ spec.behind_type_part cursor.old }
+{
+    if cursor.symbol() == b'<' {
         cursor.pass_angles();
     } else {
         cursor.pass_tree();
     }
 }
 
-fn is_variant_end(cursor: &Cursor<'_>) -> bool
-    ensures { result ≡ spec.is_variant_end cursor.now }
-{
-    cursor.is_at_end() || cursor.symbol() == b','
-}
-
-#[tactic(auto, unfolding(crate::specs::Parts::behind_variant), using(crate::proofs::Steps::operands_more, crate::proofs::Steps::operands_stop))]
-fn pass_variant(cursor: &mut Cursor<'_>)
-    ensures { cursor.new ≡ spec.behind_variant cursor.old }
+/// Passes over a field's type.
+#[tactic(auto, unfolding(crate::specs::Parts::behind_type), using(crate::proofs::Steps::types_more, crate::proofs::Steps::types_stop))]
+fn pass_type(cursor: &mut Cursor<'_>)
+    ensures { cursor.new ≡ spec.behind_type cursor.old }
 {
     let most = Cursor::most_turns();
     for _turn in 0..most {
-        if is_variant_end(cursor) {
+        if is_type_end(cursor) {
             break;
         }
-        pass_operand(cursor);
+        pass_type_part(cursor);
     }
 }
 
@@ -62,8 +214,11 @@ fn pass_part(cursor: &mut Cursor<'_>, kind: MemberKind)
     ensures { cursor.new ≡ spec.behind_part kind cursor.old }
 {
     match kind {
-        MemberKind::Variant => pass_variant(cursor),
-        _ => cursor.pass_field(),
+        MemberKind::Variant => pass_value(cursor),
+        _ => {
+            pass_type(cursor);
+            pass_value(cursor);
+        }
     }
 }
 

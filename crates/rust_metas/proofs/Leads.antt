@@ -78,7 +78,7 @@ input_leads : (anchor : ℕ) (path : Option PathNode) → Forwards (input anchor
 unfolding input
 input_leads anchor path ts =
     when (symbol ts == 61) (λ e. rw e (further (value_leads anchor _)))
-    (λ e. rw e (when (is_at_open ts) (λ f. rw f (taken_leads_on _ ts)) (λ f. rw f here)))
+    (λ e. rw e (when (is_at_open ts) (λ f. rw f (taken_leads_on _ _ ts)) (λ f. rw f here)))
 
 plain_leads : (anchor : ℕ) → Forwards (plain anchor)
 unfolding plain

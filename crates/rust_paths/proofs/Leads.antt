@@ -152,18 +152,18 @@ behind_comma_leads : (ts : Tokens) → LeadsTo ts (behind_comma ts)
 unfolding behind_comma
 behind_comma_leads ts = comma_from_leads _ ts
 
-star_or_list_leads : (list : Reader (Found (Option (List UseTreeView)))) → Forwards list → (p : Option PathNode) → Forwards (star_or_list list p)
-star_or_list_leads list l p ts = when (symbol ts == 42) (λ e. rw e (bumped_leads ts)) (λ e. rw e (l ts))
+star_or_list_leads : (list : Reader (Found (Option (List UseTreeView)))) → Forwards list → (start : ℕ) (p : Option PathNode) → Forwards (star_or_list list start p)
+star_or_list_leads list l start p ts = when (symbol ts == 42) (λ e. rw e (bumped_leads ts)) (λ e. rw e (l ts))
 
-renamed_tree_leads : (p : Option PathNode) → Forwards (renamed_tree p)
-renamed_tree_leads p ts = rename_leads ts
+renamed_tree_leads : (start : ℕ) (p : Option PathNode) → Forwards (renamed_tree start p)
+renamed_tree_leads start p ts = rename_leads ts
 
-tree_behind_leads : (list : Reader (Found (Option (List UseTreeView)))) → Forwards list → (p : Option PathNode) (joined : Bool) → Forwards (tree_behind list p joined)
-tree_behind_leads list l p joined ts =
-    when (joined || is_none p) (λ e. rw e (star_or_list_leads list l p ts)) (λ e. rw e (renamed_tree_leads p ts))
+tree_behind_leads : (list : Reader (Found (Option (List UseTreeView)))) → Forwards list → (start : ℕ) (p : Option PathNode) (joined : Bool) → Forwards (tree_behind list start p joined)
+tree_behind_leads list l start p joined ts =
+    when (joined || is_none p) (λ e. rw e (star_or_list_leads list l start p ts)) (λ e. rw e (renamed_tree_leads start p ts))
 
 tree_leads : (list : Reader (Found (Option (List UseTreeView)))) → Forwards list → Forwards (tree_with list)
-tree_leads list l ts = through (use_path_leads ts) (through (eat_pair_leads _ _ _) (tree_behind_leads list l _ _ _))
+tree_leads list l ts = through (use_path_leads ts) (through (eat_pair_leads _ _ _) (tree_behind_leads list l _ _ _ _))
 
 element_leads : (list : Reader (Found (Option (List UseTreeView)))) → Forwards list → Forwards (element_with list)
 element_leads list l ts = through (tree_leads list l ts) (behind_comma_leads _)

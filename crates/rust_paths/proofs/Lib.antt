@@ -2,5 +2,4 @@ pub mod Naming
 pub mod Meant
 pub mod Steps
 pub mod Trees
-pub mod Starts
 pub mod Leads

@@ -2,10 +2,13 @@
 use Rattle.std.proofs.Common.{◌≡◌, ◌≢◌, ◌==◌, ℕ, List, [], ◌∷◌, Bool, true, false, All, Bor, MatchOption, Option, Some, None, option_map, if◌then◌else◌, refl, sym, ap, arith}
 use Rattle.std.specs.Option.{SomeIff}
 use Rattle.std.specs.List.{list_any}
+use Rattle.std.specs.Str.{bytes_eq}
 use Rattle.std.proofs.lemmas.Bool.Decides.{nat_tests}
 use Rattle.std.proofs.lemmas.List.Folds.{list_any_at, list_any_none}
+use Rattle.hir_input.specs.declared.edition.EditionYear.{EditionYear}
+use Rattle.hir_input.specs.declared.edition.EditionYear.TheVariants as year
 use Rattle.hir_input.specs.Name.{IsName}
-use Rattle.rust_paths.specs.Names.{is_name, as_name, behind_hash}
+use Rattle.rust_paths.specs.Names.{keywords, keywords_since_2018, keywords_since_2024, is_since_2018, is_since_2024, is_keyword, is_path_keyword, is_underscore, plain_name, is_name, as_name, behind_hash}
 
 not_found : (b : Bool) → (if b then false else true) ≡ true → b ≡ false
 not_found true h = sym h
@@ -50,3 +53,20 @@ hash_no_hash text (c ∷ bs) e h = let other : (c == 35) ≡ false = grind (arit
 pub hash_then : (text rest : List ℕ) (r : Option (Bor (List ℕ))) → text ≡ 114 ∷ rest → MatchOption r ((word : List ℕ) → rest ≢ 35 ∷ word) (λ x. rest ≡ 35 ∷ x.now) → option_map (λ w. w.now) r ≡ behind_hash text
 hash_then text rest None e h = sym (hash_no_hash text rest e h)
 hash_then text rest (Some x) e h = rw (e, h) refl
+
+-- ---- editions
+
+named_in : (always since_2018 since_2024 : Bool) (edition : EditionYear) (name : Option (List ℕ)) (n : List ℕ)
+    → (if (if always then true else (if since_2018 then is_since_2018 year.E2024 else (if since_2024 then is_since_2024 year.E2024 else false))) then None else name) ≡ Some n
+    → (if (if always then true else (if since_2018 then is_since_2018 edition else (if since_2024 then is_since_2024 edition else false))) then None else name) ≡ Some n
+named_in true since_2018 since_2024 edition name n e = absurd cc
+named_in false true since_2024 edition name n e = absurd cc
+named_in false false true edition name n e = absurd cc
+named_in false false false edition name n e = e
+
+-- what is a name in the last edition is one in each
+pub name_in : (edition : EditionYear) (n : List ℕ) → plain_name year.E2024 n ≡ Some n → plain_name edition n ≡ Some n
+unfolding plain_name is_keyword
+name_in edition n e =
+    named_in (list_any (bytes_eq n) keywords) (list_any (bytes_eq n) keywords_since_2018) (list_any (bytes_eq n) keywords_since_2024) edition
+    (if is_path_keyword n then None else (if is_underscore n then None else Some n)) n e

@@ -14,7 +14,7 @@ use Rattle.rust_cursor.specs.Words.{symbol, at, bumped, is_at_end}
 use Rattle.rust_cursor.specs.Brackets.{behind_closed, behind_tree}
 use Rattle.rust_cursor.specs.Elements.{beyond, turns_from, one}
 use Rattle.rust_cursor.proofs.Turns.{turns_stop}
-use Rattle.rust_paths.specs.UseTrees.{Found, whole, comma_from, list, element, trees, some_list, values, first_too_deep}
+use Rattle.rust_paths.specs.UseTrees.{Found, comma_from, list, element, trees, some_list, no_list, values, all_starts, first_too_deep}
 
 pub use_tree_view_made : (path : Option PathNode) (star : Bool) (rename : Option Rename) (list : Option (Vec UseTree Global))
     → use_tree_view (roll-UseTree (record { path = path; star = star; rename = rename; list = list }))
@@ -43,13 +43,13 @@ comma_more bound at ts below e f =
 -- ---- lists
 
 -- a list that is too deep
-pub list_deep : (depth : ℕ) (ts : Tokens) → depth ≡ 0 → (symbol ts == 123) ≡ true → list depth ts ≡ (record { value = None; too_deep = Some (at ts) }, behind_tree ts)
+pub list_deep : (depth : ℕ) (ts : Tokens) → depth ≡ 0 → (symbol ts == 123) ≡ true → list depth ts ≡ (no_list (Some (at ts)), behind_tree ts)
 unfolding list
 list_deep zero ts e f = rw f refl
 list_deep (suc depth) ts e f = absurd (omega arith)
 
 -- no list
-pub list_none : (depth : ℕ) (ts : Tokens) → symbol ts ≢ 123 → list depth ts ≡ (whole None, ts)
+pub list_none : (depth : ℕ) (ts : Tokens) → symbol ts ≢ 123 → list depth ts ≡ (no_list None, ts)
 unfolding list
 list_none zero ts e = let other : (symbol ts == 123) ≡ false = ne_eqb (symbol ts) 123 e in rw other refl
 list_none (suc depth) ts e = let other : (symbol ts == 123) ≡ false = ne_eqb (symbol ts) 123 e in rw other refl
@@ -64,8 +64,8 @@ list_some (suc depth) ts h e = let less : suc depth - 1 ≡ depth = omega arith 
 -- ---- the trees of a list
 
 -- what was found, with what is found behind it
-abbrev pub with_found : List UseTreeView → Option ℕ → List (Found (Option UseTreeView)) × Tokens → Found (List UseTreeView) × Tokens
-with_found done deep r = (record { value = done ++ values r.0; too_deep = option_or deep (first_too_deep r.0) }, r.1)
+abbrev pub with_found : List UseTreeView → List ℕ → Option ℕ → List (Found (Option UseTreeView)) × Tokens → Found (List UseTreeView) × Tokens
+with_found done starts deep r = (record { value = done ++ values r.0; starts = starts ++ all_starts r.0; too_deep = option_or deep (first_too_deep r.0) }, r.1)
 
 turns-by : {A : Type 0} (ends : Tokens → Bool) (reader : Reader (List A)) (n : ℕ) (done : List A) (ts : Tokens) (b : Bool) → ends ts ≡ b
     → turns_from ends reader n (done ++ (reader ts).0) (beyond ts.past (reader ts).1) ≡ ((done ++ (reader ts).0) ++ (turns_from ends reader n [] (beyond ts.past (reader ts).1)).0, (turns_from ends reader n [] (beyond ts.past (reader ts).1)).1)
@@ -92,24 +92,27 @@ or-none None = refl
 or-none (Some n) = refl
 
 -- nothing is found behind it
-found_all : (done : List UseTreeView) (deep : Option ℕ) (ts : Tokens) → with_found done deep ([], ts) ≡ (record { value = done; too_deep = deep }, ts)
-found_all done deep ts = ap (λ l. (record { value = l; too_deep = option_or deep None }, ts)) (append-nil done) ∙ ap (λ o. (record { value = done; too_deep = o }, ts)) (or-none deep)
+found_all : (done : List UseTreeView) (starts : List ℕ) (deep : Option ℕ) (ts : Tokens) → with_found done starts deep ([], ts) ≡ (record { value = done; starts = starts; too_deep = deep }, ts)
+found_all done starts deep ts =
+    ap (λ l. (record { value = l; starts = starts ++ []; too_deep = option_or deep None }, ts)) (append-nil done)
+    ∙ ap (λ l. (record { value = done; starts = l; too_deep = option_or deep None }, ts)) (append-nil starts)
+    ∙ ap (λ o. (record { value = done; starts = starts; too_deep = o }, ts)) (or-none deep)
 
 -- no turn more
-pub found_over : (tree : Reader (Found (Option UseTreeView))) (n : ℕ) (done : List UseTreeView) (deep : Option ℕ) (ts : Tokens) → n ≡ 0
-    → with_found done deep (turns_from is_at_end (one tree) n [] ts) ≡ (record { value = done; too_deep = deep }, ts)
-found_over tree n done deep ts e = rw e (found_all done deep ts)
+pub found_over : (tree : Reader (Found (Option UseTreeView))) (n : ℕ) (done : List UseTreeView) (starts : List ℕ) (deep : Option ℕ) (ts : Tokens) → n ≡ 0
+    → with_found done starts deep (turns_from is_at_end (one tree) n [] ts) ≡ (record { value = done; starts = starts; too_deep = deep }, ts)
+found_over tree n done starts deep ts e = rw e (found_all done starts deep ts)
 
 -- no tree more
-pub found_end : (tree : Reader (Found (Option UseTreeView))) (n : ℕ) (done : List UseTreeView) (deep : Option ℕ) (ts : Tokens) → is_at_end ts ≡ true
-    → with_found done deep (turns_from is_at_end (one tree) n [] ts) ≡ (record { value = done; too_deep = deep }, ts)
-found_end tree n done deep ts e = ap (with_found done deep) (turns_stop is_at_end (one tree) n [] ts e) ∙ found_all done deep ts
+pub found_end : (tree : Reader (Found (Option UseTreeView))) (n : ℕ) (done : List UseTreeView) (starts : List ℕ) (deep : Option ℕ) (ts : Tokens) → is_at_end ts ≡ true
+    → with_found done starts deep (turns_from is_at_end (one tree) n [] ts) ≡ (record { value = done; starts = starts; too_deep = deep }, ts)
+found_end tree n done starts deep ts e = ap (with_found done starts deep) (turns_stop is_at_end (one tree) n [] ts e) ∙ found_all done starts deep ts
 
 -- one tree more, or none
-pub found_more : (tree : Reader (Found (Option UseTreeView))) (bound at : ℕ) (done done' : List UseTreeView) (deep deep' : Option ℕ) (found : Found (Option UseTreeView)) (ts mid after : Tokens) (all : Found (List UseTreeView) × Tokens)
-    → at < bound → is_at_end ts ≡ false → tree ts ≡ (found, mid) → after ≡ beyond ts.past mid → done' ≡ done ++ option_to_list found.value → deep' ≡ option_or deep found.too_deep
-    → with_found done deep (turns_from is_at_end (one tree) (bound - at) [] ts) ≡ all → with_found done' deep' (turns_from is_at_end (one tree) (bound - (at + 1)) [] after) ≡ all
-found_more tree bound at done done' deep deep' found ts mid after all below e told a d f before =
+pub found_more : (tree : Reader (Found (Option UseTreeView))) (bound at : ℕ) (done done' : List UseTreeView) (starts starts' : List ℕ) (deep deep' : Option ℕ) (found : Found (Option UseTreeView)) (ts mid after : Tokens) (all : Found (List UseTreeView) × Tokens)
+    → at < bound → is_at_end ts ≡ false → tree ts ≡ (found, mid) → after ≡ beyond ts.past mid → done' ≡ done ++ option_to_list found.value → starts' ≡ starts ++ found.starts → deep' ≡ option_or deep found.too_deep
+    → with_found done starts deep (turns_from is_at_end (one tree) (bound - at) [] ts) ≡ all → with_found done' starts' deep' (turns_from is_at_end (one tree) (bound - (at + 1)) [] after) ≡ all
+found_more tree bound at done done' starts starts' deep deep' found ts mid after all below e told a d s f before =
     let turn : bound - at ≡ suc (bound - (at + 1)) = omega arith in
     let rest = turns_from is_at_end (one tree) (bound - (at + 1)) [] after in
     let same : (tree ts).0 ≡ found = ap (λ p. p.0) told in
@@ -119,8 +122,11 @@ found_more tree bound at done done' deep deep' found ts mid after all below e to
     stepped ∙ ap (λ t. turns_from is_at_end (one tree) (bound - (at + 1)) ((tree ts).0 ∷ []) t) behind
     ∙ ap (λ x. turns_from is_at_end (one tree) (bound - (at + 1)) (x ∷ []) after) same
     ∙ turns-front is_at_end (one tree) (bound - (at + 1)) (found ∷ []) after in
-    ap (λ l. (record { value = l ++ values rest.0; too_deep = option_or deep' (first_too_deep rest.0) }, rest.1)) d
-    ∙ ap (λ o. (record { value = (done ++ option_to_list found.value) ++ values rest.0; too_deep = option_or o (first_too_deep rest.0) }, rest.1)) f
-    ∙ ap (λ l. (record { value = l; too_deep = option_or (option_or deep found.too_deep) (first_too_deep rest.0) }, rest.1)) (append_assoc done (option_to_list found.value) (values rest.0))
-    ∙ ap (λ o. (record { value = done ++ (option_to_list found.value ++ values rest.0); too_deep = o }, rest.1)) (sym (or-assoc deep found.too_deep (first_too_deep rest.0)))
-    ∙ ap (with_found done deep) (sym turned) ∙ before
+    let value : done' ++ values rest.0 ≡ done ++ (option_to_list found.value ++ values rest.0) = ap (λ l. l ++ values rest.0) d ∙ append_assoc done (option_to_list found.value) (values rest.0) in
+    let begun : starts' ++ all_starts rest.0 ≡ starts ++ (found.starts ++ all_starts rest.0) = ap (λ l. l ++ all_starts rest.0) s ∙ append_assoc starts found.starts (all_starts rest.0) in
+    let first : option_or deep' (first_too_deep rest.0) ≡ option_or deep (option_or found.too_deep (first_too_deep rest.0)) =
+    ap (λ o. option_or o (first_too_deep rest.0)) f ∙ sym (or-assoc deep found.too_deep (first_too_deep rest.0)) in
+    ap (λ l. (record { value = l; starts = starts' ++ all_starts rest.0; too_deep = option_or deep' (first_too_deep rest.0) }, rest.1)) value
+    ∙ ap (λ l. (record { value = done ++ (option_to_list found.value ++ values rest.0); starts = l; too_deep = option_or deep' (first_too_deep rest.0) }, rest.1)) begun
+    ∙ ap (λ o. (record { value = done ++ (option_to_list found.value ++ values rest.0); starts = starts ++ (found.starts ++ all_starts rest.0); too_deep = o }, rest.1)) first
+    ∙ ap (with_found done starts deep) (sym turned) ∙ before

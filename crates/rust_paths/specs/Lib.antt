@@ -3,6 +3,5 @@ pub mod Meaning
 pub mod Inner
 pub mod Paths
 pub mod UseTrees
-pub mod UseStarts
 pub mod Views
 pub mod Visibilities

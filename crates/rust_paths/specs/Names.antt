@@ -2,32 +2,47 @@
 use Rattle.std.specs.Prelude.{ℕ, Bool, true, false, ◌==◌, if◌then◌else◌, Option, Some, None, is_some, List, [], ◌∷◌, codes}
 use Rattle.std.specs.List.{list_any}
 use Rattle.std.specs.Str.{bytes_eq}
+use Rattle.hir_input.specs.declared.edition.EditionYear.{EditionYear}
+use Rattle.hir_input.specs.declared.edition.EditionYear.TheVariants as year
 use Rattle.rust_lexer.specs.declared.kind.TokenKind.{TokenKind}
 use Rattle.rust_lexer.specs.declared.kind.TokenKind.TheVariants as kinds
 use Rattle.rust_cursor.specs.Tokens.{Tokens}
 use Rattle.rust_cursor.specs.Reader.{Reader}
 use Rattle.rust_cursor.specs.Words.{kind, text, at, bumped}
 
--- the strict keywords of the edition 2021
-abbrev pub strict_keywords : List (List ℕ)
-strict_keywords =
-    codes "as" ∷ codes "async" ∷ codes "await" ∷ codes "break" ∷ codes "const" ∷ codes "continue" ∷ codes "crate" ∷ codes "dyn" ∷ codes "else"
-    ∷ codes "enum" ∷ codes "extern" ∷ codes "false" ∷ codes "fn" ∷ codes "for" ∷ codes "if" ∷ codes "impl" ∷ codes "in" ∷ codes "let" ∷ codes "loop"
-    ∷ codes "match" ∷ codes "mod" ∷ codes "move" ∷ codes "mut" ∷ codes "pub" ∷ codes "ref" ∷ codes "return" ∷ codes "self" ∷ codes "Self"
-    ∷ codes "static" ∷ codes "struct" ∷ codes "super" ∷ codes "trait" ∷ codes "true" ∷ codes "type" ∷ codes "unsafe" ∷ codes "use" ∷ codes "where"
-    ∷ codes "while" ∷ []
+-- ---- keywords
 
--- its reserved keywords
-abbrev pub reserved_keywords : List (List ℕ)
-reserved_keywords =
-    codes "abstract" ∷ codes "become" ∷ codes "box" ∷ codes "do" ∷ codes "final" ∷ codes "macro" ∷ codes "override" ∷ codes "priv" ∷ codes "try"
-    ∷ codes "typeof" ∷ codes "unsized" ∷ codes "virtual" ∷ codes "yield" ∷ []
+-- the keywords of every edition, strict or reserved, but for those that a path may hold
+abbrev pub keywords : List (List ℕ)
+keywords =
+    codes "abstract" ∷ codes "as" ∷ codes "become" ∷ codes "box" ∷ codes "break" ∷ codes "const" ∷ codes "continue" ∷ codes "do" ∷ codes "else"
+    ∷ codes "enum" ∷ codes "extern" ∷ codes "false" ∷ codes "final" ∷ codes "fn" ∷ codes "for" ∷ codes "if" ∷ codes "impl" ∷ codes "in" ∷ codes "let"
+    ∷ codes "loop" ∷ codes "macro" ∷ codes "match" ∷ codes "mod" ∷ codes "move" ∷ codes "mut" ∷ codes "override" ∷ codes "priv" ∷ codes "pub"
+    ∷ codes "ref" ∷ codes "return" ∷ codes "static" ∷ codes "struct" ∷ codes "trait" ∷ codes "true" ∷ codes "type" ∷ codes "typeof" ∷ codes "unsafe"
+    ∷ codes "unsized" ∷ codes "use" ∷ codes "virtual" ∷ codes "where" ∷ codes "while" ∷ codes "yield" ∷ []
 
-unfoldable pub is_strict_keyword : List ℕ → Bool
-is_strict_keyword word = list_any (bytes_eq word) strict_keywords
+-- those that became keywords with the edition 2018
+abbrev pub keywords_since_2018 : List (List ℕ)
+keywords_since_2018 = codes "async" ∷ codes "await" ∷ codes "dyn" ∷ codes "try" ∷ []
 
-unfoldable pub is_reserved_keyword : List ℕ → Bool
-is_reserved_keyword word = list_any (bytes_eq word) reserved_keywords
+-- and with 2024
+abbrev pub keywords_since_2024 : List (List ℕ)
+keywords_since_2024 = codes "gen" ∷ []
+
+abbrev pub is_since_2018 : EditionYear → Bool
+is_since_2018 year.E2015 = false
+is_since_2018 _ = true
+
+abbrev pub is_since_2024 : EditionYear → Bool
+is_since_2024 year.E2024 = true
+is_since_2024 _ = false
+
+-- a keyword of the edition, but for those that a path may hold
+unfoldable pub is_keyword : EditionYear → List ℕ → Bool
+is_keyword edition word =
+    if list_any (bytes_eq word) keywords then true
+    else (if list_any (bytes_eq word) keywords_since_2018 then is_since_2018 edition
+    else (if list_any (bytes_eq word) keywords_since_2024 then is_since_2024 edition else false))
 
 -- the keywords that a path may hold
 abbrev pub path_keywords : List (List ℕ)
@@ -39,11 +54,13 @@ is_path_keyword word = list_any (bytes_eq word) path_keywords
 abbrev pub is_underscore : List ℕ → Bool
 is_underscore word = bytes_eq word (codes "_")
 
+-- ---- names
+
 -- NON_KEYWORD_IDENTIFIER
-unfoldable pub plain_name : List ℕ → Option (List ℕ)
-plain_name word =
-    if is_strict_keyword word then None
-    else (if is_reserved_keyword word then None else (if is_underscore word then None else Some word))
+unfoldable pub plain_name : EditionYear → List ℕ → Option (List ℕ)
+plain_name edition word =
+    if is_keyword edition word then None
+    else (if is_path_keyword word then None else (if is_underscore word then None else Some word))
 
 -- what stands behind `r#`
 abbrev pub behind_hash : List ℕ → Option (List ℕ)
@@ -60,14 +77,14 @@ unfoldable pub raw_name : List ℕ → Option (List ℕ)
 raw_name text = unless_path_keyword (behind_hash text)
 
 -- IDENTIFIER: the name that a token of this kind and text is
-abbrev pub name_text : Option TokenKind → List ℕ → Option (List ℕ)
-name_text (Some kinds.Ident) text = plain_name text
-name_text (Some kinds.RawIdent) text = raw_name text
-name_text _ text = None
+abbrev pub name_text : EditionYear → Option TokenKind → List ℕ → Option (List ℕ)
+name_text edition (Some kinds.Ident) text = plain_name edition text
+name_text edition (Some kinds.RawIdent) text = raw_name text
+name_text edition _ text = None
 
--- a name comes next
+-- a name of the edition comes next
 unfoldable pub has_name : Tokens → Bool
-has_name ts = is_some (name_text (kind ts) (text ts))
+has_name ts = is_some (name_text ts.edition (kind ts) (text ts))
 
 -- a text that is not empty and holds no line feed, as each identifier
 abbrev pub is_name : List ℕ → Bool
@@ -80,7 +97,7 @@ as_name (Some text) = if is_name text then Some text else None
 
 -- the name that comes next
 unfoldable pub next_name : Tokens → Option (List ℕ)
-next_name ts = as_name (name_text (kind ts) (text ts))
+next_name ts = as_name (name_text ts.edition (kind ts) (text ts))
 
 -- a token is taken where there is something
 abbrev pub taken_with : {A : Type 0} → Option A → Reader (Option A)

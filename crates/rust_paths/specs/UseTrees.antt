@@ -2,23 +2,23 @@
 use Rattle.std.specs.Prelude.{ℕ, zero, suc, Bool, true, false, ◌==◌, ◌||◌, if◌then◌else◌, Option, Some, None, is_none, option_to_list, List, [], ◌∷◌, ◌++◌, codes}
 use Rattle.std.specs.Option.{option_or}
 use Rattle.hir_input.specs.declared.ast.PathNode.{PathNode}
+use Rattle.hir_input.specs.declared.ast.PathNode.TheVariants.{Unreadable}
 use Rattle.hir_input.specs.declared.ast.Rename.{Rename}
 use Rattle.hir_input.specs.UseTreeView.{UseTreeView, tree_from}
 use Rattle.rust_cursor.specs.Tokens.{Tokens}
-use Rattle.rust_cursor.specs.Reader.{Reader, ◌>>=◌, pure, pass}
+use Rattle.rust_cursor.specs.Reader.{Reader, ◌>>=◌, pure, look, pass}
 use Rattle.rust_cursor.specs.Words.{symbol, at, bumped, is_at_end, eat_word, eat_colons}
 use Rattle.rust_cursor.specs.Brackets.{behind_closed, behind_tree}
 use Rattle.rust_cursor.specs.Elements.{most, elements, one}
 use Rattle.rust_paths.specs.Names.{name}
 use Rattle.rust_paths.specs.Paths.{use_path}
 
--- what was read, and the place of the first list that was passed over, since it stands in too many others
+-- What was read; the first bytes of the trees in it that can be read, each before those in it, and so in the order of the numbers that imports
+-- have for them; and the place of the first list that was passed over, since it stands in too many others.
 pub record Found (A : Type 0) : Type 0 where
   pub value : A
+  pub starts : List ℕ
   pub too_deep : Option ℕ
-
-abbrev pub whole : {A : Type 0} → A → Found A
-whole a = record { value = a; too_deep = None }
 
 -- ---- renames
 
@@ -43,33 +43,49 @@ rename = do
 abbrev pub bare : Option PathNode → Bool → Option Rename → UseTreeView
 bare path star rename = tree_from (record { path = path; star = star; rename = rename }) None
 
+-- a tree's first byte, and behind it those of the trees in it; a path that is unreadable drops them all
+abbrev pub begun : Option PathNode → ℕ → List ℕ → List ℕ
+begun (Some Unreadable) start below = []
+begun path start below = start ∷ below
+
+-- a tree without a list, that begins there
+abbrev pub with_bare : ℕ → Option PathNode → Bool → Option Rename → Found (Option UseTreeView)
+with_bare start path star rename = record { value = Some (bare path star rename); starts = begun path start []; too_deep = None }
+
 -- a tree with a list, if there is something of it
 abbrev pub listed : Option PathNode → Option (List UseTreeView) → Option UseTreeView
 listed None None = None
 listed path list = Some (tree_from (record { path = path; star = false; rename = None }) list)
 
-abbrev pub with_list : Option PathNode → Found (Option (List UseTreeView)) → Found (Option UseTreeView)
-with_list path found = record { value = listed path found.value; too_deep = found.too_deep }
+-- where it and the trees of its list begin
+abbrev pub begun_list : Option PathNode → ℕ → Option (List UseTreeView) → List ℕ → List ℕ
+begun_list None start None below = []
+begun_list path start list below = begun path start below
+
+abbrev pub with_list : ℕ → Option PathNode → Found (Option (List UseTreeView)) → Found (Option UseTreeView)
+with_list start path found =
+    record { value = listed path found.value; starts = begun_list path start found.value found.starts; too_deep = found.too_deep }
 
 -- behind a path and `::`, or behind neither: a star or a list
-abbrev pub star_or_list : Reader (Found (Option (List UseTreeView))) → Option PathNode → Reader (Found (Option UseTreeView))
-star_or_list list path ts =
-    if symbol ts == 42 then (whole (Some (bare path true None)), bumped ts) else (with_list path (list ts).0, (list ts).1)
+abbrev pub star_or_list : Reader (Found (Option (List UseTreeView))) → ℕ → Option PathNode → Reader (Found (Option UseTreeView))
+star_or_list list start path ts =
+    if symbol ts == 42 then (with_bare start path true None, bumped ts) else (with_list start path (list ts).0, (list ts).1)
 
-abbrev pub renamed_tree : Option PathNode → Reader (Found (Option UseTreeView))
-renamed_tree path = do
+abbrev pub renamed_tree : ℕ → Option PathNode → Reader (Found (Option UseTreeView))
+renamed_tree start path = do
   rename ← rename
-  pure (whole (Some (bare path false rename)))
+  pure (with_bare start path false rename)
 
-abbrev pub tree_behind : Reader (Found (Option (List UseTreeView))) → Option PathNode → Bool → Reader (Found (Option UseTreeView))
-tree_behind list path joined = if joined || is_none path then star_or_list list path else renamed_tree path
+abbrev pub tree_behind : Reader (Found (Option (List UseTreeView))) → ℕ → Option PathNode → Bool → Reader (Found (Option UseTreeView))
+tree_behind list start path joined = if joined || is_none path then star_or_list list start path else renamed_tree start path
 
 -- UseTree: a path, and behind it `::*`, `::` and a list, a rename, or nothing; the path may be missing before the first two.
 abbrev pub tree_with : Reader (Found (Option (List UseTreeView))) → Reader (Found (Option UseTreeView))
 tree_with list = do
+  start ← look at
   path ← use_path
   joined ← eat_colons
-  tree_behind list path joined
+  tree_behind list start path joined
 
 -- ---- lists
 
@@ -91,25 +107,33 @@ abbrev pub values : List (Found (Option UseTreeView)) → List UseTreeView
 values [] = []
 values (f ∷ fs) = option_to_list f.value ++ values fs
 
+abbrev pub all_starts : List (Found (Option UseTreeView)) → List ℕ
+all_starts [] = []
+all_starts (f ∷ fs) = f.starts ++ all_starts fs
+
 abbrev pub first_too_deep : List (Found (Option UseTreeView)) → Option ℕ
 first_too_deep [] = None
 first_too_deep (f ∷ fs) = option_or f.too_deep (first_too_deep fs)
 
 abbrev pub all_found : List (Found (Option UseTreeView)) → Found (List UseTreeView)
-all_found fs = record { value = values fs; too_deep = first_too_deep fs }
+all_found fs = record { value = values fs; starts = all_starts fs; too_deep = first_too_deep fs }
 
 -- the elements of a list
 abbrev pub trees : Reader (Found (Option UseTreeView)) → Reader (Found (List UseTreeView))
 trees element ts = (all_found (elements (one element) ts).0, (elements (one element) ts).1)
 
 abbrev pub some_list : Found (List UseTreeView) → Found (Option (List UseTreeView))
-some_list found = record { value = Some found.value; too_deep = found.too_deep }
+some_list found = record { value = Some found.value; starts = found.starts; too_deep = found.too_deep }
+
+-- no list, or one that is passed over
+abbrev pub no_list : Option ℕ → Found (Option (List UseTreeView))
+no_list too_deep = record { value = None; starts = []; too_deep = too_deep }
 
 -- A list in braces. The number bounds how deep lists stand in one another; one that is deeper is passed over.
 unfoldable pub list : ℕ → Reader (Found (Option (List UseTreeView)))
-list zero ts = if symbol ts == 123 then (record { value = None; too_deep = Some (at ts) }, behind_tree ts) else (whole None, ts)
+list zero ts = if symbol ts == 123 then (no_list (Some (at ts)), behind_tree ts) else (no_list None, ts)
 list (suc depth) ts =
-    if symbol ts == 123 then (let r = trees (element_with (list depth)) (bumped ts) in (some_list r.0, behind_closed 123 r.1)) else (whole None, ts)
+    if symbol ts == 123 then (let r = trees (element_with (list depth)) (bumped ts) in (some_list r.0, behind_closed 123 r.1)) else (no_list None, ts)
 
 unfoldable pub element : ℕ → Reader (Found (Option UseTreeView))
 element depth = element_with (list depth)

@@ -4,12 +4,13 @@
 mod meaning;
 mod names;
 mod paths;
-mod use_starts;
 mod use_trees;
 mod visibilities;
 
-pub use names::{PlacedName, TextRange, has_name, name, placed_name};
+pub use names::{
+    KEYWORDS, KEYWORDS_SINCE_2018, KEYWORDS_SINCE_2024, PlacedName, TextRange, has_name, name,
+    placed_name,
+};
 pub use paths::path;
-pub use use_starts::use_tree_starts;
-pub use use_trees::{FoundUseTree, use_tree};
+pub use use_trees::{FoundUseTree, TreeStarts, use_tree};
 pub use visibilities::visibility;

@@ -5,7 +5,7 @@ ghost use Rattle.rust_cursor.specs.Reader.{Gives};
 ghost use Rattle.rust_paths.specs.Names as spec;
 ghost use Rattle.rust_paths.specs.Views.{placed_view};
 
-use hir_input::Name;
+use hir_input::{EditionYear, Name};
 use rust_cursor::{Cursor, is_among};
 use rust_lexer::TokenKind;
 use std::alloc::{AllocError, Global};
@@ -24,32 +24,47 @@ pub struct PlacedName {
     pub range: TextRange,
 }
 
-/// The strict keywords of the edition 2021.
-const STRICT_KEYWORDS: [&str; 38] = [
-    "as", "async", "await", "break", "const", "continue", "crate", "dyn", "else", "enum", "extern",
-    "false", "fn", "for", "if", "impl", "in", "let", "loop", "match", "mod", "move", "mut", "pub",
-    "ref", "return", "self", "Self", "static", "struct", "super", "trait", "true", "type",
-    "unsafe", "use", "where", "while",
+/// The keywords of every edition, strict or reserved, but for those that a path may hold: `crate`, `self`, `super` and `Self`.
+pub const KEYWORDS: [&str; 43] = [
+    "abstract", "as", "become", "box", "break", "const", "continue", "do", "else", "enum",
+    "extern", "false", "final", "fn", "for", "if", "impl", "in", "let", "loop", "macro", "match",
+    "mod", "move", "mut", "override", "priv", "pub", "ref", "return", "static", "struct", "trait",
+    "true", "type", "typeof", "unsafe", "unsized", "use", "virtual", "where", "while", "yield",
 ];
 
-#[tactic(auto, unfolding(crate::specs::Names::is_strict_keyword))]
-fn is_strict_keyword(word: &str) -> bool
-    ensures { result ≡ spec.is_strict_keyword word.now }
+/// Those that became keywords with the edition 2018.
+pub const KEYWORDS_SINCE_2018: [&str; 4] = ["async", "await", "dyn", "try"];
+
+/// And with 2024.
+pub const KEYWORDS_SINCE_2024: [&str; 1] = ["gen"];
+
+fn is_since_2018(edition: EditionYear) -> bool
+    ensures { result ≡ spec.is_since_2018 edition }
 {
-    is_among(word, &STRICT_KEYWORDS)
+    !matches!(edition, EditionYear::E2015)
 }
 
-/// Its reserved keywords.
-const RESERVED_KEYWORDS: [&str; 13] = [
-    "abstract", "become", "box", "do", "final", "macro", "override", "priv", "try", "typeof",
-    "unsized", "virtual", "yield",
-];
-
-#[tactic(auto, unfolding(crate::specs::Names::is_reserved_keyword))]
-fn is_reserved_keyword(word: &str) -> bool
-    ensures { result ≡ spec.is_reserved_keyword word.now }
+fn is_since_2024(edition: EditionYear) -> bool
+    ensures { result ≡ spec.is_since_2024 edition }
 {
-    is_among(word, &RESERVED_KEYWORDS)
+    matches!(edition, EditionYear::E2024)
+}
+
+/// Whether the word is a keyword of the edition, but for those that a path may hold.
+#[tactic(auto, unfolding(crate::specs::Names::is_keyword))]
+fn is_keyword(edition: EditionYear, word: &str) -> bool
+    ensures { result ≡ spec.is_keyword edition word.now }
+{
+    if is_among(word, &KEYWORDS) {
+        return true;
+    }
+    if is_among(word, &KEYWORDS_SINCE_2018) {
+        return is_since_2018(edition);
+    }
+    if is_among(word, &KEYWORDS_SINCE_2024) {
+        return is_since_2024(edition);
+    }
+    false
 }
 
 /// Whether a path may hold the keyword.
@@ -61,13 +76,13 @@ pub(crate) fn is_path_keyword(word: &str) -> bool
 }
 
 #[tactic(auto, unfolding(crate::specs::Names::plain_name))]
-fn plain_name(word: &str) -> Option<&str>
-    ensures { option_map (λ name. name.now) result ≡ spec.plain_name word.now }
+fn plain_name(edition: EditionYear, word: &str) -> Option<&str>
+    ensures { option_map (λ name. name.now) result ≡ spec.plain_name edition word.now }
 {
-    if is_strict_keyword(word) {
+    if is_keyword(edition, word) {
         return None;
     }
-    if is_reserved_keyword(word) {
+    if is_path_keyword(word) {
         return None;
     }
     if word == "_" {
@@ -100,22 +115,22 @@ fn raw_name(text: &str) -> Option<&str>
     Some(word)
 }
 
-fn name_text(kind: Option<TokenKind>, text: &str) -> Option<&str>
-    ensures { option_map (λ name. name.now) result ≡ spec.name_text kind text.now }
+fn name_text(edition: EditionYear, kind: Option<TokenKind>, text: &str) -> Option<&str>
+    ensures { option_map (λ name. name.now) result ≡ spec.name_text edition kind text.now }
 {
     match kind {
-        Some(TokenKind::Ident) => plain_name(text),
+        Some(TokenKind::Ident) => plain_name(edition, text),
         Some(TokenKind::RawIdent) => raw_name(text),
         _ => None,
     }
 }
 
-/// Whether a name comes next.
+/// Whether a name of the text's edition comes next.
 #[tactic(auto, unfolding(crate::specs::Names::has_name))]
 pub fn has_name(cursor: &Cursor<'_>) -> bool
     ensures { result ≡ spec.has_name cursor.now }
 {
-    name_text(cursor.kind(), cursor.text()).is_some()
+    name_text(cursor.edition(), cursor.kind(), cursor.text()).is_some()
 }
 
 #[tactic(auto, using(crate::proofs::Naming::new_name))]
@@ -130,13 +145,13 @@ fn name_from(text: String) -> Option<Name>
 pub(crate) fn next_name(alloc: Global, cursor: &Cursor<'_>) -> Result<Option<Name>, AllocError>
     ensures { IfOk result (λ name. name ≡ spec.next_name cursor.now) }
 {
-    match name_text(cursor.kind(), cursor.text()) {
+    match name_text(cursor.edition(), cursor.kind(), cursor.text()) {
         Some(text) => Ok(name_from(String::from_str(alloc, text)?)),
         None => Ok(None),
     }
 }
 
-/// Takes a name, if one comes next: an identifier that is no keyword of the edition 2021 and not `_`, or a raw identifier.
+/// Takes a name, if one comes next: an identifier that is no keyword of the text's edition and not `_`, or a raw identifier.
 #[tactic(auto, unfolding(crate::specs::Names::name))]
 pub fn name(alloc: Global, cursor: &mut Cursor<'_>) -> Result<Option<Name>, AllocError>
     ensures { Gives (λ name. name) (spec.name cursor.old) result cursor.new }

@@ -1,10 +1,10 @@
 //! Use trees.
 
-ghost use Rattle.std.specs.Prelude.{◌≡◌, ◌||◌, OnOk, option_map, option_to_list, ◌++◌, map, is_none};
+ghost use Rattle.std.specs.Prelude.{◌≡◌, ◌||◌, OnOk, option_map, option_to_list, ◌++◌, [], map, is_none};
 ghost use Rattle.hir_input.specs.UseTreeView.{use_tree_view};
 ghost use Rattle.rust_cursor.specs.Reader.{Gives};
 ghost use Rattle.rust_paths.specs.UseTrees as spec;
-ghost use Rattle.rust_paths.specs.Views.{found_view, list_view, trees_view};
+ghost use Rattle.rust_paths.specs.Views.{found_view, list_view, starts_view, trees_view};
 
 use crate::names::name;
 use crate::paths::use_path;
@@ -13,13 +13,54 @@ use rust_cursor::Cursor;
 use std::alloc::{AllocError, Global};
 
 /// How deep lists may stand in one another.
-pub(crate) const MOST_DEPTH: usize = 128;
+const MOST_DEPTH: usize = 128;
+
+/// Where a use tree and the trees in it begin.
+#[derive(Debug, Drop)]
+pub struct TreeStarts {
+    /// The first byte of the tree itself, if its path can be read.
+    pub own: Option<usize>,
+    /// Those of the trees in its list that can be read, each before those in it.
+    pub below: Vec<usize>,
+}
+
+impl TreeStarts {
+    /// Those of no tree.
+    pub fn none(alloc: Global) -> Self
+        ensures { starts_view result ≡ [] }
+    {
+        TreeStarts {
+            own: None,
+            below: Vec::new(alloc),
+        }
+    }
+
+    /// Adds them to others, each before those in it. The only error is want of memory.
+    pub fn push_to(self, starts: &mut Vec<usize>) -> Result<(), AllocError>
+        ensures { OnOk result (starts.new.items ≡ starts.old.items ++ starts_view self) }
+    {
+        let mut below = self.below;
+        match self.own {
+            Some(own) => {
+                starts.push(own)?;
+                starts.append(&mut below)?;
+                Ok(())
+            }
+            None => {
+                starts.append(&mut below)?;
+                Ok(())
+            }
+        }
+    }
+}
 
 /// A use tree that was read.
 #[derive(Debug, Drop)]
 pub struct FoundUseTree {
     /// The tree, if one is written.
     pub tree: Option<UseTree>,
+    /// Where it and the trees in it begin.
+    pub starts: TreeStarts,
     /// The place of the first list that was passed over, since it stands in 128 others.
     pub too_deep: Option<usize>,
 }
@@ -28,6 +69,7 @@ pub struct FoundUseTree {
 #[derive(Drop)]
 pub(crate) struct FoundList {
     pub list: Option<Vec<UseTree>>,
+    pub starts: Vec<usize>,
     pub too_deep: Option<usize>,
 }
 
@@ -35,6 +77,7 @@ pub(crate) struct FoundList {
 #[derive(Drop)]
 pub(crate) struct FoundTrees {
     pub trees: Vec<UseTree>,
+    pub starts: Vec<usize>,
     pub too_deep: Option<usize>,
 }
 
@@ -50,7 +93,7 @@ fn alias(alloc: Global, cursor: &mut Cursor<'_>) -> Result<Rename, AllocError>
 
 /// Takes `as` and what stands behind it, if it comes next.
 #[tactic(auto, unfolding(crate::specs::UseTrees::rename))]
-pub(crate) fn rename(alloc: Global, cursor: &mut Cursor<'_>) -> Result<Option<Rename>, AllocError>
+fn rename(alloc: Global, cursor: &mut Cursor<'_>) -> Result<Option<Rename>, AllocError>
     ensures { Gives (λ r. r) (spec.rename cursor.old) result cursor.new }
 {
     if !cursor.eat_word("as") {
@@ -71,6 +114,53 @@ fn bare(path: Option<PathNode>, star: bool, rename: Option<Rename>) -> UseTree
     }
 }
 
+/// Where a tree begins, and those in it, if the path can be read.
+fn begun(alloc: Global, path: &Option<PathNode>, start: usize, below: Vec<usize>) -> TreeStarts
+    ensures { starts_view result ≡ spec.begun path.now start below.items }
+{
+    if let Some(PathNode::Unreadable) = path {
+        return TreeStarts::none(alloc);
+    }
+    TreeStarts {
+        own: Some(start),
+        below,
+    }
+}
+
+/// The same of a tree with a list, if there is something of it.
+fn begun_list(
+    alloc: Global,
+    path: &Option<PathNode>,
+    start: usize,
+    list: &Option<Vec<UseTree>>,
+    below: Vec<usize>,
+) -> TreeStarts
+    ensures { starts_view result ≡ spec.begun_list path.now start (option_map (λ v. map use_tree_view v.items) list.now) below.items }
+{
+    if path.is_none() && list.is_none() {
+        return TreeStarts::none(alloc);
+    }
+    begun(alloc, path, start, below)
+}
+
+/// A tree without a list, that begins there.
+fn found_bare(
+    alloc: Global,
+    start: usize,
+    path: Option<PathNode>,
+    star: bool,
+    rename: Option<Rename>,
+) -> FoundUseTree
+    ensures { found_view result ≡ spec.with_bare start path star rename }
+{
+    let starts = begun(alloc, &path, start, Vec::new(alloc));
+    FoundUseTree {
+        tree: Some(bare(path, star, rename)),
+        starts,
+        too_deep: None,
+    }
+}
+
 /// A tree with a list, if there is something of it.
 #[tactic(auto, using(crate::proofs::Trees::use_tree_view_made))]
 fn listed(path: Option<PathNode>, list: Option<Vec<UseTree>>) -> Option<UseTree>
@@ -87,8 +177,35 @@ fn listed(path: Option<PathNode>, list: Option<Vec<UseTree>>) -> Option<UseTree>
     })
 }
 
+fn found_listed(
+    alloc: Global,
+    start: usize,
+    path: Option<PathNode>,
+    found: FoundList,
+) -> FoundUseTree
+    ensures { found_view result ≡ spec.with_list start path (list_view found) }
+{
+    let list = found.list;
+    let starts = begun_list(alloc, &path, start, &list, found.starts);
+    FoundUseTree {
+        tree: listed(path, list),
+        starts,
+        too_deep: found.too_deep,
+    }
+}
+
+fn no_list(alloc: Global, too_deep: Option<usize>) -> FoundList
+    ensures { list_view result ≡ spec.no_list too_deep }
+{
+    FoundList {
+        list: None,
+        starts: Vec::new(alloc),
+        too_deep,
+    }
+}
+
 /// Whether a star or a list may come next: behind `::`, and where no path is written.
-pub(crate) fn may_be_listed(joined: bool, path: &Option<PathNode>) -> bool
+fn may_be_listed(joined: bool, path: &Option<PathNode>) -> bool
     ensures { result ≡ (joined || is_none path.now) }
 {
     joined || path.is_none()
@@ -96,7 +213,7 @@ pub(crate) fn may_be_listed(joined: bool, path: &Option<PathNode>) -> bool
 
 /// Passes over what stands before the next comma, and it, or up to a bracket that closes.
 #[tactic(auto, unfolding(crate::specs::UseTrees::behind_comma), using(crate::proofs::Trees::comma_end, crate::proofs::Trees::comma_here, crate::proofs::Trees::comma_more))]
-pub(crate) fn pass_comma(cursor: &mut Cursor<'_>)
+fn pass_comma(cursor: &mut Cursor<'_>)
     ensures { cursor.new ≡ spec.behind_comma cursor.old }
 {
     let most = Cursor::most_turns();
@@ -129,29 +246,19 @@ fn push_some(trees: &mut Vec<UseTree>, tree: Option<UseTree>) -> Result<(), Allo
 fn tree_at(alloc: Global, cursor: &mut Cursor<'_>, depth: usize) -> Result<FoundUseTree, AllocError>
     ensures { Gives found_view (spec.tree_at depth cursor.old) result cursor.new }
 {
+    let start = cursor.at();
     let path = use_path(alloc, cursor)?;
     let joined = cursor.eat_colons();
     if !may_be_listed(joined, &path) {
         let rename = rename(alloc, cursor)?;
-        let tree = Some(bare(path, false, rename));
-        return Ok(FoundUseTree {
-            tree,
-            too_deep: None,
-        });
+        return Ok(found_bare(alloc, start, path, false, rename));
     }
     if cursor.symbol() == b'*' {
         cursor.bump();
-        let tree = Some(bare(path, true, None));
-        return Ok(FoundUseTree {
-            tree,
-            too_deep: None,
-        });
+        return Ok(found_bare(alloc, start, path, true, None));
     }
     let found = list(alloc, cursor, depth)?;
-    Ok(FoundUseTree {
-        tree: listed(path, found.list),
-        too_deep: found.too_deep,
-    })
+    Ok(found_listed(alloc, start, path, found))
 }
 
 #[cycle(trees)]
@@ -160,24 +267,19 @@ fn list(alloc: Global, cursor: &mut Cursor<'_>, depth: usize) -> Result<FoundLis
     ensures { Gives list_view (spec.list depth cursor.old) result cursor.new }
 {
     if cursor.symbol() != b'{' {
-        return Ok(FoundList {
-            list: None,
-            too_deep: None,
-        });
+        return Ok(no_list(alloc, None));
     }
     if depth == 0 {
         let too_deep = Some(cursor.at());
         cursor.pass_tree();
-        return Ok(FoundList {
-            list: None,
-            too_deep,
-        });
+        return Ok(no_list(alloc, too_deep));
     }
     cursor.bump();
     let found = trees(alloc, cursor, depth - 1)?;
     cursor.pass_closed(b'{');
     Ok(FoundList {
         list: Some(found.trees),
+        starts: found.starts,
         too_deep: found.too_deep,
     })
 }
@@ -198,6 +300,7 @@ fn trees(alloc: Global, cursor: &mut Cursor<'_>, depth: usize) -> Result<FoundTr
     ensures { Gives trees_view (spec.trees (spec.element depth) cursor.old) result cursor.new }
 {
     let mut trees = Vec::new(alloc);
+    let mut starts = Vec::new(alloc);
     let mut too_deep = None;
     let most = Cursor::most_turns();
     for _turn in 0..most {
@@ -207,16 +310,23 @@ fn trees(alloc: Global, cursor: &mut Cursor<'_>, depth: usize) -> Result<FoundTr
         let past = cursor.past();
         let found = element(alloc, cursor, depth)?;
         push_some(&mut trees, found.tree)?;
+        found.starts.push_to(&mut starts)?;
         too_deep = too_deep.or(found.too_deep);
         cursor.pass_beyond(past);
     }
-    Ok(FoundTrees { trees, too_deep })
+    Ok(FoundTrees {
+        trees,
+        starts,
+        too_deep,
+    })
 }
 
 /// Takes a use tree, if one is written.
 ///
 /// Lists that stand in more than 128 others are passed over, and the place of the first of them is told. What stands
-/// between a tree of a list and the next comma is passed over too. rust-analyzer's `use_tree`.
+/// between a tree of a list and the next comma is passed over too. Where the trees begin is told of those that can be read,
+/// as a tree's imports are numbered by them: not of a tree with an unreadable path, nor of those in it. rust-analyzer's
+/// `use_tree`.
 #[tactic(auto, unfolding(crate::specs::UseTrees::use_tree))]
 pub fn use_tree(alloc: Global, cursor: &mut Cursor<'_>) -> Result<FoundUseTree, AllocError>
     ensures { Gives found_view (spec.use_tree cursor.old) result cursor.new }

@@ -5,9 +5,9 @@ use Rattle.rust_cursor.specs.declared.cursor.nest.Before.TheVariants as befores
 use Rattle.rust_cursor.specs.Tokens.{Tokens}
 use Rattle.rust_cursor.specs.Words.{bumped}
 use Rattle.rust_cursor.specs.Nests.{is_mark}
-use Rattle.rust_cursor.specs.Extents.{ExcerptRead, excerpt, goes_on, opened_behind, block_at, item_rest, value_rest}
-use Rattle.rust_cursor.proofs.Rests.{Behind, taking_rest, item_rest_taking, value_rest_taking, stops_here, ends_here, rest_end}
-use Rattle.rust_round.specs.Trees.{mark, curly, open_of, close_of, Trees, group, tree_words, trees_words, AreTrees, GoesOn, angles_behind, angles_behind_all, before_behind, and_words, spaced}
+use Rattle.rust_cursor.specs.Extents.{ExcerptRead, excerpt, goes_on, opened_behind, block_at, impl_rest, item_rest, value_rest}
+use Rattle.rust_cursor.proofs.Rests.{Behind, taking_rest, impl_rest_taking, item_rest_taking, value_rest_taking, stops_here, ends_here, rest_end}
+use Rattle.rust_round.specs.Trees.{mark, curly, open_of, close_of, Trees, group, tree_words, trees_words, AreTrees, GoesBehind, GoesOn, GoesOnType, angles_behind, angles_behind_all, before_behind, and_words, spaced}
 use Rattle.rust_round.specs.Impls.{before_behind_all}
 use Rattle.rust_round.proofs.Begins.{Shows, Begins, behind, behind_append, begins_left, begins_right}
 use Rattle.rust_round.proofs.Nested.{nest, last_leave}
@@ -91,16 +91,26 @@ block_taken b done last a before ts c h begun e =
     ∙ ap (λ r. (whole_with ts (and_words done (tree_words (group curly b))), r)) (sym same)
 
 -- up to a block
-pub item_block : (t b : Trees) (ts : Tokens) → AreTrees t → AreTrees b → GoesOn false t (open_of curly) → Begins (trees_words t ++ tree_words (group curly b)) ts
+block_from : (before : Before) (t b : Trees) (ts : Tokens) → AreTrees t → AreTrees b → GoesBehind false before t (open_of curly) → Begins (trees_words t ++ tree_words (group curly b)) ts
     → goes_on (behind (trees_words t ++ tree_words (group curly b)) ts) ≡ false
-    → item_rest ts ≡ (whole_with (behind (trees_words t) ts) (spaced (trees_words t ++ tree_words (group curly b))), behind (trees_words t ++ tree_words (group curly b)) ts)
-item_block t b ts h i g begun e =
+    → taking_rest false [] (0, None) (nest 0 0 0 0 0 before) ts ≡ (whole_with (behind (trees_words t) ts) (spaced (trees_words t ++ tree_words (group curly b))), behind (trees_words t ++ tree_words (group curly b)) ts)
+block_from before t b ts h i g begun e =
     let ws = trees_words t in
     let vs = tree_words (group curly b) in
     let us = behind ws ts in
     let same = behind_append ws vs ts in
-    let k = takes_header t false (open_of curly) (trees_words b ++ close_of curly ∷ []) [] (0, None) 0 befores.End ts h g begun in
-    item_rest_taking ts ∙ k.1
-    ∙ block_taken b (spaced ws) k.0 (angles_behind_all befores.End 0 t) (before_behind_all befores.End t) us (block_last t false befores.End g) i (begins_right ws vs ts begun) (ap goes_on (sym same) ∙ e)
+    let k = takes_header t false (open_of curly) (trees_words b ++ close_of curly ∷ []) [] (0, None) 0 before ts h g begun in
+    k.1
+    ∙ block_taken b (spaced ws) k.0 (angles_behind_all before 0 t) (before_behind_all before t) us (block_last t false before g) i (begins_right ws vs ts begun) (ap goes_on (sym same) ∙ e)
     ∙ ap (λ l. (whole_with us l, behind vs us)) (sym (and_words-append ws vs []))
     ∙ ap (λ r. (whole_with us (spaced (ws ++ vs)), r)) (sym same)
+
+pub item_block : (t b : Trees) (ts : Tokens) → AreTrees t → AreTrees b → GoesOn false t (open_of curly) → Begins (trees_words t ++ tree_words (group curly b)) ts
+    → goes_on (behind (trees_words t ++ tree_words (group curly b)) ts) ≡ false
+    → item_rest ts ≡ (whole_with (behind (trees_words t) ts) (spaced (trees_words t ++ tree_words (group curly b))), behind (trees_words t ++ tree_words (group curly b)) ts)
+item_block t b ts h i g begun e = item_rest_taking ts ∙ block_from befores.End t b ts h i g begun e
+
+pub impl_block : (t b : Trees) (ts : Tokens) → AreTrees t → AreTrees b → GoesOnType t (open_of curly) → Begins (trees_words t ++ tree_words (group curly b)) ts
+    → goes_on (behind (trees_words t ++ tree_words (group curly b)) ts) ≡ false
+    → impl_rest ts ≡ (whole_with (behind (trees_words t) ts) (spaced (trees_words t ++ tree_words (group curly b))), behind (trees_words t ++ tree_words (group curly b)) ts)
+impl_block t b ts h i g begun e = impl_rest_taking ts ∙ block_from befores.Other t b ts h i g begun e

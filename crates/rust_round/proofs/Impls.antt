@@ -103,13 +103,13 @@ generics_passed g ts h is b =
     let vs = behind (trees_words g) us in
     let before = before_behind_all befores.Other g in
     let shut : Shows (mark 62) vs = (begins_right (trees_words g) (mark 62 ∷ []) us b.1).0 in
-    let first : Passes reaches.Angles (nest 0 0 0 0 0 befores.End) (nest 0 0 0 0 1 befores.Other) (mark 60 ∷ []) ts =
-    passes_word reaches.Angles (nest 0 0 0 0 0 befores.End) (nest 0 0 0 0 1 befores.Other) (mark 60) ts
-    (flat_reached reaches.Angles 0 befores.End ts b.0.some
-    (angles_bar (symbol ts == 125) (is_at_end ts) (begins (nest 0 0 0 0 0 befores.End) ts) (symbol ts == 59) (rw b.0.symbol_is refl) b.0.end_is (mark_begins 0 befores.End (mark 60) ts b.0 refl refl) (rw b.0.symbol_is refl)))
-    (flat_word 0 befores.End (mark 60) ts (refl, refl) b.0 refl) (one_open befores.Other) in
+    let first : Passes reaches.Angles (nest 0 0 0 0 0 befores.Other) (nest 0 0 0 0 1 befores.Other) (mark 60 ∷ []) ts =
+    passes_word reaches.Angles (nest 0 0 0 0 0 befores.Other) (nest 0 0 0 0 1 befores.Other) (mark 60) ts
+    (flat_reached reaches.Angles 0 befores.Other ts b.0.some
+    (angles_bar (symbol ts == 125) (is_at_end ts) (begins (nest 0 0 0 0 0 befores.Other) ts) (symbol ts == 59) (rw b.0.symbol_is refl) b.0.end_is (mark_begins 0 befores.Other (mark 60) ts b.0 refl refl) (rw b.0.symbol_is refl)))
+    (flat_word 0 befores.Other (mark 60) ts (refl, refl) b.0 refl) (one_open befores.Other) in
     let mid = passes_trees g reaches.Angles 1 befores.Other (mark 62) [] us h is.goes b.1 (all_before_angles g befores.Other 1 (mark 62) [] us h is.goes refl is.unclosed b.1) in
-    let all : reaching reaches.Angles (nest 0 0 0 0 0 befores.End) ts ≡ bumped vs =
+    let all : reaching reaches.Angles (nest 0 0 0 0 0 befores.Other) ts ≡ bumped vs =
     first ∙ mid ∙ ap (λ n. reaching reaches.Angles (nest 0 0 0 0 n before) vs) is.closed ∙ close_behind before vs shut is.undashed in
     rw b.0.symbol_is (all ∙ sym (behind_append (trees_words g) (mark 62 ∷ []) us))
 
@@ -153,8 +153,8 @@ pub field_type_passed : (t : Trees) (more : List Word) (ts : Tokens) → AreTree
 unfolding reached
 field_type_passed t more ts h is b =
     let us = behind (trees_words t) ts in
-    let after = before_behind_all befores.End t in
-    passes_trees t reaches.Field 0 befores.End (mark 44) more ts h is.goes b (all_before_comma t befores.End 0 (mark 44) more ts h is.goes is.one b)
+    let after = before_behind_all befores.Other t in
+    passes_trees t reaches.Field 0 befores.Other (mark 44) more ts h is.goes b (all_before_comma t befores.Other 0 (mark 44) more ts h is.goes is.one b)
     ∙ ap (λ n. reaching reaches.Field (nest 0 0 0 0 n after) us) is.closed
     ∙ reaching_stop reaches.Field (nest 0 0 0 0 0 after) us (comma_reached after us (begins_right (trees_words t) (mark 44 ∷ more) ts b).0)
 
@@ -212,12 +212,12 @@ all_before_header (tree_and (group k is') is) before a end more ts h g o b =
 
 -- up to what ends a part
 part_behind : (is : Trees) (end : Word) (more : List Word) (ts : Tokens) → AreTrees is → IsPart is end → Begins (trees_words is ++ end ∷ more) ts
-    → is_reached reaches.Header (nest 0 0 0 0 0 (before_behind_all befores.End is)) (behind (trees_words is) ts) ≡ true → reached reaches.Header ts ≡ behind (trees_words is) ts
+    → is_reached reaches.Header (nest 0 0 0 0 0 (before_behind_all befores.Other is)) (behind (trees_words is) ts) ≡ true → reached reaches.Header ts ≡ behind (trees_words is) ts
 unfolding reached
 part_behind is end more ts h p b e =
     let us = behind (trees_words is) ts in
-    let after = before_behind_all befores.End is in
-    passes_trees is reaches.Header 0 befores.End end more ts h p.goes b (all_before_header is befores.End 0 end more ts h p.goes p.one b)
+    let after = before_behind_all befores.Other is in
+    passes_trees is reaches.Header 0 befores.Other end more ts h p.goes b (all_before_header is befores.Other 0 end more ts h p.goes p.one b)
     ∙ ap (λ n. reaching reaches.Header (nest 0 0 0 0 n after) us) p.closed
     ∙ reaching_stop reaches.Header (nest 0 0 0 0 0 after) us e
 
@@ -267,7 +267,7 @@ trait_found : (end : ℕ) (t : Trees) (next : Word) (more : List Word) (ts : Tok
 trait_found end t next more ts h p e b n =
     let us = behind (trees_words t) ts in
     let rest = up_to_right end (trees_words t) (trees.word (codes "for") ∷ more) ts b in
-    found_word end ts us (codes "for") (part_behind t (trees.word (codes "for")) more ts h p b.0 (for_here (before_behind_all befores.End t) next us rest.0.0 n e)) rest.0.0.word_is
+    found_word end ts us (codes "for") (part_behind t (trees.word (codes "for")) more ts h p b.0 (for_here (before_behind_all befores.Other t) next us rest.0.0 n e)) rest.0.0.word_is
     ∙ first_before end (trees.word (codes "for")) more us rest
 
 -- a type without a trait is followed by `where` or the block
@@ -275,13 +275,13 @@ none_before_where : (end : ℕ) (t : Trees) (more : List Word) (ts : Tokens) →
 none_before_where end t more ts h p b =
     let us = behind (trees_words t) ts in
     let last = (begins_right (trees_words t) (trees.word (codes "where") ∷ more) ts b).0 in
-    found_word end ts us (codes "where") (part_behind t (trees.word (codes "where")) more ts h p b (where_here (before_behind_all befores.End t) us last)) last.word_is
+    found_word end ts us (codes "where") (part_behind t (trees.word (codes "where")) more ts h p b (where_here (before_behind_all befores.Other t) us last)) last.word_is
 
 none_before_block : (end : ℕ) (t : Trees) (more : List Word) (ts : Tokens) → AreTrees t → IsPart t (open_of curly) → Begins (trees_words t ++ open_of curly ∷ more) ts → is_trait_impl end ts ≡ false
 none_before_block end t more ts h p b =
     let us = behind (trees_words t) ts in
     let last = (begins_right (trees_words t) (open_of curly ∷ more) ts b).0 in
-    found_word end ts us [] (part_behind t (open_of curly) more ts h p b (block_here (before_behind_all befores.End t) us (block_last t false befores.End p.goes) last)) last.word_is
+    found_word end ts us [] (part_behind t (open_of curly) more ts h p b (block_here (before_behind_all befores.Other t) us (block_last t false befores.Other p.goes) last)) last.word_is
 
 -- ---- all before a block
 

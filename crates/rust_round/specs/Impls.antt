@@ -5,7 +5,7 @@ use Rattle.rust_cursor.specs.declared.cursor.nest.Before.{Before}
 use Rattle.rust_cursor.specs.declared.cursor.nest.Before.TheVariants as befores
 use Rattle.rust_cursor.specs.Nests.{is_dash}
 use Rattle.rust_round.specs.Words.{Word}
-use Rattle.rust_round.specs.Trees.{word, mark, text_of, symbol_of, single, group, Trees, no_trees, tree_and, open_of, curly, first_of, before_behind, behind_group, GoesBehind, GoesOn, AreClosed, angles_behind, angles_behind_all}
+use Rattle.rust_round.specs.Trees.{word, mark, text_of, symbol_of, single, group, Trees, no_trees, tree_and, open_of, curly, first_of, before_behind, behind_group, GoesBehind, GoesOnType, AreClosed, angles_behind, angles_behind_all}
 
 abbrev pub trees_append : Trees → Trees → Trees
 trees_append no_trees us = us
@@ -46,8 +46,8 @@ HasNoComma before a (tree_and (group b is) ts) = HasNoComma (behind_group before
 
 -- the type of a field, up to its comma
 pub record IsFieldType (ts : Trees) : Type 0 where
-  pub goes : GoesOn false ts (mark 44)
-  pub one : HasNoComma befores.End 0 ts
+  pub goes : GoesOnType ts (mark 44)
+  pub one : HasNoComma befores.Other 0 ts
   pub closed : AreClosed ts
 
 -- ---- headers
@@ -63,8 +63,8 @@ IsOnePart before a (tree_and (group b is) ts) = IsOnePart (behind_group before b
 
 -- a trait's path or a type, before this word
 pub record IsPart (ts : Trees) (behind : Word) : Type 0 where
-  pub goes : GoesOn false ts behind
-  pub one : IsOnePart befores.End 0 ts
+  pub goes : GoesOnType ts behind
+  pub one : IsOnePart befores.Other 0 ts
   pub closed : AreClosed ts
 
 -- what stands between `impl` and its block: what stands between `<` and `>`, a trait's path, a type, and what stands behind `where`
@@ -105,6 +105,6 @@ HasTrait (Some t) h = IsPart t (word (codes "for")) × ((symbol_of (first_of (ty
 
 -- all before the block of an impl is passed over as what it is
 pub record IsImplHeader (h : ImplHeader) : Type 0 where
-  pub goes : GoesOn false (header_trees h) (open_of curly)
+  pub goes : GoesOnType (header_trees h) (open_of curly)
   pub has_generics : HasGenerics h.generics (first_of (behind_generics h) (open_of curly))
   pub has_trait : HasTrait h.of_trait h

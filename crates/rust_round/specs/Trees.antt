@@ -194,6 +194,10 @@ GoesBehind braces before (tree_and (group b is) ts) behind = MayStand braces b �
 abbrev pub GoesOn : (braces : Bool) → Trees → Word → Type 0
 GoesOn braces ts behind = GoesBehind braces befores.End ts behind
 
+-- the same where a type begins
+abbrev pub GoesOnType : Trees → Word → Type 0
+GoesOnType ts behind = GoesBehind false befores.Other ts behind
+
 -- ---- angle brackets
 
 -- how many are open behind a word; the `>` of `->` and `=>` closes none
@@ -206,9 +210,9 @@ angles_behind_all before n no_trees = n
 angles_behind_all before n (tree_and (single w) ts) = angles_behind_all (before_behind before w) (angles_behind before n w) ts
 angles_behind_all before n (tree_and (group b is) ts) = angles_behind_all (behind_group before b) n ts
 
--- each is closed that is opened behind a name
+-- each is closed that is opened where a type begins
 abbrev pub AreClosed : Trees → Type 0
-AreClosed ts = angles_behind_all befores.End 0 ts ≡ 0
+AreClosed ts = angles_behind_all befores.Other 0 ts ≡ 0
 
 -- ---- texts
 

@@ -1,11 +1,12 @@
 -- Three examples: the texts of items, what they are read as, and that the laws speak of them.
 use Rattle.std.proofs.Common.{Bool, ◌≡◌, ℕ, true, false, Option, Some, None, List, [], ◌∷◌, codes, refl, arith}
+use Rattle.hir_input.specs.declared.edition.EditionYear.{EditionYear}
 use Rattle.hir_input.specs.declared.ast.Visibility.{Visibility}
 use Rattle.hir_input.specs.declared.ast.Visibility.TheVariants.{Pub, PubCrate}
 use Rattle.hir_input.specs.declared.ids.AstIdKind.TheVariants as kind
 use Rattle.hir_input.specs.Syntax.{NamedView, fn_kind, enum_kind, no_fields, no_items, item_and, plain_item, const_item, struct_item, bare_module, listed_module, items_from}
 use Rattle.rust_cursor.specs.Elements.{most}
-use Rattle.rust_round.specs.Trees.{word, mark, joined_mark, Tree, single, group, Trees, no_trees, tree_and, round, curly, AreTrees, GoesOn}
+use Rattle.rust_round.specs.Trees.{word, mark, joined_mark, Tree, single, group, Trees, no_trees, tree_and, round, curly, AreTrees, GoesOn, GoesOnType}
 use Rattle.rust_round.specs.Impls.{ImplHeader}
 use Rattle.rust_written.specs.Written.{Scope, Front, unwritten, everywhere, in_crate, functions, enums, constants, Items, blocked, valued, structure, unit_shape, tuple_shape, implemented, file_module, module_of, used, no_more, also, views, row, rows, IsNamed, IsPlainBlock, AreItems}
 use Rattle.hir_input.specs.declared.ast.PathNode.{PathNode}
@@ -19,7 +20,7 @@ use Rattle.rust_written.specs.UseTrees.{named, self_segment, crate_segment, as_n
 use Rattle.rust_written.specs.Spelled.{text_of}
 use Rattle.rust_cursor.specs.Nests.{leads_on}
 use Rattle.rust_leaves.specs.Heads.{follows_unsafe}
-use Rattle.rust_paths.specs.Names.{plain_name, is_strict_keyword, is_reserved_keyword}
+use Rattle.rust_paths.specs.Names.{plain_name, is_keyword, is_path_keyword}
 use Rattle.rust_leaves.specs.Texts.{bare}
 use Rattle.hir_input.specs.Bodies.{without_bodies}
 use Rattle.hir_input.specs.Syntax.{syntax_view}
@@ -75,7 +76,7 @@ abbrev plain : (false ≡ false) × (false ≡ false)
 plain = (refl, refl)
 
 function_named : IsNamed (codes "f")
-unfolding plain_name is_strict_keyword is_reserved_keyword bare
+unfolding plain_name is_keyword is_path_keyword bare
 function_named = record { plain = refl; name = refl; bare = refl }
 
 function_well : (body : Trees) → AreTrees body → IsPlainBlock body → AreItems 128 (function body)
@@ -107,9 +108,9 @@ pub long_writes : Writes (function long_body) (text_of (function long_body))
 unfolding most
 long_writes = writable (function long_body) (function_well long_body (plain, (plain, (plain, ((plain, (plain, (plain, tt))), (plain, (plain, tt)))))) refl) refl (omega arith)
 
-pub body_typed : (read again : SourceFile) → IsSourceFile (text_of (function short_body)) read → IsSourceFile (text_of (function long_body)) again
+pub body_typed : (edition : EditionYear) (read again : SourceFile) → IsSourceFile edition (text_of (function short_body)) read → IsSourceFile edition (text_of (function long_body)) again
     → without_bodies (syntax_view read.syntax) ≡ without_bodies (syntax_view again.syntax)
-body_typed read again s t = typing_inside (function short_body) (function long_body) _ _ read again function_writes long_writes refl s t
+body_typed edition read again s t = typing_inside edition (function short_body) (function long_body) _ _ read again function_writes long_writes refl s t
 
 -- ---- modules
 
@@ -134,7 +135,7 @@ outer_rows : rows 0 outer
 outer_rows = refl
 
 outer_well : AreItems 128 outer
-unfolding plain_name is_strict_keyword is_reserved_keyword bare leads_on
+unfolding plain_name is_keyword is_path_keyword bare leads_on
 outer_well =
     let unit : IsNamed (codes "Unit") = record { plain = refl; name = refl; bare = refl } in
     let choice : IsNamed (codes "Kind") = record { plain = refl; name = refl; bare = refl } in
@@ -163,11 +164,11 @@ pair_read : items_from (views pair) ≡ item_and (struct_item (seen (codes "Pair
 pair_read = refl
 
 pair_well : AreItems 128 pair
-unfolding plain_name is_strict_keyword is_reserved_keyword bare leads_on
+unfolding plain_name is_keyword is_path_keyword bare leads_on
 pair_well =
     let named : IsNamed (codes "Pair") = record { plain = refl; name = refl; bare = refl } in
-    let one : GoesOn false (trees (name (codes "T") ∷ [])) (mark 44) = (refl, refl, refl, refl, refl) in
-    let number : GoesOn false (trees (name (codes "u8") ∷ [])) (mark 44) = (refl, refl, refl, refl, refl) in (
+    let one : GoesOnType (trees (name (codes "T") ∷ [])) (mark 44) = (refl, refl, refl, refl, refl) in
+    let number : GoesOnType (trees (name (codes "u8") ∷ [])) (mark 44) = (refl, refl, refl, refl, refl) in (
       (
         named,
         record {
@@ -266,7 +267,7 @@ uses_read : items_from (views uses)
 uses_read = refl
 
 uses_well : AreItems 128 uses
-unfolding plain_name is_strict_keyword is_reserved_keyword
+unfolding plain_name is_keyword is_path_keyword
 uses_well =
     let a : IsPlainName (codes "a") = record { plain = refl; name = refl } in
     let b : IsPlainName (codes "b") = record { plain = refl; name = refl } in

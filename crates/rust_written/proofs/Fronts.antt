@@ -13,7 +13,9 @@ use Rattle.rust_cursor.specs.Words.{at, word, bumped, documents}
 use Rattle.rust_cursor.specs.Elements.{turns, one, most}
 use Rattle.rust_cursor.proofs.Turns.{turns_stop}
 use Rattle.rust_cursor.specs.Extents.{is_item_word}
-use Rattle.rust_paths.specs.Names.{plain_name, is_strict_keyword, has_name, placed_name, name, next_name}
+use Rattle.hir_input.specs.declared.edition.EditionYear.TheVariants as year
+use Rattle.rust_paths.proofs.Naming.{name_in}
+use Rattle.rust_paths.specs.Names.{plain_name, is_keyword, is_path_keyword, has_name, placed_name, name, next_name}
 use Rattle.rust_paths.specs.Visibilities.{visibility, scoped, is_in, scope, scope_of}
 use Rattle.rust_metas.specs.Literals.{style_by}
 use Rattle.rust_metas.specs.Attributes.{is_style, is_doc, is_attribute, is_behind, attribute, attributes, outer_attributes, inner_attributes}
@@ -170,7 +172,7 @@ block_head traits = heads.Trait
 pub block_heads : (k : BlockKind) (n : List ℕ) (ts : Tokens) → IsNamed n → Shows (trees.word (block_word k)) ts → Shows (trees.word n) (bumped ts) → Heads (block_head k) ts
 unfolding is_modifier is_modifier_before head head_by union_head has_name
 block_heads functions n ts h s m = record { modifier = rw s.word_is refl; head = rw s.word_is refl }
-block_heads unions n ts h s m = record { modifier = rw s.word_is refl; head = rw (s.word_is, m.kind_is, m.text_is, h.plain) refl }
+block_heads unions n ts h s m = record { modifier = rw s.word_is refl; head = rw (s.word_is, m.kind_is, m.text_is, name_in (bumped ts).edition n h.plain) refl }
 block_heads enums n ts h s m = record { modifier = rw s.word_is refl; head = rw s.word_is refl }
 block_heads traits n ts h s m = record { modifier = rw s.word_is refl; head = rw s.word_is refl }
 
@@ -179,12 +181,12 @@ value_head statics = heads.Static
 value_head aliases = heads.TypeAlias
 value_head constants = heads.Const
 
-pub no_keyword : (w n : List ℕ) → IsNamed n → plain_name w ≡ None → bytes_eq n w ≡ false
+pub no_keyword : (w n : List ℕ) → IsNamed n → plain_name year.E2024 w ≡ None → bytes_eq n w ≡ false
 no_keyword w n m k =
-    when (bytes_eq n w) (λ e. let same : n ≡ w = (bytes_eq-Decides n w).0 e in absurd (let none : None ≡ Some n = sym k ∙ ap plain_name (sym same) ∙ m.plain in cc)) (λ e. e)
+    when (bytes_eq n w) (λ e. let same : n ≡ w = (bytes_eq-Decides n w).0 e in absurd (let none : None ≡ Some n = sym k ∙ ap (plain_name year.E2024) (sym same) ∙ m.plain in cc)) (λ e. e)
 
 no_modifier : (n : List ℕ) → IsNamed n → follows_const n ≡ false
-unfolding follows_const plain_name is_strict_keyword
+unfolding follows_const plain_name is_keyword is_path_keyword
 no_modifier n m =
     rw (
       no_keyword (codes "fn") n m refl,
@@ -285,4 +287,4 @@ named_at n ts = record { name = Some n; hashed = n; range = Some (record { start
 
 pub named_reads : (n : List ℕ) (ts : Tokens) → IsNamed n → Shows (trees.word n) ts → named ts ≡ (named_at n ts, bumped ts)
 unfolding named placed_name name next_name
-named_reads n ts h s = rw (s.kind_is, s.text_is, h.plain, h.name, h.bare) refl
+named_reads n ts h s = rw (s.kind_is, s.text_is, name_in ts.edition n h.plain, h.name, h.bare) refl

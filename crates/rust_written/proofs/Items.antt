@@ -73,12 +73,12 @@ leaf_turns : (left : ℕ) (v : Front) (h : Head) (w n : List ℕ) (item : ItemVi
     → Turns left item (row (depth_of left) k n ∷ []) (front_words v ++ trees.word w ∷ ws) f ts
 leaf_turns left v h w n item k ws f ts i e fronts reads =
     let us = bumped (behind (front_words v) ts) in
-    let l : LeafRead = record { item = item; kind = k; name = n; named = reads.0; body = reads.1; is_ended = true; too_deep = None } in
+    let l : LeafRead = record { item = item; kind = k; name = n; named = reads.0; body = reads.1; is_ended = true; too_deep = None; use_trees = reads.2 } in
     let rest = behind ws us in (
       and_leaf (depth_of left) (at ts) rest.past l f,
       turn_behind left (front_at (at ts) v h) f ts us e fronts
           ∙ leaf_by_head left h (front_at (at ts) v h) f us i
-          ∙ leaf_found_is (depth_of left) (front_at (at ts) v h) l f us rest reads.2
+          ∙ leaf_found_is (depth_of left) (front_at (at ts) v h) l f us rest reads.3
           ∙ ap (λ r. (Some item, (and_leaf (depth_of left) (at ts) rest.past l f, r))) (sym (behind_append (front_words v) (trees.word w ∷ ws) ts)),
       rows_if true (depth_of left) (at ts) rest.past reads.1 k n reads.0 f,
     )

@@ -6,15 +6,15 @@ use Rattle.hir_input.specs.declared.ids.AstIdKind.{AstIdKind}
 use Rattle.hir_input.specs.declared.ids.AstIdKind.TheVariants as kind
 use Rattle.hir_input.specs.declared.ast.Visibility.{Visibility}
 use Rattle.hir_input.specs.Syntax.{ItemView, PlainKind, fn_kind, union_kind, enum_kind, static_kind, trait_kind, type_alias_kind, ast_kind, plain_item, const_item, struct_item, impl_item, FieldsView}
-use Rattle.rust_paths.specs.Names.{plain_name, is_strict_keyword}
+use Rattle.rust_paths.specs.Names.{plain_name, is_keyword, is_path_keyword}
 use Rattle.rust_paths.specs.declared.names.TextRange.{TextRange}
 use Rattle.rust_cursor.specs.Tokens.{Tokens}
 use Rattle.rust_cursor.specs.Reader.{Reader}
 use Rattle.rust_cursor.specs.Words.{word, bumped, documents, eat_word}
-use Rattle.rust_cursor.specs.Extents.{ExcerptRead, excerpt, goes_on, item_rest, value_rest}
+use Rattle.rust_cursor.specs.Extents.{ExcerptRead, excerpt, goes_on, impl_rest, item_rest, value_rest}
 use Rattle.rust_leaves.specs.declared.head.Head.{Head}
 use Rattle.rust_leaves.specs.declared.head.Head.TheVariants as heads
-use Rattle.rust_leaves.specs.Leaves.{NameRead, RestRead, rest_read, no_name, named, has_trait, item_end, value_end, block_attributes, struct_fields}
+use Rattle.rust_leaves.specs.Leaves.{NameRead, RestRead, rest_read, no_name, named, has_trait, impl_end, item_end, value_end, block_attributes, struct_fields}
 use Rattle.rust_leaves.specs.Kinds.{named_node, plain_read, leaf_read, function, block_item, union_item, enumeration, trait_item, type_alias, static_value, constant, structure, implementation, leaf}
 use Rattle.hir_input.specs.UseTreeView.{UseTreeView}
 use Rattle.hir_input.specs.Syntax.{use_item}
@@ -24,14 +24,14 @@ use Rattle.rust_paths.specs.UseTrees.{use_tree}
 use Rattle.rust_paths.specs.UseTrees as use_spec
 use Rattle.rust_leaves.specs.Kinds.{node, use_read, use_declaration}
 use Rattle.rust_written.specs.UseTrees.{UseTree, use_words, use_view, IsUse}
-use Rattle.rust_written.proofs.Uses.{IsUseEnd, use_reads}
+use Rattle.rust_written.proofs.Uses.{IsUseEnd, found_at, use_reads}
 use Rattle.rust_round.specs.Words.{Word}
-use Rattle.rust_round.specs.Trees.{Trees, no_trees, mark, curly, open_of, close_of, first_of, trees_words, AreTrees, GoesOn, spaced}
+use Rattle.rust_round.specs.Trees.{Trees, no_trees, mark, curly, open_of, close_of, first_of, trees_words, AreTrees, GoesOn, GoesOnType, spaced}
 use Rattle.rust_round.specs.Impls.{ImplHeader, header_trees, IsImplHeader}
 use Rattle.rust_round.specs.Trees as trees
 use Rattle.rust_round.proofs.Begins.{Shows, Begins, behind, behind_append, begins_left, begins_right}
 use Rattle.rust_round.proofs.Same.{shows_first}
-use Rattle.rust_round.proofs.Ends.{whole, item_semicolon, value_semicolon, item_block}
+use Rattle.rust_round.proofs.Ends.{whole, item_semicolon, value_semicolon, item_block, impl_block}
 use Rattle.rust_round.proofs.Impls.{impl_header_read}
 use Rattle.rust_written.specs.Written.{Front, impl_front, front_view, BlockKind, functions, unions, enums, traits, block_kind, ValueKind, statics, aliases, constants, value_item, value_id, braced, ended, Shape, unit_shape, tuple_shape, record_shape, struct_trees, struct_words, shape_view, IsStruct, named_by, IsNamed, IsPlainBlock, IsOfKind, IsValue}
 use Rattle.rust_written.proofs.Structs.{struct_read}
@@ -53,6 +53,10 @@ item_ends : (block : Option Tokens) (ws : List Word) (ts : Tokens) → item_rest
 unfolding item_end rest_of
 item_ends block ws ts e = ap rest_of e
 
+impl_ends : (block : Option Tokens) (ws : List Word) (ts : Tokens) → impl_rest ts ≡ (excerpt (spaced ws) true block, behind ws ts) → Ends impl_end block ws ts
+unfolding impl_end rest_of
+impl_ends block ws ts e = ap rest_of e
+
 value_ends : (ws : List Word) (ts : Tokens) → value_rest ts ≡ (whole (spaced ws), behind ws ts) → Ends value_end None ws ts
 unfolding value_end rest_of
 value_ends ws ts e = ap rest_of e
@@ -65,6 +69,10 @@ pub block_ends : (h b : Trees) (ts : Tokens) → AreTrees h → AreTrees b → G
     → Ends item_end (block_behind h ts) (trees_words h ++ braced b) ts
 block_ends h b ts i j g begun e = item_ends (block_behind h ts) (trees_words h ++ braced b) ts (item_block h b ts i j g begun e)
 
+impl_block_ends : (h b : Trees) (ts : Tokens) → AreTrees h → AreTrees b → GoesOnType h (open_of curly) → Begins (trees_words h ++ braced b) ts → goes_on (behind (trees_words h ++ braced b) ts) ≡ false
+    → Ends impl_end (block_behind h ts) (trees_words h ++ braced b) ts
+impl_block_ends h b ts i j g begun e = impl_ends (block_behind h ts) (trees_words h ++ braced b) ts (impl_block h b ts i j g begun e)
+
 pub values_end : (t : Trees) (ts : Tokens) → AreTrees t → GoesOn true t (mark 59) → Begins (ended t) ts → Ends value_end None (ended t) ts
 values_end t ts h g b = value_ends (ended t) ts (value_semicolon t ts h g b)
 
@@ -73,8 +81,8 @@ values_end t ts h g b = value_ends (ended t) ts (value_semicolon t ts h g b)
 -- behind its front, an item without items is read as this, and these words are taken
 abbrev pub Reads : Head → Front → ℕ → ItemView → AstIdKind → List ℕ → List Word → Tokens → Type 0
 Reads h v start item kind n ws ts =
-    (range : Option TextRange) × (body : Option TextRange)
-    × (leaf (front_at start v h) ts ≡ (Some (record { item = item; kind = kind; name = n; named = range; body = body; is_ended = true; too_deep = None }), behind ws ts))
+    (range : Option TextRange) × (body : Option TextRange) × (starts : List ℕ)
+    × (leaf (front_at start v h) ts ≡ (Some (record { item = item; kind = kind; name = n; named = range; body = body; is_ended = true; too_deep = None; use_trees = starts }), behind ws ts))
 
 -- ---- functions, unions, enums and traits
 
@@ -110,27 +118,28 @@ blocked_reads functions v n h b start ts m i j g f s begun e =
     let ends = block_ends h b (bumped ts) i j g begun e in (
       (named_at n ts).range,
       (rest_is block ws (bumped ts)).braces,
+      [],
       ap (λ r. (Some r.0, r.1)) (function_reads (front_view v) (named_at n ts) block ws ts (bumped ts) (named_reads n ts m s) (no_inner h b (bumped ts) f begun) ends),
     )
 blocked_reads unions v n h b start ts m i j g f s begun e =
     let ws = trees_words h ++ braced b in
     let block = block_behind h (bumped ts) in
     let ends = block_ends h b (bumped ts) i j g begun e in
-    ((named_at n ts).range, (rest_is block ws (bumped ts)).braces, ap (λ r. (Some r.0, r.1)) (block_reads union_kind (front_view v) (named_at n ts) block ws ts (bumped ts) (named_reads n ts m s) ends))
+    ((named_at n ts).range, (rest_is block ws (bumped ts)).braces, [], ap (λ r. (Some r.0, r.1)) (block_reads union_kind (front_view v) (named_at n ts) block ws ts (bumped ts) (named_reads n ts m s) ends))
 blocked_reads enums v n h b start ts m i j g f s begun e =
     let ws = trees_words h ++ braced b in
     let block = block_behind h (bumped ts) in
     let ends = block_ends h b (bumped ts) i j g begun e in
-    ((named_at n ts).range, (rest_is block ws (bumped ts)).braces, ap (λ r. (Some r.0, r.1)) (block_reads enum_kind (front_view v) (named_at n ts) block ws ts (bumped ts) (named_reads n ts m s) ends))
+    ((named_at n ts).range, (rest_is block ws (bumped ts)).braces, [], ap (λ r. (Some r.0, r.1)) (block_reads enum_kind (front_view v) (named_at n ts) block ws ts (bumped ts) (named_reads n ts m s) ends))
 blocked_reads traits v n h b start ts m i j g f s begun e =
     let ws = trees_words h ++ braced b in
     let block = block_behind h (bumped ts) in
     let ends = block_ends h b (bumped ts) i j g begun e in
-    ((named_at n ts).range, (rest_is block ws (bumped ts)).braces, ap (λ r. (Some r.0, r.1)) (block_reads trait_kind (front_view v) (named_at n ts) block ws ts (bumped ts) (named_reads n ts m s) ends))
+    ((named_at n ts).range, (rest_is block ws (bumped ts)).braces, [], ap (λ r. (Some r.0, r.1)) (block_reads trait_kind (front_view v) (named_at n ts) block ws ts (bumped ts) (named_reads n ts m s) ends))
 
 -- ---- impls
 
-impl_steps : (is_trait : Bool) (block : Option Tokens) (ws : List Word) (ts : Tokens) → has_trait (behind ws ts).past ts ≡ is_trait → block_attributes block ≡ [] → Ends item_end block ws ts
+impl_steps : (is_trait : Bool) (block : Option Tokens) (ws : List Word) (ts : Tokens) → has_trait (behind ws ts).past ts ≡ is_trait → block_attributes block ≡ [] → Ends impl_end block ws ts
     → implementation [] ts ≡ (leaf_read (impl_item (node [] (spaced ws)) is_trait) kind.Impl no_name (rest_is block ws ts), behind ws ts)
 unfolding implementation
 impl_steps is_trait block ws ts t i e = rw (e, i, t) refl
@@ -150,7 +159,8 @@ impl_reads ms h b start ts i j is p begun e =
     let block = block_behind t ts in (
       None,
       (rest_is block ws ts).braces,
-      ap (λ r. (Some r.0, r.1)) (impl_steps (is_some h.of_trait) block ws ts (trait_is h (trees_words b ++ close_of curly ∷ []) ts i is begun) (no_inner t b ts p begun) (block_ends t b ts i j is.goes begun e)),
+      [],
+      ap (λ r. (Some r.0, r.1)) (impl_steps (is_some h.of_trait) block ws ts (trait_is h (trees_words b ++ close_of curly ∷ []) ts i is begun) (no_inner t b ts p begun) (impl_block_ends t b ts i j is.goes begun e)),
     )
 
 -- ---- statics, type aliases and constants
@@ -160,7 +170,7 @@ unfolding eat_word
 no_eat w v ts e f = rw (e, f) refl
 
 not_mut : (n : List ℕ) → IsNamed n → bytes_eq n (codes "mut") ≡ false
-unfolding plain_name is_strict_keyword
+unfolding plain_name is_keyword is_path_keyword
 not_mut n m = no_keyword (codes "mut") n m refl
 
 static_steps : (v : Option Visibility) (n : NameRead) (ws : List Word) (ts us : Tokens) → eat_word (codes "mut") ts ≡ (false, ts) → named ts ≡ (n, us) → (e : Ends value_end None ws us)
@@ -183,16 +193,16 @@ pub value_reads : (k : ValueKind) (v : Front) (n : List ℕ) (t : Trees) (start 
 unfolding leaf
 value_reads aliases v n t start ts m i g u s b =
     let ends = values_end t (bumped ts) i g b in
-    ((named_at n ts).range, None, ap (λ r. (Some r.0, r.1)) (alias_steps (front_view v) (named_at n ts) (ended t) ts (bumped ts) (named_reads n ts m s) ends))
+    ((named_at n ts).range, None, [], ap (λ r. (Some r.0, r.1)) (alias_steps (front_view v) (named_at n ts) (ended t) ts (bumped ts) (named_reads n ts m s) ends))
 value_reads statics v n t start ts m i g u s b =
     let ends = values_end t (bumped ts) i g b in
     let no_word = no_eat (codes "mut") n ts s.word_is (not_mut n m) in
-    ((named_at n ts).range, None, ap (λ r. (Some r.0, r.1)) (static_steps (front_view v) (named_at n ts) (ended t) ts (bumped ts) no_word (named_reads n ts m s) ends))
+    ((named_at n ts).range, None, [], ap (λ r. (Some r.0, r.1)) (static_steps (front_view v) (named_at n ts) (ended t) ts (bumped ts) no_word (named_reads n ts m s) ends))
 value_reads constants v n t start ts m i g u s b =
     let ends = values_end t (bumped ts) i g b in
     let first : Shows (first_of t (mark 59)) (bumped ts) = shows_first t (mark 59) [] (bumped ts) b in
     let no_word = no_eat (codes "_") (trees.text_of (first_of t (mark 59))) (bumped ts) first.word_is u in
-    ((named_at n ts).range, None, ap (λ r. (Some r.0, r.1)) (const_steps (front_view v) (named_at n ts) (ended t) ts (bumped ts) (named_reads n ts m s) no_word ends))
+    ((named_at n ts).range, None, [], ap (λ r. (Some r.0, r.1)) (const_steps (front_view v) (named_at n ts) (ended t) ts (bumped ts) (named_reads n ts m s) no_word ends))
 
 -- ---- structs
 
@@ -205,7 +215,7 @@ struct_reads : (v : Front) (n : List ℕ) (shape : FieldsView) (block : Option T
     → Ends item_end block ws (bumped ts) → Reads heads.Struct v start (struct_item (named_by v n ws) shape) kind.Struct n (trees.word n ∷ ws) ts
 unfolding leaf
 struct_reads v n shape block ws start ts m s f ends =
-    ((named_at n ts).range, (rest_is block ws (bumped ts)).braces, ap (λ r. (Some r.0, r.1)) (struct_steps (front_view v) (named_at n ts) shape block ws ts (bumped ts) (named_reads n ts m s) f ends))
+    ((named_at n ts).range, (rest_is block ws (bumped ts)).braces, [], ap (λ r. (Some r.0, r.1)) (struct_steps (front_view v) (named_at n ts) shape block ws ts (bumped ts) (named_reads n ts m s) f ends))
 
 -- the braces that a struct ends with
 abbrev struct_block : Option Trees → Shape → Tokens → Option Tokens
@@ -245,9 +255,12 @@ unfolding leaf
 used_reads v t start ts h l b =
     let us = behind (use_words t) ts in
     let last : Shows (mark 59) us = (begins_right (use_words t) (mark 59 ∷ []) ts b).0 in
-    let end : IsUseEnd us = record { colon = rw last.symbol_is refl; word = last.word_is } in (
+    let end : IsUseEnd us = record { colon = rw last.symbol_is refl; word = last.word_is } in
+    let read = use_reads t ts h l (begins_left (use_words t) (mark 59 ∷ []) ts b) end in
+    let found = found_at read.0 (use_view t) in (
       None,
       None,
-      ap (λ r. (Some r.0, r.1)) (use_steps (front_view v) (use_spec.whole (Some (use_view t))) true ts us (bumped us) (use_reads t ts h l (begins_left (use_words t) (mark 59 ∷ []) ts b) end) (eaten us last))
-          ∙ ap (λ k. (Some (use_read [] (front_view v) (use_spec.whole (Some (use_view t))) true), k)) (sym (behind_append (use_words t) (mark 59 ∷ []) ts)),
+      read.0,
+      ap (λ r. (Some r.0, r.1)) (use_steps (front_view v) found true ts us (bumped us) read.1 (eaten us last))
+          ∙ ap (λ k. (Some (use_read [] (front_view v) found true), k)) (sym (behind_append (use_words t) (mark 59 ∷ []) ts)),
     )

@@ -104,9 +104,9 @@ same_rows : (before after : Items) → outline before ≡ outline after → rows
 same_rows before after e = sym (rows_outline 0 before) ∙ ap (rows 0) e ∙ rows_outline 0 after
 
 pub typing_inside : TypingInside
-typing_inside before after old new read again w x e s t =
-    let r : IsRead before read = read_again before old read w s in
-    let q : IsRead after again = read_again after new again x t in
+typing_inside edition before after old new read again w x e s t =
+    let r : IsRead before read = read_again edition before old read w s in
+    let q : IsRead after again = read_again edition after new again x t in
     let ids : r.ids ≡ q.ids = determined (rows 0 after) r.ids q.ids (subst (λ l. AreIds l r.ids) (same_rows before after e) r.are_ids) q.are_ids in
     ap without_bodies r.syntax
     ∙ bare_syntax before r.ids

@@ -3,6 +3,7 @@ use Rattle.std.proofs.Common.{◌≡◌, ◌<◌, ◌≤◌, ℕ, true, false, O
 use Rattle.std.specs.List.{filter}
 use Rattle.std.proofs.lemmas.List.Sums.{length-filter, count_by-le-length}
 use Rattle.hir_input.specs.Syntax.{items_from, source_file}
+use Rattle.hir_input.specs.declared.edition.EditionYear.{EditionYear}
 use Rattle.rust_lexer.specs.Piece.{Piece}
 use Rattle.rust_lexer.specs.declared.kind.TokenKind.{TokenKind}
 use Rattle.rust_lexer.specs.Tokens.{is_significant, tokens}
@@ -39,14 +40,14 @@ no_word_empty : (ws : List Word) (text : List ℕ) → Spells ws text → AreSom
 no_word_empty [] text h = tt
 no_word_empty (w ∷ ws) text h = (some_text w.kind w.text h.1 h.4.one, no_word_empty ws h.1 h.6)
 
-text_begins : (ws : List Word) (text : List ℕ) → AreTokens 0 ws (filter is_significant (tokens text)) → AreSome ws → Begins ws (tokens_of text) × (is_empty (behind ws (tokens_of text)) ≡ true)
+text_begins : (edition : EditionYear) (ws : List Word) (text : List ℕ) → AreTokens 0 ws (filter is_significant (tokens text)) → AreSome ws → Begins ws (tokens_of edition text) × (is_empty (behind ws (tokens_of edition text)) ≡ true)
 unfolding tokens_of
-text_begins ws text h some =
-    (begins ws (tokens_of text) (filter is_significant (tokens text)) refl h some, over ws (tokens_of text) (filter is_significant (tokens text)) refl h)
+text_begins edition ws text h some =
+    (begins ws (tokens_of edition text) (filter is_significant (tokens text)) refl h some, over ws (tokens_of edition text) (filter is_significant (tokens text)) refl h)
 
-text_few : (text : List ℕ) → length (tokens_of text).left ≤ length text
+text_few : (edition : EditionYear) (text : List ℕ) → length (tokens_of edition text).left ≤ length text
 unfolding tokens_of
-text_few text =
+text_few edition text =
     let counted = length-filter is_significant (tokens text) in
     let fewer = count_by-le-length is_significant (tokens text) in
     let all = tokens_few text in
@@ -54,21 +55,21 @@ text_few text =
 
 -- ---- the end
 
-no_inner_left : (past : ℕ) (left : List Piece) (u : Option ℕ) → (let here : Tokens = record { past = past; left = left; unended = u } in is_empty here ≡ true → is_behind Inner here ≡ true)
+no_inner_left : (past : ℕ) (left : List Piece) (u : Option ℕ) (y : EditionYear) → (let here : Tokens = record { past = past; left = left; unended = u; edition = y } in is_empty here ≡ true → is_behind Inner here ≡ true)
 unfolding is_behind is_doc is_attribute kind symbol is_empty
-no_inner_left past [] u e = refl
-no_inner_left past (t ∷ ts) u e = absurd cc
+no_inner_left past [] u y e = refl
+no_inner_left past (t ∷ ts) u y e = absurd cc
 
 end_inner : (ts : Tokens) → is_empty ts ≡ true → is_behind Inner ts ≡ true
-end_inner ts e = no_inner_left ts.past ts.left ts.unended e
+end_inner ts e = no_inner_left ts.past ts.left ts.unended ts.edition e
 
-nothing_goes_on : (past : ℕ) (left : List Piece) (u : Option ℕ) → (let here : Tokens = record { past = past; left = left; unended = u } in is_empty here ≡ true → goes_on here ≡ false)
+nothing_goes_on : (past : ℕ) (left : List Piece) (u : Option ℕ) (y : EditionYear) → (let here : Tokens = record { past = past; left = left; unended = u; edition = y } in is_empty here ≡ true → goes_on here ≡ false)
 unfolding symbol is_empty
-nothing_goes_on past [] u e = refl
-nothing_goes_on past (t ∷ ts) u e = absurd cc
+nothing_goes_on past [] u y e = refl
+nothing_goes_on past (t ∷ ts) u y e = absurd cc
 
 end_goes_on : (ts : Tokens) → is_empty ts ≡ true → goes_on ts ≡ false
-end_goes_on ts e = nothing_goes_on ts.past ts.left ts.unended e
+end_goes_on ts e = nothing_goes_on ts.past ts.left ts.unended ts.edition e
 
 ends_list : (ts : Tokens) → is_empty ts ≡ true → is_list_end true ts ≡ true
 unfolding is_list_end
@@ -80,47 +81,47 @@ no_attributes : (is : Items) (ts : Tokens) → Begins (words is) ts → is_empty
 no_attributes no_more ts b e = inner_empty ts (end_inner ts e)
 no_attributes (also i is) ts b e = let first = item_first i (words is) ts b in inner_none (trees.word first.0) ts first.1 refl refl
 
-abbrev turns_top : List ℕ → Tokens → Type 0
-turns_top text ts = read_of text ≡ finding_from (is_list_end true) (turn 128) most [] nothing_found ts
+abbrev turns_top : EditionYear → List ℕ → Tokens → Type 0
+turns_top edition text ts = read_of edition text ≡ finding_from (is_list_end true) (turn 128) most [] nothing_found ts
 
-all_turns : (text : List ℕ) → inner_attributes (tokens_of text) ≡ ([], tokens_of text) → turns_top text (tokens_of text)
+all_turns : (edition : EditionYear) (text : List ℕ) → inner_attributes (tokens_of edition text) ≡ ([], tokens_of edition text) → turns_top edition text (tokens_of edition text)
 unfolding finding
-all_turns text e = ap (λ r. finding_from (is_list_end true) (turn 128) most [] nothing_found r.1) e
+all_turns edition text e = ap (λ r. finding_from (is_list_end true) (turn 128) most [] nothing_found r.1) e
 
 -- what is read of a text, and found in it
-record IsReadOf (is : Items) (text : List ℕ) : Type 0 where
-  pub attributes : inner_attributes (tokens_of text) ≡ ([], tokens_of text)
-  pub items : items_in text ≡ items_from (views is)
-  pub rows : (found_in text).rows ≡ rows 0 is
+record IsReadOf (edition : EditionYear) (is : Items) (text : List ℕ) : Type 0 where
+  pub attributes : inner_attributes (tokens_of edition text) ≡ ([], tokens_of edition text)
+  pub items : items_in edition text ≡ items_from (views is)
+  pub rows : (found_in edition text).rows ≡ rows 0 is
 
 same_rows : (at : Option ℕ) (f : Found) → (and_problem_at problem.Unterminated at f).rows ≡ f.rows
 same_rows None f = refl
 same_rows (Some n) f = refl
 
-read_text : (is : Items) (text : List ℕ) → Writes is text → IsReadOf is (with_feeds text)
+read_text : (edition : EditionYear) (is : Items) (text : List ℕ) → Writes is text → IsReadOf edition is (with_feeds text)
 unfolding items_in found_in
-read_text is text w =
+read_text edition is text w =
     let feeds = with_feeds text in
-    let ts = tokens_of feeds in
-    let b = text_begins (words is) feeds (tokens_again (words is) feeds w.plain w.spells) (no_word_empty (words is) feeds w.spells) in
+    let ts = tokens_of edition feeds in
+    let b = text_begins edition (words is) feeds (tokens_again (words is) feeds w.plain w.spells) (no_word_empty (words is) feeds w.spells) in
     let bound = w.short in
-    let count = text_few feeds in
+    let count = text_few edition feeds in
     let few : length ts.left ≤ most = omega (arith, bound, count) in
     let none = no_attributes is ts b.0 b.1 in
     let end = behind (words is) ts in
     let found = finds_reads is true 128 nothing_found ts (omega arith) few w.are b.0 (ends_list end b.1) (end_goes_on end b.1) most [] few in
-    let all = all_turns feeds none ∙ found.1 in
+    let all = all_turns edition feeds none ∙ found.1 in
     record {
       attributes = none;
       items = ap (λ r. items_from r.0) all;
-      rows = same_rows (read_of feeds).1.1.unended (read_of feeds).1.0 ∙ ap (λ r. r.1.0.rows) all ∙ found.2;
+      rows = same_rows (read_of edition feeds).1.1.unended (read_of edition feeds).1.0 ∙ ap (λ r. r.1.0.rows) all ∙ found.2;
     }
 
 pub read_again : ReadAgain
-read_again is text file w s =
-    let r = read_text is text w in
+read_again edition is text file w s =
+    let r = read_text edition is text w in
     record {
       ids = s.ids;
       are_ids = subst (λ l. AreIds l s.ids) r.rows s.are_ids;
-      syntax = s.syntax ∙ ap (λ a. source_file a.0 (with_ids (items_in (with_feeds text)) s.ids).0) r.attributes ∙ ap (λ l. source_file [] (with_ids l s.ids).0) r.items;
+      syntax = s.syntax ∙ ap (λ a. source_file a.0 (with_ids (items_in edition (with_feeds text)) s.ids).0) r.attributes ∙ ap (λ l. source_file [] (with_ids l s.ids).0) r.items;
     }

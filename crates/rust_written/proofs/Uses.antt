@@ -17,10 +17,12 @@ use Rattle.rust_cursor.specs.Elements.{most, turns, turns_from, one, beyond}
 use Rattle.rust_cursor.proofs.Nesting.{shorter}
 use Rattle.rust_cursor.proofs.Steps.{closing_stop}
 use Rattle.rust_cursor.proofs.Turns.{turns_stop}
+use Rattle.hir_input.specs.declared.edition.EditionYear.TheVariants as year
+use Rattle.rust_paths.proofs.Naming.{name_in}
 use Rattle.rust_paths.specs.Meaning.{path_node}
-use Rattle.rust_paths.specs.Names.{plain_name, is_strict_keyword, is_reserved_keyword, is_path_keyword, has_name, name, next_name}
+use Rattle.rust_paths.specs.Names.{plain_name, is_keyword, is_path_keyword, has_name, name, next_name}
 use Rattle.rust_paths.specs.Paths.{is_raw, is_dollar_crate, is_segment, other_segment, segment, is_colons, is_joint, is_path_colons, more_from, more_segments, front, is_path_start, use_path}
-use Rattle.rust_paths.specs.UseTrees.{Found, whole, bare, listed, with_list, some_list, all_found, star_or_list, tree_behind, rename, alias, tree_with, comma_from, behind_comma, element_with, values, first_too_deep, list, use_tree, tree_at}
+use Rattle.rust_paths.specs.UseTrees.{Found, begun, with_bare, listed, begun_list, with_list, some_list, all_found, star_or_list, tree_behind, rename, alias, tree_with, comma_from, behind_comma, element_with, values, all_starts, first_too_deep, list, use_tree, tree_at}
 use Rattle.rust_paths.proofs.Steps.{more_stop}
 use Rattle.rust_paths.proofs.Trees.{comma_end}
 use Rattle.rust_round.specs.Words.{Word}
@@ -39,32 +41,32 @@ fewer_left (w ∷ ws) ts b =
 
 -- ---- names
 
-not_word : (n k : List ℕ) → IsPlainName n → plain_name k ≡ None → bytes_eq n k ≡ false
+not_word : (n k : List ℕ) → IsPlainName n → plain_name year.E2024 k ≡ None → bytes_eq n k ≡ false
 not_word n k p e =
     when (bytes_eq n k)
-    (λ f. let same : n ≡ k = (bytes_eq-Decides n k).0 f in absurd (let none : None ≡ Some n = sym e ∙ ap plain_name (sym same) ∙ p.plain in cc))
+    (λ f. let same : n ≡ k = (bytes_eq-Decides n k).0 f in absurd (let none : None ≡ Some n = sym e ∙ ap (plain_name year.E2024) (sym same) ∙ p.plain in cc))
     (λ f. f)
 
 name_reads : (n : List ℕ) (ts : Tokens) → IsPlainName n → Shows (trees.word n) ts → name ts ≡ (Some n, bumped ts)
 unfolding name next_name
-name_reads n ts p s = rw (s.kind_is, s.text_is, p.plain, p.name) refl
+name_reads n ts p s = rw (s.kind_is, s.text_is, name_in ts.edition n p.plain, p.name) refl
 
 -- ---- segments
 
-no_word_self : plain_name (codes "self") ≡ None
-unfolding plain_name is_strict_keyword
+no_word_self : plain_name year.E2024 (codes "self") ≡ None
+unfolding plain_name is_keyword is_path_keyword
 no_word_self = refl
 
-no_word_super : plain_name (codes "super") ≡ None
-unfolding plain_name is_strict_keyword
+no_word_super : plain_name year.E2024 (codes "super") ≡ None
+unfolding plain_name is_keyword is_path_keyword
 no_word_super = refl
 
-no_word_crate : plain_name (codes "crate") ≡ None
-unfolding plain_name is_strict_keyword
+no_word_crate : plain_name year.E2024 (codes "crate") ≡ None
+unfolding plain_name is_keyword is_path_keyword
 no_word_crate = refl
 
-no_word_type : plain_name (codes "Self") ≡ None
-unfolding plain_name is_strict_keyword
+no_word_type : plain_name year.E2024 (codes "Self") ≡ None
+unfolding plain_name is_keyword is_path_keyword
 no_word_type = refl
 
 segment_reads : (g : Segment) (ts : Tokens) → IsSegment g → Shows (segment_word g) ts → segment ts ≡ (Some (segment_meaning g), bumped ts)
@@ -81,7 +83,7 @@ whether false = refl
 
 segment_is : (g : Segment) (ts : Tokens) → IsSegment g → Shows (segment_word g) ts → is_segment ts ≡ true
 unfolding is_segment is_path_keyword has_name
-segment_is (named n) ts p s = rw (s.kind_is, s.text_is, p.plain) (whether (is_path_keyword (word ts)))
+segment_is (named n) ts p s = rw (s.kind_is, s.text_is, name_in ts.edition n p.plain) (whether (is_path_keyword (word ts)))
 segment_is self_segment ts p s = rw s.word_is refl
 segment_is super_segment ts p s = rw s.word_is refl
 segment_is crate_segment ts p s = rw s.word_is refl
@@ -217,7 +219,7 @@ unfolding alias
 alias_named n ts p s e = let other : bytes_eq (word (bumped ts)) (codes "_") ≡ false = rw e refl in rw (name_reads n ts p s, other_word (codes "_") (bumped ts) other) refl
 
 no_name_here : (ts : Tokens) → Shows (trees.word (codes "_")) ts → name ts ≡ (None, ts)
-unfolding name next_name plain_name is_strict_keyword is_reserved_keyword
+unfolding name next_name plain_name is_keyword is_path_keyword
 no_name_here ts s = rw (s.kind_is, s.text_is) refl
 
 alias_none : (ts : Tokens) → Shows (trees.word (codes "_")) ts → alias ts ≡ (record { name = None }, bumped ts)
@@ -242,8 +244,17 @@ alias_flat as_nothing ts b e = rw b.0.symbol_is refl
 -- ---- trees
 
 tree_steps : (inner : Reader (Found (Option (List UseTreeView)))) (path : Option PathNode) (joined : Bool) (ts us vs : Tokens) → use_path ts ≡ (path, us) → eat_pair 58 58 us ≡ (joined, vs)
-    → tree_with inner ts ≡ tree_behind inner path joined vs
+    → tree_with inner ts ≡ tree_behind inner (at ts) path joined vs
 tree_steps inner path joined ts us vs e f = rw (e, f) refl
+
+-- a tree that was found, with these first bytes
+abbrev pub found_at : List ℕ → UseTreeView → Found (Option UseTreeView)
+found_at starts v = record { value = Some v; starts = starts; too_deep = None }
+
+-- a use tree is read, wherever its trees begin
+pub record IsUseRead (inner : Reader (Found (Option (List UseTreeView)))) (t : UseTree) (ts : Tokens) : Type 0 where
+  starts : List ℕ
+  reads : tree_with inner ts ≡ (found_at starts (use_view t), behind (use_words t) ts)
 
 -- what stands behind a path and `::`, or behind neither
 pub record Starts (w : Word) : Type 0 where
@@ -258,7 +269,7 @@ brace_starts : Starts (trees.open_mark 123)
 brace_starts = record { joint = refl; other = refl; none = λ ts s. path_none ts (trees.open_mark 123) s refl refl refl refl (no_name_brace ts s) }
 
 prefix_steps : (inner : Reader (Found (Option (List UseTreeView)))) (p : Option Path) (w : Word) (tail : List Word) (ts : Tokens) → Starts w → IsPrefix p → length ts.left ≤ most → Begins (prefix_words p ++ w ∷ tail) ts
-    → tree_with inner ts ≡ star_or_list inner (option_map path_view p) (behind (prefix_words p) ts)
+    → tree_with inner ts ≡ star_or_list inner (at ts) (option_map path_view p) (behind (prefix_words p) ts)
 prefix_steps inner None w tail ts start h l b =
     tree_steps inner None false ts ts ts (start.none ts b.0) (eat_none ts (no_colons ts (ap (λ (c : ℕ). c == 58) b.0.symbol_is ∙ start.other)))
 prefix_steps inner (Some p) w tail ts start h l b =
@@ -269,10 +280,10 @@ prefix_steps inner (Some p) w tail ts start h l b =
     let pair = colons_here us here.0 here.1.0 in
     let next : (symbol vs == 42 || symbol vs == 123) ≡ true = ap (λ (c : ℕ). c == 42 || c == 123) here.1.1.0.symbol_is ∙ start.joint in
     tree_steps inner (Some (path_view p)) true ts us vs (path_reads p ts h l (begins_left (path_words p) (colons ++ w ∷ tail) ts all) (joint us pair next)) (eat_here us pair)
-    ∙ ap (star_or_list inner (Some (path_view p))) (sym (behind_append (path_words p) colons ts))
+    ∙ ap (star_or_list inner (at ts) (Some (path_view p))) (sym (behind_append (path_words p) colons ts))
 
 path_tree_reads : (inner : Reader (Found (Option (List UseTreeView)))) (p : Path) (a : Alias) (ts : Tokens) → IsPath p → IsAlias a → length ts.left ≤ most → Begins (use_words (path_tree p a)) ts
-    → IsUseEnd (behind (use_words (path_tree p a)) ts) → tree_with inner ts ≡ (whole (Some (use_view (path_tree p a))), behind (use_words (path_tree p a)) ts)
+    → IsUseEnd (behind (use_words (path_tree p a)) ts) → IsUseRead inner (path_tree p a) ts
 path_tree_reads inner p a ts h i l b e =
     let us = behind (path_words p) ts in
     let same = behind_append (path_words p) (alias_words a) ts in
@@ -280,21 +291,29 @@ path_tree_reads inner p a ts h i l b e =
     let end : IsUseEnd (behind (alias_words a) us) = subst IsUseEnd same e in
     let flat = alias_flat a us more end in
     let found = rename_reads a us i more end in
-    tree_steps inner (Some (path_view p)) false ts us us (path_reads p ts h l (begins_left (path_words p) (alias_words a) ts b) (no_path_colons us flat)) (eat_none us (no_colons us flat))
-    ∙ ap (λ r. (whole (Some (bare (Some (path_view p)) false r.0)), r.1)) found
-    ∙ ap (λ k. (whole (Some (use_view (path_tree p a))), k)) (sym same)
+    let starts = begun (Some (path_view p)) (at ts) [] in
+    record {
+      starts = starts;
+      reads = tree_steps inner (Some (path_view p)) false ts us us (path_reads p ts h l (begins_left (path_words p) (alias_words a) ts b) (no_path_colons us flat)) (eat_none us (no_colons us flat))
+          ∙ ap (λ r. (with_bare (at ts) (Some (path_view p)) false r.0, r.1)) found
+          ∙ ap (λ k. (found_at starts (use_view (path_tree p a)), k)) (sym same);
+    }
 
-star_here : (inner : Reader (Found (Option (List UseTreeView)))) (path : Option PathNode) (ts : Tokens) → Shows (trees.mark 42) ts → star_or_list inner path ts ≡ (whole (Some (bare path true None)), bumped ts)
-star_here inner path ts s = rw s.symbol_is refl
+star_here : (inner : Reader (Found (Option (List UseTreeView)))) (start : ℕ) (path : Option PathNode) (ts : Tokens) → Shows (trees.mark 42) ts → star_or_list inner start path ts ≡ (with_bare start path true None, bumped ts)
+star_here inner start path ts s = rw s.symbol_is refl
 
 star_tree_reads : (inner : Reader (Found (Option (List UseTreeView)))) (p : Option Path) (ts : Tokens) → IsPrefix p → length ts.left ≤ most → Begins (use_words (star_tree p)) ts
-    → tree_with inner ts ≡ (whole (Some (use_view (star_tree p))), behind (use_words (star_tree p)) ts)
+    → IsUseRead inner (star_tree p) ts
 star_tree_reads inner p ts h l b =
     let us = behind (prefix_words p) ts in
     let star : Shows (trees.mark 42) us = (begins_right (prefix_words p) (trees.mark 42 ∷ []) ts b).0 in
-    prefix_steps inner p (trees.mark 42) [] ts star_starts h l b
-    ∙ star_here inner (option_map path_view p) us star
-    ∙ ap (λ k. (whole (Some (use_view (star_tree p))), k)) (sym (behind_append (prefix_words p) (trees.mark 42 ∷ []) ts))
+    let starts = begun (option_map path_view p) (at ts) [] in
+    record {
+      starts = starts;
+      reads = prefix_steps inner p (trees.mark 42) [] ts star_starts h l b
+          ∙ star_here inner (at ts) (option_map path_view p) us star
+          ∙ ap (λ k. (found_at starts (use_view (star_tree p)), k)) (sym (behind_append (prefix_words p) (trees.mark 42 ∷ []) ts));
+    }
 
 -- ---- commas
 
@@ -396,16 +415,12 @@ one_element reader n done a ts us e r b = rw (e, r, b) refl
 element_steps : (inner : Reader (Found (Option (List UseTreeView)))) (found : Found (Option UseTreeView)) (ts mid after : Tokens) → tree_with inner ts ≡ (found, mid) → behind_comma mid ≡ after → element_with inner ts ≡ (found, after)
 element_steps inner found ts mid after e f = rw (e, f) refl
 
-abbrev founds : UseTrees → List (Found (Option UseTreeView))
-founds us = map (λ v. whole (Some v)) (use_views us)
-
-all_values : (vs : List UseTreeView) → values (map (λ v. whole (Some v)) vs) ≡ vs
-all_values [] = refl
-all_values (v ∷ vs) = ap (λ l. v ∷ l) (all_values vs)
-
-none_deep : (vs : List UseTreeView) → first_too_deep (map (λ v. whole (Some v)) vs) ≡ None
-none_deep [] = refl
-none_deep (v ∷ vs) = none_deep vs
+-- the trees of a list are read, wherever they begin
+pub record AreUsesRead (us : UseTrees) (depth n : ℕ) (done : List (Found (Option UseTreeView))) (ts : Tokens) : Type 0 where
+  found : List (Found (Option UseTreeView))
+  values_are : values found ≡ use_views us
+  none_deep : first_too_deep found ≡ None
+  turns : turns_from is_at_end (one (element_with (list depth))) n done ts ≡ (done ++ found, behind (list_words us) ts)
 
 closes_here : (ts : Tokens) → Shows (trees.close_mark 125) ts → is_closing 123 flat ts ≡ true
 unfolding is_closing
@@ -420,28 +435,32 @@ list_steps : (depth : ℕ) (fs : List (Found (Option UseTreeView))) (ts us : Tok
 unfolding list turns
 list_steps depth fs ts us e f = rw (e, f) refl
 
-list_here : (inner : Reader (Found (Option (List UseTreeView)))) (path : Option PathNode) (found : Found (Option (List UseTreeView))) (ts us : Tokens) → Shows (trees.open_mark 123) ts → inner ts ≡ (found, us)
-    → star_or_list inner path ts ≡ (with_list path found, us)
-list_here inner path found ts us s e = rw (s.symbol_is, e) refl
+list_here : (inner : Reader (Found (Option (List UseTreeView)))) (start : ℕ) (path : Option PathNode) (found : Found (Option (List UseTreeView))) (ts us : Tokens) → Shows (trees.open_mark 123) ts → inner ts ≡ (found, us)
+    → star_or_list inner start path ts ≡ (with_list start path found, us)
+list_here inner start path found ts us s e = rw (s.symbol_is, e) refl
 
 listed_some : (path : Option PathNode) (vs : List UseTreeView) → listed path (Some vs) ≡ Some (tree_from (record { path = path; star = false; rename = None }) (Some vs))
 listed_some None vs = refl
 listed_some (Some p) vs = refl
 
 -- a list that was found
-list_found : (p : Option Path) (us : UseTrees) (ts end : Tokens) → end ≡ behind (use_words (list_tree p us)) ts
-    → ◌≡◌ {A = Found (Option UseTreeView) × Tokens} (with_list (option_map path_view p) (some_list (all_found (founds us))), end) (whole (Some (use_view (list_tree p us))), behind (use_words (list_tree p us)) ts)
-list_found p us ts end e =
+abbrev starts_in : ℕ → Option Path → List (Found (Option UseTreeView)) → List ℕ
+starts_in start p fs = begun_list (option_map path_view p) start (Some (values fs)) (all_starts fs)
+
+list_found : (start : ℕ) (p : Option Path) (us : UseTrees) (fs : List (Found (Option UseTreeView))) (ts end : Tokens) → values fs ≡ use_views us → first_too_deep fs ≡ None → end ≡ behind (use_words (list_tree p us)) ts
+    → ◌≡◌ {A = Found (Option UseTreeView) × Tokens} (with_list start (option_map path_view p) (some_list (all_found fs)), end) (found_at (starts_in start p fs) (use_view (list_tree p us)), behind (use_words (list_tree p us)) ts)
+list_found start p us fs ts end v d e =
     let path = option_map path_view p in
-    ap (λ vs. (record { value = listed path (Some vs); too_deep = first_too_deep (founds us) }, end)) (all_values (use_views us))
-    ∙ ap (λ v. (record { value = v; too_deep = first_too_deep (founds us) }, end)) (listed_some path (use_views us))
-    ∙ ap (λ d. (record { value = Some (use_view (list_tree p us)); too_deep = d }, end)) (none_deep (use_views us))
-    ∙ ap (λ k. (whole (Some (use_view (list_tree p us))), k)) e
+    let starts = starts_in start p fs in
+    ap (λ vs. (record { value = listed path (Some vs); starts = starts; too_deep = first_too_deep fs }, end)) v
+    ∙ ap (λ w. (record { value = w; starts = starts; too_deep = first_too_deep fs }, end)) (listed_some path (use_views us))
+    ∙ ap (λ o. (record { value = Some (use_view (list_tree p us)); starts = starts; too_deep = o }, end)) d
+    ∙ ap (λ k. (found_at starts (use_view (list_tree p us)), k)) e
 
 mutual
   -- a use tree, with nothing behind it that goes on with it
   pub tree_reads : (t : UseTree) (depth : ℕ) (ts : Tokens) → IsUse depth t → length ts.left ≤ most → Begins (use_words t) ts → IsUseEnd (behind (use_words t) ts)
-      → tree_with (list depth) ts ≡ (whole (Some (use_view t)), behind (use_words t) ts)
+      → IsUseRead (list depth) t ts
   tree_reads (path_tree p a) depth ts h l b e = path_tree_reads (list depth) p a ts h.0 h.1 l b e
   tree_reads (star_tree p) depth ts h l b e = star_tree_reads (list depth) p ts h l b
   tree_reads (list_tree p us) zero ts h l b e = absurd h
@@ -454,14 +473,20 @@ mutual
       let front : length (prefix_words p) + length vs.left ≡ length ts.left = fewer_left (prefix_words p) ts (begins_left (prefix_words p) (trees.open_mark 123 ∷ tail) ts b) in
       let one : length (bumped vs).left + 1 ≡ length vs.left = shorter vs within.0.some in
       let found = uses_read us depth most [] (bumped vs) h.1 (omega (arith, front, one, l)) (omega (arith, front, one, l)) within.1 in
-      prefix_steps (list (suc depth)) p (trees.open_mark 123) tail ts brace_starts h.0 l b
-      ∙ list_here (list (suc depth)) (option_map path_view p) (some_list (all_found (founds us))) vs (bumped end) within.0
-      (list_steps depth (founds us) vs end (ap (λ (c : ℕ). c == 123) within.0.symbol_is) found ∙ ap (λ k. (some_list (all_found (founds us)), k)) (closed_behind end shut))
-      ∙ list_found p us ts (bumped end) (sym (behind_append (prefix_words p) (trees.open_mark 123 ∷ tail) ts ∙ behind_append (list_words us) (trees.close_mark 125 ∷ []) (bumped vs)))
+      let read = some_list (all_found found.found) in
+      record {
+        starts = starts_in (at ts) p found.found;
+        reads = prefix_steps (list (suc depth)) p (trees.open_mark 123) tail ts brace_starts h.0 l b
+            ∙ list_here (list (suc depth)) (at ts) (option_map path_view p) read vs (bumped end) within.0
+            (list_steps depth found.found vs end (ap (λ (c : ℕ). c == 123) within.0.symbol_is) found.turns ∙ ap (λ k. (read, k)) (closed_behind end shut))
+            ∙ list_found (at ts) p us found.found ts (bumped end) found.values_are found.none_deep
+            (sym (behind_append (prefix_words p) (trees.open_mark 123 ∷ tail) ts ∙ behind_append (list_words us) (trees.close_mark 125 ∷ []) (bumped vs)));
+      }
 
   uses_read : (us : UseTrees) (depth n : ℕ) (done : List (Found (Option UseTreeView))) (ts : Tokens) → AreUses depth us → length ts.left ≤ n → length ts.left ≤ most → Begins (list_words us ++ trees.close_mark 125 ∷ []) ts
-      → turns_from is_at_end (one (element_with (list depth))) n done ts ≡ (done ++ founds us, behind (list_words us) ts)
-  uses_read no_uses depth n done ts h l m b = turns_stop is_at_end (one (element_with (list depth))) n done ts b.0.end_is ∙ ap (λ d. (d, ts)) (sym (append-nil done))
+      → AreUsesRead us depth n done ts
+  uses_read no_uses depth n done ts h l m b =
+      record { found = []; values_are = refl; none_deep = refl; turns = turns_stop is_at_end (one (element_with (list depth))) n done ts b.0.end_is ∙ ap (λ d. (d, ts)) (sym (append-nil done)) }
   uses_read (use_and t us) depth zero done ts h l m b =
       let first = begins_left (use_words t) (comma_words us) ts (begins_left (list_words (use_and t us)) (trees.close_mark 125 ∷ []) ts b) in
       let few : length (use_words t) + length (behind (use_words t) ts).left ≡ length ts.left = fewer_left (use_words t) ts first in
@@ -478,14 +503,22 @@ mutual
       let less = next.less in
       let went = past_more ws ts first some in
       let later = next.past in
-      let found : Found (Option UseTreeView) = whole (Some (use_view t)) in
-      let read = element_steps (list depth) found ts mid next.after (tree_reads t depth ts h.0 m first next.end) next.comma in
-      one_element (element_with (list depth)) n done found ts next.after (use_goes t ts first) read (beyond_none ts.past next.after (omega (arith, went, later)))
-      ∙ uses_read us depth n (done ++ found ∷ []) next.after h.1 (omega (arith, few, some, less, l)) (omega (arith, few, some, less, m)) next.begun
-      ∙ ap (λ d. (d, behind (list_words us) next.after)) (append_assoc done (found ∷ []) (founds us))
-      ∙ ap (λ k. (done ++ founds (use_and t us), k)) (sym (behind_append ws (comma_words us) ts ∙ next.rest))
+      let one_read = tree_reads t depth ts h.0 m first next.end in
+      let found : Found (Option UseTreeView) = found_at one_read.starts (use_view t) in
+      let read = element_steps (list depth) found ts mid next.after one_read.reads next.comma in
+      let more = uses_read us depth n (done ++ found ∷ []) next.after h.1 (omega (arith, few, some, less, l)) (omega (arith, few, some, less, m)) next.begun in
+      record {
+        found = found ∷ more.found;
+        values_are = ap (λ vs. use_view t ∷ vs) more.values_are;
+        none_deep = more.none_deep;
+        turns = one_element (element_with (list depth)) n done found ts next.after (use_goes t ts first) read (beyond_none ts.past next.after (omega (arith, went, later)))
+            ∙ more.turns
+            ∙ ap (λ d. (d, behind (list_words us) next.after)) (append_assoc done (found ∷ []) more.found)
+            ∙ ap (λ k. (done ++ found ∷ more.found, k)) (sym (behind_append ws (comma_words us) ts ∙ next.rest));
+      }
 
 -- the use tree of an item
-pub use_reads : (t : UseTree) (ts : Tokens) → IsUse 128 t → length ts.left ≤ most → Begins (use_words t) ts → IsUseEnd (behind (use_words t) ts) → use_tree ts ≡ (whole (Some (use_view t)), behind (use_words t) ts)
+pub use_reads : (t : UseTree) (ts : Tokens) → IsUse 128 t → length ts.left ≤ most → Begins (use_words t) ts → IsUseEnd (behind (use_words t) ts)
+    → (starts : List ℕ) × (use_tree ts ≡ (found_at starts (use_view t), behind (use_words t) ts))
 unfolding use_tree tree_at
-use_reads t ts h l b e = tree_reads t 128 ts h l b e
+use_reads t ts h l b e = let r = tree_reads t 128 ts h l b e in (r.starts, r.reads)

@@ -1,5 +1,6 @@
 -- The laws.
 use Rattle.std.specs.Prelude.{true, ◌≡◌, ◌≤◌, ℕ, List, [], length}
+use Rattle.hir_input.specs.declared.edition.EditionYear.{EditionYear}
 use Rattle.hir_input.specs.Bodies.{without_bodies}
 use Rattle.hir_input.specs.Syntax.{source_file, items_from, syntax_view}
 use Rattle.rust_ids.specs.Ids.{AreIds}
@@ -28,12 +29,12 @@ pub record IsRead (is : Items) (file : SourceFile) : Type 0 where
   pub syntax : syntax_view file.syntax ≡ source_file [] (with_ids (items_from (views is)) ids).0
 
 abbrev pub ReadAgain : Type 0
-ReadAgain = (is : Items) (text : List ℕ) (file : SourceFile) → Writes is text → IsSourceFile text file → IsRead is file
+ReadAgain = (edition : EditionYear) (is : Items) (text : List ℕ) (file : SourceFile) → Writes is text → IsSourceFile edition text file → IsRead is file
 
 -- Typing between names and ends changes no syntax but for its body texts, and no id.
 abbrev pub TypingInside : Type 0
-TypingInside = (before after : Items) (old new : List ℕ) (read again : SourceFile) → Writes before old → Writes after new → outline before ≡ outline after
-    → IsSourceFile old read → IsSourceFile new again → without_bodies (syntax_view read.syntax) ≡ without_bodies (syntax_view again.syntax)
+TypingInside = (edition : EditionYear) (before after : Items) (old new : List ℕ) (read again : SourceFile) → Writes before old → Writes after new → outline before ≡ outline after
+    → IsSourceFile edition old read → IsSourceFile edition new again → without_bodies (syntax_view read.syntax) ≡ without_bodies (syntax_view again.syntax)
 
 -- Well formed items of words of ASCII are spelled by a text, and so are read again.
 abbrev pub Writable : Type 0

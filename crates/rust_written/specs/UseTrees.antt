@@ -1,5 +1,6 @@
 -- Use trees, the words that write them, and what they are read as.
 use Rattle.std.specs.Prelude.{◌≡◌, ℕ, zero, suc, Bool, true, false, if◌then◌else◌, Option, Some, None, option_map, List, [], ◌∷◌, ◌++◌, codes, map}
+use Rattle.hir_input.specs.declared.edition.EditionYear.TheVariants as year
 use Rattle.hir_input.specs.declared.ast.PathNode.{PathNode}
 use Rattle.hir_input.specs.declared.ast.Rename.{Rename}
 use Rattle.hir_input.specs.UseTreeView.{UseTreeView, tree_from}
@@ -114,9 +115,9 @@ abbrev mutual
 
 -- ---- which are well formed
 
--- no keyword and not `_`
+-- no keyword of any edition and not `_`
 pub record IsPlainName (n : List ℕ) : Type 0 where
-  pub plain : plain_name n ≡ Some n
+  pub plain : plain_name year.E2024 n ≡ Some n
   pub name : is_name n ≡ true
 
 abbrev pub IsSegment : Segment → Type 0

@@ -1,6 +1,7 @@
 -- Items, the words that write them, and what they are read as.
 use Rattle.std.specs.Prelude.{◌≡◌, ℕ, zero, suc, ◌==◌, ◌||◌, Bool, true, false, Option, Some, None, is_some, option_map, List, [], ◌∷◌, ◌++◌, map, codes, if◌then◌else◌}
 use Rattle.std.specs.Str.{bytes_eq}
+use Rattle.hir_input.specs.declared.edition.EditionYear.TheVariants as year
 use Rattle.hir_input.specs.declared.ids.AstIdKind.{AstIdKind}
 use Rattle.hir_input.specs.declared.ids.AstIdKind.TheVariants as kind
 use Rattle.hir_input.specs.declared.ast.Visibility.{Visibility}
@@ -260,9 +261,9 @@ abbrev mutual
 
 -- ---- which are well formed
 
--- a name: no keyword, not `_`, and without `r#`
+-- a name in every edition, as what is one in the last: no keyword, not `_`, and without `r#`
 pub record IsNamed (n : List ℕ) : Type 0 where
-  pub plain : plain_name n ≡ Some n
+  pub plain : plain_name year.E2024 n ≡ Some n
   pub name : is_name n ≡ true
   pub bare : bare n ≡ n
 

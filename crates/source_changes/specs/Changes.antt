@@ -1,6 +1,7 @@
 -- What others can see of a file became another, and the lines that tell it.
 use Rattle.std.specs.Prelude.{◌≡◌, ◌↔◌, ℕ, Bool, IsTrue, if◌then◌else◌, List, [], ◌++◌, codes, decimal, string_bytes}
 use Rattle.std.specs.List.{flat_map}
+use Rattle.hir_input.specs.declared.edition.EditionYear.{EditionYear}
 use Rattle.line_index.specs.declared.Position.{Position}
 use Rattle.line_index.specs.Positions.{position_of}
 use Rattle.rust_items.specs.declared.source_file.SourceFile.{SourceFile}
@@ -15,9 +16,9 @@ use Rattle.source_changes.specs.declared.Compared.{Compared}
 
 -- ---- what others can see
 
--- the items of a text, as its reader gives them, and their members
-abbrev pub AreParts : List ℕ → List Part → Type 0
-AreParts text ps = (file : SourceFile) × IsSourceFile text file × (ps ≡ parts text file.places.items)
+-- the items of a text of an edition, as its reader gives them, and their members
+abbrev pub AreParts : EditionYear → List ℕ → List Part → Type 0
+AreParts edition text ps = (file : SourceFile) × IsSourceFile edition text file × (ps ≡ parts edition text file.places.items)
 
 -- every token but those between the braces of functions, comments, and documentation unless it is asked for
 abbrev pub seen : Bool → List ℕ → List Part → List (List ℕ)
@@ -65,9 +66,9 @@ abbrev pub lines : Bool → Bool → Source → Source → List Part → List Pa
 lines is_same has_docs old new olds news =
     if is_same then [] else lines_between has_docs old new olds news
 
--- whether others see the same of two files, and the lines of what became of the parts
-abbrev pub IsCompared : Bool → Source → Source → Compared → Type 0
-IsCompared has_docs old new c =
-    (olds news : List Part) × AreParts old.text olds × AreParts new.text news
+-- whether others see the same of two files of an edition, and the lines of what became of the parts
+abbrev pub IsCompared : EditionYear → Bool → Source → Source → Compared → Type 0
+IsCompared edition has_docs old new c =
+    (olds news : List Part) × AreParts edition old.text olds × AreParts edition new.text news
     × (IsTrue c.is_same ↔ (seen has_docs old.text olds ≡ seen has_docs new.text news))
     × (string_bytes c.text ≡ lines c.is_same has_docs old new olds news)

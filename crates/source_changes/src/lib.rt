@@ -7,6 +7,7 @@ ghost use Rattle.source_skeleton.specs.Views.{change_view};
 ghost use Rattle.source_changes.specs.Changes as spec;
 ghost use Rattle.source_changes.specs.Views.{side_view, source_view};
 
+use hir_input::EditionYear;
 use line_index::{LineIndex, Position};
 use rust_items::read_source_file;
 use source_rows::{Part, bodies, parts, rows};
@@ -29,12 +30,12 @@ pub struct Compared {
     pub is_same: bool,
 }
 
-/// The items of a text, and behind each its members.
-fn parts_of(alloc: Global, text: &str) -> Result<Vec<Part>, AllocError>
-    ensures { IfOk result (λ v. spec.AreParts text.now (map part_view v.items)) }
+/// The items of a text of an edition, and behind each its members.
+fn parts_of(alloc: Global, text: &str, edition: EditionYear) -> Result<Vec<Part>, AllocError>
+    ensures { IfOk result (λ v. spec.AreParts edition text.now (map part_view v.items)) }
 {
-    let file = read_source_file(alloc, text)?;
-    let parts = parts(alloc, text, &file.places)?;
+    let file = read_source_file(alloc, text, edition)?;
+    let parts = parts(alloc, text, edition, &file.places)?;
     Ok(parts)
 }
 
@@ -193,7 +194,7 @@ fn text_of(
     lines_of(alloc, old, new, olds, news, has_docs)
 }
 
-/// Compares what others can see of two files: every token but those between the braces of functions and comments, and
+/// Compares what others can see of two files of an edition: every token but those between the braces of functions and comments, and
 /// documentation only where that is asked.
 ///
 /// It tells in a line what was removed of the old file's items and of their members, and then what was added or changed. Where
@@ -203,12 +204,13 @@ pub fn compare(
     alloc: Global,
     old: Source<'_>,
     new: Source<'_>,
+    edition: EditionYear,
     has_docs: bool,
 ) -> Result<Compared, AllocError>
-    ensures { IfOk result (spec.IsCompared has_docs (source_view old.entry) (source_view new.entry)) }
+    ensures { IfOk result (spec.IsCompared edition has_docs (source_view old.entry) (source_view new.entry)) }
 {
-    let olds = parts_of(alloc, old.text)?;
-    let news = parts_of(alloc, new.text)?;
+    let olds = parts_of(alloc, old.text, edition)?;
+    let news = parts_of(alloc, new.text, edition)?;
     let is_same = is_same(alloc, old.text, &olds, new.text, &news, has_docs)?;
     let text = text_of(alloc, is_same, old, new, &olds, &news, has_docs)?;
     Ok(Compared { text, is_same })

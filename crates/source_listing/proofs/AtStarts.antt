@@ -16,10 +16,7 @@ use Rattle.rust_cursor.specs.Brackets.{behind_closed}
 use Rattle.rust_cursor.specs.Elements.{most, beyond, turns_from, turns, elements, one}
 use Rattle.rust_cursor.proofs.Leads.{LeadsTo, here, further, through, when, bumped_leads, eat_pair_leads, behind_closed_leads, behind_tree_leads, beyond_leads}
 use Rattle.rust_paths.specs.Paths.{use_path}
-use Rattle.rust_paths.specs.UseTrees.{Found, values, bare, comma_from, behind_comma, use_tree}
-use Rattle.rust_paths.specs.UseTrees as trees
-use Rattle.rust_paths.specs.UseStarts.{begun, begun_list, use_tree_starts}
-use Rattle.rust_paths.specs.UseStarts as starts
+use Rattle.rust_paths.specs.UseTrees.{Found, begun, begun_list, values, all_starts, bare, listed, star_or_list, tree_behind, tree_with, tree_at, element_with, list, comma_from, behind_comma, rename, use_tree}
 use Rattle.rust_paths.proofs.Leads.{use_path_leads, rename_leads}
 use Rattle.source_listing.specs.Told.{nodes_of, kept_nodes, left_behind, IsReadAt, AreToldFor}
 
@@ -69,7 +66,7 @@ record IsFound (ts : Tokens) (start : ℕ) (t : Tree) : Type 0 where
   leads : LeadsTo ts from
   depth : ℕ
   first : at from ≡ start
-  kept : option_and_then kept_tree (trees.tree_at depth from).0.value ≡ Some t
+  kept : option_and_then kept_tree (tree_at depth from).0.value ≡ Some t
 
 later : {ts us : Tokens} → LeadsTo ts us → (start : ℕ) (t : Tree) → IsFound us start t → IsFound ts start t
 later p start t f = record { from = f.from; leads = through p f.leads; depth = f.depth; first = f.first; kept = f.kept }
@@ -81,21 +78,19 @@ counted (further p) = let c = counted p in (suc c.0, c.1)
 read_at : (ts : Tokens) (start : ℕ) (t : Tree) → IsFound ts start t → IsReadAt ts start t
 read_at ts start t f =
     let c = counted f.leads in
-    record { before = c.0; depth = f.depth; first = ap at c.1 ∙ f.first; kept = ap (λ us. option_and_then kept_tree (trees.tree_at f.depth us).0.value) c.1 ∙ f.kept }
+    record { before = c.0; depth = f.depth; first = ap at c.1 ∙ f.first; kept = ap (λ us. option_and_then kept_tree (tree_at f.depth us).0.value) c.1 ∙ f.kept }
 
 -- ---- one tree
 
-IsListed : (ℕ → Tree → Type 0) → Option (List ℕ) → Option (List UseTreeView) → Type 0
-IsListed R None None = Unit {0}
-IsListed R (Some ss) (Some ws) = AllZip R ss (nodes_in ws)
-IsListed R _ _ = ⊥
+-- a list's trees stand at these places, and where there is no list, there are none
+IsListed : (ℕ → Tree → Type 0) → List ℕ → Option (List UseTreeView) → Type 0
+IsListed R ss None = ss ≡ []
+IsListed R ss (Some ws) = AllZip R ss (nodes_in ws)
 
-listed_is : (R S : ℕ → Tree → Type 0) → ((x : ℕ) (t : Tree) → R x t → S x t) → (s : Option (List ℕ)) (l : Option (List UseTreeView)) → IsListed R s l → IsListed S s l
+listed_is : (R S : ℕ → Tree → Type 0) → ((x : ℕ) (t : Tree) → R x t → S x t) → (ss : List ℕ) (l : Option (List UseTreeView)) → IsListed R ss l → IsListed S ss l
 unfolding IsListed
-listed_is R S f None None h = tt
-listed_is R S f (Some ss) (Some ws) h = zip_is R S f ss (nodes_in ws) h
-listed_is R S f None (Some ws) h = absurd h
-listed_is R S f (Some ss) None h = absurd h
+listed_is R S f ss None h = h
+listed_is R S f ss (Some ws) h = zip_is R S f ss (nodes_in ws) h
 
 module _ (R : ℕ → Tree → Type 0) (start : ℕ) where
   -- what is kept of this tree stands at the place
@@ -114,27 +109,26 @@ module _ (R : ℕ → Tree → Type 0) (start : ℕ) where
   path_at (Some Unreadable) r e root = tt
   path_at (Some (Readable q)) r e root = (root _ refl, tt)
 
-  listed_at : (p : Option PathNode) (s : Option (List ℕ)) (l : Option (List UseTreeView)) → IsListed R s l → Root (trees.listed p l) → AllZip R (begun_list p start s) (kept_nodes (trees.listed p l))
+  none_below : (ss : List ℕ) → ss ≡ [] → AllZip R ss []
+  none_below ss e = subst (λ (l : List ℕ). AllZip R l []) (sym e) tt
+
+  listed_at : (p : Option PathNode) (ss : List ℕ) (l : Option (List UseTreeView)) → IsListed R ss l → Root (listed p l) → AllZip R (begun_list p start l ss) (kept_nodes (listed p l))
   unfolding IsListed Root
-  listed_at None None None h root = tt
-  listed_at (Some Unreadable) None None h root = tt
-  listed_at (Some (Readable q)) None None h root = (root _ refl, tt)
-  listed_at None (Some ss) (Some ws) h root = (root _ refl, subst (AllZip R ss) (sym (list_nodes ws)) h)
-  listed_at (Some Unreadable) (Some ss) (Some ws) h root = tt
-  listed_at (Some (Readable q)) (Some ss) (Some ws) h root = (root _ refl, subst (AllZip R ss) (sym (list_nodes ws)) h)
-  listed_at p None (Some ws) h root = absurd h
-  listed_at p (Some ss) None h root = absurd h
+  listed_at None ss None h root = tt
+  listed_at (Some Unreadable) ss None h root = tt
+  listed_at (Some (Readable q)) ss None h root = (root _ refl, none_below ss h)
+  listed_at None ss (Some ws) h root = (root _ refl, subst (AllZip R ss) (sym (list_nodes ws)) h)
+  listed_at (Some Unreadable) ss (Some ws) h root = tt
+  listed_at (Some (Readable q)) ss (Some ws) h root = (root _ refl, subst (AllZip R ss) (sym (list_nodes ws)) h)
 
--- ---- what is told beside what is read
+-- ---- what is told of what is read
 
-record ListTold (ts : Tokens) (s : Option (List ℕ) × Tokens) (l : Found (Option (List UseTreeView)) × Tokens) : Type 0 where
-  each : IsListed (IsFound ts) s.0 l.0.value
-  left : s.1 ≡ l.1
+record ListTold (ts : Tokens) (l : Found (Option (List UseTreeView)) × Tokens) : Type 0 where
+  each : IsListed (IsFound ts) l.0.starts l.0.value
   leads : LeadsTo ts l.1
 
-record TreeTold (ts : Tokens) (s : List ℕ × Tokens) (t : Found (Option UseTreeView) × Tokens) : Type 0 where
-  each : AllZip (IsFound ts) s.0 (kept_nodes t.0.value)
-  left : s.1 ≡ t.1
+record TreeTold (ts : Tokens) (t : Found (Option UseTreeView) × Tokens) : Type 0 where
+  each : AllZip (IsFound ts) t.0.starts (kept_nodes t.0.value)
   leads : LeadsTo ts t.1
 
 either_none : (a b : Bool) → (a || b) ≡ false → b ≡ false
@@ -151,45 +145,44 @@ comma_leads : (ts : Tokens) → LeadsTo ts (behind_comma ts)
 unfolding behind_comma
 comma_leads ts = comma_from_leads _ ts
 
-module _ (told : Reader (Option (List ℕ))) (read : Reader (Found (Option (List UseTreeView)))) (h : (ts : Tokens) → ListTold ts (told ts) (read ts)) where
+module _ (read : Reader (Found (Option (List UseTreeView)))) (h : (ts : Tokens) → ListTold ts (read ts)) where
   -- of a tree that begins there, behind its path
   module _ (ts : Tokens) where
-    star_told : (p : Option PathNode) (us : Tokens) → LeadsTo ts us → Root (IsFound ts) (at ts) (trees.star_or_list read p us).0.value
-        → TreeTold ts (starts.star_or_list told (at ts) p us) (trees.star_or_list read p us)
+    star_told : (p : Option PathNode) (us : Tokens) → LeadsTo ts us → Root (IsFound ts) (at ts) (star_or_list read (at ts) p us).0.value → TreeTold ts (star_or_list read (at ts) p us)
     star_told p us leads root =
         when (symbol us == 42)
         (λ e.
-        let v : (trees.star_or_list read p us).0.value ≡ Some (bare p true None) = rw e refl in
+        let v : (star_or_list read (at ts) p us).0.value ≡ Some (bare p true None) = rw e refl in
         let all = star_at (IsFound ts) (at ts) p (subst (Root (IsFound ts) (at ts)) v root) in
-        rw e (record { each = all; left = refl; leads = through leads (bumped_leads us) }))
+        rw e (record { each = all; leads = through leads (bumped_leads us) }))
         (λ e.
-        let v : (trees.star_or_list read p us).0.value ≡ trees.listed p (read us).0.value = rw e refl in
-        let inner = listed_is (IsFound us) (IsFound ts) (later leads) (told us).0 (read us).0.value (h us).each in
-        let all = listed_at (IsFound ts) (at ts) p (told us).0 (read us).0.value inner (subst (Root (IsFound ts) (at ts)) v root) in
-        rw e (record { each = all; left = (h us).left; leads = through leads (h us).leads }))
+        let v : (star_or_list read (at ts) p us).0.value ≡ listed p (read us).0.value = rw e refl in
+        let inner = listed_is (IsFound us) (IsFound ts) (later leads) (read us).0.starts (read us).0.value (h us).each in
+        let all = listed_at (IsFound ts) (at ts) p (read us).0.starts (read us).0.value inner (subst (Root (IsFound ts) (at ts)) v root) in
+        rw e (record { each = all; leads = through leads (h us).leads }))
 
-    behind_told : (p : Option PathNode) (joined : Bool) (us : Tokens) → LeadsTo ts us → Root (IsFound ts) (at ts) (trees.tree_behind read p joined us).0.value
-        → TreeTold ts (starts.tree_behind told (at ts) p joined us) (trees.tree_behind read p joined us)
+    behind_told : (p : Option PathNode) (joined : Bool) (us : Tokens) → LeadsTo ts us → Root (IsFound ts) (at ts) (tree_behind read (at ts) p joined us).0.value
+        → TreeTold ts (tree_behind read (at ts) p joined us)
     behind_told p joined us leads root =
         when (joined || is_none p)
         (λ e.
-        let v : (trees.tree_behind read p joined us).0.value ≡ (trees.star_or_list read p us).0.value = rw e refl in
+        let v : (tree_behind read (at ts) p joined us).0.value ≡ (star_or_list read (at ts) p us).0.value = rw e refl in
         let all = star_told p us leads (subst (Root (IsFound ts) (at ts)) v root) in
         rw e all)
         (λ e.
-        let v : (trees.tree_behind read p joined us).0.value ≡ Some (bare p false (trees.rename us).0) = rw e refl in
-        let all = path_at (IsFound ts) (at ts) p (trees.rename us).0 (either_none joined (is_none p) e) (subst (Root (IsFound ts) (at ts)) v root) in
-        rw e (record { each = all; left = refl; leads = through leads (rename_leads us) }))
+        let v : (tree_behind read (at ts) p joined us).0.value ≡ Some (bare p false (rename us).0) = rw e refl in
+        let all = path_at (IsFound ts) (at ts) p (rename us).0 (either_none joined (is_none p) e) (subst (Root (IsFound ts) (at ts)) v root) in
+        rw e (record { each = all; leads = through leads (rename_leads us) }))
 
-module _ (depth : ℕ) (h : (ts : Tokens) → ListTold ts (starts.list depth ts) (trees.list depth ts)) where
-  tree_told : (ts : Tokens) → TreeTold ts (starts.tree_with (starts.list depth) ts) (trees.tree_with (trees.list depth) ts)
-  unfolding trees.tree_at Root
+module _ (depth : ℕ) (h : (ts : Tokens) → ListTold ts (list depth ts)) where
+  tree_told : (ts : Tokens) → TreeTold ts (tree_with (list depth) ts)
+  unfolding tree_at Root
   tree_told ts =
-      behind_told (starts.list depth) (trees.list depth) h ts (use_path ts).0 (eat_colons (use_path ts).1).0 (eat_colons (use_path ts).1).1 (through (use_path_leads ts) (eat_pair_leads _ _ _))
+      behind_told (list depth) h ts (use_path ts).0 (eat_colons (use_path ts).1).0 (eat_colons (use_path ts).1).1 (through (use_path_leads ts) (eat_pair_leads _ _ _))
       (λ t e. record { from = ts; leads = here; depth = depth; first = refl; kept = e })
 
-  element_told : (ts : Tokens) → TreeTold ts (starts.element_with (starts.list depth) ts) (trees.element_with (trees.list depth) ts)
-  element_told ts = let t = tree_told ts in record { each = t.each; left = ap behind_comma t.left; leads = through t.leads (comma_leads _) }
+  element_told : (ts : Tokens) → TreeTold ts (element_with (list depth) ts)
+  element_told ts = let t = tree_told ts in record { each = t.each; leads = through t.leads (comma_leads _) }
 
 -- ---- lists
 
@@ -197,48 +190,51 @@ values_push : (fs : List (Found (Option UseTreeView))) (f : Found (Option UseTre
 values_push [] f = append-nil (option_to_list f.value)
 values_push (g ∷ fs) f = ap (λ ws. option_to_list g.value ++ ws) (values_push fs f) ∙ sym (append_assoc (option_to_list g.value) (values fs) (option_to_list f.value))
 
+starts_push : (fs : List (Found (Option UseTreeView))) (f : Found (Option UseTreeView)) → all_starts (fs ++ f ∷ []) ≡ all_starts fs ++ f.starts
+starts_push [] f = append-nil f.starts
+starts_push (g ∷ fs) f = ap (λ ss. g.starts ++ ss) (starts_push fs f) ∙ sym (append_assoc g.starts (all_starts fs) f.starts)
+
 nodes_push : (fs : List (Found (Option UseTreeView))) (f : Found (Option UseTreeView)) → nodes_in (values (fs ++ f ∷ [])) ≡ nodes_in (values fs) ++ kept_nodes f.value
 nodes_push fs f = ap nodes_in (values_push fs f) ∙ nodes_both (values fs) (option_to_list f.value) ∙ ap (λ ns. nodes_in (values fs) ++ ns) (option_nodes f.value)
 
-module _ (told : Reader (List ℕ)) (read : Reader (Found (Option UseTreeView))) (h : (ts : Tokens) → TreeTold ts (told ts) (read ts)) (base : Tokens) where
-  record AreTold (s : List ℕ × Tokens) (l : List (Found (Option UseTreeView)) × Tokens) : Type 0 where
-    each : AllZip (IsFound base) s.0 (nodes_in (values l.0))
-    left : s.1 ≡ l.1
+module _ (read : Reader (Found (Option UseTreeView))) (h : (ts : Tokens) → TreeTold ts (read ts)) (base : Tokens) where
+  record AreTold (l : List (Found (Option UseTreeView)) × Tokens) : Type 0 where
+    each : AllZip (IsFound base) (all_starts l.0) (nodes_in (values l.0))
     leads : LeadsTo base l.1
 
-  more_told : (done : List ℕ) (fs : List (Found (Option UseTreeView))) (ts : Tokens) → LeadsTo base ts → AllZip (IsFound base) done (nodes_in (values fs))
-      → AllZip (IsFound base) (done ++ (told ts).0) (nodes_in (values (fs ++ (read ts).0 ∷ [])))
-  more_told done fs ts p e =
-      let here = zip_is (IsFound ts) (IsFound base) (later p) (told ts).0 (kept_nodes (read ts).0.value) (h ts).each in
-      subst (AllZip (IsFound base) (done ++ (told ts).0)) (sym (nodes_push fs (read ts).0)) (both_zip (IsFound base) done (told ts).0 (nodes_in (values fs)) (kept_nodes (read ts).0.value) e here)
+  more_told : (fs : List (Found (Option UseTreeView))) (ts : Tokens) → LeadsTo base ts → AllZip (IsFound base) (all_starts fs) (nodes_in (values fs))
+      → AllZip (IsFound base) (all_starts (fs ++ (read ts).0 ∷ [])) (nodes_in (values (fs ++ (read ts).0 ∷ [])))
+  more_told fs ts p e =
+      let f = (read ts).0 in
+      let here = zip_is (IsFound ts) (IsFound base) (later p) f.starts (kept_nodes f.value) (h ts).each in
+      let both = both_zip (IsFound base) (all_starts fs) f.starts (nodes_in (values fs)) (kept_nodes f.value) e here in
+      subst (λ (ss : List ℕ). AllZip (IsFound base) ss (nodes_in (values (fs ++ f ∷ [])))) (sym (starts_push fs f)) (subst (AllZip (IsFound base) (all_starts fs ++ f.starts)) (sym (nodes_push fs f)) both)
 
-  turns_told : (n : ℕ) (done : List ℕ) (fs : List (Found (Option UseTreeView))) (ts : Tokens) → LeadsTo base ts → AllZip (IsFound base) done (nodes_in (values fs))
-      → AreTold (turns_from is_at_end told n done ts) (turns_from is_at_end (one read) n fs ts)
-  turns_told zero done fs ts p e = record { each = e; left = refl; leads = p }
-  turns_told (suc n) done fs ts p e =
-      when (is_at_end ts) (λ s. rw s (record { each = e; left = refl; leads = p }))
+  turns_told : (n : ℕ) (fs : List (Found (Option UseTreeView))) (ts : Tokens) → LeadsTo base ts → AllZip (IsFound base) (all_starts fs) (nodes_in (values fs)) → AreTold (turns_from is_at_end (one read) n fs ts)
+  turns_told zero fs ts p e = record { each = e; leads = p }
+  turns_told (suc n) fs ts p e =
+      when (is_at_end ts) (λ s. rw s (record { each = e; leads = p }))
       (λ s.
-      let after = beyond ts.past (told ts).1 in
-      let leads = through p (through (subst (LeadsTo ts) (sym (h ts).left) (h ts).leads) (beyond_leads ts.past (told ts).1)) in
-      rw s (subst (λ z. AreTold (turns_from is_at_end told n (done ++ (told ts).0) after) (turns_from is_at_end (one read) n (fs ++ (read ts).0 ∷ []) (beyond ts.past z))) (h ts).left
-      (turns_told n (done ++ (told ts).0) (fs ++ (read ts).0 ∷ []) after leads (more_told done fs ts p e))))
+      let after = beyond ts.past (read ts).1 in
+      let leads = through p (through (h ts).leads (beyond_leads ts.past (read ts).1)) in
+      rw s (turns_told n (fs ++ (read ts).0 ∷ []) after leads (more_told fs ts p e)))
 
-  elements_told : (ts : Tokens) → LeadsTo base ts → AreTold (elements told ts) (elements (one read) ts)
+  elements_told : (ts : Tokens) → LeadsTo base ts → AreTold (elements (one read) ts)
   unfolding turns nodes_in
-  elements_told ts p = turns_told most [] [] ts p tt
+  elements_told ts p = turns_told most [] ts p tt
 
-list_told : (depth : ℕ) (ts : Tokens) → ListTold ts (starts.list depth ts) (trees.list depth ts)
-unfolding starts.list trees.list IsListed
+list_told : (depth : ℕ) (ts : Tokens) → ListTold ts (list depth ts)
+unfolding list IsListed
 list_told zero ts =
-    when (symbol ts == 123) (λ e. rw e (record { each = tt; left = refl; leads = behind_tree_leads ts })) (λ e. rw e (record { each = tt; left = refl; leads = here }))
+    when (symbol ts == 123) (λ e. rw e (record { each = refl; leads = behind_tree_leads ts })) (λ e. rw e (record { each = refl; leads = here }))
 list_told (suc depth) ts =
     when (symbol ts == 123)
     (λ e.
-    let all = elements_told (starts.element_with (starts.list depth)) (trees.element_with (trees.list depth)) (element_told depth (list_told depth)) ts (bumped ts) (bumped_leads ts) in
-    rw e (record { each = all.each; left = ap (behind_closed 123) all.left; leads = through all.leads (behind_closed_leads 123 _) }))
-    (λ e. rw e (record { each = tt; left = refl; leads = here }))
+    let all = elements_told (element_with (list depth)) (element_told depth (list_told depth)) ts (bumped ts) (bumped_leads ts) in
+    rw e (record { each = all.each; leads = through all.leads (behind_closed_leads 123 _) }))
+    (λ e. rw e (record { each = refl; leads = here }))
 
 pub all_told : (ts : Tokens) → AreToldFor ts
-unfolding use_tree_starts use_tree starts.tree_at trees.tree_at
+unfolding use_tree tree_at
 all_told ts =
-    let t = tree_told 128 (list_told 128) ts in record { each = zip_is (IsFound ts) (IsReadAt ts) (read_at ts) (use_tree_starts ts).0 (kept_nodes (use_tree ts).0.value) t.each; left = t.left }
+    let t = tree_told 128 (list_told 128) ts in zip_is (IsFound ts) (IsReadAt ts) (read_at ts) (use_tree ts).0.starts (kept_nodes (use_tree ts).0.value) t.each

@@ -9,21 +9,21 @@ use Rattle.item_tree.specs.Imports.{Import}
 use Rattle.item_tree.specs.Node.{Forest}
 use Rattle.def_collector.specs.Declarations.{declarations}
 use Rattle.def_collector.specs.DeclarationView.{DeclarationView, view_of}
-use Rattle.rust_items.specs.declared.source_file.ItemPlace.{ItemPlace}
 use Rattle.source_listing.specs.Lines.{Source}
 use Rattle.source_listing.specs.declared.finder.Spot.{Spot}
 use Rattle.source_listing.specs.Imports.{import_line, import_lines, of_seen, of_uses, seen_lines}
 use Rattle.source_listing.specs.Inner.{IsSameTreeFinder, IsTreeFinderOf, places_in, text_in}
+use Rattle.source_listing.specs.Uses.{FilePlaces, placed}
 use Rattle.source_listing.specs.declared.uses.TreeFinder.{TreeFinder}
 
 -- what is told of what is collected is what is told of what is declared
-pub seen_of_all : {A D : Type 0} (each : (ℕ → Option Spot) → Import → List A) (see : D → DeclarationView) (text : List ℕ) (places : List ItemPlace) (ds : List D) (f : Forest)
+pub seen_of_all : {A D : Type 0} (each : (ℕ → Option Spot) → Import → List A) (see : D → DeclarationView) (text : List ℕ) (places : FilePlaces) (ds : List D) (f : Forest)
     → map see ds ≡ map view_of (declarations f) → flat_map (λ d. of_seen each text places (see d)) ds ≡ of_uses each text places f
 seen_of_all each see text places ds f e =
     sym (flat_map-map (of_seen each text places) see ds) ∙ ap (flat_map (of_seen each text places)) e ∙ flat_map-map (of_seen each text places) view_of (declarations f)
 
 -- the lines of what is collected are those of what is declared
-pub lines_of_all : {D : Type 0} (see : D → DeclarationView) (s : Source) (reserved : List (List ℕ)) (places : List ItemPlace) (ds : List D) (f : Forest)
+pub lines_of_all : {D : Type 0} (see : D → DeclarationView) (s : Source) (reserved : List (List ℕ)) (places : FilePlaces) (ds : List D) (f : Forest)
     → map see ds ≡ map view_of (declarations f) → flat_map (λ d. seen_lines s reserved places (see d)) ds ≡ import_lines s reserved places f
 lines_of_all see s reserved places ds f e = seen_of_all (import_line s.path reserved) see s.text places ds f e
 
@@ -45,9 +45,14 @@ one_more_seen told ds i d before after l g e n =
 -- ---- by what finds use trees
 
 -- what is told by the places that are found in a text is told by those of the text
-pub seen_by_finder : {A : Type 0} (each : (ℕ → Option Spot) → Import → List A) (text : List ℕ) (places : List ItemPlace) (f : TreeFinder) (d : DeclarationView) → IsTreeFinderOf text places f
+pub seen_by_finder : {A : Type 0} (each : (ℕ → Option Spot) → Import → List A) (text : List ℕ) (places : FilePlaces) (f : TreeFinder) (d : DeclarationView) → IsTreeFinderOf text places f
     → of_seen each (text_in f) (places_in f) d ≡ of_seen each text places d
-seen_by_finder each text places f d is = ap (λ t. of_seen each t (places_in f) d) is.0.0 ∙ ap (λ ps. of_seen each text ps d) is.0.1
+seen_by_finder each text places f d is =
+    ap (λ t. of_seen each t (places_in f) d) is.0.0 ∙ ap (λ ps. of_seen each text (placed ps f.uses.all.now) d) is.0.1 ∙ ap (λ us. of_seen each text (placed places.items us) d) is.1
 
-pub finder_same : (text : List ℕ) (places : List ItemPlace) (old new : TreeFinder) → IsSameTreeFinder old new → IsTreeFinderOf text places old → IsTreeFinderOf text places new
+-- the places are the same
+pub places_kept : (old new : TreeFinder) → IsSameTreeFinder old new → places_in new ≡ places_in old
+places_kept old new same = ap (λ ps. placed ps new.uses.all.now) same.0.1 ∙ ap (placed old.finder.places.all.now) same.1
+
+pub finder_same : (text : List ℕ) (places : FilePlaces) (old new : TreeFinder) → IsSameTreeFinder old new → IsTreeFinderOf text places old → IsTreeFinderOf text places new
 finder_same text places old new same is = ((same.0.0 ∙ is.0.0, same.0.1 ∙ is.0.1), same.1 ∙ is.1)

@@ -17,6 +17,7 @@ use Rattle.rust_items.specs.declared.log.Problem.{Problem}
 use Rattle.rust_items.specs.declared.source_file.ItemPlace.{ItemPlace}
 use Rattle.source_listing.specs.declared.finder.Spot.{Spot}
 use Rattle.source_listing.specs.ImportObjects.{alias_form, import_form, import_object, seen_objects, import_objects}
+use Rattle.source_listing.specs.Uses.{FilePlaces}
 use Rattle.source_listing.specs.Imports.{of_declared, spots_of_any}
 use Rattle.source_listing.specs.Lines.{Choice, Source, is_chosen}
 use Rattle.source_listing.specs.Places.{spot_of}
@@ -132,6 +133,6 @@ module _ (reserved : List (List ℕ)) where
   declared_none spots (declared_imports xs) = flat_none (import_object reserved spots) xs (each_none spots)
 
 -- the values of imports hold no float
-pub no_float_in_imports : (text : List ℕ) (reserved : List (List ℕ)) (places : List ItemPlace) (f : Forest) → items_have_float (items_of (import_objects text reserved places f)) ≡ false
+pub no_float_in_imports : (text : List ℕ) (reserved : List (List ℕ)) (places : FilePlaces) (f : Forest) → items_have_float (items_of (import_objects text reserved places f)) ≡ false
 no_float_in_imports text reserved places f = flat_none (λ d. seen_objects text reserved places (view_of d)) (declarations f)
     (λ d. declared_none reserved (spots_of_any text places (option_map node_ast (view_of d).node)) (view_of d).declared)

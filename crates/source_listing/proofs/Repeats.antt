@@ -10,15 +10,14 @@ use Rattle.item_tree.specs.Node.{Leaf, plain, constant, struct_item, outline, us
 use Rattle.item_tree.specs.Shown.{Lent, lent_leaf, lent_parent, IsLent, StandFor}
 use Rattle.item_tree.specs.Walk.{children, children_at}
 use Rattle.item_tree.proofs.Walking.{flat_map_of_id, leaf_of_id, parent_of_id}
-use Rattle.rust_items.specs.declared.source_file.ItemPlace.{ItemPlace}
 use Rattle.item_tree.specs.Imports.{Import, imports}
 use Rattle.item_tree.specs.Tree.{Tree}
 use Rattle.source_listing.specs.Places.{place_of}
-use Rattle.source_listing.specs.Uses.{Trees, trees_of, tree_spots, import_spot}
+use Rattle.source_listing.specs.Uses.{FilePlaces, Trees, trees_of, tree_spots, import_spot}
 use Rattle.source_listing.specs.Repeated.{Named, named_import, leaf_named, node_named, forest_named, first_alike, line_if_any, repeat_lines}
 use Rattle.source_listing.specs.Inner.{own_named, lent_named, own_named_at, named_at}
 
-module _ (text : List ℕ) (places : List ItemPlace) (reserved : List (List ℕ)) (around : Option FileAstId) where
+module _ (text : List ℕ) (places : FilePlaces) (reserved : List (List ℕ)) (around : Option FileAstId) where
   named-leaf : {V W : Type 0} (f : V → W) (at : FileAstId) (l : Leaf V) → leaf_named text places reserved around at (leaf_map f l) ≡ leaf_named text places reserved around at l
   named-leaf f at (plain k n v) = refl
   named-leaf f at (constant n v) = refl
@@ -53,7 +52,7 @@ module _ (text : List ℕ) (places : List ItemPlace) (reserved : List (List ℕ)
   node_is (leaf h l) = sym (append-nil (leaf_named text places reserved around (node_ast (leaf h l)) l))
   node_is (parent h t f) = refl
 
-one_named : (text : List ℕ) (places : List ItemPlace) (reserved : List (List ℕ)) (around : Option FileAstId) (u : Unfolding) (is : List ℕ) (o : Option Node) (at : FileAstId) → option_map node_ast o ≡ Some at → StandFor u is (option_map_or children o empty)
+one_named : (text : List ℕ) (places : FilePlaces) (reserved : List (List ℕ)) (around : Option FileAstId) (u : Unfolding) (is : List ℕ) (o : Option Node) (at : FileAstId) → option_map node_ast o ≡ Some at → StandFor u is (option_map_or children o empty)
     → option_map_or (node_named text places reserved around) o [] ≡ option_map_or (own_named text places reserved around) o [] ++ flat_map (named_at text places reserved u (Some at)) is
 one_named text places reserved around u is None at e f = absurd (cc)
 one_named text places reserved around u is (Some n) at e f =
@@ -62,8 +61,8 @@ one_named text places reserved around u is (Some n) at e f =
     ∙ ap (λ xs. own_named text places reserved around n ++ xs) (sym (ids_named text places reserved (Some at) u is (children n) f))
 
 -- the imports of a use, by where its use trees stand
-pub own_use : (text text' : List ℕ) (places : List ItemPlace) (reserved : List (List ℕ)) (around : Option FileAstId) (u : Unfolding) (i : ℕ) (a at : FileAstId) (v : ℕ) (t : Tree) (trees : Option Trees) (xs : List Import) (before after : List Named)
-    → IsLent u i (lent_leaf a (use_item v t)) → option_map node_ast (node_at u.forest i) ≡ Some at → text' ≡ text → trees ≡ option_map (trees_of text) (place_of at places) → xs ≡ imports t
+pub own_use : (text text' : List ℕ) (places : FilePlaces) (reserved : List (List ℕ)) (around : Option FileAstId) (u : Unfolding) (i : ℕ) (a at : FileAstId) (v : ℕ) (t : Tree) (trees : Option Trees) (xs : List Import) (before after : List Named)
+    → IsLent u i (lent_leaf a (use_item v t)) → option_map node_ast (node_at u.forest i) ≡ Some at → text' ≡ text → trees ≡ option_map (trees_of places.use_trees) (place_of at places.items) → xs ≡ imports t
     → after ≡ before ++ map (named_import reserved around (tree_spots text' trees)) xs → after ≡ before ++ own_named_at text places reserved u around i
 own_use text text' places reserved around u i a at v t trees xs before after p q e f x g =
     g ∙ ap (λ z. before ++ map (named_import reserved around (tree_spots z trees)) xs) e ∙ ap (λ z. before ++ map (named_import reserved around (tree_spots text z)) xs) f
@@ -71,7 +70,7 @@ own_use text text' places reserved around u i a at v t trees xs before after p q
     ∙ ap (λ z. before ++ z) (sym (own_lent text places reserved around u i (lent_leaf a (use_item v t)) at p q))
 
 -- the imports of an item itself, and then those of its children, are its imports
-pub named_adds : (text text' : List ℕ) (places places' : List ItemPlace) (reserved : List (List ℕ)) (around : Option FileAstId) (u : Unfolding) (i : ℕ) (is : List ℕ) (at : FileAstId) (before mid after : List Named)
+pub named_adds : (text text' : List ℕ) (places places' : FilePlaces) (reserved : List (List ℕ)) (around : Option FileAstId) (u : Unfolding) (i : ℕ) (is : List ℕ) (at : FileAstId) (before mid after : List Named)
     → text' ≡ text → places' ≡ places → option_map node_ast (node_at u.forest i) ≡ Some at → StandFor u is (children_at u i)
     → mid ≡ before ++ own_named_at text places reserved u around i → after ≡ mid ++ flat_map (named_at text' places' reserved u (Some at)) is → after ≡ before ++ named_at text places reserved u around i
 named_adds text text' places places' reserved around u i is at before mid after t p e s f g =

@@ -9,10 +9,10 @@ use Rattle.item_tree.specs.Imports.{Import}
 use Rattle.item_tree.specs.Node.{Forest}
 use Rattle.item_tree.specs.UseText.{shown_alias}
 use Rattle.def_collector.specs.DeclarationView.{DeclarationView}
-use Rattle.rust_items.specs.declared.source_file.ItemPlace.{ItemPlace}
 use Rattle.source_listing.specs.declared.finder.Spot.{Spot}
 use Rattle.source_listing.specs.Imports.{of_seen, of_uses}
 use Rattle.source_listing.specs.Objects.{column_form, line_form}
+use Rattle.source_listing.specs.Uses.{FilePlaces}
 
 -- the word of a kind of import
 abbrev pub import_word : ImportKind → List ℕ
@@ -39,9 +39,9 @@ abbrev pub import_object : List (List ℕ) → (ℕ → Option Spot) → Import 
 import_object reserved spots x = import_form reserved (spots x.index) x ∷ []
 
 -- the objects of a declaration, of which a use alone has any
-abbrev pub seen_objects : List ℕ → List (List ℕ) → List ItemPlace → DeclarationView → List Data
+abbrev pub seen_objects : List ℕ → List (List ℕ) → FilePlaces → DeclarationView → List Data
 seen_objects text reserved places d = of_seen (import_object reserved) text places d
 
 -- those of the imports of all uses, in the order in which they are written
-abbrev pub import_objects : List ℕ → List (List ℕ) → List ItemPlace → Forest → List Data
+abbrev pub import_objects : List ℕ → List (List ℕ) → FilePlaces → Forest → List Data
 import_objects text reserved places f = of_uses (import_object reserved) text places f

@@ -11,11 +11,10 @@ use Rattle.item_tree.specs.Node.{Forest, node_ast}
 use Rattle.item_tree.specs.UseText.{shown_rename}
 use Rattle.def_collector.specs.Declarations.{Declared, declared_name, declared_imports, declarations}
 use Rattle.def_collector.specs.DeclarationView.{DeclarationView, view_of}
-use Rattle.rust_items.specs.declared.source_file.ItemPlace.{ItemPlace}
 use Rattle.source_listing.specs.declared.finder.Spot.{Spot}
 use Rattle.source_listing.specs.Lines.{Source}
 use Rattle.source_listing.specs.Places.{item_place}
-use Rattle.source_listing.specs.Uses.{import_spot}
+use Rattle.source_listing.specs.Uses.{FilePlaces, import_spot}
 
 -- an import as a use of it alone would be written
 abbrev pub import_text : List (List ℕ) → ImportKind → Path → Option ImportAlias → List ℕ
@@ -27,7 +26,7 @@ import_text reserved kind.TypeOnly path alias = shown_path reserved path ++ code
 abbrev pub import_line : List ℕ → List (List ℕ) → (ℕ → Option Spot) → Import → List ℕ
 import_line path reserved spots x = item_place path (spots x.index) ++ import_text reserved x.kind x.path x.alias ++ codes "\n"
 
-abbrev pub spots_of_any : List ℕ → List ItemPlace → Option FileAstId → ℕ → Option Spot
+abbrev pub spots_of_any : List ℕ → FilePlaces → Option FileAstId → ℕ → Option Spot
 spots_of_any text places None index = None
 spots_of_any text places (Some id) index = import_spot text places id index
 
@@ -39,17 +38,17 @@ module _ {A : Type 0} (each : (ℕ → Option Spot) → Import → List A) where
   of_declared spots (declared_imports xs) = flat_map (each spots) xs
 
   -- of a declaration
-  abbrev pub of_seen : List ℕ → List ItemPlace → DeclarationView → List A
+  abbrev pub of_seen : List ℕ → FilePlaces → DeclarationView → List A
   of_seen text places d = of_declared (spots_of_any text places (option_map node_ast d.node)) d.declared
 
   -- of the imports of all uses, in the order in which they are written
-  abbrev pub of_uses : List ℕ → List ItemPlace → Forest → List A
+  abbrev pub of_uses : List ℕ → FilePlaces → Forest → List A
   of_uses text places f = flat_map (λ d. of_seen text places (view_of d)) (declarations f)
 
 -- the lines of a declaration, of which a use alone has any
-abbrev pub seen_lines : Source → List (List ℕ) → List ItemPlace → DeclarationView → List ℕ
+abbrev pub seen_lines : Source → List (List ℕ) → FilePlaces → DeclarationView → List ℕ
 seen_lines s reserved places d = of_seen (import_line s.path reserved) s.text places d
 
 -- the imports of all uses, in the order in which they are written
-abbrev pub import_lines : Source → List (List ℕ) → List ItemPlace → Forest → List ℕ
+abbrev pub import_lines : Source → List (List ℕ) → FilePlaces → Forest → List ℕ
 import_lines s reserved places f = of_uses (import_line s.path reserved) s.text places f

@@ -29,7 +29,7 @@ use Rattle.source_listing.specs.Lines.{Choice, Source}
 use Rattle.source_listing.specs.Objects.{ItemView, item_in, node_objects}
 use Rattle.source_listing.specs.Places.{AreDistinct}
 use Rattle.source_listing.specs.Repeated.{Named, leaf_named, node_named}
-use Rattle.source_listing.specs.Uses.{Trees}
+use Rattle.source_listing.specs.Uses.{FilePlaces, placed, Trees}
 
 -- ---- printers, and what finds places for them
 
@@ -75,33 +75,33 @@ objects_at s reserved places c u level is_active i = of_id u [] (node_objects s 
 -- ---- imports by the ids of items
 
 abbrev pub trees_view : code_trees.UseTrees → Trees
-trees_view t = record { place = t.place; starts = t.starts.items }
+trees_view t = record { place = t.place; starts = t.starts.now }
 
 abbrev pub text_in : TreeFinder → List ℕ
 text_in f = f.finder.lines
 
-abbrev pub places_in : TreeFinder → List ItemPlace
-places_in f = f.finder.places.all.now
+abbrev pub places_in : TreeFinder → FilePlaces
+places_in f = placed f.finder.places.all.now f.uses.all.now
 
 abbrev pub file_in : List ℕ → TreeFinder → Source
 file_in path f = record { path = path; text = text_in f }
 
 -- the use trees that are found are those of a text and of its items
-abbrev pub IsTreeFinderOf : List ℕ → List ItemPlace → TreeFinder → Type 0
-IsTreeFinderOf text places f = IsFinderOf text places f.finder × (f.uses.text.now ≡ text)
+abbrev pub IsTreeFinderOf : List ℕ → FilePlaces → TreeFinder → Type 0
+IsTreeFinderOf text places f = IsFinderOf text places.items f.finder × (f.uses.all.now ≡ places.use_trees)
 
--- they are those of the text whose items are found, and no two of these have one id
+-- no two items have one id
 abbrev pub FindsTrees : TreeFinder → Type 0
-FindsTrees f = (f.uses.text.now ≡ text_in f) × AreDistinct (places_in f)
+FindsTrees f = AreDistinct (places_in f).items
 
 -- nothing of the file is another
 abbrev pub IsSameTreeFinder : TreeFinder → TreeFinder → Type 0
-IsSameTreeFinder old new = IsSameFinder old.finder new.finder × (new.uses.text.now ≡ old.uses.text.now)
+IsSameTreeFinder old new = IsSameFinder old.finder new.finder × (new.uses.all.now ≡ old.uses.all.now)
 
 abbrev pub named_view : code_named.Named → Named
 named_view x = record { around = x.around; spot = x.spot; text = string_bytes x.text }
 
-module _ (text : List ℕ) (places : List ItemPlace) (reserved : List (List ℕ)) where
+module _ (text : List ℕ) (places : FilePlaces) (reserved : List (List ℕ)) where
   -- those of a node itself
   abbrev pub own_named : Option FileAstId → Node → List Named
   own_named around (leaf h l) = leaf_named text places reserved around (node_ast (leaf h l)) l

@@ -6,12 +6,11 @@ use Rattle.hir_input.specs.declared.ids.FileAstId.{FileAstId}
 use Rattle.item_tree.specs.Imports.{Import, imports}
 use Rattle.item_tree.specs.Node.{Leaf, use_item, Node, leaf, parent, Forest, empty, more, node_ast}
 use Rattle.line_index.specs.declared.Position.{Position}
-use Rattle.rust_items.specs.declared.source_file.ItemPlace.{ItemPlace}
 use Rattle.source_listing.specs.declared.finder.Spot.{Spot}
 use Rattle.source_listing.specs.Lines.{Source}
 use Rattle.source_listing.specs.Imports.{import_text}
 use Rattle.source_listing.specs.Places.{is_id, item_place}
-use Rattle.source_listing.specs.Uses.{import_spot}
+use Rattle.source_listing.specs.Uses.{FilePlaces, import_spot}
 
 -- an import: the item that its use stands in, its place, and how a use of it alone would be written
 pub record Named : Type 0 where
@@ -23,7 +22,7 @@ pub record Named : Type 0 where
 abbrev pub named_import : List (List ℕ) → Option FileAstId → (ℕ → Option Spot) → Import → Named
 named_import reserved around spots x = record { around = around; spot = spots x.index; text = import_text reserved x.kind x.path x.alias }
 
-module _ (text : List ℕ) (places : List ItemPlace) (reserved : List (List ℕ)) where
+module _ (text : List ℕ) (places : FilePlaces) (reserved : List (List ℕ)) where
   -- the imports of an item itself, of which a use alone has any
   abbrev pub leaf_named : {V : Type 0} → Option FileAstId → FileAstId → Leaf V → List Named
   leaf_named around at (use_item v t) = map (named_import reserved around (import_spot text places at)) (imports t)
@@ -75,5 +74,5 @@ repeat_lines path before [] = []
 repeat_lines path before (x ∷ xs) = line_if_any path x (first_alike x before) ++ repeat_lines path (before ++ x ∷ []) xs
 
 -- a line for each import that repeats an earlier one of its module, in the order in which they are written
-abbrev pub repeated_lines : Source → List (List ℕ) → List ItemPlace → Forest → List ℕ
+abbrev pub repeated_lines : Source → List (List ℕ) → FilePlaces → Forest → List ℕ
 repeated_lines s reserved places f = repeat_lines s.path [] (forest_named s.text places reserved None f)

@@ -1,4 +1,4 @@
--- Use trees that are told, and those that are read.
+-- Where use trees are told to begin, and what is read there.
 use Rattle.std.specs.Prelude.{◌≡◌, ℕ, zero, suc, List, [], Option, Some, None}
 use Rattle.std.specs.List.{AllZip}
 use Rattle.std.specs.Option.{option_and_then}
@@ -8,7 +8,6 @@ use Rattle.item_tree.specs.Tree.{Tree, tree_nodes}
 use Rattle.rust_cursor.specs.Tokens.{Tokens}
 use Rattle.rust_cursor.specs.Words.{at, bumped}
 use Rattle.rust_paths.specs.UseTrees.{tree_at, use_tree}
-use Rattle.rust_paths.specs.UseStarts.{use_tree_starts}
 
 abbrev pub nodes_of : Option Tree → List Tree
 nodes_of None = []
@@ -30,7 +29,6 @@ pub record IsReadAt (ts : Tokens) (start : ℕ) (t : Tree) : Type 0 where
   pub first : at (left_behind before ts) ≡ start
   pub kept : option_and_then kept_tree (tree_at depth (left_behind before ts)).0.value ≡ Some t
 
--- the first bytes are those of the trees that are kept of the one that is read here, and as much is read
-pub record AreToldFor (ts : Tokens) : Type 0 where
-  pub each : AllZip (IsReadAt ts) (use_tree_starts ts).0 (kept_nodes (use_tree ts).0.value)
-  pub left : (use_tree_starts ts).1 ≡ (use_tree ts).1
+-- at the first bytes that are told of a use tree those trees are read that are kept of it, in their order
+abbrev pub AreToldFor : Tokens → Type 0
+AreToldFor ts = AllZip (IsReadAt ts) (use_tree ts).0.starts (kept_nodes (use_tree ts).0.value)

@@ -8,7 +8,7 @@ ghost use Rattle.item_tree.specs.Shown.{IsContained};
 ghost use Rattle.source_listing.specs.ImportObjects as spec;
 ghost use Rattle.source_listing.specs.Inner.{FindsTrees, IsSameTreeFinder, places_in, text_in, trees_view};
 ghost use Rattle.source_listing.specs.Places.{AreDistinct};
-ghost use Rattle.source_listing.specs.Uses.{tree_spots};
+ghost use Rattle.source_listing.specs.Uses.{placed, tree_spots};
 
 use crate::finder::Spot;
 use crate::json::{column_value, line_value};
@@ -73,11 +73,11 @@ fn push_import(
     alloc: Global,
     edition: &Edition,
     finder: &mut TreeFinder<'_>,
-    trees: &Option<UseTrees>,
+    trees: Option<UseTrees<'_>>,
     import: &Listed,
     out: &mut Vec<Value>,
 ) -> Result<(), AllocError>
-    ensures objects { let spots = tree_spots (text_in finder.old) (option_map trees_view trees.now) in
+    ensures objects { let spots = tree_spots (text_in finder.old) (option_map trees_view trees.entry) in
         let objects = spec.import_object edition.now.reserved.items spots (listed_import import.now) in
         OnOk result (map view out.new.items ≡ map view out.old.items ++ objects) }
     ensures same { IsSameTreeFinder finder.old finder.new }
@@ -93,11 +93,11 @@ fn push_imports(
     alloc: Global,
     edition: &Edition,
     finder: &mut TreeFinder<'_>,
-    trees: &Option<UseTrees>,
+    trees: Option<UseTrees<'_>>,
     imports: &[Listed],
     out: &mut Vec<Value>,
 ) -> Result<(), AllocError>
-    ensures objects { let spots = tree_spots (text_in finder.old) (option_map trees_view trees.now) in
+    ensures objects { let spots = tree_spots (text_in finder.old) (option_map trees_view trees.entry) in
         let objects = flat_map (spec.import_object edition.now.reserved.items spots) (map listed_import imports.now) in
         OnOk result (map view out.new.items ≡ map view out.old.items ++ objects) }
     ensures same { IsSameTreeFinder finder.old finder.new }
@@ -126,8 +126,8 @@ fn push_declaration(
     match &declaration.declares {
         Declares::Name(_) => Ok(()),
         Declares::Imports(imports) => {
-            let trees = finder.find(alloc, declaration.id.ast_id(tree))?;
-            push_imports(alloc, edition, finder, &trees, imports, out)
+            let trees = finder.find(declaration.id.ast_id(tree));
+            push_imports(alloc, edition, finder, trees, imports, out)
         }
     }
 }
@@ -137,19 +137,20 @@ fn push_declaration(
 /// type namespace alone, by `self` in a list), and what it is renamed to as its `alias`, which is null where it is not. What a
 /// cfg disables is not left out.
 ///
-/// The places are those that the reader gave with the syntax of the tree. The only error is want of memory.
+/// The places, and those of the use trees, are what the reader gave with the syntax of the tree. The only error is want of memory.
 pub fn import_items(
     alloc: Global,
     text: &str,
     places: &[ItemPlace],
+    use_trees: &[usize],
     tree: &ItemTree,
     edition: &Edition,
 ) -> Result<Vec<Value>, AllocError>
     requires { AreDistinct places.now }
-    ensures { let objects = spec.import_objects text.now edition.now.reserved.items places.now in
+    ensures { let objects = spec.import_objects text.now edition.now.reserved.items (placed places.now use_trees.now) in
         IfOk result (λ items. map view items.items ≡ objects tree.now.forest) }
 {
-    let mut finder = TreeFinder::new(text, places);
+    let mut finder = TreeFinder::new(text, places, use_trees);
     let mut out = Vec::new(alloc);
     let collected = collect(alloc, tree)?;
     for declaration in &collected.declarations {

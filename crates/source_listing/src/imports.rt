@@ -8,7 +8,7 @@ ghost use Rattle.item_tree.specs.UseText.{shown_rename};
 ghost use Rattle.source_listing.specs.Imports as spec;
 ghost use Rattle.source_listing.specs.Inner.{FindsTrees, IsSameTreeFinder, file_in, places_in, text_in, trees_view};
 ghost use Rattle.source_listing.specs.Places.{AreDistinct};
-ghost use Rattle.source_listing.specs.Uses.{tree_spots};
+ghost use Rattle.source_listing.specs.Uses.{placed, tree_spots};
 ghost use Rattle.source_listing.specs.Views.{source_view};
 
 use crate::lines::{Source, push_spot};
@@ -65,11 +65,11 @@ fn push_import(
     path: &str,
     edition: &Edition,
     finder: &mut TreeFinder<'_>,
-    trees: &Option<UseTrees>,
+    trees: Option<UseTrees<'_>>,
     import: &Listed,
     out: &mut String,
 ) -> Result<(), AllocError>
-    ensures text { let spots = tree_spots (text_in finder.old) (option_map trees_view trees.now) in
+    ensures text { let spots = tree_spots (text_in finder.old) (option_map trees_view trees.entry) in
         let line = spec.import_line path.now edition.now.reserved.items spots in
         OnOk result (string_bytes out.new ≡ string_bytes out.old ++ line (listed_import import.now)) }
     ensures same { IsSameTreeFinder finder.old finder.new }
@@ -85,11 +85,11 @@ fn push_imports(
     path: &str,
     edition: &Edition,
     finder: &mut TreeFinder<'_>,
-    trees: &Option<UseTrees>,
+    trees: Option<UseTrees<'_>>,
     imports: &[Listed],
     out: &mut String,
 ) -> Result<(), AllocError>
-    ensures text { let spots = tree_spots (text_in finder.old) (option_map trees_view trees.now) in
+    ensures text { let spots = tree_spots (text_in finder.old) (option_map trees_view trees.entry) in
         let line = spec.import_line path.now edition.now.reserved.items spots in
         OnOk result (string_bytes out.new ≡ string_bytes out.old ++ flat_map line (map listed_import imports.now)) }
     ensures same { IsSameTreeFinder finder.old finder.new }
@@ -102,7 +102,6 @@ fn push_imports(
 
 /// The lines of the imports of an item, if that is a use.
 fn push_declaration(
-    alloc: Global,
     path: &str,
     edition: &Edition,
     finder: &mut TreeFinder<'_>,
@@ -119,8 +118,8 @@ fn push_declaration(
     match &declaration.declares {
         Declares::Name(_) => Ok(()),
         Declares::Imports(imports) => {
-            let trees = finder.find(alloc, declaration.id.ast_id(tree))?;
-            push_imports(path, edition, finder, &trees, imports, out)
+            let trees = finder.find(declaration.id.ast_id(tree));
+            push_imports(path, edition, finder, trees, imports, out)
         }
     }
 }
@@ -128,25 +127,25 @@ fn push_declaration(
 /// A line for each import of a file, in the order in which they are written: file, line and column of its own use tree, and
 /// the import as a use of it alone would be written. What a cfg disables is not left out.
 ///
-/// The places are those that the reader gave with the syntax of the tree. The only error is want of memory.
+/// The places, and those of the use trees, are what the reader gave with the syntax of the tree. The only error is want of memory.
 #[tactic(auto, using(crate::proofs::Imported::lines_of_all))]
 pub fn import_lines(
     alloc: Global,
     source: Source<'_>,
     places: &[ItemPlace],
+    use_trees: &[usize],
     tree: &ItemTree,
     edition: &Edition,
 ) -> Result<String, AllocError>
     requires { AreDistinct places.now }
-    ensures { let lines = spec.import_lines (source_view source.entry) edition.now.reserved.items places.now in
+    ensures { let lines = spec.import_lines (source_view source.entry) edition.now.reserved.items (placed places.now use_trees.now) in
         IfOk result (λ text. string_bytes text ≡ lines tree.now.forest) }
 {
-    let mut finder = TreeFinder::new(source.text, places);
+    let mut finder = TreeFinder::new(source.text, places, use_trees);
     let mut out = String::new(alloc);
     let collected = collect(alloc, tree)?;
     for declaration in &collected.declarations {
         push_declaration(
-            alloc,
             source.path,
             edition,
             &mut finder,

@@ -15,7 +15,7 @@ mod repeated;
 mod search;
 mod subjects;
 mod tags;
-mod use_reader;
+mod use_places;
 mod uses;
 
 pub use changed::{Side, change_lines};

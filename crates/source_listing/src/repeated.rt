@@ -8,7 +8,7 @@ ghost use Rattle.source_listing.specs.Imports.{import_text};
 ghost use Rattle.source_listing.specs.Inner.{FindsTrees, IsSameTreeFinder, PutsFirst, first_in, key, key_view, named_at, named_view, own_named_at, places_in, text_in, trees_view};
 ghost use Rattle.source_listing.specs.Places.{AreDistinct};
 ghost use Rattle.source_listing.specs.Repeated as spec;
-ghost use Rattle.source_listing.specs.Uses.{tree_spots};
+ghost use Rattle.source_listing.specs.Uses.{placed, tree_spots};
 ghost use Rattle.source_listing.specs.Views.{source_view};
 
 use crate::finder::Spot;
@@ -52,11 +52,11 @@ fn push_listed(
     edition: &Edition,
     around: Option<FileAstId>,
     finder: &mut TreeFinder<'_>,
-    trees: &Option<UseTrees>,
+    trees: Option<UseTrees<'_>>,
     imports: &[Listed],
     found: &mut Vec<Named>,
 ) -> Result<(), AllocError>
-    ensures named { let spots = tree_spots (text_in finder.old) (option_map trees_view trees.now) in
+    ensures named { let spots = tree_spots (text_in finder.old) (option_map trees_view trees.entry) in
         let own = map (spec.named_import edition.now.reserved.items around spots) (map listed_import imports.now) in
         OnOk result (map named_view found.new.items ≡ map named_view found.old.items ++ own) }
     ensures same { IsSameTreeFinder finder.old finder.new }
@@ -87,8 +87,8 @@ fn push_own(
     match tree.index(id) {
         ModItemKind::Use(_, item) => {
             let imports = list_imports(alloc, item)?;
-            let trees = finder.find(alloc, id.ast_id(tree))?;
-            push_listed(alloc, edition, around, finder, &trees, &imports, found)
+            let trees = finder.find(id.ast_id(tree));
+            push_listed(alloc, edition, around, finder, trees, &imports, found)
         }
         _ => Ok(()),
     }
@@ -236,20 +236,21 @@ fn lines_of(alloc: Global, path: &str, imports: &[Named]) -> Result<String, Allo
 /// and column of its own use tree, the import as a use of it alone would be written, and where the first that is written so
 /// stands. Two modules are the same only if they are one item, whatever their names; what a cfg disables counts as well.
 ///
-/// The places are those that the reader gave with the syntax of the tree. The only error is want of memory.
+/// The places, and those of the use trees, are what the reader gave with the syntax of the tree. The only error is want of memory.
 #[tactic(auto, using(item_tree::proofs::Walking::ids_contained, crate::proofs::Repeats::ids_named))]
 pub fn repeated_lines(
     alloc: Global,
     source: Source<'_>,
     places: &[ItemPlace],
+    use_trees: &[usize],
     tree: &ItemTree,
     edition: &Edition,
 ) -> Result<String, AllocError>
     requires { AreDistinct places.now }
-    ensures { let lines = spec.repeated_lines (source_view source.entry) edition.now.reserved.items places.now in
+    ensures { let lines = spec.repeated_lines (source_view source.entry) edition.now.reserved.items (placed places.now use_trees.now) in
         IfOk result (λ text. string_bytes text ≡ lines tree.now.forest) }
 {
-    let mut finder = TreeFinder::new(source.text, places);
+    let mut finder = TreeFinder::new(source.text, places, use_trees);
     let ids = tree.top_level_items();
     let mut found = Vec::new(alloc);
     push_all(alloc, edition, &mut finder, tree, None, ids, &mut found)?;

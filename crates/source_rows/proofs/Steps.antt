@@ -3,6 +3,7 @@ use Rattle.std.proofs.Common.{◌≡◌, ◌<◌, ◌≤◌, ◌+◌, ℕ, suc, 
 use Rattle.std.specs.Prelude.{◌||◌, Bool, nat_le}
 use Rattle.std.proofs.Math.Seq.{drop-cons}
 use Rattle.std.proofs.lemmas.Bool.Decides.{nat_tests}
+use Rattle.hir_input.specs.declared.edition.EditionYear.{EditionYear}
 use Rattle.rust_lexer.specs.Piece.{Piece}
 use Rattle.rust_lexer.specs.Symbol.{symbol_of}
 use Rattle.rust_cursor.specs.Tokens.{Tokens}
@@ -52,14 +53,14 @@ drop_next : {A : Type 0} (xs : List A) (i : ℕ) (x : A) → i < length xs → x
 drop_next xs i x h e = let one : suc i ≡ i + 1 = omega arith in drop-cons xs i x h ∙ (λ k. sym e k ∷ drop (one k) xs)
 
 -- one more item
-pub parts_more : (text : List ℕ) (done pushed : List Part) (around open_around next : List Around) (items : List ItemPlace) (i : ℕ) (s : ItemPlace) (all : List Part) → i < length items → s ≡ get_or items i s
-    → open_around ≡ still_open s.range.start around → pushed ≡ done ++ parts_of text open_around s → next ≡ behind text open_around s.id.kind s → done ++ parts_from text around (drop i items) ≡ all
-    → pushed ++ parts_from text next (drop (i + 1) items) ≡ all
-parts_more text done pushed around open_around next items i s all h e o p n inv =
+pub parts_more : (edition : EditionYear) (text : List ℕ) (done pushed : List Part) (around open_around next : List Around) (items : List ItemPlace) (i : ℕ) (s : ItemPlace) (all : List Part) → i < length items → s ≡ get_or items i s
+    → open_around ≡ still_open s.range.start around → pushed ≡ done ++ parts_of edition text open_around s → next ≡ behind text open_around s.id.kind s → done ++ parts_from edition text around (drop i items) ≡ all
+    → pushed ++ parts_from edition text next (drop (i + 1) items) ≡ all
+parts_more edition text done pushed around open_around next items i s all h e o p n inv =
     let rest : List ItemPlace = drop (i + 1) items in
-    (λ k. p k ++ parts_from text (n k) rest) ∙ append_assoc done (parts_of text open_around s) (parts_from text (behind text open_around s.id.kind s) rest)
-    ∙ (λ k. done ++ (parts_of text (o k) s ++ parts_from text (behind text (o k) s.id.kind s) rest))
-    ∙ ap (λ (ss : List ItemPlace). done ++ parts_from text around ss) (sym (drop_next items i s h e)) ∙ inv
+    (λ k. p k ++ parts_from edition text (n k) rest) ∙ append_assoc done (parts_of edition text open_around s) (parts_from edition text (behind text open_around s.id.kind s) rest)
+    ∙ (λ k. done ++ (parts_of edition text (o k) s ++ parts_from edition text (behind text (o k) s.id.kind s) rest))
+    ∙ ap (λ (ss : List ItemPlace). done ++ parts_from edition text around ss) (sym (drop_next items i s h e)) ∙ inv
 
 -- ---- what of parts are no tokens of those around them
 

@@ -1,6 +1,7 @@
 -- What items without a name are called by: what stands behind the words that begin them.
 use Rattle.std.specs.Prelude.{ℕ, Bool, ◌==◌, ◌&&◌, ◌||◌, not, if◌then◌else◌, List, [], ◌∷◌, ◌++◌, length, codes}
 use Rattle.std.specs.Str.{bytes_eq}
+use Rattle.hir_input.specs.declared.edition.EditionYear.{EditionYear}
 use Rattle.rust_lexer.specs.Piece.{Piece}
 use Rattle.rust_lexer.specs.Symbol.{symbol_of}
 use Rattle.rust_cursor.specs.Tokens.{tokens_of}
@@ -34,5 +35,5 @@ spaced done before [] = done
 spaced done before (t ∷ ts) = if is_header_end done t then done else spaced (done ++ (gap before (symbol_of t) ++ t.text)) (symbol_of t) ts
 
 -- the header of an item, which this is the text of
-unfoldable pub header : List ℕ → List ℕ
-header item = spaced [] 60 (behind_angles (front (tokens_of item)).1).left
+unfoldable pub header : EditionYear → List ℕ → List ℕ
+header edition item = spaced [] 60 (behind_angles (front (tokens_of edition item)).1).left

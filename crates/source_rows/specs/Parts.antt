@@ -1,5 +1,6 @@
 -- The items of a text and their members, as parts of it.
 use Rattle.std.specs.Prelude.{ℕ, Bool, true, false, nat_lt, List, [], ◌∷◌, ◌++◌, map, filter, codes, Option, Some, None}
+use Rattle.hir_input.specs.declared.edition.EditionYear.{EditionYear}
 use Rattle.hir_input.specs.declared.ids.AstIdKind.{AstIdKind}
 use Rattle.hir_input.specs.declared.ids.AstIdKind.TheVariants as kind
 use Rattle.rust_paths.specs.declared.names.TextRange.{TextRange}
@@ -53,19 +54,19 @@ has_members kind.Struct = true
 has_members kind.Union = true
 has_members _ = false
 
-abbrev pub members_in : AstIdKind → List ℕ → Bool → Option TextRange → List MemberRead
-members_in k text true (Some body) = members k text body
-members_in k text _ body = []
+abbrev pub members_in : EditionYear → AstIdKind → List ℕ → Bool → Option TextRange → List MemberRead
+members_in edition k text true (Some body) = members edition k text body
+members_in edition k text _ body = []
 
-abbrev pub member_parts : List ℕ → List ℕ → ItemPlace → List Part
-member_parts text path s = map (member_part text path) (members_in s.id.kind text (has_members s.id.kind) s.body)
+abbrev pub member_parts : EditionYear → List ℕ → List ℕ → ItemPlace → List Part
+member_parts edition text path s = map (member_part text path) (members_in edition s.id.kind text (has_members s.id.kind) s.body)
 
 -- ---- items
 
 -- an item's name as it is written; without one, its header
-abbrev pub name_of : List ℕ → TextRange → Option TextRange → List ℕ
-name_of text range None = header (text_at text range)
-name_of text range (Some name) = text_at text name
+abbrev pub name_of : EditionYear → List ℕ → TextRange → Option TextRange → List ℕ
+name_of edition text range None = header edition (text_at text range)
+name_of edition text range (Some name) = text_at text name
 
 -- the braces of a function alone
 abbrev pub fn_body : AstIdKind → Option TextRange → Option TextRange
@@ -81,12 +82,12 @@ item_part path s = record {
   body = fn_body s.id.kind s.body;
 }
 
-abbrev pub item_path : List ℕ → List Around → ItemPlace → List ℕ
-item_path text around s = path_of around ++ name_of text s.range s.name
+abbrev pub item_path : EditionYear → List ℕ → List Around → ItemPlace → List ℕ
+item_path edition text around s = path_of around ++ name_of edition text s.range s.name
 
 -- an item, and behind it its members
-abbrev pub parts_of : List ℕ → List Around → ItemPlace → List Part
-parts_of text around s = item_part (item_path text around s) s ∷ member_parts text (item_path text around s) s
+abbrev pub parts_of : EditionYear → List ℕ → List Around → ItemPlace → List Part
+parts_of edition text around s = item_part (item_path edition text around s) s ∷ member_parts edition text (item_path edition text around s) s
 
 -- the modules that end behind a place
 abbrev pub still_open : ℕ → List Around → List Around
@@ -97,12 +98,12 @@ abbrev pub behind : List ℕ → List Around → AstIdKind → ItemPlace → Lis
 behind text around kind.Module s = around ++ record { end = s.range.end; name = text_at_some text s.name } ∷ []
 behind text around _ s = around
 
-abbrev pub parts_from : List ℕ → List Around → List ItemPlace → List Part
-parts_from text around [] = []
-parts_from text around (s ∷ ss) =
+abbrev pub parts_from : EditionYear → List ℕ → List Around → List ItemPlace → List Part
+parts_from edition text around [] = []
+parts_from edition text around (s ∷ ss) =
     let open_around = still_open s.range.start around in
-    parts_of text open_around s ++ parts_from text (behind text open_around s.id.kind s) ss
+    parts_of edition text open_around s ++ parts_from edition text (behind text open_around s.id.kind s) ss
 
--- the parts of a text with items that stand so, in preorder
-abbrev pub parts : List ℕ → List ItemPlace → List Part
-parts text items = parts_from text [] items
+-- the parts of a text of an edition with items that stand so, in preorder
+abbrev pub parts : EditionYear → List ℕ → List ItemPlace → List Part
+parts edition text items = parts_from edition text [] items

@@ -5,6 +5,7 @@ ghost use Rattle.rust_cursor.specs.Words.{symbol, text};
 ghost use Rattle.source_rows.specs.Headers as spec;
 ghost use Rattle.source_rows.specs.Inner as inner;
 
+use hir_input::EditionYear;
 use rust_cursor::Cursor;
 use rust_leaves::take_front;
 use std::alloc::{AllocError, Global};
@@ -65,10 +66,10 @@ fn spaced(alloc: Global, cursor: &mut Cursor<'_>) -> Result<String, AllocError>
 
 /// The header of an item, of which this is the text.
 #[tactic(auto, unfolding(crate::specs::Headers::header))]
-pub(crate) fn header(alloc: Global, item: &str) -> Result<String, AllocError>
-    ensures { IfOk result (λ out. string_bytes out ≡ spec.header item.now) }
+pub(crate) fn header(alloc: Global, item: &str, edition: EditionYear) -> Result<String, AllocError>
+    ensures { IfOk result (λ out. string_bytes out ≡ spec.header edition item.now) }
 {
-    let mut cursor = Cursor::new(item);
+    let mut cursor = Cursor::new(item, edition);
     let _front = take_front(alloc, &mut cursor)?;
     cursor.pass_angles();
     spaced(alloc, &mut cursor)

@@ -8,7 +8,7 @@ ghost use Rattle.source_rows.specs.Views.{around_view, part_view};
 
 use crate::headers::header;
 use crate::labels::{item_word, member_word, push_label, text_at, text_at_some};
-use hir_input::AstIdKind;
+use hir_input::{AstIdKind, EditionYear};
 use rust_items::ItemPlace;
 use rust_members::{Member, MemberKind, TextRange, read_members};
 use std::alloc::{AllocError, Global};
@@ -112,14 +112,15 @@ fn members_in(
     kind: AstIdKind,
     text: &str,
     body: Option<TextRange>,
+    edition: EditionYear,
 ) -> Result<Vec<Member>, AllocError>
-    ensures { IfOk result (λ v. map member_view v.items ≡ spec.members_in kind text.now (spec.has_members kind) body) }
+    ensures { IfOk result (λ v. map member_view v.items ≡ spec.members_in edition kind text.now (spec.has_members kind) body) }
 {
     if !has_members(kind) {
         return Ok(Vec::new(alloc));
     }
     match body {
-        Some(body) => read_members(alloc, kind, text, body),
+        Some(body) => read_members(alloc, kind, text, body, edition),
         None => Ok(Vec::new(alloc)),
     }
 }
@@ -127,16 +128,17 @@ fn members_in(
 fn push_name(
     alloc: Global,
     text: &str,
+    edition: EditionYear,
     item: &ItemPlace,
     out: &mut String,
 ) -> Result<(), AllocError>
-    ensures { let name = spec.name_of text.now item.now.range item.now.name in
+    ensures { let name = spec.name_of edition text.now item.now.range item.now.name in
         OnOk result (string_bytes out.new ≡ string_bytes out.old ++ name) }
 {
     match item.name {
         Some(name) => out.push_str(text_at(text, name)),
         None => {
-            let header = header(alloc, text_at(text, item.range))?;
+            let header = header(alloc, text_at(text, item.range), edition)?;
             out.push_str(&header)
         }
     }
@@ -155,14 +157,15 @@ fn push_path(around: &[Around<'_>], out: &mut String) -> Result<(), AllocError>
 fn item_path(
     alloc: Global,
     text: &str,
+    edition: EditionYear,
     around: &[Around<'_>],
     item: &ItemPlace,
 ) -> Result<String, AllocError>
-    ensures { IfOk result (λ out. string_bytes out ≡ spec.item_path text.now (map around_view around.now) item.now) }
+    ensures { IfOk result (λ out. string_bytes out ≡ spec.item_path edition text.now (map around_view around.now) item.now) }
 {
     let mut out = String::new(alloc);
     push_path(around, &mut out)?;
-    push_name(alloc, text, item, &mut out)?;
+    push_name(alloc, text, edition, item, &mut out)?;
     Ok(out)
 }
 
@@ -193,17 +196,18 @@ fn item_part(alloc: Global, path: &str, item: &ItemPlace) -> Result<Part, AllocE
 fn push_item(
     alloc: Global,
     text: &str,
+    edition: EditionYear,
     around: &[Around<'_>],
     item: &ItemPlace,
     parts: &mut Vec<Part>,
 ) -> Result<(), AllocError>
-    ensures { let more = spec.parts_of text.now (map around_view around.now) item.now in
+    ensures { let more = spec.parts_of edition text.now (map around_view around.now) item.now in
         OnOk result (map part_view parts.new.items ≡ map part_view parts.old.items ++ more) }
 {
-    let path = item_path(alloc, text, around, item)?;
+    let path = item_path(alloc, text, edition, around, item)?;
     let part = item_part(alloc, &path, item)?;
     parts.push(part)?;
-    let members = members_in(alloc, item.id.kind, text, item.body)?;
+    let members = members_in(alloc, item.id.kind, text, item.body, edition)?;
     push_members(alloc, text, &path, &members, parts)
 }
 
@@ -244,16 +248,21 @@ fn enter<'t>(
     }
 }
 
-/// The items of a text, which stand so in preorder, and behind each its members.
+/// The items of a text of an edition, which stand so in preorder, and behind each its members.
 #[tactic(auto, using(crate::proofs::Steps::parts_more))]
-pub fn parts(alloc: Global, text: &str, items: &[ItemPlace]) -> Result<Vec<Part>, AllocError>
-    ensures { IfOk result (λ v. map part_view v.items ≡ spec.parts text.now items.now) }
+pub fn parts(
+    alloc: Global,
+    text: &str,
+    edition: EditionYear,
+    items: &[ItemPlace],
+) -> Result<Vec<Part>, AllocError>
+    ensures { IfOk result (λ v. map part_view v.items ≡ spec.parts edition text.now items.now) }
 {
     let mut parts = Vec::new(alloc);
     let mut around = Vec::new(alloc);
     for item in items {
         around = still_open(alloc, item.range.start, &around)?;
-        push_item(alloc, text, &around, item, &mut parts)?;
+        push_item(alloc, text, edition, &around, item, &mut parts)?;
         enter(text, item, &mut around)?;
     }
     Ok(parts)

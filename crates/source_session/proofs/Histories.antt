@@ -14,6 +14,7 @@ use Rattle.line_stream.specs.Served.{IsServed}
 use Rattle.source_session.specs.declared.error.LineError.{LineError}
 use Rattle.source_session.specs.declared.error.LineError.TheVariants.{NotJson, NotRequest, Refused, TooLong, OutOfMemory}
 use Rattle.source_session.specs.Histories.{Makes, Make, IsLedTo, GoesOn}
+use Rattle.hir_input_json.specs.Editions.{EditionView}
 use Rattle.hir_input_json.specs.Reading.{Reading, right, wrong}
 use Rattle.source_session.specs.Lines.{Asked, later_line}
 use Rattle.source_session.specs.Replies.{Open, Outcome, Reply, Replies, IsDone, IsOutcome, IsReplyUnless, IsReplyOf, IsReply, of_session, id_of}
@@ -41,7 +42,7 @@ record LedBy (s : Session) (line : List ℕ) (new : Open) : Type 0 where
   edits : List EditView
   changes : List Change
   made : AreMade s edits changes session
-  makes : Makes s.count line edits changes
+  makes : Makes s.edition.0 s.count line edits changes
 
 led_still : (s : Session) (line : List ℕ) (new : Open) → new ≡ Some s → LedBy s line new
 led_still s line new e = record { session = s; stands = e; edits = []; changes = []; made = record { count = refl; edition = refl; table = after_none s.table; texts = λ file. refl }; makes = inl (refl, refl) }
@@ -50,17 +51,17 @@ led_still s line new e = record { session = s; stands = e; edits = []; changes =
 
 -- a line that is a request
 module _ (s : Session) (line : List ℕ) (d : Data) (text : IsJsonText line d) (a : Asked) (reading : later_line s.count d ≡ right a) where
-  makes_first : (es : List EditView) (cs : List Change) (n : ℕ) → AreMeant a.edits es cs → Makes s.count line (take n es) (take n cs)
+  makes_first : (es : List EditView) (cs : List Change) (n : ℕ) → AreMeant s.edition.0 a.edits es cs → Makes s.edition.0 s.count line (take n es) (take n cs)
   makes_first es cs n meant = inr (record { value = d; text = text; asked = a; reading = reading; all_edits = es; all_changes = cs; meant = meant; made = n; edits_are = refl; changes_are = refl })
 
-  makes_stopped : (es : List EditView) (cs : List Change) (n : ℕ) → (n ≡ 0) ⊎ AreMeant a.edits es cs → Makes s.count line (take n es) (take n cs)
+  makes_stopped : (es : List EditView) (cs : List Change) (n : ℕ) → (n ≡ 0) ⊎ AreMeant s.edition.0 a.edits es cs → Makes s.edition.0 s.count line (take n es) (take n cs)
   makes_stopped es cs n (inl z) = inl (ap (λ k. take k es) z, ap (λ k. take k cs) z)
   makes_stopped es cs n (inr meant) = makes_first es cs n meant
 
-  makes_all : (es : List EditView) (cs : List Change) → AreMeant a.edits es cs → Makes s.count line es cs
+  makes_all : (es : List EditView) (cs : List Change) → AreMeant s.edition.0 a.edits es cs → Makes s.edition.0 s.count line es cs
   makes_all es cs meant =
-      subst (λ xs. Makes s.count line xs cs) (take_all (length es) es (omega arith))
-      (subst (λ xs. Makes s.count line (take (length es) es) xs) (take_all (length es) cs (omega (arith, same_length a.edits es cs meant))) (makes_first es cs (length es) meant))
+      subst (λ xs. Makes s.edition.0 s.count line xs cs) (take_all (length es) es (omega arith))
+      (subst (λ xs. Makes s.edition.0 s.count line (take (length es) es) xs) (take_all (length es) cs (omega (arith, same_length s.edition.0 a.edits es cs meant))) (makes_first es cs (length es) meant))
 
   led_undone : (u : Session) (e : LineError) (new : Open) → new ≡ Some u → IsUnedited s a.edits u e → LedBy s line new
   led_undone u (Refused place cause) new o h = record { session = u; stands = o; edits = take place h.edits; changes = take place h.changes; made = h.made; makes = makes_first h.edits h.changes place h.meant }
@@ -102,13 +103,15 @@ led_line s line no_memory new r t h = led_still s line new h.0
 led_further : (s : Session) (line : List ℕ) (lines : List (List ℕ)) (next new : Open) (led : LedBy s line next) → ((u : Session) → next ≡ Some u → IsLedTo u lines new) → IsLedTo s (line ∷ lines) new
 led_further s line lines next new led more =
     let rest = more led.session led.stands in
+    let by_count = subst (λ k. Make led.session.edition.0 k lines rest.edits rest.changes) led.made.count rest.by_lines in
+    let by_first = subst (λ (x : EditionView). Make x.0 s.count lines rest.edits rest.changes) led.made.edition by_count in
     record {
       session = rest.session;
       stands = rest.stands;
       edits = led.edits ++ rest.edits;
       changes = led.changes ++ rest.changes;
       made = made_join s led.session rest.session led.edits rest.edits led.changes rest.changes led.made rest.made;
-      by_lines = (led.edits, rest.edits, led.changes, rest.changes, led.makes, subst (λ k. Make k lines rest.edits rest.changes) led.made.count rest.by_lines, refl, refl);
+      by_lines = (led.edits, rest.edits, led.changes, rest.changes, led.makes, by_first, refl, refl);
     }
 
 pub goes_on : (s : Session) → GoesOn s

@@ -3,6 +3,7 @@ use Rattle.std.proofs.Common.{◌≡◌, ℕ, ◌≤◌, ◌==◌, suc, true, fa
 use Rattle.std.proofs.lemmas.List.{length-map, take_all}
 use Rattle.std.proofs.lemmas.List.Elements.{All-take}
 use Rattle.std.specs.Option.{option_or, unwrap_or}
+use Rattle.hir_input.specs.declared.edition.EditionYear.{EditionYear}
 use Rattle.hir_input_json.specs.Editions.{EditionView}
 use Rattle.item_tree.specs.declared.fault.EditFault.{EditFault}
 use Rattle.item_tree.specs.declared.fault.EditFault.TheVariants.{TooManyEdits, Lower}
@@ -59,13 +60,13 @@ together_after count s u edits old new changes index t after footing placed text
 
 -- ---- outcomes
 
-pub same_length : (ls : List LineEdit) (es : List EditView) (cs : List Change) → AreMeant ls es cs → length cs ≡ length es
-same_length [] [] [] h = refl
-same_length (l ∷ ls) (e ∷ es) (c ∷ cs) h = ap suc (same_length ls es cs h.1)
-same_length [] (e ∷ es) cs h = absurd h
-same_length [] [] (c ∷ cs) h = absurd h
-same_length (l ∷ ls) [] cs h = absurd h
-same_length (l ∷ ls) (e ∷ es) [] h = absurd h
+pub same_length : (edition : EditionYear) (ls : List LineEdit) (es : List EditView) (cs : List Change) → AreMeant edition ls es cs → length cs ≡ length es
+same_length edition [] [] [] h = refl
+same_length edition (l ∷ ls) (e ∷ es) (c ∷ cs) h = ap suc (same_length edition ls es cs h.1)
+same_length edition [] (e ∷ es) cs h = absurd h
+same_length edition [] [] (c ∷ cs) h = absurd h
+same_length edition (l ∷ ls) [] cs h = absurd h
+same_length edition (l ∷ ls) (e ∷ es) [] h = absurd h
 
 -- nothing is made
 pub made_none : (s u : Session) → u.count ≡ s.count → u.edition ≡ s.edition → u.table ≡ s.table → ((file : ℕ) → text_in u.texts file ≡ text_in s.texts file) → AreMade s [] [] u
@@ -82,11 +83,11 @@ stopped_all s asked u e = record {
   count = length e.edits;
   meant = inr e.meant;
   made = subst (λ es. AreMade s es (take (length e.edits) e.changes) u) (sym (take_all (length e.edits) e.edits (omega arith)))
-      (subst (λ cs. AreMade s e.edits cs u) (sym (take_all (length e.edits) e.changes (omega (arith, same_length asked e.edits e.changes e.meant)))) e.made);
+      (subst (λ cs. AreMade s e.edits cs u) (sym (take_all (length e.edits) e.changes (omega (arith, same_length s.edition.0 asked e.edits e.changes e.meant)))) e.made);
 }
 
 -- an edit is refused, or memory is wanting in it
-module _ (s : Session) (asked : List LineEdit) (u : Session) (edits : List EditView) (changes : List Change) (place : ℕ) (meant : AreMeant asked edits changes) (made : AreMade s (take place edits) (take place changes) u) where
+module _ (s : Session) (asked : List LineEdit) (u : Session) (edits : List EditView) (changes : List Change) (place : ℕ) (meant : AreMeant s.edition.0 asked edits changes) (made : AreMade s (take place edits) (take place changes) u) where
   pub refused_at : (cause : EditFault) → IsUnmade s.table edits (refusal_of place cause) → IsUnedited s asked u (line_refusal place cause)
   refused_at TooManyEdits h = record { edits = edits; changes = changes; meant = meant; made = made; none_before = h.0; passes = h.1 }
   refused_at (Lower TooManyItems) h = record { edits = edits; changes = changes; meant = meant; made = made; none_before = h.0; passes = h.1 }
@@ -109,13 +110,13 @@ after_first s u edits (Ok number) ok err = subst (λ es. IsAfter s es u) (sym (t
 after_first s u edits (Err all) ok err = err
 
 -- what all edits of a line come to
-module _ (s u : Session) (asked : List LineEdit) (edits : List Edit) (changes : List Change) (meant : AreMeant asked (map edit_view edits) changes) where
+module _ (s u : Session) (asked : List LineEdit) (edits : List Edit) (changes : List Change) (meant : AreMeant s.edition.0 asked (map edit_view edits) changes) where
   edited_by : (number : ℕ) → AreMade s (take (length edits) (map edit_view edits)) (take (length edits) changes) u → number ≡ u.table.number → number ≤ last_number → FirstFit s.table (map edit_view edits) (length edits) → IsEdited s asked u
   edited_by number made is small fit =
       let es = map edit_view edits in
       let whole = length-map edits edit_view in
       let all = subst (λ xs. AreMade s xs (take (length edits) changes) u) (take_all (length edits) es (omega (arith, whole))) made in
-      let both = subst (λ cs. AreMade s es cs u) (take_all (length edits) changes (omega (arith, whole, same_length asked es changes meant))) all in
+      let both = subst (λ cs. AreMade s es cs u) (take_all (length edits) changes (omega (arith, whole, same_length s.edition.0 asked es changes meant))) all in
       let fits = is_made s.table u.table es both.table (omega (arith, small, is)) (subst (FirstFit s.table es) (sym whole) fit) in
       record { edits = es; changes = changes; meant = meant; made = both; none_passes = fits.none_passes }
 

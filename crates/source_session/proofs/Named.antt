@@ -27,7 +27,7 @@ use Rattle.source_session.specs.Inner.{AreUnfloating, Knowing}
 use Rattle.decl_index.specs.Lookup.{has_name}
 use Rattle.source_listing.proofs.NoFloats.{no_float_in_outline, no_float_in_imports, no_float_in_problems}
 use Rattle.source_session.specs.Sessions.{Session}
-use Rattle.source_session.specs.Shown.{text_bytes, text_places, text_problems, tree_of, all_items, outline_form, imports_form, problems_form, id_form, found_in, found_form, IsFound}
+use Rattle.source_session.specs.Shown.{text_bytes, text_places, all_places, text_problems, tree_of, all_items, outline_form, imports_form, problems_form, id_form, found_in, found_form, IsFound}
 use Rattle.source_session.specs.Texts.{text_in}
 
 -- ---- crates
@@ -76,7 +76,7 @@ no_float_outline u krate file =
     let t = text_in u.texts file.0 in no_float_in_outline (record { path = []; text = text_bytes t }) u.edition.1 (text_places t) all_items (tree_of u krate file)
 
 pub no_float_imports : (u : Session) (krate : Crate) (file : HirFileId) → has_float (imports_form u krate file) ≡ false
-no_float_imports u krate file = let t = text_in u.texts file.0 in no_float_in_imports (text_bytes t) u.edition.1 (text_places t) (tree_of u krate file).forest
+no_float_imports u krate file = let t = text_in u.texts file.0 in no_float_in_imports (text_bytes t) u.edition.1 (all_places t) (tree_of u krate file).forest
 
 pub no_float_problems : (u : Session) (file : HirFileId) → has_float (problems_form u file) ≡ false
 no_float_problems u file = let t = text_in u.texts file.0 in no_float_in_problems (text_bytes t) (text_problems t)

@@ -1,6 +1,7 @@
 -- Whole conversations: all edits that stand by then.
 use Rattle.std.specs.Prelude.{◌≡◌, ◌⊎◌, ℕ, List, [], ◌∷◌, ◌++◌, take, Some}
 use Rattle.serde_json.specs.Data.{Data}
+use Rattle.hir_input.specs.declared.edition.EditionYear.{EditionYear}
 use Rattle.item_tree_db.specs.Edits.{EditView}
 use Rattle.item_tree_request.specs.Requests.{IsJsonText}
 use Rattle.line_stream.specs.Served.{IsServed}
@@ -14,29 +15,29 @@ use Rattle.source_session.specs.Texts.{Change, AreMeant}
 abbrev pub MakesNone : List EditView → List Change → Type 0
 MakesNone edits changes = (edits ≡ []) × (changes ≡ [])
 
--- the line is a request to a session with this many crates, and makes the first of what its edits mean
-pub record MakesFirst (count : ℕ) (line : List ℕ) (edits : List EditView) (changes : List Change) : Type 0 where
+-- the line is a request to a session of an edition with this many crates, and makes the first of what its edits mean
+pub record MakesFirst (edition : EditionYear) (count : ℕ) (line : List ℕ) (edits : List EditView) (changes : List Change) : Type 0 where
   pub value : Data
   pub text : IsJsonText line value
   pub asked : Asked
   pub reading : later_line count value ≡ right asked
   pub all_edits : List EditView
   pub all_changes : List Change
-  pub meant : AreMeant asked.edits all_edits all_changes
+  pub meant : AreMeant edition asked.edits all_edits all_changes
   pub made : ℕ
   pub edits_are : edits ≡ take made all_edits
   pub changes_are : changes ≡ take made all_changes
 
 -- a line makes these edits of the table, which leave this of the texts
-abbrev pub Makes : ℕ → List ℕ → List EditView → List Change → Type 0
-Makes count line edits changes = MakesNone edits changes ⊎ MakesFirst count line edits changes
+abbrev pub Makes : EditionYear → ℕ → List ℕ → List EditView → List Change → Type 0
+Makes edition count line edits changes = MakesNone edits changes ⊎ MakesFirst edition count line edits changes
 
 -- lines do, one after another
-abbrev pub Make : ℕ → List (List ℕ) → List EditView → List Change → Type 0
-Make count [] edits changes = MakesNone edits changes
-Make count (line ∷ lines) edits changes =
+abbrev pub Make : EditionYear → ℕ → List (List ℕ) → List EditView → List Change → Type 0
+Make edition count [] edits changes = MakesNone edits changes
+Make edition count (line ∷ lines) edits changes =
     (es : List EditView) × (fs : List EditView) × (cs : List Change) × (ds : List Change)
-    × Makes count line es cs × Make count lines fs ds × (edits ≡ es ++ fs) × (changes ≡ cs ++ ds)
+    × Makes edition count line es cs × Make edition count lines fs ds × (edits ≡ es ++ fs) × (changes ≡ cs ++ ds)
 
 -- a session is open to which the edits that these lines make lead from the session s
 pub record IsLedTo (s : Session) (lines : List (List ℕ)) (new : Open) : Type 0 where
@@ -45,7 +46,7 @@ pub record IsLedTo (s : Session) (lines : List (List ℕ)) (new : Open) : Type 0
   pub edits : List EditView
   pub changes : List Change
   pub made : AreMade s edits changes session
-  pub by_lines : Make s.count lines edits changes
+  pub by_lines : Make s.edition.0 s.count lines edits changes
 
 -- a conversation over an open session, whatever its lines, leads where the edits lead that they make
 abbrev pub GoesOn : Session → Type 0

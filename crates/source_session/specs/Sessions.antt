@@ -35,7 +35,7 @@ pub record AreMade (s : Session) (edits : List EditView) (changes : List Change)
 pub record IsEdited (s : Session) (asked : List LineEdit) (u : Session) : Type 0 where
   pub edits : List EditView
   pub changes : List Change
-  pub meant : AreMeant asked edits changes
+  pub meant : AreMeant s.edition.0 asked edits changes
   pub made : AreMade s edits changes u
   pub none_passes : NonePasses s.table edits (length edits)
 
@@ -43,7 +43,7 @@ pub record IsEdited (s : Session) (asked : List LineEdit) (u : Session) : Type 0
 pub record IsRefused (s : Session) (asked : List LineEdit) (u : Session) (place : ℕ) (cause : EditFault) : Type 0 where
   pub edits : List EditView
   pub changes : List Change
-  pub meant : AreMeant asked edits changes
+  pub meant : AreMeant s.edition.0 asked edits changes
   pub made : AreMade s (take place edits) (take place changes) u
   pub none_before : NonePasses s.table edits place
   pub passes : PassesAt s.table edits place cause
@@ -53,7 +53,7 @@ pub record IsStopped (s : Session) (asked : List LineEdit) (u : Session) : Type 
   pub edits : List EditView
   pub changes : List Change
   pub count : ℕ
-  pub meant : (count ≡ 0) ⊎ AreMeant asked edits changes
+  pub meant : (count ≡ 0) ⊎ AreMeant s.edition.0 asked edits changes
   pub made : AreMade s (take count edits) (take count changes) u
 
 -- the edits of a line are not all made, for this reason

@@ -20,6 +20,7 @@ use Rattle.rust_items.specs.declared.log.Problem.{Problem}
 use Rattle.source_listing.specs.ImportObjects.{import_objects}
 use Rattle.source_listing.specs.Lines.{Choice}
 use Rattle.source_listing.specs.Objects.{count_form, tree_objects, problem_objects}
+use Rattle.source_listing.specs.Uses.{FilePlaces, placed}
 use Rattle.source_session.specs.declared.show.LineShow.{LineShow}
 use Rattle.source_session.specs.declared.show.LineShow.TheVariants.{Table, Outline, ImportPlaces, Problems, Find}
 use Rattle.source_session.specs.declared.texts.SourceText.{SourceText}
@@ -33,6 +34,13 @@ text_bytes t = option_map_or (λ x. string_bytes x.text) t []
 
 abbrev pub text_places : Option SourceText → List ItemPlace
 text_places t = option_map_or (λ x. x.places.items) t []
+
+abbrev pub text_use_trees : Option SourceText → List ℕ
+text_use_trees t = option_map_or (λ x. x.use_trees.items) t []
+
+-- the places of the items and of the use trees
+abbrev pub all_places : Option SourceText → FilePlaces
+all_places t = placed (text_places t) (text_use_trees t)
 
 abbrev pub text_problems : Option SourceText → List Problem
 text_problems t = option_map_or (λ x. x.problems.items) t []
@@ -53,7 +61,7 @@ outline_form u krate file =
 
 -- the objects of its imports
 abbrev pub imports_form : Session → Crate → HirFileId → Data
-imports_form u krate file = let t = text_in u.texts file.0 in array (items_of (import_objects (text_bytes t) u.edition.1 (text_places t) (tree_of u krate file).forest))
+imports_form u krate file = let t = text_in u.texts file.0 in array (items_of (import_objects (text_bytes t) u.edition.1 (all_places t) (tree_of u krate file).forest))
 
 -- the objects of the problems of its text
 abbrev pub problems_form : Session → HirFileId → Data

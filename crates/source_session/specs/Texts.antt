@@ -4,6 +4,7 @@ use Rattle.std.specs.BTreeMap.{is_at}
 use Rattle.std.specs.Map.{lookup}
 use Rattle.std.specs.Option.{option_and_then, unwrap_or}
 use Rattle.std.specs.Ordering.{nat_cmp}
+use Rattle.hir_input.specs.declared.edition.EditionYear.{EditionYear}
 use Rattle.hir_input.specs.Syntax.{syntax_view}
 use Rattle.item_tree_db.specs.declared.place.Place.TheVariants.{File, Block}
 use Rattle.item_tree_db.specs.Edits.{EditView, set, remove, set_cfg}
@@ -48,27 +49,28 @@ text_after texts changes file = unwrap_or (last_some (leaves file) changes) (tex
 
 -- ---- what edits of a line mean
 
--- the file is set to what is read of the text, which is kept with its places and problems
-pub record IsReading (file : ℕ) (text : List ℕ) (edit : EditView) (change : Change) : Type 0 where
+-- the file is set to what is read of the text in an edition, which is kept with its places, those of its use trees, and its problems
+pub record IsReading (edition : EditionYear) (file : ℕ) (text : List ℕ) (edit : EditView) (change : Change) : Type 0 where
   pub read : SourceFile
-  pub is_read : IsSourceFile text read
+  pub is_read : IsSourceFile edition text read
   pub edit_is : edit ≡ set (File (record { 0 = file })) (syntax_view read.syntax)
   pub kept : SourceText
   pub change_is : change ≡ Some (file, Some kept)
   pub text_is : string_bytes kept.text ≡ text
   pub places : kept.places.items ≡ read.places.items
+  pub use_trees : kept.use_trees.items ≡ read.use_trees.items
   pub problems : kept.problems.items ≡ read.problems.items
 
 -- an edit of a line means this edit of the table, and leaves this of a text
-abbrev pub Means : LineEdit → EditView → Change → Type 0
-Means (of_table e) edit change = (edit ≡ e) × (change ≡ forgets e)
-Means (set_text file text) edit change = IsReading file text edit change
+abbrev pub Means : EditionYear → LineEdit → EditView → Change → Type 0
+Means edition (of_table e) edit change = (edit ≡ e) × (change ≡ forgets e)
+Means edition (set_text file text) edit change = IsReading edition file text edit change
 
 -- each of them does
-abbrev pub AreMeant : List LineEdit → List EditView → List Change → Type 0
-AreMeant [] [] [] = Unit {0}
-AreMeant (l ∷ ls) (e ∷ es) (c ∷ cs) = Means l e c × AreMeant ls es cs
-AreMeant [] (e ∷ es) cs = ⊥
-AreMeant [] [] (c ∷ cs) = ⊥
-AreMeant (l ∷ ls) [] cs = ⊥
-AreMeant (l ∷ ls) (e ∷ es) [] = ⊥
+abbrev pub AreMeant : EditionYear → List LineEdit → List EditView → List Change → Type 0
+AreMeant edition [] [] [] = Unit {0}
+AreMeant edition (l ∷ ls) (e ∷ es) (c ∷ cs) = Means edition l e c × AreMeant edition ls es cs
+AreMeant edition [] (e ∷ es) cs = ⊥
+AreMeant edition [] [] (c ∷ cs) = ⊥
+AreMeant edition (l ∷ ls) [] cs = ⊥
+AreMeant edition (l ∷ ls) (e ∷ es) [] = ⊥

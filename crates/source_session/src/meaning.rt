@@ -8,7 +8,7 @@ ghost use Rattle.source_session.specs.Texts.{AreMeant, Means, forgets};
 
 use crate::edit::LineEdit;
 use crate::texts::{Change, SourceText};
-use hir_input::HirFileId;
+use hir_input::{EditionYear, HirFileId};
 use item_tree_db::Edit;
 use rust_items::read_source_file;
 use std::alloc::{AllocError, Global};
@@ -37,16 +37,22 @@ fn forgotten(edit: &Edit) -> Change
     }
 }
 
-fn reading(alloc: Global, file: HirFileId, text: String) -> Result<Meaning, AllocError>
+fn reading(
+    alloc: Global,
+    file: HirFileId,
+    text: String,
+    edition: EditionYear,
+) -> Result<Meaning, AllocError>
     requires { IsUsable 0 (LineEdit.SetText file text) }
-    ensures means { IfOk result (λ m. Means (edit_view (LineEdit.SetText file text)) (table_view m.edit) m.change) }
+    ensures means { IfOk result (λ m. Means edition (edit_view (LineEdit.SetText file text)) (table_view m.edit) m.change) }
     ensures known { (count : ℕ) → IfOk result (λ m. EditNamesCrate count m.edit) }
     ensures placed { IfOk result (λ m. LeavesPlaced m.change) }
 {
-    let read = read_source_file(alloc, &text)?;
+    let read = read_source_file(alloc, &text, edition)?;
     let kept = SourceText {
         text,
         places: read.places,
+        use_trees: read.use_trees,
         problems: read.problems,
     };
     Ok(Meaning {
@@ -58,9 +64,14 @@ fn reading(alloc: Global, file: HirFileId, text: String) -> Result<Meaning, Allo
     })
 }
 
-fn meaning_of(alloc: Global, edit: LineEdit, count: usize) -> Result<Meaning, AllocError>
+fn meaning_of(
+    alloc: Global,
+    edit: LineEdit,
+    count: usize,
+    edition: EditionYear,
+) -> Result<Meaning, AllocError>
     requires { IsUsable count edit }
-    ensures means { IfOk result (λ m. Means (edit_view edit) (table_view m.edit) m.change) }
+    ensures means { IfOk result (λ m. Means edition (edit_view edit) (table_view m.edit) m.change) }
     ensures known { IfOk result (λ m. EditNamesCrate count m.edit) }
     ensures placed { IfOk result (λ m. LeavesPlaced m.change) }
 {
@@ -69,20 +80,21 @@ fn meaning_of(alloc: Global, edit: LineEdit, count: usize) -> Result<Meaning, Al
             let change = forgotten(&edit);
             Ok(Meaning { edit, change })
         }
-        LineEdit::SetText { file, text } => reading(alloc, file, text),
+        LineEdit::SetText { file, text } => reading(alloc, file, text, edition),
     }
 }
 
-/// What edits of a line mean that name crates of this many.
+/// What edits of a line mean that name crates of this many, in an edition.
 ///
 /// The only error is want of memory.
 pub(crate) fn meanings_of(
     alloc: Global,
     edits: Vec<LineEdit>,
     count: usize,
+    edition: EditionYear,
 ) -> Result<Meanings, AllocError>
     requires { All (IsUsable count) edits.items }
-    ensures meant { IfOk result (λ m. AreMeant (map edit_view edits.items) (map table_view m.edits.items) m.changes.items) }
+    ensures meant { IfOk result (λ m. AreMeant edition (map edit_view edits.items) (map table_view m.edits.items) m.changes.items) }
     ensures known { IfOk result (λ m. All (EditNamesCrate count) m.edits.items) }
     ensures placed { IfOk result (λ m. All LeavesPlaced m.changes.items) }
     ensures count { IfOk result (λ m. length m.edits.items ≡ length edits.items) }
@@ -90,7 +102,7 @@ pub(crate) fn meanings_of(
     let mut made = Vec::with_capacity(alloc, edits.len())?;
     let mut changes = Vec::with_capacity(alloc, edits.len())?;
     for edit in edits {
-        let meaning = meaning_of(alloc, edit, count)?;
+        let meaning = meaning_of(alloc, edit, count, edition)?;
         made.push(meaning.edit)?;
         changes.push(meaning.change)?;
     }

@@ -1,6 +1,5 @@
 //! A session: a table of trees, the texts of its files, and an index of its names.
-ghost use Rattle.std.specs.Prelude.{◌≡◌, All, MatchResult, map};
-ghost use Rattle.hir_input_json.specs.Editions.{EditionView};
+ghost use Rattle.std.specs.Prelude.{ℕ, List, ◌≡◌, All, MatchResult, map};
 ghost use Rattle.decl_index.specs.Entries.{IndexView};
 ghost use Rattle.source_session.specs.Edits.{IsUsable, edit_view};
 ghost use Rattle.source_session.specs.LineViews.{settings_view};
@@ -14,7 +13,7 @@ use crate::line::Settings;
 use crate::meaning::meanings_of;
 use crate::texts::{Texts, make_room, put_first};
 use decl_index::DeclIndex;
-use hir_input::Edition;
+use hir_input::{Edition, EditionYear};
 use item_tree::{EditFault, LowerError};
 use item_tree_db::{AllRefused, Sources};
 use std::alloc::Global;
@@ -77,17 +76,18 @@ fn edit_files(
     texts: &mut Texts,
     edits: Vec<LineEdit>,
     count: usize,
+    edition: EditionYear,
 ) -> Result<(), LineError>
     requires usable { All (IsUsable count) edits.items }
     requires known { Knowing count sources.old }
-    ensures edited { (edition : EditionView) → let over = session_of count edition in
+    ensures edited { (reserved : List (List ℕ)) → let over = session_of count (edition, reserved) in
         MatchResult result
         (λ _. IsEdited (over sources.old texts.old.entries) (map edit_view edits.items) (over sources.new texts.new.entries))
         (IsUnedited (over sources.old texts.old.entries) (map edit_view edits.items) (over sources.new texts.new.entries)) }
     ensures together { (index : IndexView) → AreTogether count sources.old texts.old.entries index
         → AreTogether count sources.new texts.new.entries index }
 {
-    let meanings = meanings_of(alloc, edits, count)?;
+    let meanings = meanings_of(alloc, edits, count, edition)?;
     make_room(texts, &meanings.changes)?;
     let most = meanings.edits.len();
     let made = sources.edit_all(meanings.edits);
@@ -122,6 +122,13 @@ impl Session {
             (λ _. IsEdited self.old (map edit_view edits.items) self.new)
             (IsUnedited self.old (map edit_view edits.items) self.new) }
     {
-        edit_files(alloc, &mut self.sources, &mut self.texts, edits, self.count)
+        edit_files(
+            alloc,
+            &mut self.sources,
+            &mut self.texts,
+            edits,
+            self.count,
+            self.edition.year,
+        )
     }
 }

@@ -116,10 +116,11 @@ impl Session {
                 alloc,
                 text.text.as_str(),
                 &text.places,
+                &text.use_trees,
                 tree,
                 &self.edition,
             )?,
-            None => import_items(alloc, "", &[], tree, &self.edition)?,
+            None => import_items(alloc, "", &[], &[], tree, &self.edition)?,
         };
         Ok(Value::Array(items))
     }

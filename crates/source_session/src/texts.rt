@@ -13,6 +13,8 @@ pub struct SourceText {
     pub text: String,
     /// The places of the items, in preorder.
     pub places: Vec<ItemPlace>,
+    /// Where the use trees of the uses begin, as the reader tells it.
+    pub use_trees: Vec<usize>,
     /// What is wrong with the text, in order.
     pub problems: Vec<Problem>,
 }

@@ -1,5 +1,6 @@
 -- What a Rust text's tree is.
 use Rattle.std.specs.Prelude.{◌≡◌, ◌≢◌, ◌<◌, ◌≤◌, ◌^◌, ◌⊎◌, ℕ, false, List, length, AllPairs}
+use Rattle.hir_input.specs.declared.edition.EditionYear.{EditionYear}
 use Rattle.hir_input.specs.Syntax.{syntax_view}
 use Rattle.item_tree.specs.declared.crate_data.CrateData.{CrateData}
 use Rattle.item_tree.specs.declared.fault.LowerError.TheVariants.{OutOfMemory}
@@ -10,12 +11,13 @@ use Rattle.source_tree.specs.declared.SourceTree.{SourceTree}
 use Rattle.source_tree.specs.declared.SourceError.{SourceError}
 use Rattle.source_tree.specs.declared.SourceError.TheVariants.{TooLong, Lower}
 
--- what is kept of what is read of a text, beside the places and the problems that were read
-pub record IsTreeOf (krate : CrateData) (skipped : List (List ℕ)) (text : List ℕ) (t : SourceTree) : Type 0 where
+-- what is kept of what is read of a text of an edition, beside the places of items and use trees and the problems that were read
+pub record IsTreeOf (krate : CrateData) (skipped : List (List ℕ)) (edition : EditionYear) (text : List ℕ) (t : SourceTree) : Type 0 where
   pub file : SourceFile
-  pub is_read : IsSourceFile text file
+  pub is_read : IsSourceFile edition text file
   pub tree : t.tree ≡ kept_in krate false skipped (syntax_view file.syntax)
   pub places : t.places.items ≡ file.places.items
+  pub use_trees : t.use_trees.items ≡ file.use_trees.items
   pub problems : t.problems.items ≡ file.problems.items
 
 -- no two items have one id
@@ -23,7 +25,7 @@ abbrev pub HasOwnIds : SourceTree → Type 0
 HasOwnIds t = AllPairs (λ p q. p.id ≢ q.id) t.places.items
 
 -- a text without a tree is too long, or what is read of it passes a size of the tree, or memory is wanting
-abbrev pub IsRefused : CrateData → List (List ℕ) → List ℕ → SourceError → Type 0
-IsRefused krate skipped text TooLong = 2 ^ 32 < length text
-IsRefused krate skipped text (Lower e) =
-    (length text ≤ 2 ^ 32) × ((e ≡ OutOfMemory) ⊎ ((file : SourceFile) × IsSourceFile text file × IsTooLargeIn krate false skipped (syntax_view file.syntax) e))
+abbrev pub IsRefused : CrateData → List (List ℕ) → EditionYear → List ℕ → SourceError → Type 0
+IsRefused krate skipped edition text TooLong = 2 ^ 32 < length text
+IsRefused krate skipped edition text (Lower e) =
+    (length text ≤ 2 ^ 32) × ((e ≡ OutOfMemory) ⊎ ((file : SourceFile) × IsSourceFile edition text file × IsTooLargeIn krate false skipped (syntax_view file.syntax) e))

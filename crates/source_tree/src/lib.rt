@@ -6,7 +6,7 @@ ghost use Rattle.hir_input.specs.Syntax.{syntax_view};
 ghost use Rattle.item_tree.specs.Lowered.{IsTooLargeIn, kept_in};
 ghost use Rattle.source_tree.specs.Trees.{HasOwnIds, IsRefused, IsTreeOf};
 
-use hir_input::Name;
+use hir_input::{EditionYear, Name};
 use item_tree::{CrateData, ItemTree, LowerError, lower_syntax};
 use rust_items::{ItemPlace, Problem, SourceFile, read_source_file};
 use std::alloc::{AllocError, Global};
@@ -18,6 +18,8 @@ pub struct SourceTree {
     pub tree: ItemTree,
     /// The places of all items that were read, in preorder; those that are not kept have no node in the tree.
     pub places: Vec<ItemPlace>,
+    /// Where the use trees of the uses begin, as the reader tells it.
+    pub use_trees: Vec<usize>,
     /// What could not be read, in order.
     pub problems: Vec<Problem>,
 }
@@ -65,6 +67,7 @@ fn tree_of(
 ) -> Result<SourceTree, LowerError>
     ensures tree { IfOk result (λ t. t.tree ≡ kept_in krate.now false skipped.now (syntax_view file.syntax)) }
     ensures places { IfOk result (λ t. t.places.items ≡ file.places.items) }
+    ensures use_trees { IfOk result (λ t. t.use_trees.items ≡ file.use_trees.items) }
     ensures problems { IfOk result (λ t. t.problems.items ≡ file.problems.items) }
     ensures too_large { IfErr result (IsTooLargeIn krate.now false skipped.now (syntax_view file.syntax)) }
 {
@@ -72,29 +75,31 @@ fn tree_of(
     Ok(SourceTree {
         tree,
         places: file.places,
+        use_trees: file.use_trees,
         problems: file.problems,
     })
 }
 
-/// Reads a text and makes its tree in a crate: the items that are kept, with the attributes that their metas collect under the
-/// crate's options, without those of the skipped names.
+/// Reads a text of an edition and makes its tree in a crate: the items that are kept, with the attributes that their metas
+/// collect under the crate's options, without those of the skipped names.
 ///
 /// Errors: `TooLong` exactly where the text has more than 2^32 bytes, and those of `lower_syntax`.
 pub fn source_tree(
     alloc: Global,
     text: &str,
+    edition: EditionYear,
     krate: &CrateData,
     skipped: &[Name],
 ) -> Result<SourceTree, SourceError>
-    ensures tree { IfOk result (IsTreeOf krate.now skipped.now text.now) }
+    ensures tree { IfOk result (IsTreeOf krate.now skipped.now edition text.now) }
     ensures ids { IfOk result HasOwnIds }
     ensures short { OnOk result (length text.now ≤ 2 ^ 32) }
-    ensures refused { IfErr result (IsRefused krate.now skipped.now text.now) }
+    ensures refused { IfErr result (IsRefused krate.now skipped.now edition text.now) }
 {
     if text.len() > MOST_BYTES {
         return Err(SourceError::TooLong);
     }
-    let file = read_source_file(alloc, text)?;
+    let file = read_source_file(alloc, text, edition)?;
     let tree = tree_of(alloc, file, krate, skipped)?;
     Ok(tree)
 }

@@ -7,5 +7,5 @@ returns-clause-compared c = (c.in-Ok.before, c.in-Ok-read.after, search rules, s
 
 pub returns-clause-typing : goal.returns-clause-typing
 returns-clause-typing c =
-    same_tree c.args.options.now.krate c.args.options.now.skipped.items c.args.old.text.now c.args.new.text.now c.in-Ok.before c.in-Ok-read.after c.eq.result c.in-Ok.ensures.tree c.in-Ok-read.ensures.tree
+    same_tree c.args.options.now.krate c.args.options.now.skipped.items c.args.options.now.edition.year c.args.old.text.now c.args.new.text.now c.in-Ok.before c.in-Ok-read.after c.eq.result c.in-Ok.ensures.tree c.in-Ok-read.ensures.tree
     c.eq.ensures.decides

@@ -120,7 +120,7 @@ impl<'t> Cursor<'t> {
     {
         // That brackets can be counted is known of a cursor that was looked into.
         let _ = &self.next;
-        let mut nest = Nest::flat();
+        let mut nest = Nest::begun();
         'tokens: while !self.is_reached(reach, nest) {
             self.nest_behind(&mut nest);
             self.bump();

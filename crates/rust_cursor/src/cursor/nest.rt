@@ -49,6 +49,13 @@ impl Nest {
         Nest::flat_behind(Before::End)
     }
 
+    /// In no bracket, where a type begins.
+    pub(crate) fn begun() -> Self
+        ensures { result ≡ spec.begun }
+    {
+        Nest::flat_behind(Before::Other)
+    }
+
     /// In no bracket.
     pub(crate) fn flat_behind(before: Before) -> Self
         ensures { result ≡ spec.flat_behind before }
@@ -103,7 +110,8 @@ impl<'t> Cursor<'t> {
         }
     }
 
-    fn can_end(&self) -> bool
+    /// Whether a type or a value can end with the next token: a name, a literal, or a bracket that closes.
+    pub fn can_end(&self) -> bool
         ensures { result ≡ spec.can_end self.now }
     {
         if self.is_at_identifier() {

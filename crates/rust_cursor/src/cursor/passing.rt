@@ -1,8 +1,9 @@
 //! Passes over what stands in brackets.
 
-ghost use Rattle.std.specs.Prelude.{◌≡◌};
+ghost use Rattle.std.specs.Prelude.{◌≡◌, IfSome};
 ghost use Rattle.rust_cursor.specs.Brackets as spec;
 ghost use Rattle.rust_cursor.specs.Elements as elements;
+ghost use Rattle.rust_cursor.specs.Matched.{behind_match};
 
 use crate::cursor::Cursor;
 use crate::cursor::nest::{Nest, closes_other};
@@ -59,10 +60,11 @@ impl<'t> Cursor<'t> {
         }
     }
 
-    /// Passes over a token, or what stands in brackets.
-    #[tactic(auto, unfolding(crate::specs::Brackets::behind_tree))]
+    /// Passes over a token, or what stands in brackets: where these match, up to the bracket that matches the first, and it.
+    #[tactic(auto, unfolding(crate::specs::Brackets::behind_tree), using(crate::proofs::Matched::tree_matched))]
     pub fn pass_tree(&mut self)
-        ensures { self.new ≡ spec.behind_tree self.old }
+        ensures passed { self.new ≡ spec.behind_tree self.old }
+        ensures matched { IfSome (behind_match self.old) (λ left. self.new.left ≡ left) }
     {
         if self.is_at_open() {
             let bracket = self.symbol();

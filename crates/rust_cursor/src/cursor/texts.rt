@@ -284,15 +284,20 @@ impl<'t> Cursor<'t> {
     }
 
     #[tactic(auto, unfolding(crate::specs::Extents::taken), using(crate::proofs::Scans::taking_stop))]
-    fn take_excerpt(&mut self, alloc: Global, extent: Extent) -> Result<Excerpt<'t>, AllocError>
-        ensures { Gives spec.excerpt_view (spec.taken extent self.old) result self.new }
+    fn take_excerpt(
+        &mut self,
+        alloc: Global,
+        before: Before,
+        extent: Extent,
+    ) -> Result<Excerpt<'t>, AllocError>
+        ensures { Gives spec.excerpt_view (spec.taken before extent self.old) result self.new }
     {
         // That brackets can be counted is known of a cursor that was looked into.
         let _ = &self.next;
         let mut text = String::new(alloc);
         let mut last = 0;
         let mut opened = None;
-        let mut nest = Nest::flat_behind(first_before(extent));
+        let mut nest = Nest::flat_behind(before);
         'tokens: while !self.stops(extent, nest) {
             self.note_opened(nest, &mut opened);
             let is_call = is_mark(nest.before);
@@ -321,7 +326,7 @@ impl<'t> Cursor<'t> {
     fn take_text(&mut self, alloc: Global, extent: Extent) -> Result<String, AllocError>
         ensures { Gives string_bytes (spec.text_taken extent self.old) result self.new }
     {
-        let excerpt = self.take_excerpt(alloc, extent)?;
+        let excerpt = self.take_excerpt(alloc, Before::End, extent)?;
         Ok(excerpt.text)
     }
 
@@ -337,7 +342,7 @@ impl<'t> Cursor<'t> {
     pub fn tree_body(&mut self, alloc: Global) -> Result<Excerpt<'t>, AllocError>
         ensures { Gives spec.excerpt_view (spec.tree_body self.old) result self.new }
     {
-        self.take_excerpt(alloc, Extent::Group)
+        self.take_excerpt(alloc, Before::End, Extent::Group)
     }
 
     /// Takes what is left of an item that ends with a semicolon, and gives the texts of its tokens with a blank between each two.
@@ -346,7 +351,7 @@ impl<'t> Cursor<'t> {
     pub fn value_rest(&mut self, alloc: Global) -> Result<Excerpt<'t>, AllocError>
         ensures { Gives spec.excerpt_view (spec.value_rest self.old) result self.new }
     {
-        self.take_excerpt(alloc, Extent::Value)
+        self.take_excerpt(alloc, Before::End, Extent::Value)
     }
 
     /// The same of an item that ends with a semicolon, or with a block. The braces of a macro call are no block, and in angle brackets
@@ -354,14 +359,21 @@ impl<'t> Cursor<'t> {
     pub fn item_rest(&mut self, alloc: Global) -> Result<Excerpt<'t>, AllocError>
         ensures { Gives spec.excerpt_view (spec.item_rest self.old) result self.new }
     {
-        self.take_excerpt(alloc, Extent::Item)
+        self.take_excerpt(alloc, Before::End, Extent::Item)
     }
 
-    /// The same of a macro with parameters, in whose bracket any tokens may stand.
+    /// The same behind the word `impl`. The type or the trait that comes next may begin with `!` or `impl`.
+    pub fn impl_rest(&mut self, alloc: Global) -> Result<Excerpt<'t>, AllocError>
+        ensures { Gives spec.excerpt_view (spec.impl_rest self.old) result self.new }
+    {
+        self.take_excerpt(alloc, Before::Other, Extent::Item)
+    }
+
+    /// The same of a macro with parameters, in whose brackets any tokens may stand.
     pub fn macro_rest(&mut self, alloc: Global) -> Result<Excerpt<'t>, AllocError>
         ensures { Gives spec.excerpt_view (spec.macro_rest self.old) result self.new }
     {
-        self.take_excerpt(alloc, Extent::Macro)
+        self.take_excerpt(alloc, Before::Mark, Extent::Macro)
     }
 }
 
@@ -393,13 +405,4 @@ fn is_punctuation(symbol: u8) -> bool
     ensures { result ≡ spec.is_punctuation symbol }
 {
     symbol != 0 && !opens(symbol) && !closes(symbol)
-}
-
-fn first_before(extent: Extent) -> Before
-    ensures { result ≡ spec.first_before extent }
-{
-    match extent {
-        Extent::Macro => Before::Mark,
-        Extent::Tree | Extent::Group | Extent::Value | Extent::Item => Before::End,
-    }
 }

@@ -5,5 +5,5 @@ use Rattle.source_request.proofs.syntaxes.Given as goal
 
 abbrev pub invariant-loop-text : goal.invariant-loop-text
 invariant-loop-text l = record {
-  read : AreRead (map string_bytes (take l.text-index l.fn.texts)) (map syntax_view l.files.items);
+  read : AreRead l.edition (map string_bytes (take l.text-index l.fn.texts)) (map syntax_view l.files.items);
 }

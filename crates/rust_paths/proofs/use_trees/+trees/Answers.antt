@@ -10,13 +10,13 @@ use Rattle.rust_paths.proofs.use_trees.+trees.Goals as goal
 pub trees-loop-turn-preserved : goal.trees-loop-turn-preserved
 trees-loop-turn-preserved t c =
     found_more (element c.args.depth) c.most_turns-most.result c.loop-turn._turn (map use_tree_view c.loop-turn.trees.items) (map use_tree_view c.push_some.new.trees.items)
-    c.loop-turn.too_deep c.or-too_deep.result (found_view c.in_ok-found.found) c.loop-turn.cursor c.element.new.cursor c.pass_beyond.new.self
+    c.loop-turn.starts.items c.push_to.new.starts.items c.loop-turn.too_deep c.or-too_deep.result (found_view c.in_ok-found.found) c.loop-turn.cursor c.element.new.cursor c.pass_beyond.new.self
     (trees (element c.args.depth) c.args.cursor.now) c.loop-turn-test.true (sym c.is_at_end.ensures ∙ c.if-is_at_end.false) c.in_ok-found.ensures
-    (c.pass_beyond.ensures ∙ ap (λ past. beyond past c.element.new.cursor) c.past-past.ensures) c.in_ok-push_some.ensures c.or-too_deep.ensures c.loop-turn.invariant
+    (c.pass_beyond.ensures ∙ ap (λ past. beyond past c.element.new.cursor) c.past-past.ensures) c.in_ok-push_some.ensures c.in_ok-push_to.ensures c.or-too_deep.ensures c.loop-turn.invariant
 
 pub trees-returns : goal.trees-returns
 trees-returns t c =
     sym c.loop-turn.invariant ∙ elim c.loop-turn-test.branch [
-      | trees-else-loop-turn-test w ↦ found_over (element c.args.depth) (c.most_turns-most.result - c.loop-turn._turn) (map use_tree_view c.loop-turn.trees.items) c.loop-turn.too_deep c.loop-turn.cursor (omega (arith, w.loop-turn-test.false))
-      | trees-then-loop-turn-test+then-is_at_end w ↦ found_end (element c.args.depth) (c.most_turns-most.result - c.loop-turn._turn) (map use_tree_view c.loop-turn.trees.items) c.loop-turn.too_deep c.loop-turn.cursor (sym w.is_at_end.ensures ∙ w.if-is_at_end.true)
+      | trees-else-loop-turn-test w ↦ found_over (element c.args.depth) (c.most_turns-most.result - c.loop-turn._turn) (map use_tree_view c.loop-turn.trees.items) c.loop-turn.starts.items c.loop-turn.too_deep c.loop-turn.cursor (omega (arith, w.loop-turn-test.false))
+      | trees-then-loop-turn-test+then-is_at_end w ↦ found_end (element c.args.depth) (c.most_turns-most.result - c.loop-turn._turn) (map use_tree_view c.loop-turn.trees.items) c.loop-turn.starts.items c.loop-turn.too_deep c.loop-turn.cursor (sym w.is_at_end.ensures ∙ w.if-is_at_end.true)
     ]

@@ -19,4 +19,4 @@ abbrev pub decreases-trees : goal.decreases-trees
 decreases-trees l = 4 * l.depth + 3
 
 abbrev pub invariant-trees-loop-turn : goal.invariant-trees-loop-turn
-invariant-trees-loop-turn l = with_found (map use_tree_view l.trees.items) l.too_deep (turns_from is_at_end (one (element l.depth)) (l.most - l._turn) [] l.cursor) ≡ trees (element l.depth) l.fn.cursor
+invariant-trees-loop-turn l = with_found (map use_tree_view l.trees.items) l.starts.items l.too_deep (turns_from is_at_end (one (element l.depth)) (l.most - l._turn) [] l.cursor) ≡ trees (element l.depth) l.fn.cursor

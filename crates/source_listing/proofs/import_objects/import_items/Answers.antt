@@ -5,6 +5,7 @@ use Rattle.serde_json.specs.View.{view}
 use Rattle.def_collector.specs.DeclarationView.{id_of, declaration_view}
 use Rattle.item_tree.specs.Shown.{IsContained}
 use Rattle.source_listing.specs.ImportObjects.{import_object, seen_objects}
+use Rattle.source_listing.specs.Uses.{placed}
 use Rattle.source_listing.proofs.Imported.{contained_at, finder_same, one_more_seen, seen_by_finder, seen_of_all}
 use Rattle.source_listing.proofs.import_objects.import_items.Goals as goal
 
@@ -17,7 +18,7 @@ returns c =
     let see = declaration_view c.args.tree.now in
     let text = c.args.text.now in
     let reserved = c.args.edition.now.reserved.items in
-    let places = c.args.places.now in
+    let places = placed c.args.places.now c.args.use_trees.now in
     let ds = c.deref-declaration-items.result.now in
     let whole = take_all c.loop-declaration.declaration-index ds (search rules) in
     let all = seen_of_all (import_object reserved) see text places ds c.args.tree.now.forest (ap (map see) c.deref-declaration-items.ensures.value ∙ c.in_ok-collected.ensures.declared) in
@@ -27,7 +28,7 @@ pub loop-declaration-preserved : goal.loop-declaration-preserved
 loop-declaration-preserved c =
     let text = c.args.text.now in
     let reserved = c.args.edition.now.reserved.items in
-    let places = c.args.places.now in
+    let places = placed c.args.places.now c.args.use_trees.now in
     let before = c.loop-declaration in
     let d = c.declaration-item.result in
     let see = declaration_view c.args.tree.now in

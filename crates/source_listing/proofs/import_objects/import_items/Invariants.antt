@@ -4,10 +4,11 @@ use Rattle.serde_json.specs.View.{view}
 use Rattle.def_collector.specs.DeclarationView.{declaration_view}
 use Rattle.source_listing.specs.ImportObjects as spec
 use Rattle.source_listing.specs.Inner.{IsTreeFinderOf}
+use Rattle.source_listing.specs.Uses.{placed}
 use Rattle.source_listing.proofs.import_objects.import_items.Given as goal
 
 abbrev pub invariant-loop-declaration : goal.invariant-loop-declaration
 invariant-loop-declaration l = record {
-  objects : map view l.out.items ≡ flat_map (λ d. spec.seen_objects l.fn.text l.fn.edition.reserved.items l.fn.places (declaration_view l.fn.tree d)) (take l.declaration-index l.declaration-items);
-  is : IsTreeFinderOf l.fn.text l.fn.places l.finder;
+  objects : map view l.out.items ≡ flat_map (λ d. spec.seen_objects l.fn.text l.fn.edition.reserved.items (placed l.fn.places l.fn.use_trees) (declaration_view l.fn.tree d)) (take l.declaration-index l.declaration-items);
+  is : IsTreeFinderOf l.fn.text (placed l.fn.places l.fn.use_trees) l.finder;
 }

@@ -4,6 +4,7 @@ use Rattle.std.proofs.lemmas.List.{take_all}
 use Rattle.def_collector.specs.DeclarationView.{id_of, declaration_view}
 use Rattle.item_tree.specs.Shown.{IsContained}
 use Rattle.source_listing.specs.Imports.{import_line, seen_lines}
+use Rattle.source_listing.specs.Uses.{placed}
 use Rattle.source_listing.specs.Views.{source_view}
 use Rattle.source_listing.proofs.Imported.{contained_at, finder_same, lines_of_all, one_more_seen, seen_by_finder}
 use Rattle.source_listing.proofs.imports.import_lines.Goals as goal
@@ -18,14 +19,14 @@ returns c =
     let s = source_view c.args.source in
     let ds = c.deref-declaration-items.result.now in
     let whole = take_all c.loop-declaration.declaration-index ds (search rules) in
-    let all = lines_of_all see s c.args.edition.now.reserved.items c.args.places.now ds c.args.tree.now.forest (ap (map see) c.deref-declaration-items.ensures.value ∙ c.in_ok-collected.ensures.declared) in
-    c.loop-declaration.invariant.text ∙ ap (flat_map (λ d. seen_lines s c.args.edition.now.reserved.items c.args.places.now (see d))) whole ∙ all
+    let all = lines_of_all see s c.args.edition.now.reserved.items (placed c.args.places.now c.args.use_trees.now) ds c.args.tree.now.forest (ap (map see) c.deref-declaration-items.ensures.value ∙ c.in_ok-collected.ensures.declared) in
+    c.loop-declaration.invariant.text ∙ ap (flat_map (λ d. seen_lines s c.args.edition.now.reserved.items (placed c.args.places.now c.args.use_trees.now) (see d))) whole ∙ all
 
 pub loop-declaration-preserved : goal.loop-declaration-preserved
 loop-declaration-preserved c =
     let s = source_view c.args.source in
     let reserved = c.args.edition.now.reserved.items in
-    let places = c.args.places.now in
+    let places = placed c.args.places.now c.args.use_trees.now in
     let before = c.loop-declaration in
     let d = c.declaration-item.result in
     let see = declaration_view c.args.tree.now in

@@ -3,11 +3,12 @@ use Rattle.std.specs.List.{flat_map}
 use Rattle.def_collector.specs.DeclarationView.{declaration_view}
 use Rattle.source_listing.specs.Imports as spec
 use Rattle.source_listing.specs.Inner.{IsTreeFinderOf}
+use Rattle.source_listing.specs.Uses.{placed}
 use Rattle.source_listing.specs.Views.{source_view}
 use Rattle.source_listing.proofs.imports.import_lines.Given as goal
 
 abbrev pub invariant-loop-declaration : goal.invariant-loop-declaration
 invariant-loop-declaration l = record {
-  text : string_bytes l.out ≡ flat_map (λ d. spec.seen_lines (source_view l.fn.source) l.fn.edition.reserved.items l.fn.places (declaration_view l.fn.tree d)) (take l.declaration-index l.declaration-items);
-  is : IsTreeFinderOf l.fn.source.text.now l.fn.places l.finder;
+  text : string_bytes l.out ≡ flat_map (λ d. spec.seen_lines (source_view l.fn.source) l.fn.edition.reserved.items (placed l.fn.places l.fn.use_trees) (declaration_view l.fn.tree d)) (take l.declaration-index l.declaration-items);
+  is : IsTreeFinderOf l.fn.source.text.now (placed l.fn.places l.fn.use_trees) l.finder;
 }

@@ -4,4 +4,4 @@ use Rattle.source_rows.specs.Views.{around_view, part_view}
 use Rattle.source_rows.proofs.items.parts.Given as goal
 
 abbrev pub invariant-loop-item : goal.invariant-loop-item
-invariant-loop-item l = map part_view l.parts.items ++ parts_from l.text (map around_view l.around.items) (drop l.item-index l.items) ≡ parts l.text l.items
+invariant-loop-item l = map part_view l.parts.items ++ parts_from l.edition l.text (map around_view l.around.items) (drop l.item-index l.items) ≡ parts l.edition l.text l.items

@@ -23,13 +23,13 @@ loop-edit-preserved c =
     let cs = c.in_ok-push-2.ensures.items in
     let views = map-append edit_view done (edit ∷ []) in
     let tables = ap (map table.edit_view) es ∙ map-append table.edit_view made (m.edit ∷ []) in
-    let meant = meant_push (map edit_view done) (map table.edit_view made) changes (edit_view edit) (table.edit_view m.edit) m.change old.2 c.in_ok-meaning.ensures.means in
+    let meant = meant_push c.args.edition (map edit_view done) (map table.edit_view made) changes (edit_view edit) (table.edit_view m.edit) m.change old.2 c.in_ok-meaning.ensures.means in
     let longer = ap length es in (
       done ++ edit ∷ [],
       old.1 ∙ ap (λ xs. done ++ xs) step ∙ sym (append_assoc done (edit ∷ []) rest),
-      subst (λ ls. AreMeant ls (map table.edit_view c.push.new.self.items) c.push-in-loop-edit.new.self.items) (sym views)
-          (subst (λ xs. AreMeant (map edit_view done ++ edit_view edit ∷ []) xs c.push-in-loop-edit.new.self.items) (sym tables)
-          (subst (AreMeant (map edit_view done ++ edit_view edit ∷ []) (map table.edit_view made ++ table.edit_view m.edit ∷ [])) (sym cs) meant)),
+      subst (λ ls. AreMeant c.args.edition ls (map table.edit_view c.push.new.self.items) c.push-in-loop-edit.new.self.items) (sym views)
+          (subst (λ xs. AreMeant c.args.edition (map edit_view done ++ edit_view edit ∷ []) xs c.push-in-loop-edit.new.self.items) (sym tables)
+          (subst (AreMeant c.args.edition (map edit_view done ++ edit_view edit ∷ []) (map table.edit_view made ++ table.edit_view m.edit ∷ [])) (sym cs) meant)),
       subst (All (EditNamesCrate c.args.count)) (sym es) (All-push (EditNamesCrate c.args.count) made m.edit old.3 c.in_ok-meaning.ensures.known),
       subst (All LeavesPlaced) (sym cs) (All-push LeavesPlaced changes m.change old.4 c.in_ok-meaning.ensures.placed),
       omega (arith, longer, old.5, length-append made (m.edit ∷ []), length-append done (edit ∷ [])),

@@ -12,7 +12,7 @@ abbrev pub invariant-loop-edit : goal.invariant-loop-edit
 invariant-loop-edit l =
     (done : List LineEdit)
     × (l.fn.edits.items ≡ done ++ l.edit-iterator.rest.items)
-    × AreMeant (map edit_view done) (map table.edit_view l.made.items) l.changes.items
+    × AreMeant l.edition (map edit_view done) (map table.edit_view l.made.items) l.changes.items
     × All (EditNamesCrate l.count) l.made.items
     × All LeavesPlaced l.changes.items
     × (length l.made.items ≡ length done)

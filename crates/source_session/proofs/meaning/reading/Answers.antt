@@ -5,11 +5,12 @@ use Rattle.source_session.proofs.meaning.reading.Goals as goal
 pub returns-clause-means : goal.returns-clause-means
 returns-clause-means c = record {
   read = c.in_ok-read.read;
-  is_read = subst (λ text. IsSourceFile text c.in_ok-read.read) c.deref.ensures c.in_ok-read.ensures.file;
+  is_read = subst (λ text. IsSourceFile c.args.edition text c.in_ok-read.read) c.deref.ensures c.in_ok-read.ensures.file;
   edit_is = refl;
-  kept = record { text = c.args.text; places = c.in_ok-read.read.places; problems = c.in_ok-read.read.problems };
+  kept = record { text = c.args.text; places = c.in_ok-read.read.places; use_trees = c.in_ok-read.read.use_trees; problems = c.in_ok-read.read.problems };
   change_is = refl;
   text_is = refl;
   places = refl;
+  use_trees = refl;
   problems = refl;
 }

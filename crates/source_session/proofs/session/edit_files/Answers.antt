@@ -1,4 +1,5 @@
 use Rattle.std.proofs.Common.{◌≡◌, ◌≤◌, Err, IfOk, MatchResult, length, map, refl, rules, sym, ap, ◌∙◌, subst}
+use Rattle.hir_input_json.specs.Editions.{EditionView}
 use Rattle.item_tree_db.specs.Refusal.{last_number}
 use Rattle.source_session.specs.declared.error.LineError.TheVariants.{OutOfMemory}
 use Rattle.source_session.specs.Edits.{edit_view}
@@ -10,14 +11,16 @@ use Rattle.source_session.proofs.Named.{edits_known}
 use Rattle.source_session.proofs.session.edit_files.Goals as goal
 
 pub returns-in_err-meanings-clause-edited : goal.returns-in_err-meanings-clause-edited
-returns-in_err-meanings-clause-edited c = λ edition.
+returns-in_err-meanings-clause-edited c = λ reserved.
+    let edition : EditionView = (c.args.edition, reserved) in
     let s = session_of c.args.count edition c.args.sources.now c.args.texts.now.entries in
     let asked = map edit_view c.args.edits.items in
     let is : c.from_residual.result ≡ Err OutOfMemory = search rules in
     subst (λ r. MatchResult r (λ _. IsEdited s asked s) (IsUnedited s asked s)) (sym is) (stopped_none s asked s refl refl refl (λ file. refl))
 
 pub returns-in_err-make_room-clause-edited : goal.returns-in_err-make_room-clause-edited
-returns-in_err-make_room-clause-edited c = λ edition.
+returns-in_err-make_room-clause-edited c = λ reserved.
+    let edition : EditionView = (c.args.edition, reserved) in
     let s = session_of c.args.count edition c.args.sources.now c.args.texts.now.entries in
     let u = session_of c.args.count edition c.args.sources.now c.make_room.new.texts.entries in
     let asked = map edit_view c.args.edits.items in
@@ -28,7 +31,8 @@ pub edit_all-made-requires : goal.edit_all-made-requires
 edit_all-made-requires c = edits_known c.args.count c.args.sources.now c.requires.known c.in_ok-meanings.meanings.edits.items c.in_ok-meanings.ensures.known
 
 pub returns-clause-edited : goal.returns-clause-edited
-returns-clause-edited c = λ edition.
+returns-clause-edited c = λ reserved.
+    let edition : EditionView = (c.args.edition, reserved) in
     let old = c.args.texts.now.entries in
     let new = c.put_first.new.texts.entries in
     let s = session_of c.args.count edition c.args.sources.now old in

@@ -40,7 +40,7 @@ tokens-preserved c =
     let less = fewer c.tokens.nest c.nest_behind.new.nest c.tokens.self c.bump_symbol-last.new.self some c.nest_behind.ensures c.bump_symbol-last.ensures.rest in
     let more = c.in_ok-take_inside.ensures in
     record {
-      same = more.same c.note_opened.new.opened ∙ taking_turn c.args.extent (string_bytes c.tokens.text) (string_bytes c.push_text.new.text) c.tokens.last c.bump_symbol-last.result c.tokens.opened c.note_opened.new.opened c.tokens.nest c.nest_behind.new.nest c.is_mark-is_call.result c.tokens.self c.bump_symbol-last.new.self (taken c.args.extent c.args.self.now)
+      same = more.same c.note_opened.new.opened ∙ taking_turn c.args.extent (string_bytes c.tokens.text) (string_bytes c.push_text.new.text) c.tokens.last c.bump_symbol-last.result c.tokens.opened c.note_opened.new.opened c.tokens.nest c.nest_behind.new.nest c.is_mark-is_call.result c.tokens.self c.bump_symbol-last.new.self (taken c.args.before c.args.extent c.args.self.now)
           (sym c.stops.ensures ∙ c.tokens-test.true) c.is_mark-is_call.ensures c.nest_behind.ensures (sym c.ends.ensures ∙ c.if-ends.false) c.in_ok-push_text.ensures c.bump_symbol-last.ensures.value c.note_opened.ensures c.bump_symbol-last.ensures.rest c.tokens.invariant.same;
       braces = omega (arith, less.braces, more.braces, c.tokens.invariant.braces);
       others = omega (arith, less.others, more.left, more.others, c.tokens.invariant.others);
@@ -51,6 +51,6 @@ tokens-preserved c =
 pub returns-then-ends : goal.returns-then-ends
 returns-then-ends c =
     taking_last c.args.extent (string_bytes c.tokens.text) (string_bytes c.push_text.new.text) c.tokens.last c.tokens.opened c.note_opened.new.opened c.block_at-block.result c.tokens.nest c.nest_behind.new.nest c.is_mark-is_call.result c.is_whole-is_ended.result
-    c.tokens.self c.bump.new.self (taken c.args.extent c.args.self.now)
+    c.tokens.self c.bump.new.self (taken c.args.before c.args.extent c.args.self.now)
     (sym c.stops.ensures ∙ c.tokens-test.true) c.is_mark-is_call.ensures c.nest_behind.ensures (sym c.ends.ensures ∙ c.if-ends.true) c.in_ok-push_text.ensures c.note_opened.ensures c.block_at-block.ensures c.is_whole-is_ended.ensures c.bump.ensures
     c.tokens.invariant.same

@@ -5,7 +5,7 @@ use Rattle.rust_cursor.proofs.cursor.Cursor.take_excerpt.Given as goal
 
 abbrev pub invariant-tokens : goal.invariant-tokens
 invariant-tokens l = record {
-  same : taking l.extent (string_bytes l.text) l.last l.opened l.nest l.self ≡ taken l.extent l.initial.self;
+  same : taking l.extent (string_bytes l.text) l.last l.opened l.nest l.self ≡ taken l.fn.before l.extent l.initial.self;
   braces : l.nest.braces + length l.self.left < 2 ^ 64;
   others : l.nest.others + length l.self.left < 2 ^ 64;
   angles : l.nest.angles + length l.self.left < 2 ^ 64;
