@@ -30,16 +30,16 @@ def tell(is_right, name, got='', wanted=''):
     print(f'reader: {name}\n--- wanted\n{wanted}\n--- got\n{got}', file=sys.stderr)
 
 
-def run(command, text):
+def run(command, text, options=()):
     """What a command of itemtree writes of a text."""
-    done = subprocess.run([sys.argv[1], *command, '-'], input=text.encode(), timeout=60,
+    done = subprocess.run([sys.argv[1], *command, *options, '-'], input=text.encode(), timeout=60,
                           stdout=subprocess.PIPE, stderr=subprocess.STDOUT)
     return done.stdout.decode('utf-8', 'backslashreplace')
 
 
-def lines(command, text):
+def lines(command, text, options):
     """The lines that a command writes, without the name of the file and what indents them, as one line."""
-    return '; '.join(re.sub(r'^-:(\d+:\d+:) +', r'\1 ', line) for line in run(command, text).splitlines())
+    return '; '.join(re.sub(r'^-:(\d+:\d+:) +', r'\1 ', line) for line in run(command, text, options).splitlines())
 
 
 def walked(items, below):
@@ -59,13 +59,13 @@ def without_defaults(value):
     return value
 
 
-def syntax(text):
+def syntax(text, options):
     """The syntax of a text, as the JSON of a request."""
-    return json.loads(run(['request'], text))['edits'][0]['syntax']
+    return json.loads(run(['request'], text, options))['edits'][0]['syntax']
 
 
-def outline(text):
-    return json.loads(run(['outline', '--json'], text))['items']
+def outline(text, options):
+    return json.loads(run(['outline', '--json'], text, options))['items']
 
 
 def part(value, steps):
@@ -74,21 +74,21 @@ def part(value, steps):
     return without_defaults(value)
 
 
-def answer(word, text):
+def answer(word, text, options):
     """What is compared with the line of a case that begins with a word."""
     if word in ('outline', 'check'):
-        return lines([word], text)
+        return lines([word], text, options)
     if word == 'items':
-        items = walked(syntax(text)['items'], 'items')
+        items = walked(syntax(text, options)['items'], 'items')
         return '; '.join(' '.join(filter(None, [item['is'], item.get('name')])) for item in items)
     if word == 'ids':
-        return '; '.join(item['id'] for item in walked(outline(text), 'children'))
+        return '; '.join(item['id'] for item in walked(outline(text, options), 'children'))
     if word == 'count':
-        return str(len(run(['outline'], text).splitlines()))
+        return str(len(run(['outline'], text, options).splitlines()))
     steps = word.split('.')
     if steps[0] == 'outline':
-        return part(outline(text), steps[1:])
-    return part(syntax(text), steps)
+        return part(outline(text, options), steps[1:])
+    return part(syntax(text, options), steps)
 
 
 def text_of(case):
@@ -105,11 +105,13 @@ def check_case(name, case):
     text = text_of(case)
     wanted = dict(re.findall(LINE, case, re.M))
     wanted.setdefault('check', '')
+    edition = wanted.pop('edition', None)
+    options = ['--edition', edition] if edition else []
     if not all(re.match(r'[>=]', line) or re.match(LINE, line) for line in case.splitlines()):
         tell(False, f'{name}: a line of a case that means nothing', case)
     for word, want in wanted.items():
         try:
-            got = answer(word, text)
+            got = answer(word, text, options)
         except (AttributeError, LookupError, ValueError, subprocess.TimeoutExpired) as error:
             got = f'no such value: {error!r}'
         if word not in TEXTS:

@@ -1110,9 +1110,23 @@ def check_forgotten(server, request, outlines):
         tell(got == wanted, 'the problems after edits', got, wanted)
 
 
+def check_editions(program):
+    """A text is read in the edition of its session."""
+    edits = [{'edit': 'set_text', 'file': 0, 'text': 'fn f() {} fn dyn() {} fn gen() {} use async::b;'}]
+    shows = [{'show': 'outline', 'crate': 0, 'file': 0}, {'show': 'import_places', 'crate': 0, 'file': 0}]
+    for edition, wanted in (({'year': 2015}, (['f', 'dyn', 'gen', None], ['async::b'])), ({'year': 2018}, (['f', 'gen'], [])),
+                            ({'year': 2021}, (['f', 'gen'], [])), ({'year': 2024}, (['f'], [])), ({}, (['f'], []))):
+        with Server(program) as server:
+            got = server.ask({'crates': [{'root': 0}], 'edition': edition, 'edits': edits, 'shows': shows})
+            got = tuple([told[key] for told in show] for key, show in zip(('name', 'path'), got['shows']))
+            tell(got == wanted, f'what is read in the edition {edition}', got, wanted)
+            ends_well(server, 'editions')
+
+
 def check_places(options):
     program, found = options.program, texts()
     check_found(program)
+    check_editions(program)
     with tempfile.TemporaryDirectory() as folder:
         for cfg in ([], ['--cfg', 'test', '--cfg', 'feature="extra"']):
             request, paths = request_of(program, found, folder, *cfg)
@@ -1216,7 +1230,7 @@ class Random:
         elif kind == 'text':
             at = chance.randrange(len(material.texts))
             return ({'edit': 'set_text', 'file': file, 'text': material.texts[at]},
-                    {'edit': 'set_file', 'file': file, 'syntax': material.read[at]})
+                    {'edit': 'set_file', 'file': file, 'syntax': material.read[self.opening['edition'].get('year', 2024)][at]})
         else:
             syntax = (chance.choice(material.syntaxes) if kind == 'stored' else
                       {'root': 'source_file', 'items': [self.item() for _ in range(chance.randrange(4))]})
@@ -1348,13 +1362,18 @@ def try_sessions(given):
     return good, faults
 
 
+def read_in(program, found, year):
+    """What is read of texts in an edition."""
+    with tempfile.TemporaryDirectory() as folder:
+        request, _ = request_of(program, found, folder, '--edition', str(year))
+    return [edit['syntax'] for edit in request['edits']]
+
+
 def check_random(options):
     global passed, failed
     syntaxes, blocks = stored_edits()
     found = texts()
-    with tempfile.TemporaryDirectory() as folder:
-        request, _ = request_of(options.program, found, folder)
-    material = Material(syntaxes, blocks, found, [edit['syntax'] for edit in request['edits']])
+    material = Material(syntaxes, blocks, found, {year: read_in(options.program, found, year) for year in (2015, 2024)})
     step = len(os.sched_getaffinity(0))
     with multiprocessing.Pool(step) as pool:
         for good, faults in pool.imap_unordered(try_sessions, [(options, material, first, step) for first in range(step)]):
