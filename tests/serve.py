@@ -1117,7 +1117,7 @@ def check_editions(program):
     for edition, wanted in (({'year': 2015}, (['f', 'dyn', 'gen', None], ['async::b'])), ({'year': 2018}, (['f', 'gen'], [])),
                             ({'year': 2021}, (['f', 'gen'], [])), ({'year': 2024}, (['f'], [])), ({}, (['f'], []))):
         with Server(program) as server:
-            got = server.ask({'crates': [{'root': 0}], 'edition': edition, 'edits': edits, 'shows': shows})
+            got = json.loads(server.ask({'crates': [{'root': 0}], 'edition': edition, 'edits': edits, 'shows': shows}))
             got = tuple([told[key] for told in show] for key, show in zip(('name', 'path'), got['shows']))
             tell(got == wanted, f'what is read in the edition {edition}', got, wanted)
             ends_well(server, 'editions')
@@ -1491,7 +1491,7 @@ def check_random_wrong_forms(options):
     edits = [{**SET, 'syntax': syntax} for syntax in syntaxes] + [{'edit': 'set_block', 'block': 0, **block} for block in blocks]
     faults = [edit for edit in edits if wrong_edit(edit, 0) is not None]
     tell(not faults, 'the forms, beside the requests that are answered', faults)
-    case = Random(Material(syntaxes, blocks, SNIPPETS, SNIPPETS), options.seed, 'damage')
+    case = Random(Material(syntaxes, blocks, SNIPPETS, {2024: SNIPPETS}), options.seed, 'damage')
     right = sum(check_damaged_lines(options.program, case, crates, 1000) for crates in (0, 1, 3))
     check_damaged_openings(options.program, case.chance, 300)
     print(f'serve: 3,300 damaged lines of the seed {options.seed}, and {right} whose damage leaves them right')
