@@ -247,7 +247,8 @@ pub fn repeated_lines(
     edition: &Edition,
 ) -> Result<String, AllocError>
     requires { AreDistinct places.now }
-    ensures { let lines = spec.repeated_lines (source_view source.entry) edition.now.reserved.items (placed places.now use_trees.now) in
+    ensures { let all = placed places.now use_trees.now in
+        let lines = spec.repeated_lines (source_view source.entry) edition.now.reserved.items all in
         IfOk result (λ text. string_bytes text ≡ lines tree.now.forest) }
 {
     let mut finder = TreeFinder::new(source.text, places, use_trees);
