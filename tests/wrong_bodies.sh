@@ -15,7 +15,7 @@ if [ "${1:-}" = --check ]; then
     shift
 fi
 crates=("$@")
-[ $# -gt 0 ] || mapfile -t crates < <(sed 's/:.*//' crates.txt)
+[ $# -gt 0 ] || mapfile -t crates < <(sed '/^#/d; s/:.*//' crates.txt)
 
 close() {
     [ -z "$room" ] || rm -rf "$room"
