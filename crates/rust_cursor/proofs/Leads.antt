@@ -109,7 +109,7 @@ pub beyond_leads : (past : ℕ) (ts : Tokens) → LeadsTo ts (beyond past ts)
 unfolding beyond
 beyond_leads past ts = when (ts.past == past) (λ e. rw e (behind_tree_leads ts)) (λ e. rw e here)
 
-turns_from_leads : {A : Type 0} (ends : Tokens → Bool) (reader : Reader (List A)) → Forwards reader → (n : ℕ) (done : List A) → Forwards (turns_from ends reader n done)
+pub turns_from_leads : {A : Type 0} (ends : Tokens → Bool) (reader : Reader (List A)) → Forwards reader → (n : ℕ) (done : List A) → Forwards (turns_from ends reader n done)
 turns_from_leads ends reader r zero done ts = here
 turns_from_leads ends reader r (suc n) done ts =
     when (ends ts) (λ e. rw e here) (λ e. rw e (through (r ts) (through (beyond_leads ts.past (reader ts).1) (turns_from_leads ends reader r n _ _))))

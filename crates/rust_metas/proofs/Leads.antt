@@ -19,7 +19,7 @@ use Rattle.rust_metas.specs.Attributes.{is_doc, is_behind, behind_bracket, brack
 
 -- ---- literals
 
-value_leads : (anchor : ℕ) → Forwards (value anchor)
+pub value_leads : (anchor : ℕ) → Forwards (value anchor)
 unfolding value
 value_leads anchor ts = when (is_literal ts && is_ended (bumped ts)) (λ e. rw e (bumped_leads ts)) (λ e. rw e here)
 
@@ -29,46 +29,46 @@ documentation_leads anchor ts = bumped_leads ts
 
 -- ---- conditions
 
-comma_from_leads : (n : ℕ) (ts : Tokens) → LeadsTo ts (comma_from n ts)
+pub comma_from_leads : (n : ℕ) (ts : Tokens) → LeadsTo ts (comma_from n ts)
 comma_from_leads zero ts = here
 comma_from_leads (suc n) ts =
     when (is_at_end ts) (λ e. rw e here)
     (λ e. rw e (when (symbol ts == 44) (λ f. rw f (bumped_leads ts)) (λ f. rw f (through (behind_tree_leads ts) (comma_from_leads n _)))))
 
-behind_comma_leads : (ts : Tokens) → LeadsTo ts (behind_comma ts)
+pub behind_comma_leads : (ts : Tokens) → LeadsTo ts (behind_comma ts)
 unfolding behind_comma
 behind_comma_leads ts = comma_from_leads _ ts
 
-option_name_leads : Forwards option_name
+pub option_name_leads : Forwards option_name
 unfolding option_name
 option_name_leads ts = when (is_option_word ts) (λ e. rw e (bumped_leads ts)) (λ e. rw e (name_leads ts))
 
-pair_leads : (key : List ℕ) → Forwards (pair key)
+pub pair_leads : (key : List ℕ) → Forwards (pair key)
 unfolding pair
 pair_leads key ts = when (is_literal_kind (kind (bumped ts))) (λ e. rw e (further (bumped_leads _))) (λ e. rw e (bumped_leads ts))
 
-named_leads : (inside : Reader (Option (List CfgView))) → Forwards inside → (word : List ℕ) → Forwards (named inside word)
+pub named_leads : (inside : Reader (Option (List CfgView))) → Forwards inside → (word : List ℕ) → Forwards (named inside word)
 named_leads inside i word ts =
     when (is_at_open ts) (λ e. rw e (further (through (i _) (behind_closed_leads _ _))))
     (λ e. rw e (when (symbol ts == 61) (λ f. rw f (pair_leads word ts)) (λ f. rw f here)))
 
-if_named_leads : (inside : Reader (Option (List CfgView))) → Forwards inside → (o : Option (List ℕ)) → Forwards (if_named inside o)
+pub if_named_leads : (inside : Reader (Option (List CfgView))) → Forwards inside → (o : Option (List ℕ)) → Forwards (if_named inside o)
 if_named_leads inside i None ts = here
 if_named_leads inside i (Some word) ts = named_leads inside i word ts
 
-ended_leads : (c : CfgView) → Forwards (ended c)
+pub ended_leads : (c : CfgView) → Forwards (ended c)
 unfolding ended
 ended_leads c ts = behind_comma_leads ts
 
-condition_with_leads : (inside : Reader (Option (List CfgView))) → Forwards inside → Forwards (condition_with inside)
+pub condition_with_leads : (inside : Reader (Option (List CfgView))) → Forwards inside → Forwards (condition_with inside)
 condition_with_leads inside i ts = through (option_name_leads ts) (through (if_named_leads inside i _ _) (ended_leads _ _))
 
-conditions_leads : (depth : ℕ) → Forwards (conditions depth)
+pub conditions_leads : (depth : ℕ) → Forwards (conditions depth)
 unfolding conditions
 conditions_leads zero ts = here
 conditions_leads (suc depth) ts = turns_leads is_at_end (one (condition_with (conditions depth))) (condition_with_leads (conditions depth) (conditions_leads depth)) ts
 
-condition_leads : (depth : ℕ) → Forwards (condition depth)
+pub condition_leads : (depth : ℕ) → Forwards (condition depth)
 unfolding condition
 condition_leads depth ts = condition_with_leads (conditions depth) (conditions_leads depth) ts
 
