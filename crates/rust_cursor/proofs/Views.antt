@@ -140,11 +140,11 @@ brace_identifier ts e = brace_identifies ts.left e
 
 -- ---- whether a token was taken
 
-before_at : (at past : ℕ) (x : List Piece) → AreBefore at past x → past ≤ at
+pub before_at : (at past : ℕ) (x : List Piece) → AreBefore at past x → past ≤ at
 before_at at past [] h = h
 before_at at past (t ∷ x) h = h.0
 
-behind_at : (low past : ℕ) (r : List Piece) → AreBehind low past r → low ≤ past
+pub behind_at : (low past : ℕ) (r : List Piece) → AreBehind low past r → low ≤ past
 behind_at low past [] h = h
 behind_at low past (t ∷ r) h = h.0
 
