@@ -53,6 +53,10 @@ pub identifier_same : (b : Bodies) (ts us : Tokens) → Beside b ts us → is_at
 unfolding is_at_identifier
 identifier_same b ts us h = first_same b false (λ t. identifies t.kind) (λ d t. refl) ts us h
 
+pub edition_same : (b : Bodies) (ts us : Tokens) → Beside b ts us → us.edition ≡ ts.edition
+edition_same b ts us (ahead past x r u u' i j) = refl
+edition_same b ts us (behind past r u u' i) = refl
+
 pub doc_same : (b : Bodies) (ts us : Tokens) → Beside b ts us → is_at_doc us ≡ is_at_doc ts
 unfolding is_at_doc
 doc_same b ts us h = first_same b false (λ t. documents t.kind) (λ d t. refl) ts us h
