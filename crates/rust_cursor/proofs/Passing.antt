@@ -21,7 +21,7 @@ use Rattle.rust_cursor.specs.Extents.{stops, ends, opened_behind, taking, taken,
 use Rattle.rust_cursor.specs.Angles.{begins_binder, is_lone_for, is_barred, is_reached, is_closed, reaching, reached, behind_angles, behind_field, behind_header, is_trait_impl, is_lifetime}
 use Rattle.rust_cursor.specs.Brackets.{shuts, is_closing, closing, to_closing, behind_closing, behind_closed, behind_tree}
 use Rattle.rust_cursor.specs.Elements.{beyond}
-use Rattle.rust_cursor.specs.Beside.{Bodies, AreBehind, Beside, ahead, behind}
+use Rattle.rust_cursor.specs.Beside.{Bodies, AreOpen, Beside, ahead, behind}
 use Rattle.rust_cursor.proofs.Leads.{when, symbol_some}
 use Rattle.rust_cursor.proofs.Steps.{closing_stop, closing_more, closing_some}
 use Rattle.rust_cursor.proofs.Scans.{taking_stop, taking_end, taking_more}
@@ -308,7 +308,7 @@ out c (t ∷ ms) left y past k u n is e f =
                 on (k - 1) (rw (o, p) (omega arith)) (λ z. absurd (some (sym e ∙ z))) r))
         (λ p. let h = rw p at g in on k (rw (o, p) e) (λ _. p) h))
 
-block_tree : (b : Bodies) (past : ℕ) (r : List Piece) (u u' : Option ℕ) → AreBehind (end_of b.closing) (end_of b.closing) r → (let ts = tokens_at b.edition past (b.opening ∷ (b.old ++ moved b.by b.closing ∷ map (moved b.by) r)) u in
+block_tree : (b : Bodies) (past : ℕ) (r : List Piece) (u u' : Option ℕ) → AreOpen b r → (let ts = tokens_at b.edition past (b.opening ∷ (b.old ++ moved b.by b.closing ∷ map (moved b.by) r)) u in
     let us = tokens_at b.edition past (b.opening ∷ (b.new ++ moved b.by_new b.closing ∷ map (moved b.by_new) r)) u' in
     Beside b (behind_closed 123 (bumped ts)) (behind_closed 123 (bumped us)))
 unfolding behind_closed to_closing
@@ -317,7 +317,7 @@ block_tree b past r u u' j =
     let left' = moved b.by_new b.closing ∷ map (moved b.by_new) r in
     let one = out (moved b.by b.closing) b.old (map (moved b.by) r) b.edition (end_of b.opening) 0 u flat b.closes refl b.old_matched in
     let two = out (moved b.by_new b.closing) b.new (map (moved b.by_new) r) b.edition (end_of b.opening) 0 u' flat b.closes refl b.new_matched in
-    rw (bumped_at b.edition past b.opening (b.old ++ left) u, bumped_at b.edition past b.opening (b.new ++ left') u', one.is, two.is) (next_behind b one.past two.past b.closing r u u' j)
+    rw (bumped_at b.edition past b.opening (b.old ++ left) u, bumped_at b.edition past b.opening (b.new ++ left') u', one.is, two.is) (next_behind b one.past two.past b.closing r u u' j.behind)
 
 -- one token that is not the `{` of the braces
 one_tree : (b : Bodies) (ts us : Tokens) → Beside b ts us → Beside b (bumped ts) (bumped us) → Beside b (behind_tree ts) (behind_tree us)

@@ -4,10 +4,10 @@ use Rattle.rust_lexer.specs.Piece.{Piece}
 use Rattle.rust_lexer.specs.Alone.{moved}
 use Rattle.rust_cursor.specs.Tokens.{Tokens, end_of}
 use Rattle.rust_cursor.specs.Words.{bumped}
-use Rattle.rust_cursor.specs.Beside.{Bodies, AreBefore, AreBehind, Beside, ahead, behind}
+use Rattle.rust_cursor.specs.Beside.{Bodies, AreBefore, AreOpen}
 use Rattle.rust_cursor.proofs.Leads.{LeadsTo, here, further}
 use Rattle.rust_cursor.proofs.Braced.{tokens_at, bumped_at}
-use Rattle.rust_cursor.proofs.Until.{Gone}
+use Rattle.rust_cursor.proofs.Until.{Gone, gone_on, behind_opening}
 
 -- the tokens of the first text before the braces
 abbrev pub ahead_of : Bodies → ℕ → List Piece → List Piece → Option ℕ → Tokens
@@ -26,15 +26,13 @@ along : {ts us : Tokens} → LeadsTo ts us → Along ts us
 along here = ends refl
 along (further p) = goes p
 
-pub settle : (b : Bodies) (past : ℕ) (x r : List Piece) (u : Option ℕ) (ts : Tokens) → AreBefore b.opening.at past x → LeadsTo (ahead_of b past x r u) ts → Settled b r u ts
-settle b past [] r u ts i p = first (along p)
+pub settle : (b : Bodies) (past : ℕ) (x r : List Piece) (u : Option ℕ) (ts : Tokens) → AreOpen b r → AreBefore b.opening.at past x → LeadsTo (ahead_of b past x r u) ts → Settled b r u ts
+settle b past [] r u ts o i p = first (along p)
   where
-    left : List Piece
-    left = b.old ++ moved b.by b.closing ∷ map (moved b.by) r
     first : Along (ahead_of b past [] r u) ts → Settled b r u ts
     first (ends e) = subst (λ (t : Tokens). Settled b r u t) e (still past [] i)
-    first (goes q) = within (record { left = moved b.by b.closing ∷ map (moved b.by) r; unended = u; leads = subst (λ (t : Tokens). LeadsTo t ts) (bumped_at b.edition past b.opening left u) q })
-settle b past (t ∷ x) r u ts i p = first (along p) (λ q. settle b (end_of t) x r u ts i.1 q)
+    first (goes q) = within (gone_on (behind_opening b past r u o) q)
+settle b past (t ∷ x) r u ts o i p = first (along p) (λ q. settle b (end_of t) x r u ts o i.1 q)
   where
     first : Along (ahead_of b past (t ∷ x) r u) ts → (LeadsTo (ahead_of b (end_of t) x r u) ts → Settled b r u ts) → Settled b r u ts
     first (ends e) more = subst (λ (k : Tokens). Settled b r u k) e (still past (t ∷ x) i)

@@ -1,27 +1,51 @@
 -- Readers that may go into the braces: they see tokens beside alike until one does.
-use Rattle.std.proofs.Common.{◌≡◌, ℕ, zero, suc, ◌+◌, ◌==◌, ◌&&◌, Bool, true, false, Option, Some, None, List, [], ◌∷◌, ◌++◌, refl, ap, ◌∙◌, sym, subst, arith, map}
+use Rattle.std.proofs.Common.{◌≡◌, ◌≤◌, ◌<◌, ℕ, zero, suc, ◌+◌, length, ◌==◌, ◌&&◌, Bool, true, false, Option, Some, None, List, [], ◌∷◌, ◌++◌, refl, ap, ◌∙◌, sym, subst, arith, map}
 use Rattle.std.specs.Prelude.{if◌then◌else◌}
 use Rattle.rust_lexer.specs.Piece.{Piece}
 use Rattle.rust_lexer.specs.Alone.{moved}
 use Rattle.rust_cursor.specs.Tokens.{Tokens, end_of}
 use Rattle.rust_cursor.specs.Reader.{Reader, ◌>>=◌, pure}
-use Rattle.rust_cursor.specs.Words.{bumped, is_at_end}
+use Rattle.rust_cursor.specs.Words.{by_first, rest, bumped, is_at_end}
 use Rattle.rust_cursor.specs.Elements.{beyond, turns_from, turns, elements, one}
-use Rattle.rust_cursor.specs.Beside.{Bodies, Beside, ahead, behind}
+use Rattle.rust_cursor.specs.Beside.{Bodies, AreBehind, AreOpen, Beside, ahead, behind}
 use Rattle.rust_cursor.proofs.Leads.{LeadsTo, here, further, through, Forwards, when, beyond_leads, turns_from_leads}
 use Rattle.rust_cursor.proofs.Views.{next_ahead, next_behind, next_none, end_same}
 use Rattle.rust_cursor.proofs.Braced.{tokens_at, bumped_at}
 use Rattle.rust_cursor.proofs.Passing.{beyond_beside}
 use Rattle.rust_cursor.proofs.Local.{Kept, Local}
 
--- what is left is left of the tokens behind the `{`
+-- ---- what stands behind a place
+
+bumped_over : (low past : ℕ) (left : List Piece) → AreBehind low past left → AreBehind low (by_first past end_of left) (rest left)
+bumped_over low past [] h = h
+bumped_over low past (t ∷ ts) h = h.1
+
+-- what is left of it stands behind it too
+pub over_leads : {ts us : Tokens} (low : ℕ) → LeadsTo ts us → AreBehind low ts.past ts.left → AreBehind low us.past us.left
+unfolding bumped
+over_leads low here h = h
+over_leads {ts} low (further p) h = over_leads low p (bumped_over low ts.past ts.left h)
+
+over_moved : (low low' past d : ℕ) (r : List Piece) → low' ≤ low + d → AreBehind low past r → AreBehind low' (past + d) (map (moved d) r)
+over_moved low low' past d [] e h = omega arith
+over_moved low low' past d (t ∷ r) e h =
+    let first : low ≤ past = h.0 in
+    let end : t.at + length t.text + d ≡ t.at + d + length t.text = omega arith in
+    (omega arith, subst (λ (n : ℕ). AreBehind low' n (map (moved d) r)) end (over_moved low low' (end_of t) d r e h.1))
+
+over_both : (low past : ℕ) (xs : List Piece) (t : Piece) (ys : List Piece) → AreBehind low past xs → low ≤ end_of t → AreBehind low (end_of t) ys → AreBehind low past (xs ++ t ∷ ys)
+over_both low past [] t ys h e k = (h, k)
+over_both low past (x ∷ xs) t ys h e k = (h.0, over_both low (end_of x) xs t ys h.1 e k)
+
+-- ---- gone
+
+-- what is left stands behind the `{`
 pub record Gone (b : Bodies) (ts : Tokens) : Type 0 where
-  pub left : List Piece
-  pub unended : Option ℕ
-  pub leads : LeadsTo (tokens_at b.edition (end_of b.opening) (b.old ++ left) unended) ts
+  pub unpassed : b.passed ≡ false
+  pub over : AreBehind (suc b.opening.at) ts.past ts.left
 
 pub gone_on : {b : Bodies} {ts us : Tokens} → Gone b ts → LeadsTo ts us → Gone b us
-gone_on g p = record { left = g.left; unended = g.unended; leads = through g.leads p }
+gone_on {b} g p = record { unpassed = g.unpassed; over = over_leads (suc b.opening.at) p g.over }
 
 -- the one went into the braces, or both read the same and stand beside
 pub data Until {A : Type 0} (b : Bodies) : A × Tokens → A × Tokens → Type 0 where
@@ -38,11 +62,22 @@ pub data Onward (b : Bodies) (ts us : Tokens) : Type 0 where
   into : Gone b ts → Onward b ts us
   on : Beside b ts us → Onward b ts us
 
+-- behind the `{`
+pub behind_opening : (b : Bodies) (past : ℕ) (r : List Piece) (u : Option ℕ) → AreOpen b r → Gone b (bumped (tokens_at b.edition past (b.opening ∷ (b.old ++ moved b.by b.closing ∷ map (moved b.by) r)) u))
+unfolding bumped
+behind_opening b past r u j =
+    let low = suc b.opening.at in
+    let far = b.apart in
+    let end : b.closing.at + length b.closing.text + b.by ≡ b.closing.at + b.by + length b.closing.text = omega arith in
+    let behind = over_moved (end_of b.closing) low (end_of b.closing) b.by r (omega arith) j.behind in
+    record {
+      unpassed = j.unpassed;
+      over = over_both low (end_of b.opening) b.old (moved b.by b.closing) (map (moved b.by) r) b.old_behind (omega arith) (subst (λ (n : ℕ). AreBehind low n (map (moved b.by) r)) end behind);
+    }
+
 -- one token further, which may be the `{`
 pub bumped_onward : (b : Bodies) (ts us : Tokens) → Beside b ts us → Onward b (bumped ts) (bumped us)
-bumped_onward b ts us (ahead past [] r u u' i j) =
-    let rest = moved b.by b.closing ∷ map (moved b.by) r in
-    into (record { left = rest; unended = u; leads = subst (λ (t : Tokens). LeadsTo (tokens_at b.edition (end_of b.opening) (b.old ++ rest) u) t) (sym (bumped_at b.edition past b.opening (b.old ++ rest) u)) here })
+bumped_onward b ts us (ahead past [] r u u' i j) = into (behind_opening b past r u j)
 bumped_onward b ts us (ahead past (t ∷ x) r u u' i j) = on (next_ahead b past t x r u u' i.1 j)
 bumped_onward b ts us (behind past [] u u' i) = on (next_none b past u u' i)
 bumped_onward b ts us (behind past (t ∷ r) u u' i) = on (next_behind b (past + b.by) (past + b.by_new) t r u u' i.1)

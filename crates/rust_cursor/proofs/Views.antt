@@ -11,7 +11,7 @@ use Rattle.rust_lexer.specs.Alone.{moved}
 use Rattle.rust_cursor.specs.Tokens.{Tokens, end_of}
 use Rattle.rust_cursor.specs.Words.{is_open, is_close, word_by, identifies, documents, by_first, symbol, word, kind, text, at, is_empty, is_at_open, is_at_end, is_at_identifier, is_at_doc, bumped, is_glued, is_pair}
 use Rattle.rust_cursor.proofs.Leads.{when}
-use Rattle.rust_cursor.specs.Beside.{Bodies, AreBefore, AreBehind, Beside, ahead, behind}
+use Rattle.rust_cursor.specs.Beside.{Bodies, AreBefore, AreBehind, AreOpen, Beside, ahead, behind}
 
 -- a view of a token that asks not where it stands
 first_same : (b : Bodies) {A : Type 0} (default : A) (view : Piece → A) → ((d : ℕ) (t : Piece) → view (moved d t) ≡ view t) → (ts us : Tokens) → Beside b ts us
@@ -73,7 +73,7 @@ glued_same b ts us (behind past (t ∷ r) u u' i) = glued_by t.at past b.by b.by
 
 -- ---- one token further
 
-pub next_ahead : (b : Bodies) (past : ℕ) (t : Piece) (x r : List Piece) (u u' : Option ℕ) → AreBefore b.opening.at (end_of t) x → AreBehind (end_of b.closing) (end_of b.closing) r
+pub next_ahead : (b : Bodies) (past : ℕ) (t : Piece) (x r : List Piece) (u u' : Option ℕ) → AreBefore b.opening.at (end_of t) x → AreOpen b r
     → Beside b (bumped (record { past = past; left = t ∷ (x ++ b.opening ∷ (b.old ++ moved b.by b.closing ∷ map (moved b.by) r)); unended = u; edition = b.edition }))
         (bumped (record { past = past; left = t ∷ (x ++ b.opening ∷ (b.new ++ moved b.by_new b.closing ∷ map (moved b.by_new) r)); unended = u'; edition = b.edition }))
 unfolding bumped

@@ -12,7 +12,7 @@ use Rattle.rust_cursor.specs.declared.cursor.nest.Nest.{Nest}
 use Rattle.rust_cursor.specs.Tokens.{Tokens, end_of}
 use Rattle.rust_cursor.specs.Words.{symbol, is_empty, bumped}
 use Rattle.rust_cursor.specs.Nests.{behind_braces, nest_inside, nest_behind}
-use Rattle.rust_cursor.specs.Beside.{Bodies, AreBehind, Beside, ahead, behind}
+use Rattle.rust_cursor.specs.Beside.{Bodies, AreOpen, Beside, ahead, behind}
 use Rattle.rust_cursor.proofs.Leads.{when}
 use Rattle.rust_cursor.proofs.Nesting.{shorter}
 use Rattle.rust_cursor.proofs.Views.{symbol_same, word_same, kind_same, empty_same, end_same, identifier_same, doc_same, glued_same, next_ahead, next_behind}
@@ -140,7 +140,7 @@ module _ {S : Type 0} (rest : S → Nest → Tokens → Tokens) (step : S → Ne
           (λ q. rw (w.more s n ts p q, w.more s' (inner_by n i t) us (stops' ∙ p) (ends' ∙ q), is) (more _ _ m _ _)))
 
   -- the braces
-  block : (fuel past : ℕ) (r : List Piece) (u u' : Option ℕ) → AreBehind (end_of b.closing) (end_of b.closing) r → Steps fuel → (let ts = tokens_at b.edition past (b.opening ∷ (b.old ++ moved b.by b.closing ∷ map (moved b.by) r)) u in
+  block : (fuel past : ℕ) (r : List Piece) (u u' : Option ℕ) → AreOpen b r → Steps fuel → (let ts = tokens_at b.edition past (b.opening ∷ (b.old ++ moved b.by b.closing ∷ map (moved b.by) r)) u in
       let us = tokens_at b.edition past (b.opening ∷ (b.new ++ moved b.by_new b.closing ∷ map (moved b.by_new) r)) u' in
       length ts.left ≤ fuel → Beside b ts us → (s s' : S) (n : Nest) (i : ℕ) (t : Bool) → Beside b (rest s n ts) (rest s' (inner_by n i t) us))
   block fuel past r u u' j more le h s s' n i t =
@@ -157,7 +157,7 @@ module _ {S : Type 0} (rest : S → Nest → Tokens → Tokens) (step : S → Ne
         let two = crosses b.opening c b.new left' past u' s' (inner_by n i t) b.opens b.new_matched (stops' ∙ p) in
         let tc = tokens_at b.edition one.past left u in
         let uc = tokens_at b.edition two.past left' u' in
-        let next : Beside b (bumped tc) (bumped uc) = next_behind b one.past two.past c r u u' j in
+        let next : Beside b (bumped tc) (bumped uc) = next_behind b one.past two.past c r u u' j.behind in
         let m = nest_behind one.nest tc in
         let m' = nest_behind two.nest uc in
         let shuts : symbol tc ≡ 125 = symbol_at b.edition one.past (moved b.by c) (map (moved b.by) r) u ∙ b.closes in
