@@ -7,12 +7,12 @@ use Rattle.rust_lexer.specs.Symbol.{symbol_of}
 use Rattle.rust_lexer.specs.Alone.{moved}
 use Rattle.rust_cursor.specs.Tokens.{Tokens, end_of}
 use Rattle.rust_cursor.specs.Reader.{Reader, ◌>>=◌}
-use Rattle.rust_cursor.specs.Words.{by_first, rest, symbol, at, bumped, is_at_end}
+use Rattle.rust_cursor.specs.Words.{symbol, at, bumped, is_at_end}
 use Rattle.rust_cursor.specs.Elements.{elements, one}
 use Rattle.rust_cursor.specs.Beside.{Bodies, AreBehind, Beside, ahead, behind}
-use Rattle.rust_cursor.proofs.Leads.{LeadsTo, here, further, Forwards, when}
+use Rattle.rust_cursor.proofs.Leads.{LeadsTo, Forwards, when}
 use Rattle.rust_cursor.proofs.Views.{before_at, behind_at, end_same}
-use Rattle.rust_cursor.proofs.Until.{Gone, gone_on, Until, gone, kept, UpTo, by_kept}
+use Rattle.rust_cursor.proofs.Until.{over_leads, over_moved, Gone, gone_on, Until, gone, kept, UpTo, by_kept}
 use Rattle.rust_cursor.proofs.Settled.{Settled, still, within, settle}
 use Rattle.rust_cursor.proofs.Alike.{UntilBy, stayed, went, Same, by_same, Stays, lost, known, Follows, by_known, turns_by}
 
@@ -33,25 +33,6 @@ at_place b ts us (behind past (t ∷ r) u u' i) = moves t.at refl refl
 pub past_place : (b : Bodies) (ts us : Tokens) → Beside b ts us → SamePlace b ts.past us.past
 past_place b ts us (ahead past x r u u' i j) = unmoved refl
 past_place b ts us (behind past r u u' i) = moves past refl refl
-
--- ---- what stands behind a place
-
-bumped_over : (low past : ℕ) (left : List Piece) → AreBehind low past left → AreBehind low (by_first past end_of left) (rest left)
-bumped_over low past [] h = h
-bumped_over low past (t ∷ ts) h = h.1
-
--- what is left of it stands behind it too
-over_leads : {ts us : Tokens} (low : ℕ) → LeadsTo ts us → AreBehind low ts.past ts.left → AreBehind low us.past us.left
-unfolding bumped
-over_leads low here h = h
-over_leads {ts} low (further p) h = over_leads low p (bumped_over low ts.past ts.left h)
-
-over_moved : (low past d : ℕ) (r : List Piece) → AreBehind low past r → AreBehind (low + d) (past + d) (map (moved d) r)
-over_moved low past d [] h = omega arith
-over_moved low past d (t ∷ r) h =
-    let first : low ≤ past = h.0 in
-    let end : t.at + length t.text + d ≡ t.at + d + length t.text = omega arith in
-    (omega arith, subst (λ (n : ℕ). AreBehind (low + d) n (map (moved d) r)) end (over_moved low (end_of t) d r h.1))
 
 -- ---- spans that count from a place
 
@@ -78,14 +59,14 @@ settled_ahead (within g) left same = left g
 
 -- what is left of tokens before the braces stands before them, or went into them
 ahead_on : {b : Bodies} {vs : Tokens} (ts us : Tokens) → ts.past ≤ b.opening.at → Beside b ts us → LeadsTo ts vs → (b.opening.at < vs.past) → Gone b vs
-ahead_on {b} {vs} ts us i (ahead past x r u u' j k) p far = settled_ahead (settle b past x r u vs j p) (λ g. g) (λ n. absurd (omega arith))
+ahead_on {b} {vs} ts us i (ahead past x r u u' j k) p far = settled_ahead (settle b past x r u vs k j p) (λ g. g) (λ n. absurd (omega arith))
 ahead_on {b} {vs} ts us i (behind past r u u' j) p far = let low = behind_at (end_of b.closing) past r j in let apart = b.apart in absurd (omega arith)
 
 -- and of those behind them behind them
 behind_on : {b : Bodies} {vs : Tokens} (ts us : Tokens) → b.opening.at < ts.past → Beside b ts us → LeadsTo ts vs → b.opening.at < vs.past
 behind_on {b} {vs} ts us i (ahead past x r u u' j k) p = let low = before_at b.opening.at past x j in absurd (omega arith)
 behind_on {b} {vs} ts us i (behind past r u u' j) p =
-    let low = behind_at (end_of b.closing + b.by) vs.past vs.left (over_leads (end_of b.closing + b.by) p (over_moved (end_of b.closing) past b.by r j)) in
+    let low = behind_at (end_of b.closing + b.by) vs.past vs.left (over_leads (end_of b.closing + b.by) p (over_moved (end_of b.closing) (end_of b.closing + b.by) past b.by r (omega arith) j)) in
     let apart = b.apart in
     omega arith
 

@@ -26,7 +26,7 @@ unfolding bumped
 over_leads low here h = h
 over_leads {ts} low (further p) h = over_leads low p (bumped_over low ts.past ts.left h)
 
-over_moved : (low low' past d : ℕ) (r : List Piece) → low' ≤ low + d → AreBehind low past r → AreBehind low' (past + d) (map (moved d) r)
+pub over_moved : (low low' past d : ℕ) (r : List Piece) → low' ≤ low + d → AreBehind low past r → AreBehind low' (past + d) (map (moved d) r)
 over_moved low low' past d [] e h = omega arith
 over_moved low low' past d (t ∷ r) e h =
     let first : low ≤ past = h.0 in
