@@ -7,3 +7,5 @@ pub mod Strings
 pub mod Texts
 pub mod Leads
 pub mod Until
+pub mod UntilMetas
+pub mod UntilAttributes
