@@ -131,7 +131,7 @@ stops_empty : (e : Extent) (nest : Nest) (ts : Tokens) → is_empty ts ≡ true 
 unfolding stops
 stops_empty e nest ts n = rw n refl
 
-taking_leads : (e : Extent) (done : List ℕ) (last : ℕ) (opened : Option Tokens) (nest : Nest) → Forwards (taking e done last opened nest)
+pub taking_leads : (e : Extent) (done : List ℕ) (last : ℕ) (opened : Option Tokens) (nest : Nest) → Forwards (taking e done last opened nest)
 taking_leads e done last opened nest ts =
     from_last (λ ts. (done : List ℕ) (last : ℕ) (opened : Option Tokens) (nest : Nest) → LeadsTo ts (taking e done last opened nest ts).1)
     (λ ts n done last opened nest. rw (taking_stop e done last opened nest ts (stops_empty e nest ts n)) here) (λ ts n inner. taking_next e ts inner) ts done last opened nest

@@ -21,3 +21,6 @@ pub mod Local
 pub mod Until
 pub mod Ordered
 pub mod Settled
+pub mod Alike
+pub mod Level
+pub mod TreeTexts

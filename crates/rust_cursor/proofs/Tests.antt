@@ -24,6 +24,13 @@ unfolding begins_item
 item_same b ts us h n =
     rw (word_same b ts us h, symbol_same b (bumped ts) (bumped us) n, identifier_same b (bumped ts) (bumped us) n, word_same b (bumped ts) (bumped us) n) refl
 
+pub begins_item_same : (b : Bodies) (ts us : Tokens) → Beside b ts us → begins_item us ≡ begins_item ts
+unfolding begins_item
+begins_item_same b ts us h =
+    when (symbol ts == 123)
+    (λ e. let f : (symbol us == 123) ≡ true = rw (symbol_same b ts us h) e in rw (brace_word ts e, brace_word us f) refl)
+    (λ e. item_same b ts us h (not_brace b ts us h e))
+
 const_same : (b : Bodies) (ts us : Tokens) → Beside b ts us → follows_const us ≡ follows_const ts
 const_same b ts us h =
     when (symbol ts == 123)

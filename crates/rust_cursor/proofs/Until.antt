@@ -26,7 +26,7 @@ unfolding bumped
 over_leads low here h = h
 over_leads {ts} low (further p) h = over_leads low p (bumped_over low ts.past ts.left h)
 
-over_moved : (low low' past d : ℕ) (r : List Piece) → low' ≤ low + d → AreBehind low past r → AreBehind low' (past + d) (map (moved d) r)
+pub over_moved : (low low' past d : ℕ) (r : List Piece) → low' ≤ low + d → AreBehind low past r → AreBehind low' (past + d) (map (moved d) r)
 over_moved low low' past d [] e h = omega arith
 over_moved low low' past d (t ∷ r) e h =
     let first : low ≤ past = h.0 in
@@ -81,6 +81,10 @@ bumped_onward b ts us (ahead past [] r u u' i j) = into (behind_opening b past r
 bumped_onward b ts us (ahead past (t ∷ x) r u u' i j) = on (next_ahead b past t x r u u' i.1 j)
 bumped_onward b ts us (behind past [] u u' i) = on (next_none b past u u' i)
 bumped_onward b ts us (behind past (t ∷ r) u u' i) = on (next_behind b (past + b.by) (past + b.by_new) t r u u' i.1)
+
+pub by_next : {A : Type 0} {b : Bodies} {ts us : Tokens} → Onward b ts us → (Gone b ts → A) → (Beside b ts us → A) → A
+by_next (into g) lost same = lost g
+by_next (on h) lost same = same h
 
 pub bind_until : {A B : Type 0} (b : Bodies) (m : Reader A) (f : A → Reader B) → UpTo b m → ((a : A) → UpTo b (f a)) → ((a : A) → Forwards (f a)) → UpTo b (m >>= f)
 bind_until b m f first more leads ts us h = by (first ts us h)

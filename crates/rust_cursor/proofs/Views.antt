@@ -53,6 +53,10 @@ pub identifier_same : (b : Bodies) (ts us : Tokens) → Beside b ts us → is_at
 unfolding is_at_identifier
 identifier_same b ts us h = first_same b false (λ t. identifies t.kind) (λ d t. refl) ts us h
 
+pub edition_same : (b : Bodies) (ts us : Tokens) → Beside b ts us → us.edition ≡ ts.edition
+edition_same b ts us (ahead past x r u u' i j) = refl
+edition_same b ts us (behind past r u u' i) = refl
+
 pub doc_same : (b : Bodies) (ts us : Tokens) → Beside b ts us → is_at_doc us ≡ is_at_doc ts
 unfolding is_at_doc
 doc_same b ts us h = first_same b false (λ t. documents t.kind) (λ d t. refl) ts us h
@@ -140,11 +144,11 @@ brace_identifier ts e = brace_identifies ts.left e
 
 -- ---- whether a token was taken
 
-before_at : (at past : ℕ) (x : List Piece) → AreBefore at past x → past ≤ at
+pub before_at : (at past : ℕ) (x : List Piece) → AreBefore at past x → past ≤ at
 before_at at past [] h = h
 before_at at past (t ∷ x) h = h.0
 
-behind_at : (low past : ℕ) (r : List Piece) → AreBehind low past r → low ≤ past
+pub behind_at : (low past : ℕ) (r : List Piece) → AreBehind low past r → low ≤ past
 behind_at low past [] h = h
 behind_at low past (t ∷ r) h = h.0
 
