@@ -83,21 +83,26 @@ Walks {S} {Z} walk step =
     (s : S) (n : Nest) (ts : Tokens) → is_empty ts ≡ false → (n.braces == 0) ≡ false → ((nest_behind n ts).braces == 0) ≡ false
     → walk s n ts ≡ walk (step s n ts) (nest_behind n ts) (bumped ts)
 
--- it comes to what is left in these braces
-pub record Comes {S Z : Type 0} (walk : S → Nest → Tokens → Z) (s : S) (n : Nest) (ts : Tokens) (deep : ℕ) (y : EditionYear) (left : List Piece) (u : Option ℕ) : Type 0 where
+-- it comes to what is left in these braces, and what is seen of its state stays
+pub record Comes {S Z V : Type 0} (walk : S → Nest → Tokens → Z) (seen : S → V) (s : S) (n : Nest) (ts : Tokens) (deep : ℕ) (y : EditionYear) (left : List Piece) (u : Option ℕ) : Type 0 where
   pub state : S
   pub nest : Nest
   pub past : ℕ
+  pub stays : seen state ≡ seen s
   pub deeper : Deeper n nest deep
   pub same : walk s n ts ≡ walk state nest (tokens_at y past left u)
 
 not_flat : (n : Nest) (k : ℕ) → n.braces ≡ suc k → (n.braces == 0) ≡ false
 not_flat n k e = grind (arith, nat_tests)
 
-module _ {S Z : Type 0} (walk : S → Nest → Tokens → Z) (step : S → Nest → Tokens → S) (walks : Walks walk step) where
+-- what is seen of a state stays in braces
+abbrev pub Stays : {S V : Type 0} → (S → V) → (S → Nest → Tokens → S) → Type 0
+Stays {S} seen step = (s : S) (n : Nest) (ts : Tokens) → (n.braces == 0) ≡ false → seen (step s n ts) ≡ seen s
+
+module _ {S Z V : Type 0} (walk : S → Nest → Tokens → Z) (step : S → Nest → Tokens → S) (walks : Walks walk step) (seen : S → V) (stays : Stays seen step) where
   -- one token, and then the others
   goes_on : (t : Piece) (ms left : List Piece) (y : EditionYear) (past k j i : ℕ) (u : Option ℕ) (s : S) (n : Nest) → n.braces ≡ suc k → braces_behind n.braces (symbol_of t) ≡ suc j
-      → ((s' : S) (n' : Nest) → n'.braces ≡ suc j → Comes walk s' n' (tokens_at y (end_of t) (ms ++ left) u) (suc i) y left u) → Comes walk s n (tokens_at y past (t ∷ (ms ++ left)) u) (suc i) y left u
+      → ((s' : S) (n' : Nest) → n'.braces ≡ suc j → Comes walk seen s' n' (tokens_at y (end_of t) (ms ++ left) u) (suc i) y left u) → Comes walk seen s n (tokens_at y past (t ∷ (ms ++ left)) u) (suc i) y left u
   goes_on t ms left y past k j i u s n e f more =
       let ts = tokens_at y past (t ∷ (ms ++ left)) u in
       let deep : Deeper n (nest_behind n ts) (suc j) = inside_deeper n ts j (not_flat n k e) (ap (braces_behind n.braces) (symbol_at y past t (ms ++ left) u) ∙ f) in
@@ -106,16 +111,17 @@ module _ {S Z : Type 0} (walk : S → Nest → Tokens → Z) (step : S → Nest 
         state = rest.state;
         nest = rest.nest;
         past = rest.past;
+        stays = rest.stays ∙ stays s n ts (not_flat n k e);
         deeper = deeper_on n (nest_behind n ts) rest.nest (suc j) (suc i) deep rest.deeper;
         same = walks s n ts (some_at y past t (ms ++ left) u) (not_flat n k e) (not_flat (nest_behind n ts) j deep.braces)
             ∙ ap (walk (step s n ts) (nest_behind n ts)) (bumped_at y past t (ms ++ left) u) ∙ rest.same;
       }
 
   -- tokens whose braces match
-  pub through : (ms left : List Piece) (y : EditionYear) (past k i : ℕ) (u : Option ℕ) (s : S) (n : Nest) → n.braces ≡ suc k → braces_from k ms ≡ Some i → Comes walk s n (tokens_at y past (ms ++ left) u) (suc i) y left u
+  pub through : (ms left : List Piece) (y : EditionYear) (past k i : ℕ) (u : Option ℕ) (s : S) (n : Nest) → n.braces ≡ suc k → braces_from k ms ≡ Some i → Comes walk seen s n (tokens_at y past (ms ++ left) u) (suc i) y left u
   through [] left y past k i u s n e f =
       let same : k ≡ i = cc in
-      record { state = s; nest = n; past = past; deeper = record { braces = e ∙ ap suc same; others = refl; free = refl; angles = refl; before = refl }; same = refl }
+      record { state = s; nest = n; past = past; stays = refl; deeper = record { braces = e ∙ ap suc same; others = refl; free = refl; angles = refl; before = refl }; same = refl }
   through (t ∷ ms) left y past k i u s n e f =
       when (symbol_of t == 123)
       (λ o. let g = rw o at f in

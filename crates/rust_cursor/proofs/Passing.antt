@@ -16,8 +16,8 @@ use Rattle.rust_cursor.specs.declared.cursor.texts.Extent.{Extent}
 use Rattle.rust_cursor.specs.declared.cursor.texts.Extent.TheVariants as extents
 use Rattle.rust_cursor.specs.Tokens.{Tokens, end_of}
 use Rattle.rust_cursor.specs.Words.{is_open, symbol, word, kind, is_empty, is_at_end, is_at_open, bumped}
-use Rattle.rust_cursor.specs.Nests.{braces_behind, begun, flat, flat_behind, is_mark, nest_behind}
-use Rattle.rust_cursor.specs.Extents.{stops, ends, opened_behind, taking, taken, more, item_rest}
+use Rattle.rust_cursor.specs.Nests.{braces_behind, begun, flat, flat_behind, is_mark, is_whole, nest_behind}
+use Rattle.rust_cursor.specs.Extents.{ExcerptRead, excerpt, stops, ends, opened_behind, block_at, taking, taken, more, item_rest}
 use Rattle.rust_cursor.specs.Angles.{begins_binder, is_lone_for, is_barred, is_reached, is_closed, reaching, reached, behind_angles, behind_field, behind_header, is_trait_impl, is_lifetime}
 use Rattle.rust_cursor.specs.Brackets.{shuts, is_closing, closing, to_closing, behind_closing, behind_closed, behind_tree}
 use Rattle.rust_cursor.specs.Elements.{beyond}
@@ -28,24 +28,60 @@ use Rattle.rust_cursor.proofs.Scans.{taking_stop, taking_end, taking_more}
 use Rattle.rust_cursor.proofs.Reaches.{reaching_stop, reaching_end, reaching_more}
 use Rattle.rust_cursor.proofs.Views.{symbol_same, word_same, kind_same, empty_same, end_same, open_same, not_brace, other_symbol, brace_word, next_ahead, next_behind, next_none, taken_same, before_same}
 use Rattle.rust_cursor.proofs.Tests.{begins_same, stops_same, ends_same}
-use Rattle.rust_cursor.proofs.Braced.{tokens_at, symbol_at, some_at, bumped_at, inside_is, outside_is}
+use Rattle.rust_cursor.proofs.Braced.{tokens_at, symbol_at, some_at, bumped_at, inside_is, outside_is, Stays}
 use Rattle.rust_cursor.proofs.Nesting.{shorter}
 use Rattle.rust_cursor.proofs.Walk.{Walk, inner_by, walk_beside}
 
 -- ---- texts
 
+-- what is left of both is beside, if there is something
+pub data BothBeside (b : Bodies) : Option Tokens → Option Tokens → Type 0 where
+  neither : BothBeside b None None
+  both : (ts us : Tokens) → Beside b ts us → BothBeside b (Some ts) (Some us)
+
+-- braces that a text ends with, and what is left behind it
+pub record TakenBeside (b : Bodies) (p q : ExcerptRead × Tokens) : Type 0 where
+  pub block : BothBeside b p.0.block q.0.block
+  pub rest : Beside b p.1 q.1
+
 -- the text, the symbol of the last token, and the braces that were opened
 abbrev Taken : Type 0
 Taken = List ℕ × (ℕ × Option Tokens)
 
-abbrev taking_rest : Extent → Taken → Nest → Tokens → Tokens
-taking_rest e s n ts = (taking e s.0 s.1.0 s.1.1 n ts).1
+abbrev seen_of : Taken → Option Tokens
+seen_of s = s.1.1
+
+abbrev taking_at : Extent → Taken → Nest → Tokens → ExcerptRead × Tokens
+taking_at e s n ts = taking e s.0 s.1.0 s.1.1 n ts
 
 abbrev taking_step : Extent → Taken → Nest → Tokens → Taken
 taking_step e s n ts = (more e s.1.0 s.0 ts, (symbol ts, opened_behind s.1.1 n ts))
 
 abbrev taking_ends : Extent → Before → Nest → Tokens → Bool
 taking_ends e before n ts = ends e (is_mark before) n ts
+
+abbrev taking_stopped : Extent → Taken → Nest → Tokens → ExcerptRead × Tokens
+taking_stopped e s n ts = (excerpt s.0 false None, ts)
+
+abbrev taking_ended : Extent → Taken → Nest → Tokens → ExcerptRead × Tokens
+taking_ended e s n ts = (excerpt (more e s.1.0 s.0 ts) (is_whole (nest_behind n ts)) (block_at (opened_behind s.1.1 n ts) ts), bumped ts)
+
+opened_stays : (e : Extent) → Stays seen_of (taking_step e)
+opened_stays e s n ts d = rw d refl
+
+opened_beside : (b : Bodies) (o o' : Option Tokens) (n : Nest) (ts us : Tokens) → BothBeside b o o' → Beside b ts us → BothBeside b (opened_behind o n ts) (opened_behind o' n us)
+opened_beside b o o' n ts us a h = when (n.braces == 0 && symbol ts == 123) (λ e. rw (symbol_same b ts us h, e) (both ts us h)) (λ e. rw (symbol_same b ts us h, e) a)
+
+unopened : (o : Option Tokens) (n : Nest) (ts : Tokens) → (symbol ts == 125) ≡ true → opened_behind o n ts ≡ o
+unopened o n ts e =
+    let other : (symbol ts == 123) ≡ false = grind (arith, nat_tests) in
+    when (n.braces == 0) (λ z. rw (z, other) refl) (λ z. rw z refl)
+
+block_beside : (b : Bodies) (o o' : Option Tokens) (n n' : Nest) (ts us : Tokens) → BothBeside b o o' → symbol us ≡ symbol ts → BothBeside b (block_at (opened_behind o n ts) ts) (block_at (opened_behind o' n' us) us)
+block_beside b o o' n n' ts us a s =
+    when (symbol ts == 125)
+    (λ e. let f : (symbol us == 125) ≡ true = ap (λ c. c == 125) s ∙ e in rw (unopened o n ts e, unopened o' n' us f, f, e) a)
+    (λ e. let f : (symbol us == 125) ≡ false = ap (λ c. c == 125) s ∙ e in rw (f, e) neither)
 
 stops_none : (e : Extent) (n : Nest) (ts : Tokens) → is_empty ts ≡ true → stops e n ts ≡ true
 unfolding stops
@@ -71,11 +107,11 @@ ends_inner : (e : Extent) (w : Before) (n : Nest) (i : ℕ) (t : Bool) (ts : Tok
 unfolding ends
 ends_inner e w n i t ts = refl
 
-taking_walk : (e : Extent) → Walk (taking_rest e) (taking_step e) (stops e) (taking_ends e)
+taking_walk : (e : Extent) → Walk (taking_at e) (taking_step e) (stops e) (taking_ends e) (taking_stopped e) (taking_ended e) seen_of BothBeside TakenBeside
 taking_walk e = record {
-  stop = λ s n ts p. ap (λ r. r.1) (taking_stop e s.0 s.1.0 s.1.1 n ts p);
-  end = λ s n ts p q. ap (λ r. r.1) (taking_end e s.0 s.1.0 s.1.1 n ts p q);
-  more = λ s n ts p q. ap (λ r. r.1) (taking_more e s.0 s.1.0 s.1.1 n ts p q);
+  stop = λ s n ts p. taking_stop e s.0 s.1.0 s.1.1 n ts p;
+  end = λ s n ts p q. taking_end e s.0 s.1.0 s.1.1 n ts p q;
+  more = λ s n ts p q. taking_more e s.0 s.1.0 s.1.1 n ts p q;
   none = stops_none e;
   deep_stops = stops_deep e;
   deep_ends = ends_deep e;
@@ -83,13 +119,21 @@ taking_walk e = record {
   ends_inner = ends_inner e;
   stops_beside = λ b n ts us h. stops_same b e n ts us h;
   ends_beside = λ b w n ts us s h. ends_same b e (is_mark w) n ts us s h;
+  seen_stays = opened_stays e;
+  seen_beside = λ b s s' n i t ts us a h. opened_beside b s.1.1 s'.1.1 n ts us a h;
+  stopped_beside = λ b s s' n n' ts us a h. record { block = neither; rest = h };
+  ended_beside = λ b s s' n n' ts us a c h. record { block = block_beside b s.1.1 s'.1.1 n n' ts us a c; rest = h };
 }
 
--- what is left behind an item, a tree or a value
-pub taken_beside : (b : Bodies) (before : Before) (e : Extent) (ts us : Tokens) → Beside b ts us → Beside b (taken before e ts).1 (taken before e us).1
+-- what is left behind an item, a tree or a value, and from the braces on that it ends with
+pub taken_both : (b : Bodies) (before : Before) (e : Extent) (ts us : Tokens) → Beside b ts us → TakenBeside b (taken before e ts) (taken before e us)
 unfolding taken
-taken_beside b before e ts us h =
-    walk_beside (taking_rest e) (taking_step e) (stops e) (taking_ends e) (taking_walk e) b ts us ([], (0, None)) ([], (0, None)) (flat_behind before) 0 false h
+taken_both b before e ts us h =
+    walk_beside (taking_at e) (taking_step e) (stops e) (taking_ends e) (taking_stopped e) (taking_ended e) seen_of BothBeside TakenBeside (taking_walk e) b ts us
+    ([], (0, None)) ([], (0, None)) (flat_behind before) 0 false neither h
+
+pub taken_beside : (b : Bodies) (before : Before) (e : Extent) (ts us : Tokens) → Beside b ts us → Beside b (taken before e ts).1 (taken before e us).1
+taken_beside b before e ts us h = (taken_both b before e ts us h).rest
 
 pub item_rest_beside : (b : Bodies) (ts us : Tokens) → Beside b ts us → Beside b (item_rest ts).1 (item_rest us).1
 item_rest_beside b ts us h = taken_beside b befores.End extents.Item ts us h
@@ -147,10 +191,22 @@ reaching_rest r s n ts = reaching r n ts
 abbrev same_state : Unit {0} → Nest → Tokens → Unit {0}
 same_state s n ts = tt
 
+abbrev nothing_seen : Unit {0} → Unit {0}
+nothing_seen s = s
+
+abbrev no_state : Bodies → Unit {0} → Unit {0} → Type 0
+no_state b s s' = Unit {0}
+
+abbrev no_more : Unit {0} → Nest → Tokens → Tokens
+no_more s n ts = ts
+
+abbrev one_more : Unit {0} → Nest → Tokens → Tokens
+one_more s n ts = bumped ts
+
 abbrev closes_at : Reach → Before → Nest → Tokens → Bool
 closes_at r w n ts = is_closed r n
 
-reaching_walk : (r : Reach) → Walk (reaching_rest r) same_state (is_reached r) (closes_at r)
+reaching_walk : (r : Reach) → Walk (reaching_rest r) same_state (is_reached r) (closes_at r) no_more one_more nothing_seen no_state Beside
 reaching_walk r = record {
   stop = λ s n ts p. reaching_stop r n ts p;
   end = λ s n ts p q. reaching_end r n ts p q;
@@ -162,11 +218,15 @@ reaching_walk r = record {
   ends_inner = λ w n i t ts. closed_inner r n i t;
   stops_beside = λ b n ts us h. reached_same b r n ts us h;
   ends_beside = λ b w n ts us s h. refl;
+  seen_stays = λ s n ts d. refl;
+  seen_beside = λ b s s' n i t ts us a h. tt;
+  stopped_beside = λ b s s' n n' ts us a h. h;
+  ended_beside = λ b s s' n n' ts us a c h. h;
 }
 
 pub reached_beside : (b : Bodies) (r : Reach) (ts us : Tokens) → Beside b ts us → Beside b (reached r ts) (reached r us)
 unfolding reached
-reached_beside b r ts us h = walk_beside (reaching_rest r) same_state (is_reached r) (closes_at r) (reaching_walk r) b ts us tt tt begun 0 false h
+reached_beside b r ts us h = walk_beside (reaching_rest r) same_state (is_reached r) (closes_at r) no_more one_more nothing_seen no_state Beside (reaching_walk r) b ts us tt tt begun 0 false tt h
 
 pub behind_angles_beside : (b : Bodies) (ts us : Tokens) → Beside b ts us → Beside b (behind_angles ts) (behind_angles us)
 unfolding behind_angles
@@ -206,7 +266,7 @@ closing_rest bracket s n ts = closing bracket n ts
 abbrev never : Before → Nest → Tokens → Bool
 never w n ts = false
 
-closing_walk : (bracket : ℕ) → Walk (closing_rest bracket) same_state (is_closing bracket) never
+closing_walk : (bracket : ℕ) → Walk (closing_rest bracket) same_state (is_closing bracket) never no_more one_more nothing_seen no_state Beside
 closing_walk bracket = record {
   stop = λ s n ts p. closing_stop bracket n ts p;
   end = λ s n ts p q. absurd cc;
@@ -218,11 +278,15 @@ closing_walk bracket = record {
   ends_inner = λ w n i t ts. refl;
   stops_beside = λ b n ts us h. closing_same b bracket n ts us h;
   ends_beside = λ b w n ts us s h. refl;
+  seen_stays = λ s n ts d. refl;
+  seen_beside = λ b s s' n i t ts us a h. tt;
+  stopped_beside = λ b s s' n n' ts us a h. h;
+  ended_beside = λ b s s' n n' ts us a c h. h;
 }
 
 pub to_closing_beside : (b : Bodies) (bracket : ℕ) (ts us : Tokens) → Beside b ts us → Beside b (to_closing bracket ts) (to_closing bracket us)
 unfolding to_closing
-to_closing_beside b bracket ts us h = walk_beside (closing_rest bracket) same_state (is_closing bracket) never (closing_walk bracket) b ts us tt tt flat 0 false h
+to_closing_beside b bracket ts us h = walk_beside (closing_rest bracket) same_state (is_closing bracket) never no_more one_more nothing_seen no_state Beside (closing_walk bracket) b ts us tt tt flat 0 false tt h
 
 both_no : (p q : Bool) → (not p && (q && false)) ≡ true → ⊥
 both_no true q e = cc

@@ -16,7 +16,7 @@ use Rattle.rust_cursor.specs.Beside.{Bodies, AreOpen, Beside, ahead, behind}
 use Rattle.rust_cursor.proofs.Leads.{when}
 use Rattle.rust_cursor.proofs.Nesting.{shorter}
 use Rattle.rust_cursor.proofs.Views.{symbol_same, word_same, kind_same, empty_same, end_same, identifier_same, doc_same, glued_same, next_ahead, next_behind}
-use Rattle.rust_cursor.proofs.Braced.{tokens_at, symbol_at, some_at, bumped_at, inside_is, Deeper, enters, deeper_on, Walks, Comes, through}
+use Rattle.rust_cursor.proofs.Braced.{tokens_at, symbol_at, some_at, bumped_at, inside_is, Deeper, enters, deeper_on, Walks, Stays, through}
 
 -- ---- nests that differ in what is counted for problems alone
 
@@ -45,11 +45,12 @@ nest_inner n i t ts = when (n.braces == 0) (λ e. rw e refl) (λ e. rw e refl)
 
 -- ---- walks
 
--- where a walk stops or ends, and that it goes on elsewhere; what it collects does not matter
-pub record Walk {S : Type 0} (rest : S → Nest → Tokens → Tokens) (step : S → Nest → Tokens → S) (stops : Nest → Tokens → Bool) (ends : Before → Nest → Tokens → Bool) : Type 0 where
-  pub stop : (s : S) (n : Nest) (ts : Tokens) → stops n ts ≡ true → rest s n ts ≡ ts
-  pub end : (s : S) (n : Nest) (ts : Tokens) → stops n ts ≡ false → ends n.before (nest_behind n ts) ts ≡ true → rest s n ts ≡ bumped ts
-  pub more : (s : S) (n : Nest) (ts : Tokens) → stops n ts ≡ false → ends n.before (nest_behind n ts) ts ≡ false → rest s n ts ≡ rest (step s n ts) (nest_behind n ts) (bumped ts)
+-- Where a walk stops or ends, what it gives there, and that it goes on elsewhere. Of its state only what is seen matters, and in braces that stays.
+pub record Walk {S R V : Type 0} (walk : S → Nest → Tokens → R) (step : S → Nest → Tokens → S) (stops : Nest → Tokens → Bool) (ends : Before → Nest → Tokens → Bool)
+  (stopped ended : S → Nest → Tokens → R) (seen : S → V) (alike : Bodies → V → V → Type 0) (beside : Bodies → R → R → Type 0) : Type 0 where
+  pub stop : (s : S) (n : Nest) (ts : Tokens) → stops n ts ≡ true → walk s n ts ≡ stopped s n ts
+  pub end : (s : S) (n : Nest) (ts : Tokens) → stops n ts ≡ false → ends n.before (nest_behind n ts) ts ≡ true → walk s n ts ≡ ended s n ts
+  pub more : (s : S) (n : Nest) (ts : Tokens) → stops n ts ≡ false → ends n.before (nest_behind n ts) ts ≡ false → walk s n ts ≡ walk (step s n ts) (nest_behind n ts) (bumped ts)
   pub none : (n : Nest) (ts : Tokens) → is_empty ts ≡ true → stops n ts ≡ true
   pub deep_stops : (n : Nest) (ts : Tokens) → is_empty ts ≡ false → (n.braces == 0) ≡ false → stops n ts ≡ false
   pub deep_ends : (w : Before) (n : Nest) (ts : Tokens) → (n.braces == 0) ≡ false → ends w n ts ≡ false
@@ -57,6 +58,10 @@ pub record Walk {S : Type 0} (rest : S → Nest → Tokens → Tokens) (step : S
   pub ends_inner : (w : Before) (n : Nest) (i : ℕ) (t : Bool) (ts : Tokens) → ends w (inner_by n i t) ts ≡ ends w n ts
   pub stops_beside : (b : Bodies) (n : Nest) (ts us : Tokens) → Beside b ts us → stops n us ≡ stops n ts
   pub ends_beside : (b : Bodies) (w : Before) (n : Nest) (ts us : Tokens) → symbol us ≡ symbol ts → Beside b (bumped ts) (bumped us) → ends w n us ≡ ends w n ts
+  pub seen_stays : Stays seen step
+  pub seen_beside : (b : Bodies) (s s' : S) (n : Nest) (i : ℕ) (t : Bool) (ts us : Tokens) → alike b (seen s) (seen s') → Beside b ts us → alike b (seen (step s n ts)) (seen (step s' (inner_by n i t) us))
+  pub stopped_beside : (b : Bodies) (s s' : S) (n n' : Nest) (ts us : Tokens) → alike b (seen s) (seen s') → Beside b ts us → beside b (stopped s n ts) (stopped s' n' us)
+  pub ended_beside : (b : Bodies) (s s' : S) (n n' : Nest) (ts us : Tokens) → alike b (seen s) (seen s') → symbol us ≡ symbol ts → Beside b (bumped ts) (bumped us) → beside b (ended s n ts) (ended s' n' us)
 
 suc_off : (n : Nest) (k : ℕ) → n.braces ≡ suc k → (n.braces == 0) ≡ false
 suc_off n k e = grind (arith, nat_tests)
@@ -102,48 +107,59 @@ nothing : (y : EditionYear) (past : ℕ) (u : Option ℕ) → is_empty (tokens_a
 unfolding is_empty
 nothing y past u = refl
 
-module _ {S : Type 0} (rest : S → Nest → Tokens → Tokens) (step : S → Nest → Tokens → S) (stops : Nest → Tokens → Bool) (ends : Before → Nest → Tokens → Bool) (w : Walk rest step stops ends) (b : Bodies) where
+module _ {S R V : Type 0} (rest : S → Nest → Tokens → R) (step : S → Nest → Tokens → S) (stops : Nest → Tokens → Bool) (ends : Before → Nest → Tokens → Bool)
+    (stopped ended : S → Nest → Tokens → R) (seen : S → V) (alike : Bodies → V → V → Type 0) (beside : Bodies → R → R → Type 0) (w : Walk rest step stops ends stopped ended seen alike beside) (b : Bodies) where
   walks : Walks rest step
   walks s n ts some e f = w.more s n ts (w.deep_stops n ts some e) (w.deep_ends n.before (nest_behind n ts) ts f)
 
+  record Crosses (s : S) (n : Nest) (ts : Tokens) (left : List Piece) (u : Option ℕ) : Type 0 where
+    state : S
+    nest : Nest
+    past : ℕ
+    stays : seen state ≡ seen (step s n ts)
+    deeper : Deeper n nest (suc n.braces)
+    same : rest s n ts ≡ rest state nest (tokens_at b.edition past left u)
+
   -- from a `{` at which it does not stop to its `}`
   crosses : (o c : Piece) (ms left : List Piece) (past : ℕ) (u : Option ℕ) (s : S) (n : Nest) → symbol_of o ≡ 123 → braces_from 0 ms ≡ Some 0
-      → stops n (tokens_at b.edition past (o ∷ (ms ++ left)) u) ≡ false → Comes rest s n (tokens_at b.edition past (o ∷ (ms ++ left)) u) (suc n.braces) b.edition left u
+      → stops n (tokens_at b.edition past (o ∷ (ms ++ left)) u) ≡ false → Crosses s n (tokens_at b.edition past (o ∷ (ms ++ left)) u) left u
   crosses o c ms left past u s n is m go =
       let ts = tokens_at b.edition past (o ∷ (ms ++ left)) u in
       let deep = enters n ts (symbol_at b.edition past o (ms ++ left) u ∙ is) in
-      let all = through rest step walks ms left b.edition (end_of o) n.braces n.braces u (step s n ts) (nest_behind n ts) deep.braces (matched_in n.braces ms m) in
+      let all = through rest step walks seen w.seen_stays ms left b.edition (end_of o) n.braces n.braces u (step s n ts) (nest_behind n ts) deep.braces (matched_in n.braces ms m) in
       record {
         state = all.state;
         nest = all.nest;
         past = all.past;
+        stays = all.stays;
         deeper = deeper_on n (nest_behind n ts) all.nest (suc n.braces) (suc n.braces) deep all.deeper;
         same = w.more s n ts go (w.deep_ends n.before (nest_behind n ts) ts (suc_off (nest_behind n ts) n.braces deep.braces))
             ∙ ap (rest (step s n ts) (nest_behind n ts)) (bumped_at b.edition past o (ms ++ left) u) ∙ all.same;
       }
+
   abbrev Steps : ℕ → Type 0
-  Steps fuel = (ts us : Tokens) → length ts.left < fuel → Beside b ts us → (s s' : S) (n : Nest) (i : ℕ) (t : Bool) → Beside b (rest s n ts) (rest s' (inner_by n i t) us)
+  Steps fuel = (ts us : Tokens) → length ts.left < fuel → Beside b ts us → (s s' : S) (n : Nest) (i : ℕ) (t : Bool) → alike b (seen s) (seen s') → beside b (rest s n ts) (rest s' (inner_by n i t) us)
 
   -- a token that is none of the braces'
-  one : (ts us : Tokens) (s s' : S) (n : Nest) (i : ℕ) (t : Bool) → Beside b ts us → Beside b (bumped ts) (bumped us) → is_empty ts ≡ false
-      → ((s s' : S) (n : Nest) (i : ℕ) (t : Bool) → Beside b (rest s n (bumped ts)) (rest s' (inner_by n i t) (bumped us))) → Beside b (rest s n ts) (rest s' (inner_by n i t) us)
-  one ts us s s' n i t h next some more =
+  one : (ts us : Tokens) (s s' : S) (n : Nest) (i : ℕ) (t : Bool) → alike b (seen s) (seen s') → Beside b ts us → Beside b (bumped ts) (bumped us) → is_empty ts ≡ false
+      → ((s s' : S) (n : Nest) (i : ℕ) (t : Bool) → alike b (seen s) (seen s') → beside b (rest s n (bumped ts)) (rest s' (inner_by n i t) (bumped us))) → beside b (rest s n ts) (rest s' (inner_by n i t) us)
+  one ts us s s' n i t a h next some more =
       let m = nest_behind n ts in
       let m' = nest_behind (inner_by n i t) us in
       let stops' : stops (inner_by n i t) us ≡ stops n ts = w.stops_inner n i t us ∙ w.stops_beside b n ts us h in
       let is : m' ≡ inner_by m (nest_behind (inner_by n i t) ts).inner (nest_behind (inner_by n i t) ts).is_torn = nest_same b (inner_by n i t) ts us h ∙ nest_inner n i t ts in
       let ends' : ends n.before m' us ≡ ends n.before m ts = ap (λ (k : Nest). ends n.before k us) is ∙ w.ends_inner n.before m _ _ us ∙ w.ends_beside b n.before m ts us (symbol_same b ts us h) next in
       when (stops n ts)
-      (λ p. rw (w.stop s n ts p, w.stop s' (inner_by n i t) us (stops' ∙ p)) h)
+      (λ p. rw (w.stop s n ts p, w.stop s' (inner_by n i t) us (stops' ∙ p)) (w.stopped_beside b s s' n (inner_by n i t) ts us a h))
       (λ p. when (ends n.before m ts)
-          (λ q. rw (w.end s n ts p q, w.end s' (inner_by n i t) us (stops' ∙ p) (ends' ∙ q)) next)
-          (λ q. rw (w.more s n ts p q, w.more s' (inner_by n i t) us (stops' ∙ p) (ends' ∙ q), is) (more _ _ m _ _)))
+          (λ q. rw (w.end s n ts p q, w.end s' (inner_by n i t) us (stops' ∙ p) (ends' ∙ q)) (w.ended_beside b s s' n (inner_by n i t) ts us a (symbol_same b ts us h) next))
+          (λ q. rw (w.more s n ts p q, w.more s' (inner_by n i t) us (stops' ∙ p) (ends' ∙ q), is) (more _ _ m _ _ (w.seen_beside b s s' n i t ts us a h))))
 
   -- the braces
   block : (fuel past : ℕ) (r : List Piece) (u u' : Option ℕ) → AreOpen b r → Steps fuel → (let ts = tokens_at b.edition past (b.opening ∷ (b.old ++ moved b.by b.closing ∷ map (moved b.by) r)) u in
       let us = tokens_at b.edition past (b.opening ∷ (b.new ++ moved b.by_new b.closing ∷ map (moved b.by_new) r)) u' in
-      length ts.left ≤ fuel → Beside b ts us → (s s' : S) (n : Nest) (i : ℕ) (t : Bool) → Beside b (rest s n ts) (rest s' (inner_by n i t) us))
-  block fuel past r u u' j more le h s s' n i t =
+      length ts.left ≤ fuel → Beside b ts us → (s s' : S) (n : Nest) (i : ℕ) (t : Bool) → alike b (seen s) (seen s') → beside b (rest s n ts) (rest s' (inner_by n i t) us))
+  block fuel past r u u' j more le h s s' n i t a =
       let c = b.closing in
       let left = moved b.by c ∷ map (moved b.by) r in
       let left' = moved b.by_new c ∷ map (moved b.by_new) r in
@@ -151,7 +167,7 @@ module _ {S : Type 0} (rest : S → Nest → Tokens → Tokens) (step : S → Ne
       let us = tokens_at b.edition past (b.opening ∷ (b.new ++ left')) u' in
       let stops' : stops (inner_by n i t) us ≡ stops n ts = w.stops_inner n i t us ∙ w.stops_beside b n ts us h in
       when (stops n ts)
-      (λ p. rw (w.stop s n ts p, w.stop s' (inner_by n i t) us (stops' ∙ p)) h)
+      (λ p. rw (w.stop s n ts p, w.stop s' (inner_by n i t) us (stops' ∙ p)) (w.stopped_beside b s s' n (inner_by n i t) ts us a h))
       (λ p.
         let one = crosses b.opening c b.old left past u s n b.opens b.old_matched p in
         let two = crosses b.opening c b.new left' past u' s' (inner_by n i t) b.opens b.new_matched (stops' ∙ p) in
@@ -172,27 +188,31 @@ module _ {S : Type 0} (rest : S → Nest → Tokens → Tokens) (step : S → Ne
         ∙ w.ends_inner one.nest.before m _ _ uc ∙ w.ends_beside b one.nest.before m tc uc (shuts' ∙ sym shuts) next in
         let less = shorter tc (some_at b.edition one.past (moved b.by c) (map (moved b.by) r) u) in
         let long = length-append b.old left in
+        let entered : alike b (seen (step s n ts)) (seen (step s' (inner_by n i t) us)) = w.seen_beside b s s' n i t ts us a h in
+        let inside : alike b (seen one.state) (seen two.state) = rw (one.stays, two.stays) entered in
+        let left_by : alike b (seen (step one.state one.nest tc)) (seen (step two.state two.nest uc)) =
+        rw (w.seen_stays one.state one.nest tc (suc_off one.nest n.braces one.deeper.braces), w.seen_stays two.state two.nest uc (suc_off two.nest n.braces two.deeper.braces)) inside in
         rw (one.same, two.same)
         (when (ends one.nest.before m tc)
-          (λ q. rw (w.end one.state one.nest tc go q, w.end two.state two.nest uc go' (ends' ∙ q)) next)
-          (λ q. rw (w.more one.state one.nest tc go q, w.more two.state two.nest uc go' (ends' ∙ q), same) (more (bumped tc) (bumped uc) (omega arith) next _ _ m _ _))))
+          (λ q. rw (w.end one.state one.nest tc go q, w.end two.state two.nest uc go' (ends' ∙ q)) (w.ended_beside b one.state two.state one.nest two.nest tc uc inside (shuts' ∙ sym shuts) next))
+          (λ q. rw (w.more one.state one.nest tc go q, w.more two.state two.nest uc go' (ends' ∙ q), same) (more (bumped tc) (bumped uc) (omega arith) next _ _ m _ _ left_by))))
 
   steps : (fuel : ℕ) → Steps fuel
-  steps zero ts us le h s s' n i t = absurd (omega arith)
-  steps (suc fuel) ts us le (ahead past [] r u u' f j) s s' n i t = block fuel past r u u' j (steps fuel) (omega arith) (ahead past [] r u u' f j) s s' n i t
-  steps (suc fuel) ts us le (ahead past (p ∷ x) r u u' f j) s s' n i t =
+  steps zero ts us le h s s' n i t a = absurd (omega arith)
+  steps (suc fuel) ts us le (ahead past [] r u u' f j) s s' n i t a = block fuel past r u u' j (steps fuel) (omega arith) (ahead past [] r u u' f j) s s' n i t a
+  steps (suc fuel) ts us le (ahead past (p ∷ x) r u u' f j) s s' n i t a =
       let left = x ++ b.opening ∷ (b.old ++ moved b.by b.closing ∷ map (moved b.by) r) in
       let left' = x ++ b.opening ∷ (b.new ++ moved b.by_new b.closing ∷ map (moved b.by_new) r) in
       let some = some_at b.edition past p left u in
       let less = shorter (tokens_at b.edition past (p ∷ left) u) some in
       let next = next_ahead b past p x r u u' f.1 j in
-      one (tokens_at b.edition past (p ∷ left) u) (tokens_at b.edition past (p ∷ left') u') s s' n i t (ahead past (p ∷ x) r u u' f j) next some
-      (λ s s' n i t. steps fuel (bumped (tokens_at b.edition past (p ∷ left) u)) (bumped (tokens_at b.edition past (p ∷ left') u')) (omega arith) next s s' n i t)
-  steps (suc fuel) ts us le (behind past [] u u' f) s s' n i t =
+      one (tokens_at b.edition past (p ∷ left) u) (tokens_at b.edition past (p ∷ left') u') s s' n i t a (ahead past (p ∷ x) r u u' f j) next some
+      (λ s s' n i t a. steps fuel (bumped (tokens_at b.edition past (p ∷ left) u)) (bumped (tokens_at b.edition past (p ∷ left') u')) (omega arith) next s s' n i t a)
+  steps (suc fuel) ts us le (behind past [] u u' f) s s' n i t a =
       let ts = tokens_at b.edition (past + b.by) [] u in
       let us = tokens_at b.edition (past + b.by_new) [] u' in
-      rw (w.stop s n ts (w.none n ts (nothing b.edition (past + b.by) u)), w.stop s' (inner_by n i t) us (w.none (inner_by n i t) us (nothing b.edition (past + b.by_new) u'))) (behind past [] u u' f)
-  steps (suc fuel) ts us le (behind past (p ∷ r) u u' f) s s' n i t =
+      rw (w.stop s n ts (w.none n ts (nothing b.edition (past + b.by) u)), w.stop s' (inner_by n i t) us (w.none (inner_by n i t) us (nothing b.edition (past + b.by_new) u'))) (w.stopped_beside b s s' n (inner_by n i t) ts us a (behind past [] u u' f))
+  steps (suc fuel) ts us le (behind past (p ∷ r) u u' f) s s' n i t a =
       let left = map (moved b.by) r in
       let left' = map (moved b.by_new) r in
       let ts = tokens_at b.edition (past + b.by) (moved b.by p ∷ left) u in
@@ -200,8 +220,8 @@ module _ {S : Type 0} (rest : S → Nest → Tokens → Tokens) (step : S → Ne
       let some = some_at b.edition (past + b.by) (moved b.by p) left u in
       let less = shorter ts some in
       let next = next_behind b (past + b.by) (past + b.by_new) p r u u' f.1 in
-      one ts us s s' n i t (behind past (p ∷ r) u u' f) next some (λ s s' n i t. steps fuel (bumped ts) (bumped us) (omega arith) next s s' n i t)
+      one ts us s s' n i t a (behind past (p ∷ r) u u' f) next some (λ s s' n i t a. steps fuel (bumped ts) (bumped us) (omega arith) next s s' n i t a)
 
   -- the walk comes to tokens beside
-  pub walk_beside : (ts us : Tokens) (s s' : S) (n : Nest) (i : ℕ) (t : Bool) → Beside b ts us → Beside b (rest s n ts) (rest s' (inner_by n i t) us)
-  walk_beside ts us s s' n i t h = steps (suc (length ts.left)) ts us (omega arith) h s s' n i t
+  pub walk_beside : (ts us : Tokens) (s s' : S) (n : Nest) (i : ℕ) (t : Bool) → alike b (seen s) (seen s') → Beside b ts us → beside b (rest s n ts) (rest s' (inner_by n i t) us)
+  walk_beside ts us s s' n i t a h = steps (suc (length ts.left)) ts us (omega arith) h s s' n i t a
