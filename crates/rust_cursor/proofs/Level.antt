@@ -1,40 +1,19 @@
 -- Places from which spans are counted: they stand before the braces or behind them, as what is left does.
-use Rattle.std.proofs.Common.{◌≡◌, ◌≤◌, ◌<◌, ℕ, ◌+◌, ◌-◌, ◌==◌, false, Option, List, [], ◌∷◌, ◌++◌, length, refl, ap, ◌∙◌, sym, subst, arith, map}
+use Rattle.std.proofs.Common.{◌≡◌, ◌≤◌, ◌<◌, ℕ, ◌+◌, ◌-◌, ◌==◌, false, Option, List, [], ◌∷◌, ◌++◌, length, refl, ap, ◌∙◌, sym, subst, arith}
 use Rattle.std.specs.Prelude.{nat_lt}
 use Rattle.std.proofs.lemmas.Bool.Decides.{nat_tests}
 use Rattle.rust_lexer.specs.Piece.{Piece}
 use Rattle.rust_lexer.specs.Symbol.{symbol_of}
-use Rattle.rust_lexer.specs.Alone.{moved}
 use Rattle.rust_cursor.specs.Tokens.{Tokens, end_of}
 use Rattle.rust_cursor.specs.Reader.{Reader, ◌>>=◌}
 use Rattle.rust_cursor.specs.Words.{symbol, at, bumped, is_at_end}
 use Rattle.rust_cursor.specs.Elements.{elements, one}
-use Rattle.rust_cursor.specs.Beside.{Bodies, AreBehind, Beside, ahead, behind}
+use Rattle.rust_cursor.specs.Beside.{Bodies, Beside, ahead, behind}
 use Rattle.rust_cursor.proofs.Leads.{LeadsTo, Forwards, when}
 use Rattle.rust_cursor.proofs.Views.{before_at, behind_at, end_same}
 use Rattle.rust_cursor.proofs.Until.{over_leads, over_moved, Gone, gone_on, Until, gone, kept, UpTo, by_kept}
 use Rattle.rust_cursor.proofs.Settled.{Settled, still, within, settle}
 use Rattle.rust_cursor.proofs.Alike.{UntilBy, stayed, went, Same, by_same, Stays, lost, known, Follows, by_known, turns_by}
-
--- ---- places
-
--- a place of the one text and that of the other: they are equal, or moved as what stands behind the braces
-pub data SamePlace (b : Bodies) (n m : ℕ) : Type 0 where
-  unmoved : m ≡ n → SamePlace b n m
-  moves : (c : ℕ) → n ≡ c + b.by → m ≡ c + b.by_new → SamePlace b n m
-
-pub at_place : (b : Bodies) (ts us : Tokens) → Beside b ts us → SamePlace b (at ts) (at us)
-unfolding at
-at_place b ts us (ahead past [] r u u' i j) = unmoved refl
-at_place b ts us (ahead past (t ∷ x) r u u' i j) = unmoved refl
-at_place b ts us (behind past [] u u' i) = moves past refl refl
-at_place b ts us (behind past (t ∷ r) u u' i) = moves t.at refl refl
-
-pub past_place : (b : Bodies) (ts us : Tokens) → Beside b ts us → SamePlace b ts.past us.past
-past_place b ts us (ahead past x r u u' i j) = unmoved refl
-past_place b ts us (behind past r u u' i) = moves past refl refl
-
--- ---- spans that count from a place
 
 -- A place before the braces, as what is left of both; or one behind them, as that is.
 pub data Level (b : Bodies) (a a' : ℕ) (ts us : Tokens) : Type 0 where

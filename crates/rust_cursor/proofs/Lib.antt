@@ -22,5 +22,6 @@ pub mod Until
 pub mod Ordered
 pub mod Settled
 pub mod Alike
+pub mod Places
 pub mod Level
 pub mod TreeTexts
