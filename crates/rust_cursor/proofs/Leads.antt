@@ -109,7 +109,7 @@ pub beyond_leads : (past : ℕ) (ts : Tokens) → LeadsTo ts (beyond past ts)
 unfolding beyond
 beyond_leads past ts = when (ts.past == past) (λ e. rw e (behind_tree_leads ts)) (λ e. rw e here)
 
-turns_from_leads : {A : Type 0} (ends : Tokens → Bool) (reader : Reader (List A)) → Forwards reader → (n : ℕ) (done : List A) → Forwards (turns_from ends reader n done)
+pub turns_from_leads : {A : Type 0} (ends : Tokens → Bool) (reader : Reader (List A)) → Forwards reader → (n : ℕ) (done : List A) → Forwards (turns_from ends reader n done)
 turns_from_leads ends reader r zero done ts = here
 turns_from_leads ends reader r (suc n) done ts =
     when (ends ts) (λ e. rw e here) (λ e. rw e (through (r ts) (through (beyond_leads ts.past (reader ts).1) (turns_from_leads ends reader r n _ _))))
@@ -131,7 +131,7 @@ stops_empty : (e : Extent) (nest : Nest) (ts : Tokens) → is_empty ts ≡ true 
 unfolding stops
 stops_empty e nest ts n = rw n refl
 
-taking_leads : (e : Extent) (done : List ℕ) (last : ℕ) (opened : Option Tokens) (nest : Nest) → Forwards (taking e done last opened nest)
+pub taking_leads : (e : Extent) (done : List ℕ) (last : ℕ) (opened : Option Tokens) (nest : Nest) → Forwards (taking e done last opened nest)
 taking_leads e done last opened nest ts =
     from_last (λ ts. (done : List ℕ) (last : ℕ) (opened : Option Tokens) (nest : Nest) → LeadsTo ts (taking e done last opened nest ts).1)
     (λ ts n done last opened nest. rw (taking_stop e done last opened nest ts (stops_empty e nest ts n)) here) (λ ts n inner. taking_next e ts inner) ts done last opened nest

@@ -12,3 +12,16 @@ pub mod Rests
 pub mod White
 pub mod Inside
 pub mod Begins
+pub mod Views
+pub mod Tests
+pub mod Braced
+pub mod Walk
+pub mod Passing
+pub mod Local
+pub mod Until
+pub mod Ordered
+pub mod Settled
+pub mod Alike
+pub mod Places
+pub mod Level
+pub mod TreeTexts

@@ -7,3 +7,4 @@ pub mod Matched
 pub mod Elements
 pub mod Extents
 pub mod Angles
+pub mod Beside

@@ -10,3 +10,4 @@ pub mod Frontmatter
 pub mod Tokens
 pub mod Terminated
 pub mod Inner
+pub mod Alone

@@ -6,3 +6,6 @@ pub mod Naming
 pub mod Strings
 pub mod Texts
 pub mod Leads
+pub mod Until
+pub mod UntilMetas
+pub mod UntilAttributes

@@ -148,7 +148,7 @@ comma_from_leads (suc n) ts =
     when (is_at_end ts) (λ e. rw e here)
     (λ e. rw e (when (symbol ts == 44) (λ f. rw f (bumped_leads ts)) (λ f. rw f (through (behind_tree_leads ts) (comma_from_leads n _)))))
 
-behind_comma_leads : (ts : Tokens) → LeadsTo ts (behind_comma ts)
+pub behind_comma_leads : (ts : Tokens) → LeadsTo ts (behind_comma ts)
 unfolding behind_comma
 behind_comma_leads ts = comma_from_leads _ ts
 
@@ -162,13 +162,13 @@ tree_behind_leads : (list : Reader (Found (Option (List UseTreeView)))) → Forw
 tree_behind_leads list l start p joined ts =
     when (joined || is_none p) (λ e. rw e (star_or_list_leads list l start p ts)) (λ e. rw e (renamed_tree_leads start p ts))
 
-tree_leads : (list : Reader (Found (Option (List UseTreeView)))) → Forwards list → Forwards (tree_with list)
+pub tree_leads : (list : Reader (Found (Option (List UseTreeView)))) → Forwards list → Forwards (tree_with list)
 tree_leads list l ts = through (use_path_leads ts) (through (eat_pair_leads _ _ _) (tree_behind_leads list l _ _ _ _))
 
-element_leads : (list : Reader (Found (Option (List UseTreeView)))) → Forwards list → Forwards (element_with list)
+pub element_leads : (list : Reader (Found (Option (List UseTreeView)))) → Forwards list → Forwards (element_with list)
 element_leads list l ts = through (tree_leads list l ts) (behind_comma_leads _)
 
-list_leads : (depth : ℕ) → Forwards (list depth)
+pub list_leads : (depth : ℕ) → Forwards (list depth)
 unfolding list
 list_leads zero ts = when (symbol ts == 123) (λ e. rw e (behind_tree_leads ts)) (λ e. rw e here)
 list_leads (suc depth) ts =

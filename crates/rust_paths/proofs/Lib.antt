@@ -3,3 +3,5 @@ pub mod Meant
 pub mod Steps
 pub mod Trees
 pub mod Leads
+pub mod Beside
+pub mod UntilTrees

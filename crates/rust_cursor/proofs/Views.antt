@@ -1,0 +1,202 @@
+-- What is seen of tokens beside.
+use Rattle.std.proofs.Common.{◌≡◌, ◌≤◌, ◌<◌, ℕ, zero, suc, ◌+◌, ◌-◌, ◌==◌, ◌||◌, ◌&&◌, Bool, true, false, Option, Some, None, List, [], ◌∷◌, ◌++◌, length, refl, ap, ◌∙◌, sym, subst, arith, map, codes}
+use Rattle.std.specs.Prelude.{if◌then◌else◌, not, nat_lt}
+use Rattle.std.specs.Str.{bytes_eq}
+use Rattle.std.proofs.lemmas.Bool.Decides.{nat_tests}
+use Rattle.rust_lexer.specs.declared.kind.TokenKind.{TokenKind}
+use Rattle.rust_lexer.specs.declared.kind.TokenKind.TheVariants as kinds
+use Rattle.rust_lexer.specs.Piece.{Piece}
+use Rattle.rust_lexer.specs.Symbol.{symbol_of, symbol_from}
+use Rattle.rust_lexer.specs.Alone.{moved}
+use Rattle.rust_cursor.specs.Tokens.{Tokens, end_of}
+use Rattle.rust_cursor.specs.Words.{is_open, is_close, word_by, identifies, documents, by_first, symbol, word, kind, text, at, is_empty, is_at_open, is_at_end, is_at_identifier, is_at_doc, bumped, is_glued, is_pair}
+use Rattle.rust_cursor.proofs.Leads.{when}
+use Rattle.rust_cursor.specs.Beside.{Bodies, AreBefore, AreBehind, AreOpen, Beside, ahead, behind}
+
+-- a view of a token that asks not where it stands
+first_same : (b : Bodies) {A : Type 0} (default : A) (view : Piece → A) → ((d : ℕ) (t : Piece) → view (moved d t) ≡ view t) → (ts us : Tokens) → Beside b ts us
+    → by_first default view us.left ≡ by_first default view ts.left
+first_same b default view still ts us (ahead past [] r u u' i j) = refl
+first_same b default view still ts us (ahead past (t ∷ x) r u u' i j) = refl
+first_same b default view still ts us (behind past [] u u' i) = refl
+first_same b default view still ts us (behind past (t ∷ r) u u' i) = still b.by_new t ∙ sym (still b.by t)
+
+pub symbol_same : (b : Bodies) (ts us : Tokens) → Beside b ts us → symbol us ≡ symbol ts
+unfolding symbol
+symbol_same b ts us h = first_same b 0 symbol_of (λ d t. refl) ts us h
+
+pub word_same : (b : Bodies) (ts us : Tokens) → Beside b ts us → word us ≡ word ts
+unfolding word
+word_same b ts us h = first_same b [] (λ t. word_by t.kind t.text) (λ d t. refl) ts us h
+
+pub kind_same : (b : Bodies) (ts us : Tokens) → Beside b ts us → kind us ≡ kind ts
+unfolding kind
+kind_same b ts us h = first_same b None (λ t. Some t.kind) (λ d t. refl) ts us h
+
+pub text_same : (b : Bodies) (ts us : Tokens) → Beside b ts us → text us ≡ text ts
+unfolding text
+text_same b ts us h = first_same b [] (λ t. t.text) (λ d t. refl) ts us h
+
+pub empty_same : (b : Bodies) (ts us : Tokens) → Beside b ts us → is_empty us ≡ is_empty ts
+unfolding is_empty
+empty_same b ts us h = first_same b true (λ _. false) (λ d t. refl) ts us h
+
+pub open_same : (b : Bodies) (ts us : Tokens) → Beside b ts us → is_at_open us ≡ is_at_open ts
+unfolding is_at_open
+open_same b ts us h = first_same b false is_open (λ d t. refl) ts us h
+
+pub end_same : (b : Bodies) (ts us : Tokens) → Beside b ts us → is_at_end us ≡ is_at_end ts
+unfolding is_at_end
+end_same b ts us h = first_same b true is_close (λ d t. refl) ts us h
+
+pub identifier_same : (b : Bodies) (ts us : Tokens) → Beside b ts us → is_at_identifier us ≡ is_at_identifier ts
+unfolding is_at_identifier
+identifier_same b ts us h = first_same b false (λ t. identifies t.kind) (λ d t. refl) ts us h
+
+pub edition_same : (b : Bodies) (ts us : Tokens) → Beside b ts us → us.edition ≡ ts.edition
+edition_same b ts us (ahead past x r u u' i j) = refl
+edition_same b ts us (behind past r u u' i) = refl
+
+pub doc_same : (b : Bodies) (ts us : Tokens) → Beside b ts us → is_at_doc us ≡ is_at_doc ts
+unfolding is_at_doc
+doc_same b ts us h = first_same b false (λ t. documents t.kind) (λ d t. refl) ts us h
+
+glued_by : (m n d d' : ℕ) → (m + d' == n + d') ≡ (m + d == n + d)
+glued_by m n d d' = grind (arith, nat_tests)
+
+pub glued_same : (b : Bodies) (ts us : Tokens) → Beside b ts us → is_glued us ≡ is_glued ts
+unfolding is_glued at
+glued_same b ts us (ahead past [] r u u' i j) = refl
+glued_same b ts us (ahead past (t ∷ x) r u u' i j) = refl
+glued_same b ts us (behind past [] u u' i) = glued_by past past b.by b.by_new
+glued_same b ts us (behind past (t ∷ r) u u' i) = glued_by t.at past b.by b.by_new
+
+-- ---- one token further
+
+pub next_ahead : (b : Bodies) (past : ℕ) (t : Piece) (x r : List Piece) (u u' : Option ℕ) → AreBefore b.opening.at (end_of t) x → AreOpen b r
+    → Beside b (bumped (record { past = past; left = t ∷ (x ++ b.opening ∷ (b.old ++ moved b.by b.closing ∷ map (moved b.by) r)); unended = u; edition = b.edition }))
+        (bumped (record { past = past; left = t ∷ (x ++ b.opening ∷ (b.new ++ moved b.by_new b.closing ∷ map (moved b.by_new) r)); unended = u'; edition = b.edition }))
+unfolding bumped
+next_ahead b past t x r u u' i j = ahead (end_of t) x r u u' i j
+
+-- behind a token that stands behind the braces; where the one before it ended does not matter
+pub next_behind : (b : Bodies) (past past' : ℕ) (t : Piece) (r : List Piece) (u u' : Option ℕ) → AreBehind (end_of b.closing) (end_of t) r
+    → Beside b (bumped (record { past = past; left = moved b.by t ∷ map (moved b.by) r; unended = u; edition = b.edition })) (bumped (record { past = past'; left = moved b.by_new t ∷ map (moved b.by_new) r; unended = u'; edition = b.edition }))
+unfolding bumped
+next_behind b past past' t r u u' i =
+    let old : t.at + length t.text + b.by ≡ t.at + b.by + length t.text = omega arith in
+    let new : t.at + length t.text + b.by_new ≡ t.at + b.by_new + length t.text = omega arith in
+    subst (λ (n : ℕ). Beside b (record { past = n; left = map (moved b.by) r; unended = u; edition = b.edition }) (record { past = t.at + b.by_new + length t.text; left = map (moved b.by_new) r; unended = u'; edition = b.edition })) old
+    (subst (λ (n : ℕ). Beside b (record { past = t.at + length t.text + b.by; left = map (moved b.by) r; unended = u; edition = b.edition }) (record { past = n; left = map (moved b.by_new) r; unended = u'; edition = b.edition })) new (behind (end_of t) r u u' i))
+
+pub next_none : (b : Bodies) (past : ℕ) (u u' : Option ℕ) → end_of b.closing ≤ past
+    → Beside b (bumped (record { past = past + b.by; left = []; unended = u; edition = b.edition })) (bumped (record { past = past + b.by_new; left = []; unended = u'; edition = b.edition }))
+unfolding bumped
+next_none b past u u' i = behind past [] u u' i
+
+pub not_brace : (b : Bodies) (ts us : Tokens) → Beside b ts us → (symbol ts == 123) ≡ false → Beside b (bumped ts) (bumped us)
+unfolding symbol
+not_brace b ts us (ahead past [] r u u' i j) e = let is : symbol_of b.opening ≡ 123 = b.opens in absurd (let no = rw is at e in cc)
+not_brace b ts us (ahead past (t ∷ x) r u u' i j) e = next_ahead b past t x r u u' i.1 j
+not_brace b ts us (behind past [] u u' i) e = next_none b past u u' i
+not_brace b ts us (behind past (t ∷ r) u u' i) e = next_behind b (past + b.by) (past + b.by_new) t r u u' i.1
+
+-- another symbol or a word comes next
+pub other_symbol : (c : ℕ) (ts : Tokens) → (symbol ts == c) ≡ true → (c == 123) ≡ false → (symbol ts == 123) ≡ false
+other_symbol c ts e f = grind (arith, nat_tests)
+
+pair_next : (b : Bodies) (c d : ℕ) (ts us : Tokens) → (c == 123) ≡ false → Beside b ts us → is_pair c d us ≡ is_pair c d ts
+unfolding is_pair
+pair_next b c d ts us f h =
+    when (symbol ts == c)
+    (λ e. let n = not_brace b ts us h (other_symbol c ts e f) in
+        rw (symbol_same b ts us h, glued_same b (bumped ts) (bumped us) n, symbol_same b (bumped ts) (bumped us) n) refl)
+    (λ e. rw (symbol_same b ts us h, e) refl)
+
+pub pair_same : (b : Bodies) (c d : ℕ) (ts us : Tokens) → (c == 123) ≡ false → Beside b ts us → is_pair c d us ≡ is_pair c d ts
+pair_same b c d ts us f h = pair_next b c d ts us f h
+
+none_here : (left : List Piece) → (by_first 0 symbol_of left == 123) ≡ true → by_first [] (λ t. word_by t.kind t.text) left ≡ []
+none_here [] e = refl
+none_here (t ∷ left) e = by t.kind t.text e
+  where
+    by : (k : TokenKind) (z : List ℕ) → (symbol_of (record { kind = k; text = z; at = 0 }) == 123) ≡ true → word_by k z ≡ []
+    by kinds.Ident z e = absurd cc
+    by _ z e = refl
+
+-- at a brace there is no word
+pub brace_word : (ts : Tokens) → (symbol ts == 123) ≡ true → word ts ≡ []
+unfolding symbol word
+brace_word ts e = none_here ts.left e
+
+brace_identifies : (left : List Piece) → (by_first 0 symbol_of left == 123) ≡ true → by_first false (λ t. identifies t.kind) left ≡ false
+brace_identifies [] e = refl
+brace_identifies (t ∷ left) e = by t.kind t.text e
+  where
+    by : (k : TokenKind) (z : List ℕ) → (symbol_of (record { kind = k; text = z; at = 0 }) == 123) ≡ true → identifies k ≡ false
+    by kinds.Ident z e = absurd cc
+    by kinds.RawIdent z e = absurd cc
+    by _ z e = refl
+
+pub brace_identifier : (ts : Tokens) → (symbol ts == 123) ≡ true → is_at_identifier ts ≡ false
+unfolding symbol is_at_identifier
+brace_identifier ts e = brace_identifies ts.left e
+
+-- ---- whether a token was taken
+
+pub before_at : (at past : ℕ) (x : List Piece) → AreBefore at past x → past ≤ at
+before_at at past [] h = h
+before_at at past (t ∷ x) h = h.0
+
+pub behind_at : (low past : ℕ) (r : List Piece) → AreBehind low past r → low ≤ past
+behind_at low past [] h = h
+behind_at low past (t ∷ r) h = h.0
+
+apart_tests : (m n m' n' : ℕ) → m < n → m' < n' → (n' == m') ≡ (n == m)
+apart_tests m n m' n' h h' = grind (arith, nat_tests)
+
+apart_back : (m n m' n' : ℕ) → m < n → m' < n' → (m' == n') ≡ (m == n)
+apart_back m n m' n' h h' = grind (arith, nat_tests)
+
+lower_by : (m n d d' : ℕ) → nat_lt (m + d') (n + d') ≡ nat_lt (m + d) (n + d)
+lower_by m n d d' = grind (arith, nat_tests)
+
+lower_tests : (m n m' n' : ℕ) → m < n → m' < n' → nat_lt m' n' ≡ nat_lt m n
+lower_tests m n m' n' h h' = grind (arith, nat_tests)
+
+higher_tests : (m n m' n' : ℕ) → m < n → m' < n' → nat_lt n' m' ≡ nat_lt n m
+higher_tests m n m' n' h h' = grind (arith, nat_tests)
+
+-- one reader took nothing where the other took nothing
+pub taken_same : (b : Bodies) (ts us ts' us' : Tokens) → Beside b ts us → Beside b ts' us' → (us'.past == us.past) ≡ (ts'.past == ts.past)
+taken_same b ts us ts' us' (ahead past x r u v i j) (ahead past' x' r' u' v' i' j') = refl
+taken_same b ts us ts' us' (ahead past x r u v i j) (behind past' r' u' v' i') =
+    let low = before_at b.opening.at past x i in
+    let high = behind_at (end_of b.closing) past' r' i' in
+    let old = b.apart in
+    let new = b.apart_new in
+    apart_tests past (past' + b.by) past (past' + b.by_new) (omega arith) (omega arith)
+taken_same b ts us ts' us' (behind past r u v i) (ahead past' x' r' u' v' i' j') =
+    let low = before_at b.opening.at past' x' i' in
+    let high = behind_at (end_of b.closing) past r i in
+    let old = b.apart in
+    let new = b.apart_new in
+    apart_back past' (past + b.by) past' (past + b.by_new) (omega arith) (omega arith)
+taken_same b ts us ts' us' (behind past r u v i) (behind past' r' u' v' i') = glued_by past' past b.by b.by_new
+
+-- one stands before the other in both texts
+pub before_same : (b : Bodies) (ts us ts' us' : Tokens) → Beside b ts us → Beside b ts' us' → nat_lt us.past us'.past ≡ nat_lt ts.past ts'.past
+before_same b ts us ts' us' (ahead past x r u v i j) (ahead past' x' r' u' v' i' j') = refl
+before_same b ts us ts' us' (ahead past x r u v i j) (behind past' r' u' v' i') =
+    let low = before_at b.opening.at past x i in
+    let high = behind_at (end_of b.closing) past' r' i' in
+    let old = b.apart in
+    let new = b.apart_new in
+    lower_tests past (past' + b.by) past (past' + b.by_new) (omega arith) (omega arith)
+before_same b ts us ts' us' (behind past r u v i) (ahead past' x' r' u' v' i' j') =
+    let low = before_at b.opening.at past' x' i' in
+    let high = behind_at (end_of b.closing) past r i in
+    let old = b.apart in
+    let new = b.apart_new in
+    higher_tests past' (past + b.by) past' (past + b.by_new) (omega arith) (omega arith)
+before_same b ts us ts' us' (behind past r u v i) (behind past' r' u' v' i') = lower_by past past' b.by b.by_new

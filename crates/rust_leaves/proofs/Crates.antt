@@ -1,0 +1,122 @@
+-- Extern crates, and what a macro is called by, of tokens beside are the same.
+use Rattle.std.proofs.Common.{arith, ◌≡◌, ◌==◌, ℕ, zero, suc, Bool, true, false, Option, Some, None, List, [], ◌∷◌, refl, sym, ap, ◌∙◌, codes}
+use Rattle.std.specs.Prelude.{if◌then◌else◌, is_none}
+use Rattle.std.specs.Option.{option_or}
+use Rattle.std.specs.Str.{bytes_eq}
+use Rattle.std.proofs.lemmas.Bool.Decides.{nat_tests}
+use Rattle.hir_input.specs.declared.ast.Rename.{Rename}
+use Rattle.hir_input.specs.declared.ast.Visibility.{Visibility}
+use Rattle.hir_input.specs.Attr.{MetaView}
+use Rattle.hir_input.specs.Bodies.{item_without_bodies}
+use Rattle.hir_input.specs.Syntax.{extern_crate}
+use Rattle.rust_cursor.specs.Tokens.{Tokens}
+use Rattle.rust_cursor.specs.Words.{symbol, word, text, is_at_open, bumped, eat, eat_word}
+use Rattle.rust_cursor.specs.Beside.{Bodies, Beside}
+use Rattle.rust_cursor.proofs.Leads.{LeadsTo, here, further, when}
+use Rattle.rust_cursor.proofs.Views.{symbol_same, text_same, open_same, taken_same}
+use Rattle.rust_cursor.proofs.Local.{word_test, after_word, after_symbol, eat_local, eat_word_local, both_true}
+use Rattle.rust_cursor.proofs.Until.{Gone, gone_on, Onward, into, on, bumped_onward}
+use Rattle.rust_cursor.proofs.Alike.{KeptBy}
+use Rattle.rust_paths.specs.declared.names.TextRange.{TextRange}
+use Rattle.rust_leaves.specs.Leaves.{NameRead, named_or, alias, alias_if, renamed, rename_of}
+use Rattle.rust_leaves.specs.Kinds.{named_node, told_at, crate_item, is_called}
+use Rattle.rust_leaves.specs.Texts.{last_text_from, last_text}
+use Rattle.rust_leaves.proofs.Beside.{LocalBy, NameAlike, named_local, named_or_local, LeafAlike}
+
+-- ---- extern crates
+
+-- the same rename, and a place where there is one
+data AliasAlike : Option NameRead → Option NameRead → Type 0 where
+  none : AliasAlike None None
+  alike : (n m : NameRead) → NameAlike n m → AliasAlike (Some n) (Some m)
+
+alias_local : (b : Bodies) → LocalBy NameAlike b alias
+unfolding alias
+alias_local b ts us h =
+    when (bytes_eq (word ts) (codes "_"))
+    (λ e. let f : bytes_eq (word us) (codes "_") ≡ true = word_test b (codes "_") ts us h ∙ e in
+        rw (e, f) (record { value = record { name = refl; hashed = refl; placed = refl }; rest = after_word b (codes "_") ts us refl h e }))
+    (λ e. let f : bytes_eq (word us) (codes "_") ≡ false = word_test b (codes "_") ts us h ∙ e in rw (e, f) (named_local b ts us h))
+
+alias_if_local : (b : Bodies) (found found' : Bool) (ts us : Tokens) → found' ≡ found → Beside b ts us → KeptBy AliasAlike b (alias_if found ts) (alias_if found' us)
+alias_if_local b true found' ts us e h = rw e (let k = alias_local b ts us h in record { value = alike _ _ k.value; rest = k.rest })
+alias_if_local b false found' ts us e h = rw e (record { value = none; rest = h })
+
+renamed_local : (b : Bodies) → LocalBy AliasAlike b renamed
+unfolding renamed
+renamed_local b ts us h =
+    let k = eat_word_local b (codes "as") refl ts us h in
+    alias_if_local b (eat_word (codes "as") ts).0 (eat_word (codes "as") us).0 (eat_word (codes "as") ts).1 (eat_word (codes "as") us).1 k.value k.rest
+
+rename_same : {o o' : Option NameRead} → AliasAlike o o' → rename_of o' ≡ rename_of o
+rename_same none = refl
+rename_same (alike n m a) = ap (λ z. rename_of (Some (record { name = z; hashed = []; range = None }))) a.name
+
+or_same : (r r' s s' : Option TextRange) → is_none r' ≡ is_none r → is_none s' ≡ is_none s → is_none (option_or r' s') ≡ is_none (option_or r s)
+or_same None None s s' p q = q
+or_same None (Some _) s s' p q = absurd cc
+or_same (Some _) None s s' p q = absurd cc
+or_same (Some _) (Some _) s s' p q = refl
+
+told_same : {o o' : Option NameRead} (r r' : Option TextRange) → is_none r' ≡ is_none r → AliasAlike o o' → is_none (told_at r' o') ≡ is_none (told_at r o)
+told_same r r' e none = e
+told_same r r' e (alike n m a) = or_same n.range m.range r r' a.placed e
+
+pub crate_item_local : (b : Bodies) (attrs : List MetaView) (v : Option Visibility) → LocalBy LeafAlike b (crate_item attrs v)
+unfolding crate_item
+crate_item_local b attrs v ts us h =
+    let n = named_or_local b (codes "self") refl ts us h in
+    let a = renamed_local b (named_or (codes "self") ts).1 (named_or (codes "self") us).1 n.rest in
+    let s = eat_local b 59 refl (renamed (named_or (codes "self") ts).1).1 (renamed (named_or (codes "self") us).1).1 a.rest in
+    let r = (renamed (named_or (codes "self") ts).1).0 in
+    let r' = (renamed (named_or (codes "self") us).1).0 in
+    record {
+      value = record {
+        item = ap (λ z. item_without_bodies (extern_crate (named_node attrs z v []) (rename_of r'))) n.value.name ∙ ap (λ z. item_without_bodies (extern_crate (named_node attrs (named_or (codes "self") ts).0.name v []) z)) (rename_same a.value);
+        kind = refl;
+        name = n.value.hashed;
+        named = told_same (named_or (codes "self") ts).0.range (named_or (codes "self") us).0.range n.value.placed a.value;
+      };
+      rest = s.rest;
+    }
+
+-- ---- macro calls
+
+pub is_called_same : (b : Bodies) (ts us : Tokens) → Beside b ts us → is_called us ≡ is_called ts
+unfolding is_called
+is_called_same b ts us h =
+    when (symbol ts == 33)
+    (λ e. rw (open_same b (bumped ts) (bumped us) (after_symbol b 33 ts us refl h e), symbol_same b ts us h) refl)
+    (λ e. rw (symbol_same b ts us h, e) refl)
+
+pub called_next : (b : Bodies) (ts us : Tokens) → Beside b ts us → is_called ts ≡ true → Beside b (bumped ts) (bumped us)
+unfolding is_called
+called_next b ts us h e = after_symbol b 33 ts us refl h (both_true (symbol ts == 33) (is_at_open (bumped ts)) e).0
+
+-- the last text up to what is left, or that went into the braces
+pub data SameLast (b : Bodies) (v : Tokens) (z z' : List ℕ) : Type 0 where
+  beyond_braces : Gone b v → SameLast b v z z'
+  same_text : z' ≡ z → SameLast b v z z'
+
+eq_itself : (n : ℕ) → (n == n) ≡ false → ⊥
+eq_itself n e = grind (arith, nat_tests)
+
+last_from : {b : Bodies} {ts v : Tokens} (us v' : Tokens) (n : ℕ) (last last' : List ℕ) → LeadsTo ts v → Beside b v v' → Beside b ts us → last' ≡ last
+    → SameLast b v (last_text_from n v.past last ts) (last_text_from n v'.past last' us)
+last_from us v' zero last last' p k h e = same_text e
+last_from {b} {ts} us v' (suc n) last last' here k h e =
+    let same = taken_same b ts v' ts us k h in
+    when (ts.past == ts.past) (λ f. rw (same, f) (same_text e)) (λ f. absurd (eq_itself ts.past f))
+last_from {b} {ts} {v} us v' (suc n) last last' (further q) k h e =
+    let same = taken_same b v v' ts us k h in
+    when (ts.past == v.past)
+    (λ f. rw (same, f) (same_text e))
+    (λ f. rw (same, f) (onward (bumped_onward b ts us h) (λ g. beyond_braces (gone_on g q)) (λ next. last_from {ts = bumped ts} (bumped us) v' n (text ts) (text us) q k next (text_same b ts us h))))
+  where
+    onward : {P : Type 0} {xs ys : Tokens} → Onward b xs ys → (Gone b xs → P) → (Beside b xs ys → P) → P
+    onward (into g) lost same = lost g
+    onward (on k) lost same = same k
+
+pub last_same : (b : Bodies) (ts us v v' : Tokens) → LeadsTo ts v → Beside b v v' → Beside b ts us → SameLast b v (last_text v.past ts) (last_text v'.past us)
+unfolding last_text
+last_same b ts us v v' p k h = last_from us v' _ [] [] p k h refl
