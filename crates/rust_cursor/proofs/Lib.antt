@@ -25,3 +25,4 @@ pub mod Alike
 pub mod Places
 pub mod Level
 pub mod TreeTexts
+pub mod Around
