@@ -7,3 +7,9 @@ pub mod Frequent
 pub mod Emptied
 pub mod Table
 pub mod Wholes
+pub mod Same
+pub mod SameNumber
+pub mod SameQuoted
+pub mod SameCut
+pub mod Apart
+pub mod Whole
