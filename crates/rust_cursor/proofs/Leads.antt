@@ -69,7 +69,7 @@ module _ (P : Tokens → Type 0) (none : (ts : Tokens) → is_empty ts ≡ true 
       when (is_empty ts) (λ e. none ts e)
       (λ e. let less = shorter ts e in some ts e (from_last_below n (bumped ts) (omega arith)))
 
-  from_last : (ts : Tokens) → P ts
+  pub from_last : (ts : Tokens) → P ts
   from_last ts = from_last_below (suc (length ts.left)) ts (omega arith)
 
 -- ---- brackets
@@ -78,11 +78,11 @@ closing_next : (bracket : ℕ) (ts : Tokens) → ((nest : Nest) → LeadsTo (bum
 closing_next bracket ts inner nest =
     when (is_closing bracket nest ts) (λ s. rw (closing_stop bracket nest ts s) here) (λ s. rw (closing_more bracket nest ts s) (further (inner _)))
 
-closing_empty : (bracket : ℕ) (nest : Nest) (ts : Tokens) → is_empty ts ≡ true → is_closing bracket nest ts ≡ true
+pub closing_empty : (bracket : ℕ) (nest : Nest) (ts : Tokens) → is_empty ts ≡ true → is_closing bracket nest ts ≡ true
 unfolding is_closing
 closing_empty bracket nest ts n = rw n refl
 
-closing_leads : (bracket : ℕ) (nest : Nest) (ts : Tokens) → LeadsTo ts (closing bracket nest ts)
+pub closing_leads : (bracket : ℕ) (nest : Nest) (ts : Tokens) → LeadsTo ts (closing bracket nest ts)
 closing_leads bracket nest ts =
     from_last (λ ts. (nest : Nest) → LeadsTo ts (closing bracket nest ts)) (λ ts n nest. rw (closing_stop bracket nest ts (closing_empty bracket nest ts n)) here)
     (λ ts n inner. closing_next bracket ts inner) ts nest
@@ -91,7 +91,7 @@ pub to_closing_leads : (bracket : ℕ) (ts : Tokens) → LeadsTo ts (to_closing 
 unfolding to_closing
 to_closing_leads bracket ts = closing_leads bracket flat ts
 
-behind_closing_leads : (bracket : ℕ) (ts : Tokens) → LeadsTo ts (behind_closing bracket ts)
+pub behind_closing_leads : (bracket : ℕ) (ts : Tokens) → LeadsTo ts (behind_closing bracket ts)
 behind_closing_leads bracket ts =
     when (bracket == 123) (λ e. rw e (bumped_leads ts)) (λ e. when (symbol ts == 125) (λ f. rw (e, f) here) (λ f. rw (e, f) (bumped_leads ts)))
 
@@ -109,7 +109,7 @@ pub beyond_leads : (past : ℕ) (ts : Tokens) → LeadsTo ts (beyond past ts)
 unfolding beyond
 beyond_leads past ts = when (ts.past == past) (λ e. rw e (behind_tree_leads ts)) (λ e. rw e here)
 
-turns_from_leads : {A : Type 0} (ends : Tokens → Bool) (reader : Reader (List A)) → Forwards reader → (n : ℕ) (done : List A) → Forwards (turns_from ends reader n done)
+pub turns_from_leads : {A : Type 0} (ends : Tokens → Bool) (reader : Reader (List A)) → Forwards reader → (n : ℕ) (done : List A) → Forwards (turns_from ends reader n done)
 turns_from_leads ends reader r zero done ts = here
 turns_from_leads ends reader r (suc n) done ts =
     when (ends ts) (λ e. rw e here) (λ e. rw e (through (r ts) (through (beyond_leads ts.past (reader ts).1) (turns_from_leads ends reader r n _ _))))
@@ -127,11 +127,11 @@ taking_next e ts inner done last opened nest =
     (λ s. when (ends e (is_mark nest.before) (nest_behind nest ts) ts) (λ f. rw (taking_end e done last opened nest ts s f) (bumped_leads ts))
     (λ f. rw (taking_more e done last opened nest ts s f) (further (inner _ _ _ _))))
 
-stops_empty : (e : Extent) (nest : Nest) (ts : Tokens) → is_empty ts ≡ true → stops e nest ts ≡ true
+pub stops_empty : (e : Extent) (nest : Nest) (ts : Tokens) → is_empty ts ≡ true → stops e nest ts ≡ true
 unfolding stops
 stops_empty e nest ts n = rw n refl
 
-taking_leads : (e : Extent) (done : List ℕ) (last : ℕ) (opened : Option Tokens) (nest : Nest) → Forwards (taking e done last opened nest)
+pub taking_leads : (e : Extent) (done : List ℕ) (last : ℕ) (opened : Option Tokens) (nest : Nest) → Forwards (taking e done last opened nest)
 taking_leads e done last opened nest ts =
     from_last (λ ts. (done : List ℕ) (last : ℕ) (opened : Option Tokens) (nest : Nest) → LeadsTo ts (taking e done last opened nest ts).1)
     (λ ts n done last opened nest. rw (taking_stop e done last opened nest ts (stops_empty e nest ts n)) here) (λ ts n inner. taking_next e ts inner) ts done last opened nest
@@ -148,11 +148,11 @@ reaching_next r ts inner nest =
     (λ s. when (is_closed r (nest_behind nest ts)) (λ f. rw (reaching_end r nest ts s f) (bumped_leads ts))
     (λ f. rw (reaching_more r nest ts s f) (further (inner _))))
 
-reached_empty : (r : Reach) (nest : Nest) (ts : Tokens) → is_empty ts ≡ true → is_reached r nest ts ≡ true
+pub reached_empty : (r : Reach) (nest : Nest) (ts : Tokens) → is_empty ts ≡ true → is_reached r nest ts ≡ true
 unfolding is_reached
 reached_empty r nest ts n = rw n refl
 
-reaching_leads : (r : Reach) (nest : Nest) (ts : Tokens) → LeadsTo ts (reaching r nest ts)
+pub reaching_leads : (r : Reach) (nest : Nest) (ts : Tokens) → LeadsTo ts (reaching r nest ts)
 reaching_leads r nest ts =
     from_last (λ ts. (nest : Nest) → LeadsTo ts (reaching r nest ts)) (λ ts n nest. rw (reaching_stop r nest ts (reached_empty r nest ts n)) here)
     (λ ts n inner. reaching_next r ts inner) ts nest

@@ -12,3 +12,8 @@ pub mod Rests
 pub mod White
 pub mod Inside
 pub mod Begins
+pub mod Near
+pub mod NearTests
+pub mod NearPassing
+pub mod NearUntil
+pub mod NearTexts

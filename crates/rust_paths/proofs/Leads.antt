@@ -75,7 +75,7 @@ other_segment_leads ts =
     when (symbol ts == 60) (λ e. rw e (behind_angles_leads ts))
     (λ e. rw e (when (is_dollar_crate ts) (λ f. rw f (further (bumped_leads _))) (λ f. rw f (named_word_leads ts))))
 
-segment_leads : Forwards segment
+pub segment_leads : Forwards segment
 unfolding segment
 segment_leads ts =
     when (bytes_eq (word ts) (codes "self")) (λ e. rw e (bumped_leads ts))
@@ -83,14 +83,14 @@ segment_leads ts =
     (λ f. rw f (when (bytes_eq (word ts) (codes "crate")) (λ g. rw g (bumped_leads ts))
     (λ g. rw g (when (bytes_eq (word ts) (codes "Self")) (λ h. rw h (bumped_leads ts)) (λ h. rw h (other_segment_leads ts))))))))
 
-more_from_leads : (in_use : Bool) (n : ℕ) → Forwards (more_from in_use n)
+pub more_from_leads : (in_use : Bool) (n : ℕ) → Forwards (more_from in_use n)
 more_from_leads in_use zero ts = here
 more_from_leads in_use (suc n) ts =
     when (is_path_colons in_use ts)
     (λ e. rw e (further (further (through (segment_leads (bumped (bumped ts))) (more_from_leads in_use n _)))))
     (λ e. rw e here)
 
-more_segments_leads : (in_use : Bool) → Forwards (more_segments in_use)
+pub more_segments_leads : (in_use : Bool) → Forwards (more_segments in_use)
 unfolding more_segments
 more_segments_leads in_use ts = more_from_leads in_use _ ts
 

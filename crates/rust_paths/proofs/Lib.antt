@@ -3,3 +3,4 @@ pub mod Meant
 pub mod Steps
 pub mod Trees
 pub mod Leads
+pub mod Near
