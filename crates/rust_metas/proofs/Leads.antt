@@ -19,7 +19,7 @@ use Rattle.rust_metas.specs.Attributes.{is_doc, is_behind, behind_bracket, brack
 
 -- ---- literals
 
-value_leads : (anchor : ℕ) → Forwards (value anchor)
+pub value_leads : (anchor : ℕ) → Forwards (value anchor)
 unfolding value
 value_leads anchor ts = when (is_literal ts && is_ended (bumped ts)) (λ e. rw e (bumped_leads ts)) (λ e. rw e here)
 
@@ -29,103 +29,103 @@ documentation_leads anchor ts = bumped_leads ts
 
 -- ---- conditions
 
-comma_from_leads : (n : ℕ) (ts : Tokens) → LeadsTo ts (comma_from n ts)
+pub comma_from_leads : (n : ℕ) (ts : Tokens) → LeadsTo ts (comma_from n ts)
 comma_from_leads zero ts = here
 comma_from_leads (suc n) ts =
     when (is_at_end ts) (λ e. rw e here)
     (λ e. rw e (when (symbol ts == 44) (λ f. rw f (bumped_leads ts)) (λ f. rw f (through (behind_tree_leads ts) (comma_from_leads n _)))))
 
-behind_comma_leads : (ts : Tokens) → LeadsTo ts (behind_comma ts)
+pub behind_comma_leads : (ts : Tokens) → LeadsTo ts (behind_comma ts)
 unfolding behind_comma
 behind_comma_leads ts = comma_from_leads _ ts
 
-option_name_leads : Forwards option_name
+pub option_name_leads : Forwards option_name
 unfolding option_name
 option_name_leads ts = when (is_option_word ts) (λ e. rw e (bumped_leads ts)) (λ e. rw e (name_leads ts))
 
-pair_leads : (key : List ℕ) → Forwards (pair key)
+pub pair_leads : (key : List ℕ) → Forwards (pair key)
 unfolding pair
 pair_leads key ts = when (is_literal_kind (kind (bumped ts))) (λ e. rw e (further (bumped_leads _))) (λ e. rw e (bumped_leads ts))
 
-named_leads : (inside : Reader (Option (List CfgView))) → Forwards inside → (word : List ℕ) → Forwards (named inside word)
+pub named_leads : (inside : Reader (Option (List CfgView))) → Forwards inside → (word : List ℕ) → Forwards (named inside word)
 named_leads inside i word ts =
     when (is_at_open ts) (λ e. rw e (further (through (i _) (behind_closed_leads _ _))))
     (λ e. rw e (when (symbol ts == 61) (λ f. rw f (pair_leads word ts)) (λ f. rw f here)))
 
-if_named_leads : (inside : Reader (Option (List CfgView))) → Forwards inside → (o : Option (List ℕ)) → Forwards (if_named inside o)
+pub if_named_leads : (inside : Reader (Option (List CfgView))) → Forwards inside → (o : Option (List ℕ)) → Forwards (if_named inside o)
 if_named_leads inside i None ts = here
 if_named_leads inside i (Some word) ts = named_leads inside i word ts
 
-ended_leads : (c : CfgView) → Forwards (ended c)
+pub ended_leads : (c : CfgView) → Forwards (ended c)
 unfolding ended
 ended_leads c ts = behind_comma_leads ts
 
-condition_with_leads : (inside : Reader (Option (List CfgView))) → Forwards inside → Forwards (condition_with inside)
+pub condition_with_leads : (inside : Reader (Option (List CfgView))) → Forwards inside → Forwards (condition_with inside)
 condition_with_leads inside i ts = through (option_name_leads ts) (through (if_named_leads inside i _ _) (ended_leads _ _))
 
-conditions_leads : (depth : ℕ) → Forwards (conditions depth)
+pub conditions_leads : (depth : ℕ) → Forwards (conditions depth)
 unfolding conditions
 conditions_leads zero ts = here
 conditions_leads (suc depth) ts = turns_leads is_at_end (one (condition_with (conditions depth))) (condition_with_leads (conditions depth) (conditions_leads depth)) ts
 
-condition_leads : (depth : ℕ) → Forwards (condition depth)
+pub condition_leads : (depth : ℕ) → Forwards (condition depth)
 unfolding condition
 condition_leads depth ts = condition_with_leads (conditions depth) (conditions_leads depth) ts
 
 -- ---- metas
 
-input_leads : (anchor : ℕ) (path : Option PathNode) → Forwards (input anchor path)
+pub input_leads : (anchor : ℕ) (path : Option PathNode) → Forwards (input anchor path)
 unfolding input
 input_leads anchor path ts =
     when (symbol ts == 61) (λ e. rw e (further (value_leads anchor _)))
     (λ e. rw e (when (is_at_open ts) (λ f. rw f (taken_leads_on _ _ ts)) (λ f. rw f here)))
 
-plain_leads : (anchor : ℕ) → Forwards (plain anchor)
+pub plain_leads : (anchor : ℕ) → Forwards (plain anchor)
 unfolding plain
 plain_leads anchor ts = through (path_leads ts) (input_leads anchor _ _)
 
 module _ (inner : Reader MetaView) (condition : Reader CfgView) (i : Forwards inner) (c : Forwards condition) where
-  unsafe_leads : Forwards (unsafe_with inner)
+  pub unsafe_leads : Forwards (unsafe_with inner)
   unsafe_leads ts = further (further (through (i _) (behind_closed_leads _ _)))
 
-  cfg_leads : Forwards (cfg_with condition)
+  pub cfg_leads : Forwards (cfg_with condition)
   cfg_leads ts = further (further (through (c _) (behind_closed_leads _ _)))
 
-  member_leads : Forwards (member inner)
+  pub member_leads : Forwards (member inner)
   member_leads ts = through (i ts) (behind_comma_leads _)
 
-  cfg_attr_leads : Forwards (cfg_attr_with inner condition)
+  pub cfg_attr_leads : Forwards (cfg_attr_with inner condition)
   cfg_attr_leads ts = further (further (through (c _) (through (turns_leads is_at_end (one (member inner)) member_leads _) (behind_closed_leads _ _))))
 
-  meta_with_leads : (anchor : ℕ) → Forwards (meta_with anchor inner condition)
+  pub meta_with_leads : (anchor : ℕ) → Forwards (meta_with anchor inner condition)
   meta_with_leads anchor ts =
       when (is_call (codes "unsafe") ts) (λ e. rw e (unsafe_leads ts))
       (λ e. rw e (when (is_call (codes "cfg") ts) (λ f. rw f (cfg_leads ts))
       (λ f. rw f (when (is_call (codes "cfg_attr") ts) (λ g. rw g (cfg_attr_leads ts)) (λ g. rw g (plain_leads anchor ts))))))
 
-meta_leads : (anchor depth : ℕ) → Forwards (meta anchor depth)
+pub meta_leads : (anchor depth : ℕ) → Forwards (meta anchor depth)
 unfolding meta
 meta_leads anchor zero ts = here
 meta_leads anchor (suc depth) ts = meta_with_leads (meta anchor depth) (condition depth) (meta_leads anchor depth) (condition_leads depth) anchor ts
 
 -- ---- attributes
 
-doc_leads : (anchor : ℕ) → Forwards (doc anchor)
+pub doc_leads : (anchor : ℕ) → Forwards (doc anchor)
 unfolding doc
 doc_leads anchor ts = documentation_leads anchor ts
 
-behind_bracket_leads : (ts : Tokens) → LeadsTo ts (behind_bracket ts)
+pub behind_bracket_leads : (ts : Tokens) → LeadsTo ts (behind_bracket ts)
 behind_bracket_leads ts = when (begins_item ts) (λ e. rw e here) (λ e. rw e (behind_closed_leads _ ts))
 
-bracketed_leads : (anchor : ℕ) → Forwards (bracketed anchor)
+pub bracketed_leads : (anchor : ℕ) → Forwards (bracketed anchor)
 unfolding bracketed
 bracketed_leads anchor ts = further (through (meta_leads anchor _ _) (behind_bracket_leads _))
 
-opened_leads : (style : DocStyle) (ts : Tokens) → LeadsTo ts (opened style ts)
+pub opened_leads : (style : DocStyle) (ts : Tokens) → LeadsTo ts (opened style ts)
 opened_leads Outer ts = bumped_leads ts
 opened_leads Inner ts = further (bumped_leads _)
 
-one_attribute_leads : (anchor : ℕ) (style : DocStyle) → Forwards (one_attribute anchor style)
+pub one_attribute_leads : (anchor : ℕ) (style : DocStyle) → Forwards (one_attribute anchor style)
 unfolding one_attribute
 one_attribute_leads anchor style ts = when (is_doc style ts) (λ e. rw e (doc_leads anchor ts)) (λ e. rw e (through (opened_leads style ts) (bracketed_leads anchor _)))
 
@@ -133,16 +133,16 @@ docs_leads : (n : ℕ) (ts : Tokens) → LeadsTo ts (behind_docs_from n ts)
 docs_leads zero ts = here
 docs_leads (suc n) ts = when (is_doc Inner ts) (λ e. rw e (further (docs_leads n _))) (λ e. rw e here)
 
-behind_attribute_leads : (style : DocStyle) (ts : Tokens) → LeadsTo ts (behind_attribute style ts)
+pub behind_attribute_leads : (style : DocStyle) (ts : Tokens) → LeadsTo ts (behind_attribute style ts)
 unfolding behind_docs
 behind_attribute_leads Outer ts = docs_leads _ ts
 behind_attribute_leads Inner ts = here
 
-attribute_leads : (style : DocStyle) → Forwards (attribute style)
+pub attribute_leads : (style : DocStyle) → Forwards (attribute style)
 unfolding attribute
 attribute_leads style ts = through (one_attribute_leads _ style ts) (behind_attribute_leads style _)
 
-attributes_leads : (style : DocStyle) → Forwards (attributes style)
+pub attributes_leads : (style : DocStyle) → Forwards (attributes style)
 unfolding attributes
 attributes_leads style ts = turns_leads (is_behind style) (one (attribute style)) (attribute_leads style) ts
 

@@ -6,3 +6,4 @@ pub mod Naming
 pub mod Strings
 pub mod Texts
 pub mod Leads
+pub mod Near

@@ -134,7 +134,7 @@ alias_leads : Forwards alias
 unfolding alias
 alias_leads ts = through (name_leads ts) (eat_word_leads _ _)
 
-alias_if_leads : (found : Bool) → Forwards (alias_if found)
+pub alias_if_leads : (found : Bool) → Forwards (alias_if found)
 alias_if_leads true ts = alias_leads ts
 alias_if_leads false ts = here
 
@@ -142,13 +142,13 @@ pub rename_leads : Forwards rename
 unfolding rename
 rename_leads ts = through (eat_word_leads (codes "as") ts) (alias_if_leads _ _)
 
-comma_from_leads : (n : ℕ) (ts : Tokens) → LeadsTo ts (comma_from n ts)
+pub comma_from_leads : (n : ℕ) (ts : Tokens) → LeadsTo ts (comma_from n ts)
 comma_from_leads zero ts = here
 comma_from_leads (suc n) ts =
     when (is_at_end ts) (λ e. rw e here)
     (λ e. rw e (when (symbol ts == 44) (λ f. rw f (bumped_leads ts)) (λ f. rw f (through (behind_tree_leads ts) (comma_from_leads n _)))))
 
-behind_comma_leads : (ts : Tokens) → LeadsTo ts (behind_comma ts)
+pub behind_comma_leads : (ts : Tokens) → LeadsTo ts (behind_comma ts)
 unfolding behind_comma
 behind_comma_leads ts = comma_from_leads _ ts
 
@@ -158,17 +158,17 @@ star_or_list_leads list l start p ts = when (symbol ts == 42) (λ e. rw e (bumpe
 renamed_tree_leads : (start : ℕ) (p : Option PathNode) → Forwards (renamed_tree start p)
 renamed_tree_leads start p ts = rename_leads ts
 
-tree_behind_leads : (list : Reader (Found (Option (List UseTreeView)))) → Forwards list → (start : ℕ) (p : Option PathNode) (joined : Bool) → Forwards (tree_behind list start p joined)
+pub tree_behind_leads : (list : Reader (Found (Option (List UseTreeView)))) → Forwards list → (start : ℕ) (p : Option PathNode) (joined : Bool) → Forwards (tree_behind list start p joined)
 tree_behind_leads list l start p joined ts =
     when (joined || is_none p) (λ e. rw e (star_or_list_leads list l start p ts)) (λ e. rw e (renamed_tree_leads start p ts))
 
 tree_leads : (list : Reader (Found (Option (List UseTreeView)))) → Forwards list → Forwards (tree_with list)
 tree_leads list l ts = through (use_path_leads ts) (through (eat_pair_leads _ _ _) (tree_behind_leads list l _ _ _ _))
 
-element_leads : (list : Reader (Found (Option (List UseTreeView)))) → Forwards list → Forwards (element_with list)
+pub element_leads : (list : Reader (Found (Option (List UseTreeView)))) → Forwards list → Forwards (element_with list)
 element_leads list l ts = through (tree_leads list l ts) (behind_comma_leads _)
 
-list_leads : (depth : ℕ) → Forwards (list depth)
+pub list_leads : (depth : ℕ) → Forwards (list depth)
 unfolding list
 list_leads zero ts = when (symbol ts == 123) (λ e. rw e (behind_tree_leads ts)) (λ e. rw e here)
 list_leads (suc depth) ts =

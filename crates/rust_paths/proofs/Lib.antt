@@ -4,3 +4,4 @@ pub mod Steps
 pub mod Trees
 pub mod Leads
 pub mod Near
+pub mod NearTrees
