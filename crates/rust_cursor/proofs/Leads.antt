@@ -78,11 +78,11 @@ closing_next : (bracket : ℕ) (ts : Tokens) → ((nest : Nest) → LeadsTo (bum
 closing_next bracket ts inner nest =
     when (is_closing bracket nest ts) (λ s. rw (closing_stop bracket nest ts s) here) (λ s. rw (closing_more bracket nest ts s) (further (inner _)))
 
-closing_empty : (bracket : ℕ) (nest : Nest) (ts : Tokens) → is_empty ts ≡ true → is_closing bracket nest ts ≡ true
+pub closing_empty : (bracket : ℕ) (nest : Nest) (ts : Tokens) → is_empty ts ≡ true → is_closing bracket nest ts ≡ true
 unfolding is_closing
 closing_empty bracket nest ts n = rw n refl
 
-closing_leads : (bracket : ℕ) (nest : Nest) (ts : Tokens) → LeadsTo ts (closing bracket nest ts)
+pub closing_leads : (bracket : ℕ) (nest : Nest) (ts : Tokens) → LeadsTo ts (closing bracket nest ts)
 closing_leads bracket nest ts =
     from_last (λ ts. (nest : Nest) → LeadsTo ts (closing bracket nest ts)) (λ ts n nest. rw (closing_stop bracket nest ts (closing_empty bracket nest ts n)) here)
     (λ ts n inner. closing_next bracket ts inner) ts nest
@@ -91,7 +91,7 @@ pub to_closing_leads : (bracket : ℕ) (ts : Tokens) → LeadsTo ts (to_closing 
 unfolding to_closing
 to_closing_leads bracket ts = closing_leads bracket flat ts
 
-behind_closing_leads : (bracket : ℕ) (ts : Tokens) → LeadsTo ts (behind_closing bracket ts)
+pub behind_closing_leads : (bracket : ℕ) (ts : Tokens) → LeadsTo ts (behind_closing bracket ts)
 behind_closing_leads bracket ts =
     when (bracket == 123) (λ e. rw e (bumped_leads ts)) (λ e. when (symbol ts == 125) (λ f. rw (e, f) here) (λ f. rw (e, f) (bumped_leads ts)))
 
@@ -127,7 +127,7 @@ taking_next e ts inner done last opened nest =
     (λ s. when (ends e (is_mark nest.before) (nest_behind nest ts) ts) (λ f. rw (taking_end e done last opened nest ts s f) (bumped_leads ts))
     (λ f. rw (taking_more e done last opened nest ts s f) (further (inner _ _ _ _))))
 
-stops_empty : (e : Extent) (nest : Nest) (ts : Tokens) → is_empty ts ≡ true → stops e nest ts ≡ true
+pub stops_empty : (e : Extent) (nest : Nest) (ts : Tokens) → is_empty ts ≡ true → stops e nest ts ≡ true
 unfolding stops
 stops_empty e nest ts n = rw n refl
 
@@ -148,11 +148,11 @@ reaching_next r ts inner nest =
     (λ s. when (is_closed r (nest_behind nest ts)) (λ f. rw (reaching_end r nest ts s f) (bumped_leads ts))
     (λ f. rw (reaching_more r nest ts s f) (further (inner _))))
 
-reached_empty : (r : Reach) (nest : Nest) (ts : Tokens) → is_empty ts ≡ true → is_reached r nest ts ≡ true
+pub reached_empty : (r : Reach) (nest : Nest) (ts : Tokens) → is_empty ts ≡ true → is_reached r nest ts ≡ true
 unfolding is_reached
 reached_empty r nest ts n = rw n refl
 
-reaching_leads : (r : Reach) (nest : Nest) (ts : Tokens) → LeadsTo ts (reaching r nest ts)
+pub reaching_leads : (r : Reach) (nest : Nest) (ts : Tokens) → LeadsTo ts (reaching r nest ts)
 reaching_leads r nest ts =
     from_last (λ ts. (nest : Nest) → LeadsTo ts (reaching r nest ts)) (λ ts n nest. rw (reaching_stop r nest ts (reached_empty r nest ts n)) here)
     (λ ts n inner. reaching_next r ts inner) ts nest

@@ -26,3 +26,8 @@ pub mod Places
 pub mod Level
 pub mod TreeTexts
 pub mod Around
+pub mod Near
+pub mod NearTests
+pub mod NearPassing
+pub mod NearUntil
+pub mod NearTexts

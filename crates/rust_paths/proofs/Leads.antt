@@ -75,7 +75,7 @@ other_segment_leads ts =
     when (symbol ts == 60) (λ e. rw e (behind_angles_leads ts))
     (λ e. rw e (when (is_dollar_crate ts) (λ f. rw f (further (bumped_leads _))) (λ f. rw f (named_word_leads ts))))
 
-segment_leads : Forwards segment
+pub segment_leads : Forwards segment
 unfolding segment
 segment_leads ts =
     when (bytes_eq (word ts) (codes "self")) (λ e. rw e (bumped_leads ts))
@@ -83,14 +83,14 @@ segment_leads ts =
     (λ f. rw f (when (bytes_eq (word ts) (codes "crate")) (λ g. rw g (bumped_leads ts))
     (λ g. rw g (when (bytes_eq (word ts) (codes "Self")) (λ h. rw h (bumped_leads ts)) (λ h. rw h (other_segment_leads ts))))))))
 
-more_from_leads : (in_use : Bool) (n : ℕ) → Forwards (more_from in_use n)
+pub more_from_leads : (in_use : Bool) (n : ℕ) → Forwards (more_from in_use n)
 more_from_leads in_use zero ts = here
 more_from_leads in_use (suc n) ts =
     when (is_path_colons in_use ts)
     (λ e. rw e (further (further (through (segment_leads (bumped (bumped ts))) (more_from_leads in_use n _)))))
     (λ e. rw e here)
 
-more_segments_leads : (in_use : Bool) → Forwards (more_segments in_use)
+pub more_segments_leads : (in_use : Bool) → Forwards (more_segments in_use)
 unfolding more_segments
 more_segments_leads in_use ts = more_from_leads in_use _ ts
 
@@ -134,7 +134,7 @@ alias_leads : Forwards alias
 unfolding alias
 alias_leads ts = through (name_leads ts) (eat_word_leads _ _)
 
-alias_if_leads : (found : Bool) → Forwards (alias_if found)
+pub alias_if_leads : (found : Bool) → Forwards (alias_if found)
 alias_if_leads true ts = alias_leads ts
 alias_if_leads false ts = here
 
@@ -142,7 +142,7 @@ pub rename_leads : Forwards rename
 unfolding rename
 rename_leads ts = through (eat_word_leads (codes "as") ts) (alias_if_leads _ _)
 
-comma_from_leads : (n : ℕ) (ts : Tokens) → LeadsTo ts (comma_from n ts)
+pub comma_from_leads : (n : ℕ) (ts : Tokens) → LeadsTo ts (comma_from n ts)
 comma_from_leads zero ts = here
 comma_from_leads (suc n) ts =
     when (is_at_end ts) (λ e. rw e here)
@@ -158,7 +158,7 @@ star_or_list_leads list l start p ts = when (symbol ts == 42) (λ e. rw e (bumpe
 renamed_tree_leads : (start : ℕ) (p : Option PathNode) → Forwards (renamed_tree start p)
 renamed_tree_leads start p ts = rename_leads ts
 
-tree_behind_leads : (list : Reader (Found (Option (List UseTreeView)))) → Forwards list → (start : ℕ) (p : Option PathNode) (joined : Bool) → Forwards (tree_behind list start p joined)
+pub tree_behind_leads : (list : Reader (Found (Option (List UseTreeView)))) → Forwards list → (start : ℕ) (p : Option PathNode) (joined : Bool) → Forwards (tree_behind list start p joined)
 tree_behind_leads list l start p joined ts =
     when (joined || is_none p) (λ e. rw e (star_or_list_leads list l start p ts)) (λ e. rw e (renamed_tree_leads start p ts))
 

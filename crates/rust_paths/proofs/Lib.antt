@@ -5,3 +5,5 @@ pub mod Trees
 pub mod Leads
 pub mod Beside
 pub mod UntilTrees
+pub mod Near
+pub mod NearTrees
