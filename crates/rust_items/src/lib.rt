@@ -5,7 +5,7 @@ mod blocks;
 mod externs;
 mod ids;
 mod items;
-mod line_ends;
+pub mod line_ends;
 mod log;
 mod source_file;
 mod turn;

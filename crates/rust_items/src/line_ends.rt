@@ -10,17 +10,17 @@ use std::alloc::{AllocError, Global};
 
 /// Where carriage returns before line feeds were left out of a text.
 #[derive(Drop)]
-pub(crate) struct LineEnds {
+pub struct LineEnds {
     /// How many bytes are left.
-    len: usize,
+    pub len: usize,
     /// The places of these line feeds in what is left.
-    returns: Vec<usize>,
+    pub returns: Vec<usize>,
     ghost rising: { IsNonDecreasing returns.items },
     ghost fits: { len + length returns.items < 2 ^ 64 },
 }
 
 /// Whether a carriage return stands in a text.
-pub(crate) fn has_return(text: &str) -> bool
+pub fn has_return(text: &str) -> bool
     ensures text { result ≡ false → spec.with_feeds text.now ≡ text.now }
     ensures returns { result ≡ false → spec.returns_from 0 text.now ≡ [] }
 {
@@ -44,7 +44,9 @@ fn push_return(feeds: &mut String, returns: &mut Vec<usize>, behind: &str) -> Re
 }
 
 /// A text with line feeds alone, and where returns were left out.
-pub(crate) fn with_feeds(alloc: Global, text: &str) -> Result<(String, LineEnds), AllocError>
+///
+/// The only error is want of memory.
+pub fn with_feeds(alloc: Global, text: &str) -> Result<(String, LineEnds), AllocError>
     ensures feeds { IfOk result (λ r. string_bytes r.0 ≡ spec.with_feeds text.now) }
     ensures len { IfOk result (λ r. r.1.len ≡ length (spec.with_feeds text.now)) }
     ensures returns { IfOk result (λ r. r.1.returns.items ≡ spec.returns_from 0 text.now) }
@@ -64,7 +66,7 @@ pub(crate) fn with_feeds(alloc: Global, text: &str) -> Result<(String, LineEnds)
 
 impl LineEnds {
     /// Those of a text that has line feeds alone.
-    pub(crate) fn none(alloc: Global, text: &str) -> Self
+    pub fn none(alloc: Global, text: &str) -> Self
         ensures len { result.len ≡ length text.now }
         ensures returns { result.returns.items ≡ [] }
     {
@@ -74,7 +76,8 @@ impl LineEnds {
         }
     }
 
-    fn place(&self, at: usize) -> usize
+    /// The place in the text as it is of what stands here in the text without them.
+    pub fn place(&self, at: usize) -> usize
         ensures { result ≡ spec.place_by self.now.len self.now.returns.items at }
     {
         if at > self.len {
