@@ -11,4 +11,3 @@ pub mod Tokens
 pub mod Terminated
 pub mod Alone
 pub mod Inner
-pub mod Alone
