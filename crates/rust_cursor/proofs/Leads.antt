@@ -69,7 +69,7 @@ module _ (P : Tokens → Type 0) (none : (ts : Tokens) → is_empty ts ≡ true 
       when (is_empty ts) (λ e. none ts e)
       (λ e. let less = shorter ts e in some ts e (from_last_below n (bumped ts) (omega arith)))
 
-  from_last : (ts : Tokens) → P ts
+  pub from_last : (ts : Tokens) → P ts
   from_last ts = from_last_below (suc (length ts.left)) ts (omega arith)
 
 -- ---- brackets

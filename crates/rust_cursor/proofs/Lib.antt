@@ -25,3 +25,5 @@ pub mod Alike
 pub mod Places
 pub mod Level
 pub mod TreeTexts
+pub mod Around
+pub mod Enclosed

@@ -83,15 +83,15 @@ block_beside b o o' n n' ts us a s =
     (λ e. let f : (symbol us == 125) ≡ true = ap (λ c. c == 125) s ∙ e in rw (unopened o n ts e, unopened o' n' us f, f, e) a)
     (λ e. let f : (symbol us == 125) ≡ false = ap (λ c. c == 125) s ∙ e in rw (f, e) neither)
 
-stops_none : (e : Extent) (n : Nest) (ts : Tokens) → is_empty ts ≡ true → stops e n ts ≡ true
+pub stops_none : (e : Extent) (n : Nest) (ts : Tokens) → is_empty ts ≡ true → stops e n ts ≡ true
 unfolding stops
 stops_none e n ts h = rw h refl
 
-stops_deep : (e : Extent) (n : Nest) (ts : Tokens) → is_empty ts ≡ false → (n.braces == 0) ≡ false → stops e n ts ≡ false
+pub stops_deep : (e : Extent) (n : Nest) (ts : Tokens) → is_empty ts ≡ false → (n.braces == 0) ≡ false → stops e n ts ≡ false
 unfolding stops
 stops_deep e n ts h d = rw (h, d) refl
 
-ends_deep : (e : Extent) (w : Before) (n : Nest) (ts : Tokens) → (n.braces == 0) ≡ false → taking_ends e w n ts ≡ false
+pub ends_deep : (e : Extent) (w : Before) (n : Nest) (ts : Tokens) → (n.braces == 0) ≡ false → taking_ends e w n ts ≡ false
 unfolding ends
 ends_deep e w n ts d = rw d refl
 
@@ -159,15 +159,15 @@ reached_same b reaches.Angles n ts us h = rw (begins_same b n ts us h, empty_sam
 reached_same b reaches.Field n ts us h = rw (empty_same b ts us h, symbol_same b ts us h, end_same b ts us h) refl
 reached_same b reaches.Header n ts us h = rw (begins_same b n ts us h, for_same b ts us h, empty_same b ts us h, symbol_same b ts us h, word_same b ts us h) refl
 
-reached_none : (r : Reach) (n : Nest) (ts : Tokens) → is_empty ts ≡ true → is_reached r n ts ≡ true
+pub reached_none : (r : Reach) (n : Nest) (ts : Tokens) → is_empty ts ≡ true → is_reached r n ts ≡ true
 unfolding is_reached
 reached_none r n ts h = rw h refl
 
-reached_deep : (r : Reach) (n : Nest) (ts : Tokens) → is_empty ts ≡ false → (n.braces == 0) ≡ false → is_reached r n ts ≡ false
+pub reached_deep : (r : Reach) (n : Nest) (ts : Tokens) → is_empty ts ≡ false → (n.braces == 0) ≡ false → is_reached r n ts ≡ false
 unfolding is_reached
 reached_deep r n ts h d = rw (h, d) refl
 
-closed_deep : (r : Reach) (n : Nest) → (n.braces == 0) ≡ false → is_closed r n ≡ false
+pub closed_deep : (r : Reach) (n : Nest) → (n.braces == 0) ≡ false → is_closed r n ≡ false
 unfolding is_closed
 closed_deep reaches.Angles n d = rw d refl
 closed_deep reaches.Field n d = refl
@@ -248,11 +248,11 @@ closing_same : (b : Bodies) (bracket : ℕ) (n : Nest) (ts us : Tokens) → Besi
 unfolding is_closing
 closing_same b bracket n ts us h = rw (empty_same b ts us h, symbol_same b ts us h) refl
 
-closing_none : (bracket : ℕ) (n : Nest) (ts : Tokens) → is_empty ts ≡ true → is_closing bracket n ts ≡ true
+pub closing_none : (bracket : ℕ) (n : Nest) (ts : Tokens) → is_empty ts ≡ true → is_closing bracket n ts ≡ true
 unfolding is_closing
 closing_none bracket n ts h = rw h refl
 
-closing_deep : (bracket : ℕ) (n : Nest) (ts : Tokens) → is_empty ts ≡ false → (n.braces == 0) ≡ false → is_closing bracket n ts ≡ false
+pub closing_deep : (bracket : ℕ) (n : Nest) (ts : Tokens) → is_empty ts ≡ false → (n.braces == 0) ≡ false → is_closing bracket n ts ≡ false
 unfolding is_closing
 closing_deep bracket n ts h d = rw (h, d) refl
 
@@ -311,7 +311,7 @@ closing_ends bracket (suc fuel) ts n h =
     (λ p. rw (closing_stop bracket n ts p) (not_open bracket n ts p))
     (λ p. let less = shorter ts (closing_some bracket n ts p) in rw (closing_more bracket n ts p) (closing_ends bracket fuel (bumped ts) (nest_behind n ts) (omega arith)))
 
-to_closing_ends : (bracket : ℕ) (ts : Tokens) → (symbol (to_closing bracket ts) == 123) ≡ false
+pub to_closing_ends : (bracket : ℕ) (ts : Tokens) → (symbol (to_closing bracket ts) == 123) ≡ false
 unfolding to_closing
 to_closing_ends bracket ts = closing_ends bracket (suc (length ts.left)) ts flat (omega arith)
 
@@ -327,7 +327,7 @@ behind_closed_beside b bracket ts us h = behind_closing_beside b bracket _ _ (to
 
 -- ---- trees
 
-braces_of : (n : Nest) (ts : Tokens) → (nest_behind n ts).braces ≡ braces_behind n.braces (symbol ts)
+pub braces_of : (n : Nest) (ts : Tokens) → (nest_behind n ts).braces ≡ braces_behind n.braces (symbol ts)
 braces_of n ts =
     when (n.braces == 0)
     (λ e. let flat : n.braces ≡ 0 = grind (arith, nat_tests) in ap (λ (m : Nest). m.braces) (outside_is n ts e) ∙ ap (λ k. braces_behind k (symbol ts)) (sym flat))
@@ -338,7 +338,7 @@ record Out (n : Nest) (ts : Tokens) (y : EditionYear) (left : List Piece) (u : O
   past : ℕ
   is : closing 123 n ts ≡ tokens_at y past left u
 
-shuts_not : (n : Nest) (ts : Tokens) → is_empty ts ≡ false → (n.braces ≡ 0 → (symbol ts == 125) ≡ false) → is_closing 123 n ts ≡ false
+pub shuts_not : (n : Nest) (ts : Tokens) → is_empty ts ≡ false → (n.braces ≡ 0 → (symbol ts == 125) ≡ false) → is_closing 123 n ts ≡ false
 unfolding is_closing
 shuts_not n ts some f =
     when (n.braces == 0) (λ e. let flat : n.braces ≡ 0 = grind (arith, nat_tests) in rw (some, e, f flat) refl) (λ e. rw (some, e) refl)
