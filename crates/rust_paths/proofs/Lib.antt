@@ -5,3 +5,4 @@ pub mod Trees
 pub mod Leads
 pub mod Beside
 pub mod UntilTrees
+pub mod Around
