@@ -6,3 +6,5 @@ pub mod Leads
 pub mod Places
 pub mod LineEnds
 pub mod FilePlaces
+pub mod UntilLeaves
+pub mod UntilItems
