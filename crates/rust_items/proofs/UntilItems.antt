@@ -42,9 +42,10 @@ use Rattle.rust_items.specs.declared.log.ProblemKind.TheVariants as problem
 use Rattle.rust_items.specs.declared.source_file.ItemPlace.{ItemPlace}
 use Rattle.rust_items.specs.Found.{Found, Finder, nothing_found, and_problem, and_problem_if, and_problem_at, and_row, and_use_trees, and_all}
 use Rattle.rust_items.specs.Items.{BlockRead, empty_block, no_block, deep_block, and_flaw, and_item, and_leaf, and_parent, leaf_found, leaf_turn, finding_from, finding, is_list_end, block_of, as_extern, extern_kept, extern_found, extern_turn, extern_inside, extern_block, one_more, unmatched, inside_unless, module_with, some_item, by_head, turn_with, inside, turn, depth_of, items}
+use Rattle.rust_items.specs.Tuples.{has_tuple_struct, have_tuple_struct}
 use Rattle.rust_items.specs.Places.{Telling, IsBodyIn, ArePlaces, nothing, placed}
 use Rattle.rust_items.proofs.Leads.{named_leads, behind_others_leads, front_start, front_takes}
-use Rattle.rust_items.proofs.Places.{Adds, adds_item, adds_problem_at, adds_use_trees, AreFound, Finds, FindsIn, IsListed, list_from, list_found, listed, place_span, inside_found, turn_found, turn_with_found, extern_turn_found, extern_inside_found, unless_found}
+use Rattle.rust_items.proofs.Places.{Adds, adds_item, adds_problem_at, adds_use_trees, AreFound, Finds, FindsIn, IsListed, list_from, list_found, listed, place_span, inside_found, turn_found, turn_with_found, extern_turn_found, extern_inside_found, unless_found, items_found}
 use Rattle.rust_items.proofs.UntilLeaves.{FrontAlike, front_until, BeginPlain, is_tuple_struct, LeafUntil, leaf_lost, leaf_loose, leaf_same, leaf_until, LeafLost, leaf_gone}
 
 -- ---- whose braces they are
@@ -122,18 +123,6 @@ pub data FoundUntil {A : Type 0} (alike : A → A → Type 0) (loose : A → Typ
   slack : loose p.0 → FoundUntil alike loose b f p q
   same : FoundKept alike b p q → FoundUntil alike loose b f p q
 
-abbrev mutual
-  -- a struct with fields in parentheses stands in it
-  pub has_tuple_struct : ItemView → Bool
-  has_tuple_struct (struct_item n (tuple_fields fs)) = true
-  has_tuple_struct (listed_module n semicolon is) = have_tuple_struct is
-  has_tuple_struct (listed_extern_block n is) = have_tuple_struct is
-  has_tuple_struct _ = false
-
-  pub have_tuple_struct : ItemViews → Bool
-  have_tuple_struct no_items = false
-  have_tuple_struct (item_and i is) = has_tuple_struct i || have_tuple_struct is
-
 -- the same but for body texts
 abbrev pub ItemAlike : Option ItemView → Option ItemView → Type 0
 ItemAlike o o' = option_map item_without_bodies o' ≡ option_map item_without_bodies o
@@ -164,7 +153,7 @@ item_rows : (depth start end : ℕ) (body named : Option TextRange) (k : AstIdKi
     → (and_item depth start end body k name named is_ended f).rows ≡ f.rows ++ record { depth = depth; kind = k; name = name } ∷ []
 item_rows depth start end body named k name is_ended f = flaw_rows is_ended _ start _
 
-problem_at_rows : (k : ProblemKind) (o : Option ℕ) (f : Found) → (and_problem_at k o f).rows ≡ f.rows
+pub problem_at_rows : (k : ProblemKind) (o : Option ℕ) (f : Found) → (and_problem_at k o f).rows ≡ f.rows
 problem_at_rows k None f = refl
 problem_at_rows k (Some at) f = refl
 
@@ -592,3 +581,23 @@ pub items_until : (end : ℕ) (is_top : Bool) (left : ℕ) (b : Bodies) → Begi
 unfolding finding
 items_until end is_top left b plain f f' ts us l e h =
     list_until end (is_list_end is_top) (list_end_same is_top) (turn left) (turn_found end left) (turn_until end left) most b plain [] [] f f' ts us l refl e h
+
+-- ---- whole files
+
+abbrev pub items_behind : Tokens → List ItemView × (Found × Tokens)
+items_behind ts = items true 128 nothing_found (inner_attributes ts).1
+
+-- the braces are of no item of the file, or a struct has its fields in parentheses, or the same is read but for body texts
+pub data FileUntil (b : Bodies) (ts us : Tokens) : Type 0 where
+  of_none : AreElsewhere b.opening.at (items_behind ts).1.0.spans → FileUntil b ts us
+  tuples : ListLoose (items_behind ts).0 → FileUntil b ts us
+  alike : (inner_attributes us).0 ≡ (inner_attributes ts).0 → ListAlike (items_behind ts).0 (items_behind us).0 → (items_behind us).1.0.rows ≡ (items_behind ts).1.0.rows → FileUntil b ts us
+
+pub file_until : (end : ℕ) (b : Bodies) → BeginPlain b → (ts us : Tokens) → IsSound end ts → Beside b ts us → FileUntil b ts us
+file_until end b plain ts us l h =
+    let inner = inner_attributes ts in
+    let sound = sound_on end (inner_attributes_leads ts) l in
+    by_kept (inner_attributes_until b ts us h)
+    (λ g. let m = found_gone (items_found end true 128 nothing_found inner.1 sound.laid) g in of_none (subst (AreElsewhere b.opening.at) (sym m.is) m.free))
+    (λ k. by_found (items_until end true 128 b plain nothing_found nothing_found inner.1 (inner_attributes us).1 sound refl k.rest)
+        (λ g m. of_none (subst (AreElsewhere b.opening.at) (sym m.is) m.free)) (λ t. tuples t) (λ j. alike k.value j.value j.rows))
