@@ -1,6 +1,5 @@
 -- The `}` of the braces around: what reads in braces and stays in them leaves it where it is.
-use Rattle.std.proofs.Common.{◌≡◌, ◌≢◌, ◌≤◌, ◌<◌, ℕ, zero, suc, ◌+◌, ◌-◌, ◌==◌, ◌||◌, ◌&&◌, Bool, true, false, Option, Some, None, List, [], ◌∷◌, ◌++◌, refl, ap, ◌∙◌, sym, subst, arith}
-use Rattle.std.specs.Prelude.{if◌then◌else◌, not}
+use Rattle.std.proofs.Common.{◌≡◌, ◌≢◌, ℕ, zero, suc, ◌+◌, ◌==◌, ◌&&◌, Bool, true, false, Option, None, List, [], ◌∷◌, length, refl, ap, ◌∙◌, sym, subst, arith}
 use Rattle.std.specs.Str.{bytes_eq}
 use Rattle.std.proofs.lemmas.Bool.{eqb-true}
 use Rattle.std.proofs.lemmas.Bool.Decides.{nat_tests}
@@ -9,37 +8,45 @@ use Rattle.rust_lexer.specs.declared.kind.TokenKind.{TokenKind}
 use Rattle.rust_lexer.specs.declared.kind.TokenKind.TheVariants as kinds
 use Rattle.rust_lexer.specs.Piece.{Piece}
 use Rattle.rust_lexer.specs.Symbol.{symbol_of}
-use Rattle.rust_cursor.specs.declared.cursor.nest.Before.{Before}
 use Rattle.rust_cursor.specs.declared.cursor.nest.Before.TheVariants as befores
 use Rattle.rust_cursor.specs.declared.cursor.nest.Nest.{Nest}
 use Rattle.rust_cursor.specs.declared.cursor.generics.Reach.TheVariants as reaches
 use Rattle.rust_cursor.specs.declared.cursor.texts.Extent.TheVariants as extents
-use Rattle.rust_cursor.specs.Tokens.{Tokens}
+use Rattle.std.specs.List.{filter}
+use Rattle.std.proofs.lemmas.List.Elements.{All-head, All-tail}
+use Rattle.rust_lexer.specs.Tokens.{is_significant, tokens}
+use Rattle.rust_lexer.proofs.Braces.{IsBracket, AreBrackets, tokens_brackets}
+use Rattle.rust_cursor.specs.Tokens.{Tokens, tokens_of}
 use Rattle.rust_cursor.specs.Reader.{Reader}
 use Rattle.rust_cursor.specs.Words.{opens, closes, is_open, is_close, word_by, by_first, rest, symbol, word, is_empty, is_at_open, is_at_end, bumped, is_glued, is_pair, eat_pair}
 use Rattle.rust_cursor.specs.Nests.{braces_behind, flat, is_flat, is_mark, nest_behind}
-use Rattle.rust_cursor.specs.Brackets.{is_closing, closing, to_closing, behind_closing, behind_closed, behind_tree}
+use Rattle.rust_cursor.specs.Brackets.{is_closing, closing, to_closing, behind_closed, behind_tree}
 use Rattle.rust_cursor.specs.Elements.{beyond, turns_from, turns}
-use Rattle.rust_cursor.specs.Extents.{ExcerptRead, stops, ends, opened_behind, block_at, more, taking, taken, tree_text}
+use Rattle.rust_cursor.specs.Extents.{stops, ends, opened_behind, more, taking, taken, tree_text}
 use Rattle.rust_cursor.specs.Angles.{is_reached, is_closed, reaching, reached, behind_angles}
-use Rattle.rust_cursor.proofs.Leads.{LeadsTo, here, further, through, Forwards, when, from_last, symbol_some, beyond_leads}
+use Rattle.rust_cursor.proofs.Leads.{LeadsTo, here, further, through, Forwards, when, from_last, to_closing_leads, symbol_some, beyond_leads}
 use Rattle.rust_cursor.proofs.Steps.{closing_stop, closing_more}
 use Rattle.rust_cursor.proofs.Scans.{taking_stop, taking_end, taking_more}
 use Rattle.rust_cursor.proofs.Reaches.{reaching_stop, reaching_end, reaching_more}
-use Rattle.rust_cursor.proofs.Laid.{IsLaid, IsBehind, behind, taken_behind, at_behind}
+use Rattle.rust_cursor.proofs.Laid.{IsLaid, behind, taken_behind, at_behind, tokens_laid}
 use Rattle.rust_cursor.proofs.Local.{both_true}
 use Rattle.rust_cursor.proofs.Passing.{stops_none, stops_deep, ends_deep, reached_none, reached_deep, closed_deep, closing_none, closing_deep, to_closing_ends, braces_of, shuts_not}
 
 -- in so many braces
-abbrev deep : ℕ → Nest
+abbrev pub deep : ℕ → Nest
 deep k = record { braces = k; others = 0; free = 0; angles = 0; inner = 0; is_torn = false; before = befores.End }
 
 -- what is left from the `}` on that closes the braces around, where so many more are closed before it
 abbrev pub around : ℕ → Tokens → Tokens
 around k ts = closing 123 (deep k) ts
 
-abbrev is_shut : ℕ → Tokens → Bool
+abbrev pub is_shut : ℕ → Tokens → Bool
 is_shut k ts = is_closing 123 (deep k) ts
+
+-- it is left of them
+pub to_around : (ts : Tokens) → LeadsTo ts (around 0 ts)
+unfolding to_closing
+to_around ts = to_closing_leads 123 ts
 
 -- ---- steps
 
@@ -53,15 +60,15 @@ closing_any ts n =
     from_last (λ ts. (n : Nest) → closing 123 n ts ≡ around n.braces ts)
     (λ ts e n. closing_stop 123 n ts (closing_none 123 n ts e) ∙ sym (closing_stop 123 (deep n.braces) ts (closing_none 123 (deep n.braces) ts e)))
     (λ ts e inner n. when (is_closing 123 n ts)
-        (λ s. closing_stop 123 n ts s ∙ sym (closing_stop 123 (deep n.braces) ts (closing_by n ts ∙ s)))
-        (λ s. closing_more 123 n ts s ∙ inner (nest_behind n ts) ∙ ap (λ k. around k (bumped ts)) (braces_of n ts ∙ sym (braces_of (deep n.braces) ts))
-            ∙ sym (closing_more 123 (deep n.braces) ts (closing_by n ts ∙ s) ∙ inner (nest_behind (deep n.braces) ts))))
+    (λ s. closing_stop 123 n ts s ∙ sym (closing_stop 123 (deep n.braces) ts (closing_by n ts ∙ s)))
+    (λ s. closing_more 123 n ts s ∙ inner (nest_behind n ts) ∙ ap (λ k. around k (bumped ts)) (braces_of n ts ∙ sym (braces_of (deep n.braces) ts))
+    ∙ sym (closing_more 123 (deep n.braces) ts (closing_by n ts ∙ s) ∙ inner (nest_behind (deep n.braces) ts))))
     ts n
 
 around_none : (k : ℕ) (ts : Tokens) → is_empty ts ≡ true → around k ts ≡ ts
 around_none k ts e = closing_stop 123 (deep k) ts (closing_none 123 (deep k) ts e)
 
-around_more : (k : ℕ) (ts : Tokens) → is_shut k ts ≡ false → around k ts ≡ around (braces_behind k (symbol ts)) (bumped ts)
+pub around_more : (k : ℕ) (ts : Tokens) → is_shut k ts ≡ false → around k ts ≡ around (braces_behind k (symbol ts)) (bumped ts)
 around_more k ts s = closing_more 123 (deep k) ts s ∙ closing_any (bumped ts) (nest_behind (deep k) ts) ∙ ap (λ j. around j (bumped ts)) (braces_of (deep k) ts)
 
 none_by : (past : ℕ) (left : List Piece) (u : Option ℕ) (y : EditionYear) → (let ts : Tokens = record { past = past; left = left; unended = u; edition = y } in is_empty ts ≡ true → bumped ts ≡ ts)
@@ -98,7 +105,7 @@ shut_at k ts some s =
     (λ z. let u = rw z at t in record { none = eqb-true k 0 z; closes = when (symbol ts == 125) (λ f. f) (λ f. absurd (let no_more = rw f at u in cc)) })
     (λ z. absurd (let no_more = rw z at t in cc))
 
-one_deeper : (j c : ℕ) → (j ≡ 0 → (c == 125) ≡ false) → braces_behind (suc j) c ≡ suc (braces_behind j c)
+pub one_deeper : (j c : ℕ) → (j ≡ 0 → (c == 125) ≡ false) → braces_behind (suc j) c ≡ suc (braces_behind j c)
 one_deeper j c h =
     when (c == 123) (λ e. rw e (omega arith))
     (λ e. when (c == 125) (λ f. let some : j ≢ 0 = λ z. let no = h z in cc in rw (e, f) (omega arith)) (λ f. rw (e, f) refl))
@@ -113,11 +120,11 @@ out_around ts j =
     from_last (λ ts. (j : ℕ) → around (suc j) ts ≡ around 0 (bumped (around j ts)))
     (λ ts e j. around_none (suc j) ts e ∙ sym (ap (λ t. around 0 (bumped t)) (around_none j ts e) ∙ ap (around 0) (bumped_none ts e) ∙ around_none 0 ts e))
     (λ ts e inner j. when (is_shut j ts)
-        (λ s. let h = shut_at j ts e s in
-            let back : braces_behind (suc j) (symbol ts) ≡ 0 = let other : (symbol ts == 123) ≡ false = grind (arith, nat_tests, h.closes) in let none = h.none in rw (other, h.closes) (omega arith) in
-            around_more (suc j) ts (shuts_not (deep (suc j)) ts e (λ z. absurd (omega (arith, z)))) ∙ ap (λ i. around i (bumped ts)) back ∙ ap (λ t. around 0 (bumped t)) (sym (closing_stop 123 (deep j) ts s)))
-        (λ s. around_more (suc j) ts (shuts_not (deep (suc j)) ts e (λ z. absurd (omega (arith, z)))) ∙ ap (λ i. around i (bumped ts)) (one_deeper j (symbol ts) (open_still j ts s))
-            ∙ inner (braces_behind j (symbol ts)) ∙ ap (λ t. around 0 (bumped t)) (sym (around_more j ts s))))
+    (λ s. let h = shut_at j ts e s in
+    let back : braces_behind (suc j) (symbol ts) ≡ 0 = let other : (symbol ts == 123) ≡ false = grind (arith, nat_tests, h.closes) in let none = h.none in rw (other, h.closes) (omega arith) in
+    around_more (suc j) ts (shuts_not (deep (suc j)) ts e (λ z. absurd (omega (arith, z)))) ∙ ap (λ i. around i (bumped ts)) back ∙ ap (λ t. around 0 (bumped t)) (sym (closing_stop 123 (deep j) ts s)))
+    (λ s. around_more (suc j) ts (shuts_not (deep (suc j)) ts e (λ z. absurd (omega (arith, z)))) ∙ ap (λ i. around i (bumped ts)) (one_deeper j (symbol ts) (open_still j ts s))
+    ∙ inner (braces_behind j (symbol ts)) ∙ ap (λ t. around 0 (bumped t)) (sym (around_more j ts s))))
     ts j
 
 -- ---- walks
@@ -137,16 +144,16 @@ module _ {S : Type 0} (go : S → Nest → Tokens → Tokens) (step : S → Nest
       from_last (λ ts. (s : S) (n : Nest) → Open n ts → around n.braces ts ≡ around 0 (go s n ts))
       (λ ts e s n o. around_none n.braces ts e ∙ sym (ap (around 0) (stop s n ts (none n ts e)) ∙ around_none 0 ts e))
       (λ ts e inner s n o. when (stops n ts)
-          (λ p. when (n.braces == 0)
-              (λ z. ap (λ k. around k ts) (eqb-true n.braces 0 z) ∙ ap (around 0) (sym (stop s n ts p)))
-              (λ z. absurd (let no = deep_stops n ts e z in cc)))
-          (λ p. let shut : is_shut n.braces ts ≡ false = shuts_not (deep n.braces) ts e (λ z. shuts n ts o p (rw z refl)) in
-              let next = around_more n.braces ts shut ∙ ap (λ k. around k (bumped ts)) (sym (braces_of n ts)) in
-              when (ends n ts)
-              (λ q. when ((nest_behind n ts).braces == 0)
-                  (λ z. next ∙ ap (λ k. around k (bumped ts)) (eqb-true (nest_behind n ts).braces 0 z) ∙ ap (around 0) (sym (end s n ts p q)))
-                  (λ z. absurd (let no = deep_ends n ts z in cc)))
-              (λ q. next ∙ inner (step s n ts) (nest_behind n ts) (on n ts o p q) ∙ ap (around 0) (sym (more s n ts p q)))))
+      (λ p. when (n.braces == 0)
+      (λ z. ap (λ k. around k ts) (eqb-true n.braces 0 z) ∙ ap (around 0) (sym (stop s n ts p)))
+      (λ z. absurd (let no = deep_stops n ts e z in cc)))
+      (λ p. let shut : is_shut n.braces ts ≡ false = shuts_not (deep n.braces) ts e (λ z. shuts n ts o p (rw z refl)) in
+      let next = around_more n.braces ts shut ∙ ap (λ k. around k (bumped ts)) (sym (braces_of n ts)) in
+      when (ends n ts)
+      (λ q. when ((nest_behind n ts).braces == 0)
+      (λ z. next ∙ ap (λ k. around k (bumped ts)) (eqb-true (nest_behind n ts).braces 0 z) ∙ ap (around 0) (sym (end s n ts p q)))
+      (λ z. absurd (let no = deep_ends n ts z in cc)))
+      (λ q. next ∙ inner (step s n ts) (nest_behind n ts) (on n ts o p q) ∙ ap (around 0) (sym (more s n ts p q)))))
       ts s n o
 
 closing_open : (bracket : ℕ) (n : Nest) (ts : Tokens) → is_closing bracket n ts ≡ false → (n.braces == 0) ≡ true → (symbol ts == 125) ≡ false
@@ -157,7 +164,7 @@ to_closing_around : (bracket : ℕ) (ts : Tokens) → around 0 (to_closing brack
 unfolding to_closing
 to_closing_around bracket ts =
     sym (go_around (λ (s : Unit {0}) n ts. closing bracket n ts) (λ s n ts. s) (is_closing bracket) (λ n ts. false) (λ s n ts p. closing_stop bracket n ts p) (λ s n ts p q. absurd cc) (λ s n ts p q. closing_more bracket n ts p)
-        (closing_none bracket) (closing_deep bracket) (λ n ts d. refl) (λ n ts. Unit {0}) (λ n ts o p z. closing_open bracket n ts p z) (λ n ts o p q. tt) ts tt flat tt)
+    (closing_none bracket) (closing_deep bracket) (λ n ts d. refl) (λ n ts. Unit {0}) (λ n ts o p z. closing_open bracket n ts p z) (λ n ts o p q. tt) ts tt flat tt)
 
 reached_open : (n : Nest) (ts : Tokens) → is_reached reaches.Angles n ts ≡ false → (n.braces == 0) ≡ true → (symbol ts == 125) ≡ false
 unfolding is_reached
@@ -293,14 +300,14 @@ still_there end here h e = refl
 still_there {ts} {us} end (further p) h e =
     when (is_empty ts)
     (λ n. let none = bumped_none ts n in
-        let past : (bumped ts).past ≡ ts.past = ap (λ (t : Tokens). t.past) none in
-        let laid : IsLaid end (bumped ts) = subst (λ (t : Tokens). IsLaid end t) (sym none) h in
-        still_there end p laid (e ∙ sym past) ∙ none)
+    let past : (bumped ts).past ≡ ts.past = ap (λ (t : Tokens). t.past) none in
+    let laid : IsLaid end (bumped ts) = subst (λ (t : Tokens). IsLaid end t) (sym none) h in
+    still_there end p laid (e ∙ sym past) ∙ none)
     (λ n. let laid : IsLaid end (bumped ts) = (behind end (further here) h).laid in
-        let strict = taken_behind end ts h n in
-        let first = at_behind end ts h in
-        let later = (behind end p laid).past in
-        absurd (omega (arith, e)))
+    let strict = taken_behind end ts h n in
+    let first = at_behind end ts h in
+    let later = (behind end p laid).past in
+    absurd (omega (arith, e)))
 
 beyond_around : (end : ℕ) (ts us : Tokens) → IsSound end ts → LeadsTo ts us → (symbol ts == 125) ≡ false → around 0 us ≡ around 0 ts → around 0 (beyond ts.past us) ≡ around 0 ts
 unfolding beyond
@@ -315,7 +322,7 @@ turns_from_around end ends reader leads each shuts zero done ts s = refl
 turns_from_around end ends reader leads each shuts (suc n) done ts s =
     when (ends ts) (λ e. rw e refl)
     (λ e. rw e (turns_from_around end ends reader leads each shuts n _ (beyond ts.past (reader ts).1) (sound_on end (through (leads ts) (beyond_leads ts.past (reader ts).1)) s)
-        ∙ beyond_around end ts (reader ts).1 s (leads ts) (shuts ts s e) (each ts s e)))
+    ∙ beyond_around end ts (reader ts).1 s (leads ts) (shuts ts s e) (each ts s e)))
 
 pub turns_around : {A : Type 0} (end : ℕ) (ends : Tokens → Bool) (reader : Reader (List A)) → Forwards reader → ((ts : Tokens) → IsSound end ts → ends ts ≡ false → around 0 (reader ts).1 ≡ around 0 ts)
     → ((ts : Tokens) → IsSound end ts → ends ts ≡ false → (symbol ts == 125) ≡ false) → Remains end (turns ends reader)
@@ -355,88 +362,15 @@ pub eat_pair_around : (c d : ℕ) (ts : Tokens) → (c == 123) ≡ false → (c 
 unfolding eat_pair
 eat_pair_around c d ts f g i j = when (is_pair c d ts) (λ e. rw e (pair_around c d ts f g i j e)) (λ e. rw e refl)
 
--- ---- the braces that an item ends with
+-- ---- the tokens of a text
 
--- what is left of braces that were opened last stands in them
-abbrev Opened : Option Tokens → Nest → Tokens → Type 0
-Opened o n ts = (a : Tokens) → o ≡ Some a → (j : ℕ) → n.braces ≡ suc j → around j ts ≡ around 0 (bumped a)
+counted_braces : (ts : List Piece) → AreBrackets ts → AreBraces (filter is_significant ts)
+counted_braces [] h = tt
+counted_braces (t ∷ ts) h =
+    let one = All-head IsBracket t ts h in
+    let rest = counted_braces ts (All-tail IsBracket t ts h) in
+    when (is_significant t) (λ e. rw e (record { opening = λ f. ap opens (one.opening f); closing = λ f. ap closes (one.closing f) }, rest)) (λ e. rw e rest)
 
--- what is left of an item stands behind the `}` of its braces
-abbrev Encloses : ExcerptRead × Tokens → Type 0
-Encloses r = (a : Tokens) → r.0.block ≡ Some a → LeadsTo (around 0 (bumped a)) r.1
-
-item_open : (n : Nest) (ts : Tokens) → stops extents.Item n ts ≡ false → (n.braces == 0) ≡ true → (symbol ts == 125) ≡ false
-unfolding stops
-item_open n ts s z = when (symbol ts == 125) (λ f. when (is_empty ts) (λ e. absurd (let no = rw e at s in cc)) (λ e. absurd (let no = rw (e, z, f) at s in cc))) (λ f. f)
-
-item_ends : (is_call : Bool) (n : Nest) (ts : Tokens) → ends extents.Item is_call n ts ≡ true → n.braces ≡ 0
-unfolding ends
-item_ends is_call n ts q = when (n.braces == 0) (λ z. eqb-true n.braces 0 z) (λ z. absurd (let no = rw z at q in cc))
-
-some_same : (a b : Tokens) → Some a ≡ Some b → a ≡ b
-some_same a b e = cc
-
-shut_so : (ts : Tokens) → is_empty ts ≡ false → (symbol ts == 125) ≡ true → is_shut 0 ts ≡ true
-unfolding is_closing
-shut_so ts e f = rw (e, f) refl
-
-last_enclosed : (o : Option Tokens) (n : Nest) (ts : Tokens) → Opened o n ts → is_empty ts ≡ false → stops extents.Item n ts ≡ false → (nest_behind n ts).braces ≡ 0 → (a : Tokens) → block_at (opened_behind o n ts) ts ≡ Some a → LeadsTo (around 0 (bumped a)) (bumped ts)
-last_enclosed o n ts h some p q a e =
-    when (symbol ts == 125)
-    (λ f. let other : (symbol ts == 123) ≡ false = grind (arith, nat_tests) in
-        let deep_in : (n.braces == 0) ≡ false = when (n.braces == 0) (λ z. let no = item_open n ts p z in absurd cc) (λ z. z) in
-        let behind_is : braces_behind n.braces (symbol ts) ≡ 0 = sym (braces_of n ts) ∙ q in
-        let last : n.braces - 1 ≡ 0 = rw (other, f) at behind_is in
-        let one : n.braces ≡ 1 = grind (arith, nat_tests) in
-        let is : o ≡ Some a = rw (f, deep_in) at e in
-        let here_shut : around 0 ts ≡ ts = closing_stop 123 (deep 0) ts (shut_so ts some f) in
-        subst (λ (t : Tokens). LeadsTo t (bumped ts)) (sym here_shut ∙ h a is 0 one) (further here))
-    (λ f. absurd (let none = rw f at e in cc))
-
-opened_next : (o : Option Tokens) (n : Nest) (ts : Tokens) → Opened o n ts → is_empty ts ≡ false → Opened (opened_behind o n ts) (nest_behind n ts) (bumped ts)
-opened_next o n ts h some a e j d =
-    let deeper : braces_behind n.braces (symbol ts) ≡ suc j = sym (braces_of n ts) ∙ d in
-    when (n.braces == 0)
-    (λ z. let flat : n.braces ≡ 0 = eqb-true n.braces 0 z in
-        when (symbol ts == 123)
-        (λ f. let same : ts ≡ a = some_same ts a (rw (z, f) at e) in
-            let one : 0 + 1 ≡ suc j = rw (flat, f) at deeper in
-            let first : j ≡ 0 = omega arith in
-            rw first (ap (λ (t : Tokens). around 0 (bumped t)) same))
-        (λ f. absurd (let none = rw (flat, f) at deeper in not_deeper (symbol ts == 125) j none)))
-    (λ z. let is : o ≡ Some a = rw z at e in
-        let in_braces : n.braces ≡ suc (n.braces - 1) = grind (arith, nat_tests) in
-        let k = n.braces - 1 in
-        let outer : around k ts ≡ around 0 (bumped a) = h a is k in_braces in
-        let open_here : k ≡ 0 → (symbol ts == 125) ≡ false = λ y. when (symbol ts == 125) (λ f. absurd (out_of_all (symbol ts) k j y f (subst (λ (m : ℕ). braces_behind m (symbol ts) ≡ suc j) in_braces deeper))) (λ f. f) in
-        let one_less : suc (braces_behind k (symbol ts)) ≡ suc j = sym (one_deeper k (symbol ts) open_here) ∙ subst (λ (m : ℕ). braces_behind m (symbol ts) ≡ suc j) in_braces deeper in
-        let level : braces_behind k (symbol ts) ≡ j = omega arith in
-        ap (λ m. around m (bumped ts)) (sym level) ∙ sym (around_more k ts (shuts_not (deep k) ts some open_here)) ∙ outer)
-  where
-    not_deeper : (t : Bool) (j : ℕ) → (if t then 0 - 1 else 0) ≡ suc j → ⊥
-    not_deeper true j e = omega arith
-    not_deeper false j e = omega arith
-    out_of_all : (c k j : ℕ) → k ≡ 0 → (c == 125) ≡ true → braces_behind (suc k) c ≡ suc j → ⊥
-    out_of_all c k j y f d =
-        let other : (c == 123) ≡ false = grind (arith, nat_tests) in
-        let none : suc k - 1 ≡ suc j = rw (other, f) at d in
-        omega arith
-
-taken_enclosed : (ts : Tokens) (done : List ℕ) (last : ℕ) (o : Option Tokens) (n : Nest) → Opened o n ts → Encloses (taking extents.Item done last o n ts)
-taken_enclosed ts done last o n h =
-    from_last (λ ts. (done : List ℕ) (last : ℕ) (o : Option Tokens) (n : Nest) → Opened o n ts → Encloses (taking extents.Item done last o n ts))
-    (λ ts e done last o n h. stopped ts done last o n (stops_none extents.Item n ts e))
-    (λ ts e inner done last o n h. when (stops extents.Item n ts)
-        (λ p. stopped ts done last o n p)
-        (λ p. when (ends extents.Item (is_mark n.before) (nest_behind n ts) ts)
-            (λ q. rw (taking_end extents.Item done last o n ts p q) (last_enclosed o n ts h e p (item_ends (is_mark n.before) (nest_behind n ts) ts q)))
-            (λ q. rw (taking_more extents.Item done last o n ts p q) (inner _ _ _ _ (opened_next o n ts h e)))))
-    ts done last o n h
-  where
-    stopped : (ts : Tokens) (done : List ℕ) (last : ℕ) (o : Option Tokens) (n : Nest) → stops extents.Item n ts ≡ true → Encloses (taking extents.Item done last o n ts)
-    stopped ts done last o n p = rw (taking_stop extents.Item done last o n ts p) (λ a e. absurd cc)
-
--- what is left of an item stands behind the `}` of the braces that it ends with
-pub item_enclosed : (before : Before) (ts a : Tokens) → (taken before extents.Item ts).0.block ≡ Some a → LeadsTo (around 0 (bumped a)) (taken before extents.Item ts).1
-unfolding taken
-item_enclosed before ts a e = taken_enclosed ts [] 0 None _ (λ a e. absurd cc) a e
+pub tokens_sound : (edition : EditionYear) (text : List ℕ) → IsSound (length text) (tokens_of edition text)
+unfolding tokens_of
+tokens_sound edition text = record { laid = tokens_laid edition text; braces = counted_braces (tokens text) (tokens_brackets text) }

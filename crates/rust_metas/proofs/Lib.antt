@@ -10,3 +10,4 @@ pub mod Until
 pub mod UntilMetas
 pub mod UntilAttributes
 pub mod Near
+pub mod Around

@@ -7,3 +7,4 @@ pub mod Beside
 pub mod UntilTrees
 pub mod Near
 pub mod NearTrees
+pub mod Around
