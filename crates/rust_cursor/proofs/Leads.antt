@@ -82,7 +82,7 @@ closing_empty : (bracket : ℕ) (nest : Nest) (ts : Tokens) → is_empty ts ≡ 
 unfolding is_closing
 closing_empty bracket nest ts n = rw n refl
 
-closing_leads : (bracket : ℕ) (nest : Nest) (ts : Tokens) → LeadsTo ts (closing bracket nest ts)
+pub closing_leads : (bracket : ℕ) (nest : Nest) (ts : Tokens) → LeadsTo ts (closing bracket nest ts)
 closing_leads bracket nest ts =
     from_last (λ ts. (nest : Nest) → LeadsTo ts (closing bracket nest ts)) (λ ts n nest. rw (closing_stop bracket nest ts (closing_empty bracket nest ts n)) here)
     (λ ts n inner. closing_next bracket ts inner) ts nest
@@ -91,7 +91,7 @@ pub to_closing_leads : (bracket : ℕ) (ts : Tokens) → LeadsTo ts (to_closing 
 unfolding to_closing
 to_closing_leads bracket ts = closing_leads bracket flat ts
 
-behind_closing_leads : (bracket : ℕ) (ts : Tokens) → LeadsTo ts (behind_closing bracket ts)
+pub behind_closing_leads : (bracket : ℕ) (ts : Tokens) → LeadsTo ts (behind_closing bracket ts)
 behind_closing_leads bracket ts =
     when (bracket == 123) (λ e. rw e (bumped_leads ts)) (λ e. when (symbol ts == 125) (λ f. rw (e, f) here) (λ f. rw (e, f) (bumped_leads ts)))
 

@@ -75,7 +75,7 @@ other_segment_leads ts =
     when (symbol ts == 60) (λ e. rw e (behind_angles_leads ts))
     (λ e. rw e (when (is_dollar_crate ts) (λ f. rw f (further (bumped_leads _))) (λ f. rw f (named_word_leads ts))))
 
-segment_leads : Forwards segment
+pub segment_leads : Forwards segment
 unfolding segment
 segment_leads ts =
     when (bytes_eq (word ts) (codes "self")) (λ e. rw e (bumped_leads ts))
