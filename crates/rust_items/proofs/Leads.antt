@@ -53,7 +53,7 @@ value_end_leads ts = taken_leads_on _ _ ts
 semicolon_end_leads : (read : ExcerptRead) → Forwards (semicolon_end read)
 semicolon_end_leads read ts = eat_leads _ ts
 
-call_end_leads : Forwards call_end
+pub call_end_leads : Forwards call_end
 unfolding call_end
 call_end_leads ts =
     when (is_at_open ts)
@@ -74,7 +74,7 @@ modifiers_leads : (n : ℕ) (ts : Tokens) → LeadsTo ts (behind_modifiers_from 
 modifiers_leads zero ts = here
 modifiers_leads (suc n) ts = when (is_modifier ts) (λ e. rw e (through (behind_modifier_leads ts) (modifiers_leads n _))) (λ e. rw e here)
 
-behind_modifiers_leads : (ts : Tokens) → LeadsTo ts (behind_modifiers ts)
+pub behind_modifiers_leads : (ts : Tokens) → LeadsTo ts (behind_modifiers ts)
 unfolding behind_modifiers
 behind_modifiers_leads ts = modifiers_leads _ ts
 
@@ -105,7 +105,7 @@ no_head : (behind : Tokens) → head_by [] behind ≡ heads.Other
 unfolding head_by
 no_head behind = refl
 
-head_takes : (ts : Tokens) → TakesBy (head ts).0 ts (head ts).1
+pub head_takes : (ts : Tokens) → TakesBy (head ts).0 ts (head ts).1
 unfolding head
 head_takes ts =
     when (is_empty ts)
@@ -223,7 +223,7 @@ value_end_braced : (ts : Tokens) → IsBraced ts (value_end ts).1 (value_end ts)
 unfolding value_end
 value_end_braced ts = block_braced (taken_block _ _ ts)
 
-call_end_braced : (ts : Tokens) → IsBraced ts (call_end ts).1 (call_end ts).0.braces
+pub call_end_braced : (ts : Tokens) → IsBraced ts (call_end ts).1 (call_end ts).0.braces
 unfolding call_end
 call_end_braced ts =
     when (is_at_open ts)
@@ -378,3 +378,32 @@ leaf_by_found _ attrs v ts us t = invocation_found attrs ts us t.leads
 pub leaf_found : (h : FrontRead) (ts us : Tokens) → TakesBy h.head ts us → LeafFound ts (leaf h us).1 (leaf h us).0
 unfolding leaf
 leaf_found h ts us t = leaf_by_found h.head h.attrs h.visibility ts us t
+
+-- the same of the item's own parts
+abbrev pub LeafAt : Tokens → Tokens → Option LeafRead → Type 0
+LeafAt ts us None = LeadsTo ts us
+LeafAt ts us (Some l) = IsLeaf ts us l
+
+alone_at : (ts us : Tokens) (o : Option LeafRead) → LeafFound ts us o → LeafAt ts us o
+alone_at ts us None p = p
+alone_at ts us (Some l) p = p.leaf
+
+leaf_by_at : (h : Head) (attrs : List MetaView) (v : Option Visibility) (ts : Tokens) → LeafAt ts (leaf_by h attrs v ts).1 (leaf_by h attrs v ts).0
+leaf_by_at heads.Use attrs v ts = use_leaf attrs v ts
+leaf_by_at heads.ExternCrate attrs v ts = crate_leaf attrs v ts
+leaf_by_at heads.Fn attrs v ts = function_leaf attrs v ts
+leaf_by_at heads.Impl attrs v ts = impl_leaf attrs v ts
+leaf_by_at heads.Trait attrs v ts = trait_leaf attrs v ts
+leaf_by_at heads.Struct attrs v ts = struct_leaf attrs v ts
+leaf_by_at heads.Union attrs v ts = union_leaf attrs v ts
+leaf_by_at heads.Enum attrs v ts = enum_leaf attrs v ts
+leaf_by_at heads.Const attrs v ts = const_leaf attrs v ts
+leaf_by_at heads.Static attrs v ts = static_leaf attrs v ts
+leaf_by_at heads.TypeAlias attrs v ts = type_alias_leaf attrs v ts
+leaf_by_at heads.MacroDef attrs v ts = macro_def_leaf attrs v ts
+leaf_by_at heads.MacroRules attrs v ts = macro_rules_leaf attrs v ts
+leaf_by_at _ attrs v ts = alone_at ts (invocation attrs ts).1 (invocation attrs ts).0 (invocation_found attrs ts ts here)
+
+pub leaf_at : (h : FrontRead) (ts : Tokens) → LeafAt ts (leaf h ts).1 (leaf h ts).0
+unfolding leaf
+leaf_at h ts = leaf_by_at h.head h.attrs h.visibility ts

@@ -6,3 +6,6 @@ pub mod Leads
 pub mod Places
 pub mod LineEnds
 pub mod FilePlaces
+pub mod Bodiless
+pub mod UntilLeaves
+pub mod UntilItems

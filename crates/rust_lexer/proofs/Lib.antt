@@ -13,4 +13,5 @@ pub mod SameQuoted
 pub mod SameCut
 pub mod Apart
 pub mod Whole
+pub mod Each
 pub mod Braces

@@ -1,4 +1,4 @@
--- What is seen before a brace is the same whatever stands behind it.
+-- What is seen before a `{`, a `}` or a `;` is the same whatever stands behind it.
 use Rattle.std.proofs.Common.{◌≡◌, ◌≤◌, ◌<◌, ℕ, zero, suc, ◌+◌, ◌-◌, ◌==◌, ◌||◌, ◌&&◌, Bool, true, false, List, [], ◌∷◌, ◌++◌, length, take, drop, refl, ap, ◌∙◌, sym, subst, arith}
 use Rattle.std.specs.Prelude.{nat_le, nat_lt, slice_index, if◌then◌else◌, not}
 use Rattle.std.proofs.lemmas.Bool.Decides.{nat_tests}
@@ -6,19 +6,24 @@ use Rattle.rust_lexer.specs.declared.bytes.Class.{Class}
 use Rattle.rust_lexer.specs.declared.bytes.Class.TheVariants as class
 use Rattle.rust_lexer.specs.Bytes.{is_white, is_continuation, is_wide_white, is_wide_start, is_wide_continue, is_start, is_in, run, code, is_char, is_word_start, is_word}
 use Rattle.rust_lexer.proofs.Counted.{when}
-use Rattle.rust_lexer.specs.Alone.{brace, behind_lead, is_full}
+use Rattle.rust_lexer.specs.Alone.{Stop, opening, closing, semicolon, stop, behind_lead, is_full}
 
--- the same bytes up to a brace and with it
-abbrev pub upto : Bool → List ℕ → List ℕ → List ℕ
-upto o x y = x ++ brace o ∷ y
+-- these bytes, such a byte and those behind it
+abbrev pub upto : Stop → List ℕ → List ℕ → List ℕ
+upto o x y = x ++ stop o ∷ y
 
-pub at_same : (o : Bool) (x y y' : List ℕ) (n : ℕ) → n ≤ length x → slice_index (upto o x y') n ≡ slice_index (upto o x y) n
+pub by_stop : (P : ℕ → Type 0) → P 123 → P 125 → P 59 → (o : Stop) → P (stop o)
+by_stop P at_open at_close at_semicolon opening = at_open
+by_stop P at_open at_close at_semicolon closing = at_close
+by_stop P at_open at_close at_semicolon semicolon = at_semicolon
+
+pub at_same : (o : Stop) (x y y' : List ℕ) (n : ℕ) → n ≤ length x → slice_index (upto o x y') n ≡ slice_index (upto o x y) n
 at_same o [] y y' zero le = refl
 at_same o [] y y' (suc n) le = absurd (omega arith)
 at_same o (b ∷ x) y y' zero le = refl
 at_same o (b ∷ x) y y' (suc n) le = at_same o x y y' n (omega arith)
 
-pub drop_upto : (o : Bool) (x y : List ℕ) (n : ℕ) → n ≤ length x → drop n (upto o x y) ≡ upto o (drop n x) y
+pub drop_upto : (o : Stop) (x y : List ℕ) (n : ℕ) → n ≤ length x → drop n (upto o x y) ≡ upto o (drop n x) y
 drop_upto o x y zero le = refl
 drop_upto o [] y (suc n) le = absurd (omega arith)
 drop_upto o (b ∷ x) y (suc n) le = drop_upto o x y n (omega arith)
@@ -45,100 +50,81 @@ cond_within {t = false} n on off = off refl
 
 -- ---- classes
 
-wide_white_same : (o : Bool) (b : ℕ) (x y y' : List ℕ) → is_wide_white b (upto o x y') ≡ is_wide_white b (upto o x y)
-wide_white_same true b [] y y' = when (b == 226) (λ e. rw e refl) (λ e. rw e refl)
-wide_white_same false b [] y y' = when (b == 226) (λ e. rw e refl) (λ e. rw e refl)
+wide_off : (b c : ℕ) (y y' : List ℕ) → (c == 128) ≡ false → is_wide_white b (c ∷ y') ≡ is_wide_white b (c ∷ y)
+wide_off b c y y' f = when (b == 226) (λ e. rw (e, f) refl) (λ e. rw e refl)
+
+wide_white_same : (o : Stop) (b : ℕ) (x y y' : List ℕ) → is_wide_white b (upto o x y') ≡ is_wide_white b (upto o x y)
+wide_white_same o b [] y y' = wide_off b (stop o) y y' (by_stop (λ c. (c == 128) ≡ false) refl refl refl o)
 wide_white_same o b (a ∷ x) y y' = let e = at_same o x y y' 0 (omega arith) in rw e refl
 
-pub white_same : (o : Bool) (b : ℕ) (x y y' : List ℕ) → is_white b (upto o x y') ≡ is_white b (upto o x y)
+pub white_same : (o : Stop) (b : ℕ) (x y y' : List ℕ) → is_white b (upto o x y') ≡ is_white b (upto o x y)
 white_same o b x y y' = ap (λ t. b == 32 || (nat_le 9 b && nat_le b 13) || t) (wide_white_same o b x y y')
 
-code_same : (o : Bool) (b : ℕ) (x y y' : List ℕ) → is_full (b ∷ x) ≡ true → nat_le 192 b ≡ true → code b (upto o x y') ≡ code b (upto o x y)
+code_same : (o : Stop) (b : ℕ) (x y y' : List ℕ) → is_full (b ∷ x) ≡ true → nat_le 192 b ≡ true → code b (upto o x y') ≡ code b (upto o x y)
 code_same o b x y y' full wide =
     let le : nat_le (behind_lead b) (length x) ≡ true = (both _ _ full).0 in
     let high : nat_lt b 192 ≡ false = grind (arith, nat_tests) in
     when (nat_lt b 224)
     (λ e. let one : 1 ≤ length x = grind (arith, nat_tests) in rw (e, at_same o x y y' 0 (omega arith)) refl)
     (λ e. when (nat_lt b 240)
-        (λ f. let two : 2 ≤ length x = grind (arith, nat_tests) in rw (e, f, at_same o x y y' 0 (omega arith), at_same o x y y' 1 (omega arith)) refl)
-        (λ f. let three : 3 ≤ length x = grind (arith, nat_tests) in rw (e, f, at_same o x y y' 0 (omega arith), at_same o x y y' 1 (omega arith), at_same o x y y' 2 (omega arith)) refl))
+    (λ f. let two : 2 ≤ length x = grind (arith, nat_tests) in rw (e, f, at_same o x y y' 0 (omega arith), at_same o x y y' 1 (omega arith)) refl)
+    (λ f. let three : 3 ≤ length x = grind (arith, nat_tests) in rw (e, f, at_same o x y y' 0 (omega arith), at_same o x y y' 1 (omega arith), at_same o x y y' 2 (omega arith)) refl))
 
-wide_start_same : (o : Bool) (b : ℕ) (x y y' : List ℕ) → is_full (b ∷ x) ≡ true → is_wide_start b (upto o x y') ≡ is_wide_start b (upto o x y)
+wide_start_same : (o : Stop) (b : ℕ) (x y y' : List ℕ) → is_full (b ∷ x) ≡ true → is_wide_start b (upto o x y') ≡ is_wide_start b (upto o x y)
 unfolding is_wide_start
 wide_start_same o b x y y' full = when (nat_le 192 b) (λ e. rw (e, code_same o b x y y' full e) refl) (λ e. rw e refl)
 
-wide_continue_same : (o : Bool) (b : ℕ) (x y y' : List ℕ) → is_full (b ∷ x) ≡ true → is_wide_continue b (upto o x y') ≡ is_wide_continue b (upto o x y)
+wide_continue_same : (o : Stop) (b : ℕ) (x y y' : List ℕ) → is_full (b ∷ x) ≡ true → is_wide_continue b (upto o x y') ≡ is_wide_continue b (upto o x y)
 unfolding is_wide_continue
 wide_continue_same o b x y y' full = when (nat_le 192 b) (λ e. rw (e, code_same o b x y y' full e) refl) (λ e. rw e refl)
 
-pub start_same : (o : Bool) (b : ℕ) (x y y' : List ℕ) → is_full (b ∷ x) ≡ true → is_start b (upto o x y') ≡ is_start b (upto o x y)
+pub start_same : (o : Stop) (b : ℕ) (x y y' : List ℕ) → is_full (b ∷ x) ≡ true → is_start b (upto o x y') ≡ is_start b (upto o x y)
 start_same o b x y y' full = rw (wide_start_same o b x y y' full) refl
 
-pub in_same : (c : Class) (o : Bool) (b : ℕ) (x y y' : List ℕ) → is_full (b ∷ x) ≡ true → is_in c b (upto o x y') ≡ is_in c b (upto o x y)
+pub in_same : (c : Class) (o : Stop) (b : ℕ) (x y y' : List ℕ) → is_full (b ∷ x) ≡ true → is_in c b (upto o x y') ≡ is_in c b (upto o x y)
 in_same class.White o b x y y' full = rw (white_same o b x y y') refl
 in_same class.Word o b x y y' full = rw (wide_continue_same o b x y y' full) refl
 in_same class.Line o b x y y' full = refl
 in_same class.Hash o b x y y' full = refl
+in_same class.Dash o b x y y' full = refl
 in_same class.Low o b x y y' full = refl
 in_same class.Decimal o b x y y' full = refl
 in_same class.Hexadecimal o b x y y' full = refl
 in_same class.Continuation o b x y y' full = refl
-in_same class.Dash o b x y y' full = refl
 
--- a run of such bytes ends before a brace
-abbrev pub Ends : Class → Type 0
-Ends c = (o : Bool) (y : List ℕ) → is_in c (brace o) y ≡ false
+-- a run of such bytes ends before the stop, but for one to the end of a line
+abbrev pub is_line : Class → Bool
+is_line class.Line = true
+is_line _ = false
 
-pub white_ends : Ends class.White
-white_ends true y = refl
-white_ends false y = refl
-
-pub word_ends : Ends class.Word
+ends_at : (c : Class) (o : Stop) (y : List ℕ) → is_line c ≡ false → is_in c (stop o) y ≡ false
 unfolding is_wide_continue
-word_ends true y = refl
-word_ends false y = refl
+ends_at class.White o y e = by_stop (λ b. is_in class.White b y ≡ false) refl refl refl o
+ends_at class.Word o y e = by_stop (λ b. is_in class.Word b y ≡ false) refl refl refl o
+ends_at class.Line o y e = absurd cc
+ends_at class.Hash o y e = by_stop (λ b. is_in class.Hash b y ≡ false) refl refl refl o
+ends_at class.Dash o y e = by_stop (λ b. is_in class.Dash b y ≡ false) refl refl refl o
+ends_at class.Low o y e = by_stop (λ b. is_in class.Low b y ≡ false) refl refl refl o
+ends_at class.Decimal o y e = by_stop (λ b. is_in class.Decimal b y ≡ false) refl refl refl o
+ends_at class.Hexadecimal o y e = by_stop (λ b. is_in class.Hexadecimal b y ≡ false) refl refl refl o
+ends_at class.Continuation o y e = by_stop (λ b. is_in class.Continuation b y ≡ false) refl refl refl o
 
-pub hash_ends : Ends class.Hash
-hash_ends true y = refl
-hash_ends false y = refl
-
-pub low_ends : Ends class.Low
-low_ends true y = refl
-low_ends false y = refl
-
-pub decimal_ends : Ends class.Decimal
-decimal_ends true y = refl
-decimal_ends false y = refl
-
-pub hexadecimal_ends : Ends class.Hexadecimal
-hexadecimal_ends true y = refl
-hexadecimal_ends false y = refl
-
-pub continuation_ends : Ends class.Continuation
-continuation_ends true y = refl
-continuation_ends false y = refl
-
-pub dash_ends : Ends class.Dash
-dash_ends true y = refl
-dash_ends false y = refl
-
-pub run_same : (c : Class) → Ends c → (o : Bool) (x y y' : List ℕ) → is_full x ≡ true → run c (upto o x y') ≡ run c (upto o x y)
-run_same c ends o [] y y' full = rw (ends o y, ends o y') refl
+pub run_same : (c : Class) → is_line c ≡ false → (o : Stop) (x y y' : List ℕ) → is_full x ≡ true → run c (upto o x y') ≡ run c (upto o x y)
+run_same c ends o [] y y' full = rw (ends_at c o y ends, ends_at c o y' ends) refl
 run_same c ends o (b ∷ x) y y' full = rw (in_same c o b x y y' full, run_same c ends o x y y' (full_behind b x full)) refl
 
-pub run_within : (c : Class) → Ends c → (o : Bool) (x y : List ℕ) → run c (upto o x y) ≤ length x
-run_within c ends o [] y = rw (ends o y) (omega arith)
+pub run_within : (c : Class) → is_line c ≡ false → (o : Stop) (x y : List ℕ) → run c (upto o x y) ≤ length x
+run_within c ends o [] y = rw (ends_at c o y ends) (omega arith)
 run_within c ends o (b ∷ x) y =
     let more = run_within c ends o x y in
     when (is_in c b (upto o x y)) (λ e. rw e (omega arith)) (λ e. rw e (omega arith))
 
 -- ---- words
 
-pub word_start_same : (o : Bool) (x y y' : List ℕ) → is_full x ≡ true → is_word_start (upto o x y') ≡ is_word_start (upto o x y)
+pub word_start_same : (o : Stop) (x y y' : List ℕ) → is_full x ≡ true → is_word_start (upto o x y') ≡ is_word_start (upto o x y)
 unfolding is_wide_start
-word_start_same true [] y y' full = refl
-word_start_same false [] y y' full = refl
+word_start_same o [] y y' full = by_stop (λ b. is_start b y' ≡ is_start b y) refl refl refl o
 word_start_same o (b ∷ x) y y' full = start_same o b x y y' full
 
-pub is_word_same : (o : Bool) (x y y' : List ℕ) → is_full x ≡ true → is_word (upto o x y') ≡ is_word (upto o x y)
+pub is_word_same : (o : Stop) (x y y' : List ℕ) → is_full x ≡ true → is_word (upto o x y') ≡ is_word (upto o x y)
 is_word_same o x y y' full = rw (word_start_same o x y y' full, at_same o x y y' 0 (omega arith)) refl

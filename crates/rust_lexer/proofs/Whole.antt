@@ -1,26 +1,27 @@
 -- The tokens of a whole text with braces in it.
 use Rattle.std.proofs.Common.{◌≡◌, ◌≤◌, ℕ, zero, suc, ◌+◌, ◌-◌, ◌==◌, ◌||◌, ◌&&◌, Bool, true, false, Option, Some, None, List, [], ◌∷◌, ◌++◌, length, take, refl, ap, ◌∙◌, sym, subst, arith, map}
-use Rattle.std.specs.Prelude.{slice_index, if◌then◌else◌, not, nat_lt}
+use Rattle.std.specs.Prelude.{slice_index, if◌then◌else◌, not, nat_le, nat_lt}
 use Rattle.std.specs.List.{filter}
 use Rattle.std.proofs.lemmas.List.Elements.{filter-append}
+use Rattle.std.proofs.lemmas.Bool.Decides.{nat_tests}
+use Rattle.rust_lexer.specs.declared.bytes.Class.TheVariants as class
 use Rattle.rust_lexer.specs.declared.cut.Cut.{Cut}
 use Rattle.rust_lexer.specs.declared.kind.TokenKind.{TokenKind}
 use Rattle.rust_lexer.specs.declared.kind.TokenKind.TheVariants as kind
-use Rattle.rust_lexer.specs.declared.bytes.Class.TheVariants as class
 use Rattle.rust_lexer.specs.Bytes.{is_wide_start, run}
 use Rattle.rust_lexer.specs.Cut.{cut, first_cut}
 use Rattle.rust_lexer.specs.Frontmatter.{frontmatter}
 use Rattle.rust_lexer.specs.Piece.{Piece}
 use Rattle.rust_lexer.specs.Symbol.{symbol_from, symbol_of}
 use Rattle.rust_lexer.specs.Tokens.{has_mark, is_blank, is_bracket_next, is_shebang_next, is_shebang, is_significant, is_significant_kind, piece, tokens, tokens_from, whole}
-use Rattle.rust_lexer.specs.Alone.{is_full, overhang, front, moved, braces_from, StandsAlone, Apart}
+use Rattle.rust_lexer.specs.Alone.{opening, is_fence, is_full, overhang, front, moved, braces_from, StandsAlone, Apart}
 use Rattle.rust_lexer.proofs.Counted.{when}
-use Rattle.rust_lexer.proofs.Same.{upto, at_same, full_behind, dash_ends, run_same}
+use Rattle.rust_lexer.proofs.Same.{upto, at_same, full_behind, run_same}
 use Rattle.rust_lexer.proofs.Apart.{apart}
 
 -- ---- what may stand in front of a text
 
-mark_same : (q y y' : List ℕ) → has_mark (upto true q y') ≡ has_mark (upto true q y)
+mark_same : (q y y' : List ℕ) → has_mark (upto opening q y') ≡ has_mark (upto opening q y)
 mark_same [] y y' = refl
 mark_same (a ∷ []) y y' = when (a == 239) (λ e. rw e refl) (λ e. rw e refl)
 mark_same (a ∷ b ∷ []) y y' = when (a == 239 && b == 187) (λ e. rw e refl) (λ e. rw e refl)
@@ -38,33 +39,29 @@ shebang_same [] l l' at = refl
 shebang_same (t ∷ []) l l' at = refl
 shebang_same (t ∷ u ∷ x) l l' at = ap (λ r. symbol_of t == 35 && (symbol_of u == 33 && not r)) (bracket_same x l l' at)
 
--- three dashes stand in front of a text, behind line ends
-abbrev pub has_fence : List ℕ → Bool
-has_fence [] = false
-has_fence (b ∷ z) = if b == 10 || b == 13 then has_fence z else not (nat_lt (run class.Dash (b ∷ z)) 3)
-
-fence_same : (q y y' : List ℕ) → is_full q ≡ true → has_fence (upto true q y') ≡ has_fence (upto true q y)
-fence_same [] y y' full = rw (dash_ends true y, dash_ends true y') refl
+fence_same : (q y y' : List ℕ) → is_full q ≡ true → is_fence (upto opening q y') ≡ is_fence (upto opening q y)
+fence_same [] y y' full = refl
 fence_same (b ∷ q) y y' full =
-    when (b == 10 || b == 13) (λ e. rw e (fence_same q y y' (full_behind b q full))) (λ e. rw (e, run_same class.Dash dash_ends true (b ∷ q) y y' full) refl)
+    when (b == 10 || b == 13) (λ e. rw e (fence_same q y y' (full_behind b q full)))
+    (λ e. rw e (ap (nat_le 3) (run_same class.Dash refl opening (b ∷ q) y y' full)))
 
-no_frontmatter : (n : ℕ) (z : List ℕ) → has_fence z ≡ false → frontmatter n z ≡ None
-no_frontmatter n [] e = refl
-no_frontmatter n (b ∷ z) e =
-    when (b == 10 || b == 13) (λ f. let g = rw f at e in rw f (no_frontmatter (suc n) z g))
-    (λ f. when (nat_lt (run class.Dash (b ∷ z)) 3) (λ g. rw (f, g) refl) (λ g. absurd (let no_fence = rw (f, g) at e in cc)))
+no_matter : (n : ℕ) (z : List ℕ) → is_fence z ≡ false → frontmatter n z ≡ None
+no_matter n [] e = refl
+no_matter n (b ∷ z) e =
+    when (b == 10 || b == 13) (λ t. rw t (no_matter (suc n) z (rw t at e)))
+    (λ t. let few : nat_le 3 (run class.Dash (b ∷ z)) ≡ false = rw t at e in let less : nat_lt (run class.Dash (b ∷ z)) 3 ≡ true = grind (arith, nat_tests) in rw (t, less) refl)
 
--- a text without a byte order mark, a shebang line and dashes in front, in which a `{` stands as a token behind these bytes
+-- a text with neither a byte order mark, a shebang line nor frontmatter in front, in which a `{` stands as a token behind these bytes
 pub record OpensAt (q y : List ℕ) : Type 0 where
   pub full : is_full q ≡ true
   pub one : overhang 0 q (123 ∷ y) ≡ 0
   pub plain : has_mark (q ++ 123 ∷ y) ≡ false
-  pub unfenced : has_fence (q ++ 123 ∷ y) ≡ false
   pub bare : is_shebang (tokens_from 0 0 (q ++ 123 ∷ y)) ≡ false
+  pub unfenced : is_fence (q ++ 123 ∷ y) ≡ false
 
-plain_is : (text : List ℕ) → has_mark text ≡ false → has_fence text ≡ false → is_shebang (tokens_from 0 0 text) ≡ false → tokens text ≡ tokens_from 0 0 text
+plain_is : (text : List ℕ) → has_mark text ≡ false → is_shebang (tokens_from 0 0 text) ≡ false → is_fence text ≡ false → tokens text ≡ tokens_from 0 0 text
 unfolding tokens
-plain_is text e g f = rw (e, f, no_frontmatter 0 text g) refl
+plain_is text e f g = rw (e, f, no_matter 0 text g) refl
 
 inside_of : ℕ → List ℕ → List Piece
 inside_of at m = map (moved (suc at)) (front 0 0 m (125 ∷ []))
@@ -85,8 +82,7 @@ tokens_apart q m m' s o h h' =
     let bare : is_shebang (tokens_from 0 0 (q ++ 123 ∷ (m' ++ 125 ∷ s))) ≡ false =
     ap is_shebang new ∙ shebang_same (front 0 0 q (123 ∷ [])) (inside_of (length q) m ++ from_close (length q) m s) (inside_of (length q) m' ++ from_close (length q) m' s) (length q)
     ∙ ap is_shebang (sym old) ∙ o.bare in
-    plain_is (q ++ 123 ∷ (m' ++ 125 ∷ s)) (mark_same q (m ++ 125 ∷ s) (m' ++ 125 ∷ s) ∙ o.plain)
-    (fence_same q (m ++ 125 ∷ s) (m' ++ 125 ∷ s) o.full ∙ o.unfenced) bare ∙ new
+    plain_is (q ++ 123 ∷ (m' ++ 125 ∷ s)) (mark_same q (m ++ 125 ∷ s) (m' ++ 125 ∷ s) ∙ o.plain) bare (fence_same q (m ++ 125 ∷ s) (m' ++ 125 ∷ s) o.full ∙ o.unfenced) ∙ new
 
 -- ---- those that count
 
@@ -105,8 +101,8 @@ braces_counted n [] = refl
 braces_counted n (t ∷ ts) =
     when (is_significant_kind t.kind)
     (λ e. rw e
-        (when (symbol_of t == 123) (λ f. rw f (braces_counted (suc n) ts))
-        (λ f. when (symbol_of t == 125) (λ g. when (n == 0) (λ i. rw (f, g, i) refl) (λ i. rw (f, g, i) (braces_counted (n - 1) ts))) (λ g. rw (f, g) (braces_counted n ts)))))
+    (when (symbol_of t == 123) (λ f. rw f (braces_counted (suc n) ts))
+    (λ f. when (symbol_of t == 125) (λ g. when (n == 0) (λ i. rw (f, g, i) refl) (λ i. rw (f, g, i) (braces_counted (n - 1) ts))) (λ g. rw (f, g) (braces_counted n ts)))))
     (λ e. let none : symbol_of t ≡ 0 = passed_symbol t.kind (slice_index t.text 0) e in rw (e, none) (braces_counted n ts))
 
 braces_moved : (d n : ℕ) (ts : List Piece) → braces_from n (map (moved d) ts) ≡ braces_from n ts
@@ -150,7 +146,7 @@ front_of q = filter is_significant (front 0 0 q (123 ∷ []))
 
 pub counted_apart : (q m m' s : List ℕ) → OpensAt q (m ++ 125 ∷ s) → StandsAlone m → StandsAlone m'
     → filter is_significant (tokens (q ++ 123 ∷ (m' ++ 125 ∷ s)))
-      ≡ front_of q ++ open_at (length q) ∷ (body (length q) m' ++ moved (suc (length q) + length m') (close_of s) ∷ map (moved (suc (length q) + length m')) (left_of s))
+    ≡ front_of q ++ open_at (length q) ∷ (body (length q) m' ++ moved (suc (length q) + length m') (close_of s) ∷ map (moved (suc (length q) + length m')) (left_of s))
 unfolding front_of body
 counted_apart q m m' s o h h' =
     let ms = inside_of (length q) m' in

@@ -9,5 +9,5 @@ pub mod Symbol
 pub mod Frontmatter
 pub mod Tokens
 pub mod Terminated
-pub mod Inner
 pub mod Alone
+pub mod Inner

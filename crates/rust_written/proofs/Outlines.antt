@@ -9,7 +9,8 @@ use Rattle.rust_round.specs.Trees.{Trees, no_trees}
 use Rattle.hir_input.specs.declared.ids.AstIdKind.TheVariants as kind
 use Rattle.rust_ids.specs.Ids.{AreIds}
 use Rattle.rust_ids.proofs.Consequences.{determined}
-use Rattle.rust_items.specs.Ids.{first, numbered_named, numbered_node, held_with_ids, with_ids}
+use Rattle.rust_items.specs.Ids.{with_ids}
+use Rattle.rust_items.proofs.Bodiless.{with_bodiless}
 use Rattle.rust_written.specs.Written.{Item, Items, blocked, valued, structure, Field, field_view, outline_field, Shape, unit_shape, tuple_shape, record_shape, shape_view, outline_shape, implemented, file_module, module_of, used, no_more, also, statics, aliases, constants, item_view, views, item_rows, rows, named_by, item_outline, outline}
 use Rattle.rust_written.specs.Laws.{IsRead, TypingInside}
 use Rattle.rust_written.proofs.Texts.{read_again}
@@ -61,32 +62,6 @@ mutual
   rows_outline : (depth : ℕ) (is : Items) → rows depth (outline is) ≡ rows depth is
   rows_outline depth no_more = refl
   rows_outline depth (also i is) = ap (λ l. l ++ rows depth (outline is)) (item_rows_outline depth i) ∙ ap (λ l. item_rows depth i ++ l) (rows_outline depth is)
-
--- ---- ids stand beside bodies
-
-mutual
-  held_bodiless : (own : List FileAstId) (i : ItemView) (ids : List FileAstId)
-      → held_with_ids (first own).0 (item_without_bodies i) ids ≡ (item_without_bodies (held_with_ids (first own).0 i ids).0, (held_with_ids (first own).0 i ids).1)
-  held_bodiless own (listed_module m semicolon is) ids = ap (λ r. (listed_module (numbered_named (first own).0 (named_without_body m)) semicolon r.0, r.1)) (with_bodiless is ids)
-  held_bodiless own (listed_extern_block m is) ids = ap (λ r. (listed_extern_block (numbered_node (first own).0 (node_without_body m)) r.0, r.1)) (with_bodiless is ids)
-  held_bodiless own (plain_item k m) ids = refl
-  held_bodiless own (const_item m) ids = refl
-  held_bodiless own (struct_item m _) ids = refl
-  held_bodiless own (bare_module m semicolon) ids = refl
-  held_bodiless own (use_item u) ids = refl
-  held_bodiless own (extern_crate m rename) ids = refl
-  held_bodiless own (bare_extern_block m) ids = refl
-  held_bodiless own (impl_item m is_trait) ids = refl
-  held_bodiless own (macro_call c) ids = refl
-  held_bodiless own (macro_rules m name) ids = refl
-  held_bodiless own (asm_item m) ids = refl
-
-  with_bodiless : (is : ItemViews) (ids : List FileAstId) → with_ids (items_without_bodies is) ids ≡ (items_without_bodies (with_ids is ids).0, (with_ids is ids).1)
-  with_bodiless no_items ids = refl
-  with_bodiless (item_and i is) ids =
-      let head = held_with_ids (first ids).0 i (first ids).1 in
-      ap (λ h. (item_and h.0 (with_ids (items_without_bodies is) h.1).0, (with_ids (items_without_bodies is) h.1).1)) (held_bodiless ids i (first ids).1)
-      ∙ ap (λ r. (item_and (item_without_bodies head.0) r.0, r.1)) (with_bodiless is head.1)
 
 -- ---- the law
 

@@ -1,0 +1,603 @@
+-- The items of two texts that differ between the braces of one item are the same but for body texts.
+use Rattle.std.proofs.Common.{◌≡◌, ◌≢◌, ◌≤◌, ◌<◌, ◌+◌, ◌==◌, ◌||◌, ◌&&◌, ℕ, zero, suc, Bool, true, false, Option, Some, None, List, [], ◌∷◌, ◌++◌, map, refl, ap, sym, subst, ◌∙◌, arith, append_assoc, append-nil}
+use Rattle.hir_input.specs.declared.ast.Visibility.{Visibility}
+use Rattle.std.specs.Prelude.{option_map, option_to_list, is_none}
+use Rattle.std.proofs.lemmas.List.{map-append}
+use Rattle.hir_input.specs.declared.ids.AstIdKind.{AstIdKind}
+use Rattle.hir_input.specs.declared.ids.AstIdKind.TheVariants as kind
+use Rattle.hir_input.specs.Attr.{MetaView}
+use Rattle.hir_input.specs.Bodies.{node_without_body, named_without_body, item_without_bodies, items_without_bodies}
+use Rattle.hir_input.specs.Syntax.{NodeView, NamedView, ItemView, ItemViews, fn_kind, static_kind, type_alias_kind, plain_item, const_item, struct_item, bare_module, listed_module, use_item, extern_crate, bare_extern_block, listed_extern_block, impl_item, macro_call, macro_rules, asm_item, tuple_fields, no_items, item_and, items_from, module_from, extern_block_from}
+use Rattle.rust_cursor.specs.Tokens.{Tokens, end_of}
+use Rattle.rust_cursor.specs.Words.{symbol, at, eat, is_empty, is_at_end, bumped}
+use Rattle.rust_cursor.specs.Brackets.{behind_tree}
+use Rattle.rust_cursor.specs.Elements.{most, beyond}
+use Rattle.rust_cursor.specs.Beside.{Bodies, Beside, ahead, behind}
+use Rattle.rust_cursor.proofs.Leads.{LeadsTo, here, further, through, when, bumped_leads, eat_leads, beyond_leads, behind_tree_leads}
+use Rattle.rust_cursor.proofs.Laid.{IsLaid, past_within}
+use Rattle.rust_cursor.proofs.Laid as laid
+use Rattle.rust_cursor.proofs.Views.{before_at, behind_at, symbol_same, empty_same, end_same}
+use Rattle.rust_cursor.proofs.Passing.{beyond_beside, behind_tree_beside}
+use Rattle.rust_cursor.proofs.Local.{eat_local, symbol_test}
+use Rattle.rust_cursor.proofs.Until.{Gone, gone_on, by_kept, by_next, bumped_onward}
+use Rattle.rust_cursor.proofs.Alike.{by_stayed}
+use Rattle.rust_cursor.proofs.Around.{IsSound, sound_on}
+use Rattle.rust_cursor.proofs.Places as places
+use Rattle.rust_ids.specs.Row.{Row}
+use Rattle.rust_paths.specs.declared.names.TextRange.{TextRange}
+use Rattle.rust_metas.specs.Attributes.{inner_attributes}
+use Rattle.rust_metas.proofs.Leads.{inner_attributes_leads}
+use Rattle.rust_metas.proofs.UntilAttributes.{inner_attributes_until}
+use Rattle.rust_leaves.specs.declared.head.Head.{Head}
+use Rattle.rust_leaves.specs.declared.head.Head.TheVariants as heads
+use Rattle.rust_leaves.specs.Heads.{behind_others}
+use Rattle.rust_leaves.specs.Fronts.{FrontRead, front}
+use Rattle.rust_leaves.specs.Leaves.{NameRead, LeafRead, no_name, named}
+use Rattle.rust_leaves.specs.Kinds.{node, named_node, leaf}
+use Rattle.rust_leaves.proofs.Fronts.{behind_others_beside}
+use Rattle.rust_leaves.proofs.Beside.{LeafAlike, NameAlike, named_local}
+use Rattle.rust_items.specs.declared.log.ItemSpan.{ItemSpan}
+use Rattle.rust_items.specs.declared.log.ProblemKind.{ProblemKind}
+use Rattle.rust_items.specs.declared.log.ProblemKind.TheVariants as problem
+use Rattle.rust_items.specs.declared.source_file.ItemPlace.{ItemPlace}
+use Rattle.rust_items.specs.Found.{Found, Finder, nothing_found, and_problem, and_problem_if, and_problem_at, and_row, and_use_trees, and_all}
+use Rattle.rust_items.specs.Items.{BlockRead, empty_block, no_block, deep_block, and_flaw, and_item, and_leaf, and_parent, leaf_found, leaf_turn, finding_from, finding, is_list_end, block_of, as_extern, extern_kept, extern_found, extern_turn, extern_inside, extern_block, one_more, unmatched, inside_unless, module_with, some_item, by_head, turn_with, inside, turn, depth_of, items}
+use Rattle.rust_items.specs.Tuples.{has_tuple_struct, have_tuple_struct}
+use Rattle.rust_items.specs.Places.{Telling, IsBodyIn, ArePlaces, nothing, placed}
+use Rattle.rust_items.proofs.Leads.{named_leads, behind_others_leads, front_start, front_takes}
+use Rattle.rust_items.proofs.Places.{Adds, adds_item, adds_problem_at, adds_use_trees, AreFound, Finds, FindsIn, IsListed, list_from, list_found, listed, place_span, inside_found, turn_found, turn_with_found, extern_turn_found, extern_inside_found, unless_found, items_found}
+use Rattle.rust_items.proofs.UntilLeaves.{FrontAlike, front_until, BeginPlain, is_tuple_struct, LeafUntil, leaf_lost, leaf_loose, leaf_same, leaf_until, LeafLost, leaf_gone}
+
+-- ---- whose braces they are
+
+-- these braces do not begin there
+abbrev Elsewhere : ℕ → Option TextRange → Type 0
+Elsewhere at None = Unit {0}
+Elsewhere at (Some r) = r.start ≡ at → ⊥
+
+-- nor do those of all these items
+abbrev pub AreElsewhere : ℕ → List ItemSpan → Type 0
+AreElsewhere at [] = Unit {0}
+AreElsewhere at (s ∷ ss) = Elsewhere at s.body × AreElsewhere at ss
+
+all_elsewhere : (at : ℕ) (xs ys : List ItemSpan) → AreElsewhere at xs → AreElsewhere at ys → AreElsewhere at (xs ++ ys)
+all_elsewhere at [] ys h k = k
+all_elsewhere at (x ∷ xs) ys h k = (h.0, all_elsewhere at xs ys h.1 k)
+
+body_behind : (at : ℕ) (range : TextRange) (body : Option TextRange) → IsBodyIn range body → at < range.start → Elsewhere at body
+body_behind at range None h l = tt
+body_behind at range (Some r) h l = λ e. let begins : range.start ≤ r.start = h.0 in absurd (omega arith)
+
+body_before : (at : ℕ) (range : TextRange) (body : Option TextRange) → IsBodyIn range body → range.end ≤ at → Elsewhere at body
+body_before at range None h l = tt
+body_before at range (Some r) h l = λ e. let two : r.start + 2 ≤ r.end = h.1 in let ends : r.end ≡ range.end = h.2 in absurd (omega arith)
+
+behind_elsewhere : {N : Telling} {from to : ℕ} {is : ItemViews} {ps rest : List ItemPlace} (at : ℕ) → ArePlaces N from to is ps rest → at < from → AreElsewhere at (map place_span rest) → AreElsewhere at (map place_span ps)
+behind_elsewhere at nothing l h = h
+behind_elsewhere at (placed {p = p} place inside later) l h =
+    let begins = place.begins in
+    let some = place.some in
+    (body_behind at p.range p.body place.body (omega arith), behind_elsewhere at inside (omega arith) (behind_elsewhere at later (omega arith) h))
+
+before_elsewhere : {N : Telling} {from to : ℕ} {is : ItemViews} {ps rest : List ItemPlace} (at : ℕ) → ArePlaces N from to is ps rest → to ≤ at → AreElsewhere at (map place_span rest) → AreElsewhere at (map place_span ps)
+before_elsewhere at nothing l h = h
+before_elsewhere at (placed {p = p} place inside later) l h =
+    let ends = place.ends in
+    (body_before at p.range p.body place.body (omega arith), before_elsewhere at inside (omega arith) (before_elsewhere at later l h))
+
+-- of what was found behind the first, no item has its braces there
+pub record Misses (at : ℕ) (f g : Found) : Type 0 where
+  pub more : List ItemSpan
+  pub is : g.spans ≡ f.spans ++ more
+  pub free : AreElsewhere at more
+
+misses_none : (at : ℕ) (f g : Found) → g.spans ≡ f.spans → Misses at f g
+misses_none at f g e = record { more = []; is = e ∙ sym (append-nil f.spans); free = tt }
+
+misses_both : {at : ℕ} {f g h : Found} → Misses at f g → Misses at g h → Misses at f h
+misses_both {at} {f} m n = record {
+  more = m.more ++ n.more;
+  is = n.is ∙ ap (λ l. l ++ n.more) m.is ∙ append_assoc f.spans m.more n.more;
+  free = all_elsewhere at m.more n.more m.free n.free;
+}
+
+found_gone : {b : Bodies} {ts us : Tokens} {f g : Found} {is : ItemViews} → AreFound ts us f g is → Gone b ts → Misses b.opening.at f g
+found_gone {b} {ts} a g =
+    let low = behind_at (suc b.opening.at) ts.past ts.left g.over in
+    record { more = map place_span a.places; is = a.adds.spans; free = behind_elsewhere b.opening.at a.are (omega arith) tt }
+
+found_before : (b : Bodies) {ts us : Tokens} {f g : Found} {is : ItemViews} → AreFound ts us f g is → us.past ≤ b.opening.at → Misses b.opening.at f g
+found_before b a l = record { more = map place_span a.places; is = a.adds.spans; free = before_elsewhere b.opening.at a.are l tt }
+
+-- ---- what is found
+
+-- the same rows, what is read is alike, and what is left stands beside
+pub record FoundKept {A : Type 0} (alike : A → A → Type 0) (b : Bodies) (p q : A × (Found × Tokens)) : Type 0 where
+  pub value : alike p.0 q.0
+  pub rows : q.1.0.rows ≡ p.1.0.rows
+  pub rest : Beside b p.1.1 q.1.1
+
+-- or the one went into the braces, and they are of no item that was found; or a struct with fields in parentheses was
+pub data FoundUntil {A : Type 0} (alike : A → A → Type 0) (loose : A → Type 0) (b : Bodies) (f : Found) (p q : A × (Found × Tokens)) : Type 0 where
+  lost : Gone b p.1.1 → Misses b.opening.at f p.1.0 → FoundUntil alike loose b f p q
+  slack : loose p.0 → FoundUntil alike loose b f p q
+  same : FoundKept alike b p q → FoundUntil alike loose b f p q
+
+-- the same but for body texts
+abbrev pub ItemAlike : Option ItemView → Option ItemView → Type 0
+ItemAlike o o' = option_map item_without_bodies o' ≡ option_map item_without_bodies o
+
+abbrev pub ItemLoose : Option ItemView → Type 0
+ItemLoose o = have_tuple_struct (items_from (option_to_list o)) ≡ true
+
+abbrev pub ListAlike : List ItemView → List ItemView → Type 0
+ListAlike is is' = map item_without_bodies is' ≡ map item_without_bodies is
+
+abbrev pub ListLoose : List ItemView → Type 0
+ListLoose is = have_tuple_struct (items_from is) ≡ true
+
+abbrev UpToFound : ℕ → Bodies → Finder (Option ItemView) → Type 0
+UpToFound end b turn = (f f' : Found) (ts us : Tokens) → IsSound end ts → f'.rows ≡ f.rows → Beside b ts us → FoundUntil ItemAlike ItemLoose b f (turn f ts) (turn f' us)
+
+-- ---- rows
+
+problem_if_rows : (test : Bool) (k : ProblemKind) (at : ℕ) (f : Found) → (and_problem_if test k at f).rows ≡ f.rows
+problem_if_rows true k at f = refl
+problem_if_rows false k at f = refl
+
+flaw_rows : (is_ended is_nameless : Bool) (start : ℕ) (f : Found) → (and_flaw is_ended is_nameless start f).rows ≡ f.rows
+flaw_rows true is_nameless start f = problem_if_rows is_nameless problem.Nameless start f
+flaw_rows false is_nameless start f = refl
+
+item_rows : (depth start end : ℕ) (body named : Option TextRange) (k : AstIdKind) (name : List ℕ) (is_ended : Bool) (f : Found)
+    → (and_item depth start end body k name named is_ended f).rows ≡ f.rows ++ record { depth = depth; kind = k; name = name } ∷ []
+item_rows depth start end body named k name is_ended f = flaw_rows is_ended _ start _
+
+pub problem_at_rows : (k : ProblemKind) (o : Option ℕ) (f : Found) → (and_problem_at k o f).rows ≡ f.rows
+problem_at_rows k None f = refl
+problem_at_rows k (Some at) f = refl
+
+leaf_rows : (depth start end : ℕ) (l : LeafRead) (f : Found) → (and_leaf depth start end l f).rows ≡ f.rows ++ record { depth = depth; kind = l.kind; name = l.name } ∷ []
+leaf_rows depth start end l f = problem_at_rows problem.TooDeep l.too_deep _ ∙ item_rows depth start end l.body l.named l.kind l.name l.is_ended f
+
+leaf_rows_same : (depth start end start' end' : ℕ) (l m : LeafRead) (f f' : Found) → LeafAlike l m → f'.rows ≡ f.rows → (and_leaf depth start' end' m f').rows ≡ (and_leaf depth start end l f).rows
+leaf_rows_same depth start end start' end' l m f f' a e =
+    leaf_rows depth start' end' m f' ∙ ap (λ (rs : List Row). rs ++ record { depth = depth; kind = m.kind; name = m.name } ∷ []) e
+    ∙ ap (λ (k : AstIdKind). f.rows ++ record { depth = depth; kind = k; name = m.name } ∷ []) a.kind
+    ∙ ap (λ (n : List ℕ). f.rows ++ record { depth = depth; kind = l.kind; name = n } ∷ []) a.name ∙ sym (leaf_rows depth start end l f)
+
+leaf_misses : (at depth start end : ℕ) (l : LeafRead) (f : Found) → Elsewhere at l.body → Misses at f (and_leaf depth start end l f)
+leaf_misses at depth start end l f h = record {
+  more = record { range = record { start = start; end = end }; name = l.named; body = l.body } ∷ [];
+  is = (adds_use_trees l.use_trees (adds_problem_at problem.TooDeep l.too_deep (adds_item f depth start end l.body l.kind l.name l.named l.is_ended))).spans;
+  free = (h, tt);
+}
+
+elsewhere_by : (at : ℕ) (o : Option TextRange) → ((r : TextRange) → o ≡ Some r → r.start ≡ at → ⊥) → Elsewhere at o
+elsewhere_by at None f = tt
+elsewhere_by at (Some r) f = f r refl
+
+-- an item that holds others
+parent_rows : (depth start end : ℕ) (k : AstIdKind) (n : NameRead) (is_ended : Bool) (g f : Found)
+    → (and_parent depth start end k n is_ended g f).rows ≡ (f.rows ++ record { depth = depth; kind = k; name = n.hashed } ∷ []) ++ g.rows
+parent_rows depth start end k n is_ended g f = ap (λ l. l ++ g.rows) (item_rows depth start end None n.range k n.hashed is_ended f)
+
+parent_same : (depth start end start' end' : ℕ) (k : AstIdKind) (n n' : NameRead) (is_ended is_ended' : Bool) (g g' f f' : Found) → n'.hashed ≡ n.hashed → g'.rows ≡ g.rows → f'.rows ≡ f.rows
+    → (and_parent depth start' end' k n' is_ended' g' f').rows ≡ (and_parent depth start end k n is_ended g f).rows
+parent_same depth start end start' end' k n n' is_ended is_ended' g g' f f' h i j =
+    parent_rows depth start' end' k n' is_ended' g' f' ∙ ap (λ (rs : List Row). (rs ++ record { depth = depth; kind = k; name = n'.hashed } ∷ []) ++ g'.rows) j
+    ∙ ap (λ (z : List ℕ). (f.rows ++ record { depth = depth; kind = k; name = z } ∷ []) ++ g'.rows) h
+    ∙ ap (λ (rs : List Row). (f.rows ++ record { depth = depth; kind = k; name = n.hashed } ∷ []) ++ rs) i ∙ sym (parent_rows depth start end k n is_ended g f)
+
+parent_misses : (at depth start end : ℕ) (k : AstIdKind) (n : NameRead) (is_ended : Bool) (g f : Found) → Misses at nothing_found g → Misses at f (and_parent depth start end k n is_ended g f)
+parent_misses at depth start end k n is_ended g f m = record {
+  more = record { range = record { start = start; end = end }; name = n.range; body = None } ∷ m.more;
+  is = ap (λ l. l ++ g.spans) (adds_item f depth start end None k n.hashed n.range is_ended).spans ∙ append_assoc f.spans _ g.spans ∙ ap (λ l. f.spans ++ record { range = record { start = start; end = end }; name = n.range; body = None } ∷ l) m.is;
+  free = (tt, m.free);
+}
+
+-- ---- items that hold none
+
+tuple_item : (i : ItemView) → is_tuple_struct i ≡ true → has_tuple_struct i ≡ true
+tuple_item (struct_item n (tuple_fields fs)) e = refl
+tuple_item _ e = absurd cc
+
+or_false : (t : Bool) → t ≡ true → (t || false) ≡ true
+or_false true e = refl
+or_false false e = absurd cc
+
+-- the one went into the braces, and they are of no item that was found
+record Lost {A : Type 0} (b : Bodies) (f : Found) (p : A × (Found × Tokens)) : Type 0 where
+  gone : Gone b p.1.1
+  misses : Misses b.opening.at f p.1.0
+
+leaf_found_lost : (b : Bodies) (depth start : ℕ) (f : Found) (p : Option LeafRead × Tokens) → LeafLost b p → Lost b f (leaf_found depth start p.0 f p.1)
+leaf_found_lost b depth start f p h = by p.0 h.free
+  where
+    by : (o : Option LeafRead) → ((l : LeafRead) (r : TextRange) → o ≡ Some l → l.body ≡ Some r → r.start ≡ b.opening.at → ⊥) → Lost b f (leaf_found depth start o f p.1)
+    by None k = record { gone = gone_on h.gone (behind_others_leads p.1); misses = misses_none b.opening.at f _ refl }
+    by (Some l) k = record { gone = h.gone; misses = leaf_misses b.opening.at depth start p.1.past l f (elsewhere_by b.opening.at l.body (λ r d s. k l r refl d s)) }
+
+module _ (b : Bodies) (depth start start' : ℕ) (f f' : Found) (e : f'.rows ≡ f.rows) where
+  leaf_found_until : (p q : Option LeafRead × Tokens) → LeafUntil b p q → FoundUntil ItemAlike ItemLoose b f (leaf_found depth start p.0 f p.1) (leaf_found depth start' q.0 f' q.1)
+  leaf_found_until p q (leaf_lost g h) = let l = leaf_found_lost b depth start f p (record { gone = g; free = h }) in lost l.gone l.misses
+  leaf_found_until p q (leaf_loose l m d d' t x y h) =
+      slack (subst (λ (o : Option LeafRead). ItemLoose (leaf_found depth start o f p.1).0) (sym d) (or_false (has_tuple_struct l.item) (tuple_item l.item t)))
+  leaf_found_until p q (leaf_same a h) = by p.0 q.0 a
+    where
+      by : (o o' : Option LeafRead) → places.IsAlike LeafAlike o o' → FoundUntil ItemAlike ItemLoose b f (leaf_found depth start o f p.1) (leaf_found depth start' o' f' q.1)
+      by o o' places.neither = same (record { value = refl; rows = e; rest = behind_others_beside b p.1 q.1 h })
+      by o o' (places.both {x = l} {y = m} k) = same (record { value = ap Some k.item; rows = leaf_rows_same depth start p.1.past start' q.1.past l m f f' k e; rest = h })
+
+-- ---- extern blocks
+
+extern_alike : (i : ItemView) → option_map item_without_bodies (as_extern i) ≡ as_extern (item_without_bodies i)
+extern_alike (plain_item fn_kind n) = refl
+extern_alike (plain_item static_kind n) = refl
+extern_alike (plain_item type_alias_kind n) = refl
+extern_alike (macro_call c) = refl
+extern_alike _ = refl
+
+extern_tuple : (i : ItemView) → is_tuple_struct i ≡ true → as_extern i ≡ None
+extern_tuple (struct_item n (tuple_fields fs)) e = refl
+extern_tuple _ e = absurd cc
+
+module _ (b : Bodies) (depth start start' : ℕ) (f f' : Found) (e : f'.rows ≡ f.rows) where
+  kept_until : (end end' : ℕ) (ts us : Tokens) (l m : LeafRead) (o o' : Option ItemView) → LeafAlike l m → option_map item_without_bodies o' ≡ option_map item_without_bodies o → Beside b ts us
+      → FoundUntil ItemAlike ItemLoose b f ((extern_kept depth start end l o f).0, ((extern_kept depth start end l o f).1, ts)) ((extern_kept depth start' end' m o' f').0, ((extern_kept depth start' end' m o' f').1, us))
+  kept_until end end' ts us l m None None a d h = same (record { value = refl; rows = e; rest = h })
+  kept_until end end' ts us l m (Some i) (Some j) a d h = same (record { value = d; rows = leaf_rows_same depth start end start' end' l m f f' a e; rest = h })
+  kept_until end end' ts us l m None (Some j) a d h = absurd cc
+  kept_until end end' ts us l m (Some i) None a d h = absurd cc
+
+  kept_misses : (end : ℕ) (l : LeafRead) (o : Option ItemView) → Elsewhere b.opening.at l.body → Misses b.opening.at f (extern_kept depth start end l o f).1
+  kept_misses end l None h = misses_none b.opening.at f _ refl
+  kept_misses end l (Some i) h = leaf_misses b.opening.at depth start end l f h
+
+  extern_found_until : (p q : Option LeafRead × Tokens) → LeafUntil b p q → FoundUntil ItemAlike ItemLoose b f (extern_found depth start p.0 f p.1) (extern_found depth start' q.0 f' q.1)
+  extern_found_until p q (leaf_lost g h) = by p.0 (λ l r d. h l r d)
+    where
+      by : (o : Option LeafRead) → ((l : LeafRead) (r : TextRange) → o ≡ Some l → l.body ≡ Some r → r.start ≡ b.opening.at → ⊥)
+          → FoundUntil ItemAlike ItemLoose b f (extern_found depth start o f p.1) (extern_found depth start' q.0 f' q.1)
+      by None h = lost (gone_on g (behind_others_leads p.1)) (misses_none b.opening.at f _ refl)
+      by (Some l) h = lost g (kept_misses p.1.past l (as_extern l.item) (elsewhere_by b.opening.at l.body (λ r d s. h l r refl d s)))
+  extern_found_until p q (leaf_loose l m d d' t x y h) = rw (d, d', x, y) (same (record { value = refl; rows = e; rest = h }))
+  extern_found_until p q (leaf_same a h) = by p.0 q.0 a
+    where
+      by : (o o' : Option LeafRead) → places.IsAlike LeafAlike o o' → FoundUntil ItemAlike ItemLoose b f (extern_found depth start o f p.1) (extern_found depth start' o' f' q.1)
+      by o o' places.neither = same (record { value = refl; rows = e; rest = behind_others_beside b p.1 q.1 h })
+      by o o' (places.both {x = l} {y = m} k) =
+          kept_until p.1.past q.1.past p.1 q.1 l m (as_extern l.item) (as_extern m.item) k (extern_alike m.item ∙ ap as_extern k.item ∙ sym (extern_alike l.item)) h
+
+-- ---- turns
+
+front_laid : (end : ℕ) (ts : Tokens) → IsSound end ts → IsSound end (front ts).1
+front_laid end ts l = sound_on end (front_takes ts).leads l
+
+-- nothing is found where a bracket closes nothing
+unmatched_until : (b : Bodies) (f f' : Found) (ts us : Tokens) → f'.rows ≡ f.rows → Beside b ts us → FoundUntil ItemAlike ItemLoose b f (unmatched f ts) (unmatched f' us)
+unmatched_until b f f' ts us e h =
+    by_next (bumped_onward b ts us h) (λ g. lost g (misses_none b.opening.at f _ refl)) (λ n. same (record { value = refl; rows = e; rest = n }))
+
+extern_turn_until : (end depth : ℕ) (b : Bodies) → BeginPlain b → UpToFound end b (extern_turn depth)
+unfolding extern_turn
+extern_turn_until end depth b plain f f' ts us l e h =
+    when (is_at_end ts)
+    (λ t. rw (end_same b ts us h, t) (unmatched_until b f f' ts us e h))
+    (λ t. rw (end_same b ts us h, t) (by_stayed (front_until b ts us h)
+        (λ g. extern_found_until b depth (front ts).0.start (front us).0.start f f' e (leaf (front ts).0 (front ts).1) (leaf (front us).0 (front us).1) (let x = leaf_gone b end (front ts).0 (front ts).1 (front_laid end ts l) g in leaf_lost x.gone x.free))
+        (λ k. extern_found_until b depth (front ts).0.start (front us).0.start f f' e (leaf (front ts).0 (front ts).1) (leaf (front us).0 (front us).1) (leaf_until b plain end (front ts).0 (front us).0 (front ts).1 (front us).1 k.value (front_laid end ts l) k.rest))))
+
+leaf_turn_until : (end depth : ℕ) (b : Bodies) → BeginPlain b → (h h' : FrontRead) (f f' : Found) (ts us : Tokens) → IsSound end ts → f'.rows ≡ f.rows → FrontAlike h h' → Beside b ts us
+    → FoundUntil ItemAlike ItemLoose b f (leaf_turn depth h f ts) (leaf_turn depth h' f' us)
+unfolding leaf_turn
+leaf_turn_until end depth b plain h h' f f' ts us l e a k = leaf_found_until b depth h.start h'.start f f' e (leaf h ts) (leaf h' us) (leaf_until b plain end h h' ts us a l k)
+
+leaf_turn_lost : (end depth : ℕ) (b : Bodies) (h : FrontRead) (f : Found) (ts : Tokens) → IsSound end ts → Gone b ts → Lost b f (leaf_turn depth h f ts)
+unfolding leaf_turn
+leaf_turn_lost end depth b h f ts l g = leaf_found_lost b depth h.start f (leaf h ts) (leaf_gone b end h ts l g)
+
+-- ---- lists
+
+by_found : {A P : Type 0} {alike : A → A → Type 0} {loose : A → Type 0} {b : Bodies} {f : Found} {p q : A × (Found × Tokens)} → FoundUntil alike loose b f p q
+    → (Gone b p.1.1 → Misses b.opening.at f p.1.0 → P) → (loose p.0 → P) → (FoundKept alike b p q → P) → P
+by_found (lost g m) x y z = x g m
+by_found (slack l) x y z = y l
+by_found (same k) x y z = z k
+
+-- the braces are passed
+passed : Bodies → Bodies
+passed b = record {
+  edition = b.edition;
+  passed = true;
+  opening = b.opening;
+  closing = b.closing;
+  old = b.old;
+  new = b.new;
+  by = b.by;
+  by_new = b.by_new;
+  opens = b.opens;
+  is_bracket = b.is_bracket;
+  closes = b.closes;
+  old_behind = b.old_behind;
+  apart = b.apart;
+  apart_new = b.apart_new;
+  old_matched = b.old_matched;
+  new_matched = b.new_matched;
+}
+
+plain_passed : (b : Bodies) → BeginPlain b → BeginPlain (passed b)
+unfolding passed
+plain_passed b plain = record { old = plain.old; new = plain.new }
+
+side : {P : Type 0} (b : Bodies) (ts us : Tokens) → Beside b ts us → (ts.past ≤ b.opening.at → P) → (Beside (passed b) ts us → P) → P
+unfolding passed
+side b ts us (ahead past x r u u' i j) before far = before (before_at b.opening.at past x i)
+side b ts us (behind past r u u' i) before far = far (behind past r u u' i)
+
+unpassed_beside : (b : Bodies) (ts us : Tokens) → Beside (passed b) ts us → Beside b ts us
+unfolding passed
+unpassed_beside b ts us (ahead past x r u u' i j) = absurd (let no : true ≡ false = j.unpassed in cc)
+unpassed_beside b ts us (behind past r u u' i) = behind past r u u' i
+
+unpassed : {A : Type 0} {alike : A → A → Type 0} {loose : A → Type 0} (b : Bodies) {f g : Found} {p q : A × (Found × Tokens)} → FoundUntil alike loose (passed b) f p q → FoundUntil alike loose b g p q
+unfolding passed
+unpassed b (lost g m) = absurd (let no : true ≡ false = g.unpassed in cc)
+unpassed b (slack l) = slack l
+unpassed b (same k) = same (record { value = k.value; rows = k.rows; rest = unpassed_beside b _ _ k.rest })
+
+tuple_either : (xs ys : List ItemView) → have_tuple_struct (items_from (xs ++ ys)) ≡ (have_tuple_struct (items_from xs) || have_tuple_struct (items_from ys))
+tuple_either [] ys = refl
+tuple_either (x ∷ xs) ys = ap (λ t. has_tuple_struct x || t) (tuple_either xs ys) ∙ or_or (has_tuple_struct x) _ _
+  where
+    or_or : (s t u : Bool) → (s || (t || u)) ≡ ((s || t) || u)
+    or_or true t u = refl
+    or_or false t u = refl
+
+tuple_among : (xs ys zs : List ItemView) → ListLoose ys → ListLoose ((xs ++ ys) ++ zs)
+tuple_among xs ys zs e = tuple_either (xs ++ ys) zs ∙ ap (λ t. t || have_tuple_struct (items_from zs)) (tuple_either xs ys ∙ ap (λ t. have_tuple_struct (items_from xs) || t) e) ∙ among (have_tuple_struct (items_from xs)) _
+  where
+    among : (s t : Bool) → ((s || true) || t) ≡ true
+    among true t = refl
+    among false t = refl
+
+list_of : (o : Option ItemView) → map item_without_bodies (option_to_list o) ≡ option_to_list (option_map item_without_bodies o)
+list_of None = refl
+list_of (Some i) = refl
+
+more_alike : (done done' : List ItemView) (o o' : Option ItemView) → ListAlike done done' → ItemAlike o o' → ListAlike (done ++ option_to_list o) (done' ++ option_to_list o')
+more_alike done done' o o' a e =
+    map-append item_without_bodies done' (option_to_list o') ∙ ap (λ l. l ++ map item_without_bodies (option_to_list o')) a
+    ∙ ap (λ l. map item_without_bodies done ++ l) (list_of o' ∙ ap option_to_list e ∙ sym (list_of o)) ∙ sym (map-append item_without_bodies done (option_to_list o))
+
+module _ (end : ℕ) (ends : Tokens → Bool) (ends_same : (b : Bodies) (ts us : Tokens) → Beside b ts us → ends us ≡ ends ts) (turn : Finder (Option ItemView)) (finds : Finds end turn)
+    (each : (b : Bodies) → BeginPlain b → UpToFound end b turn) where
+  list_until : (n : ℕ) (b : Bodies) → BeginPlain b → (done done' : List ItemView) (f f' : Found) (ts us : Tokens) → IsSound end ts → ListAlike done done' → f'.rows ≡ f.rows → Beside b ts us
+      → FoundUntil ListAlike ListLoose b f (finding_from ends turn n done f ts) (finding_from ends turn n done' f' us)
+  list_until zero b plain done done' f f' ts us l a e h = same (record { value = a; rows = e; rest = h })
+  list_until (suc n) b plain done done' f f' ts us l a e h =
+      let o = (turn f ts).0 in
+      let o' = (turn f' us).0 in
+      let g = (turn f ts).1.0 in
+      let g' = (turn f' us).1.0 in
+      let next = beyond ts.past (turn f ts).1.1 in
+      let next' = beyond us.past (turn f' us).1.1 in
+      let one = finds f ts l.laid in
+      let leads : LeadsTo (turn f ts).1.1 next = beyond_leads ts.past (turn f ts).1.1 in
+      let first = laid.behind end one.leads l.laid in
+      let then_laid = laid.behind end leads first.laid in
+      let rest = list_from end ends turn finds n (done ++ option_to_list o) g next then_laid.laid in
+      when (ends ts)
+      (λ z. rw (ends_same b ts us h, z) (same (record { value = a; rows = e; rest = h })))
+      (λ z. rw (ends_same b ts us h, z) (by_found (each b plain f f' ts us l e h)
+          (λ k m. let k' = gone_on k leads in lost (gone_on k' rest.found.leads) (misses_both m (found_gone rest.found k')))
+          (λ t. slack (subst ListLoose (sym rest.list) (tuple_among done (option_to_list o) rest.new t)))
+          (λ k. let both = beyond_beside b ts us _ _ h k.rest in
+              let alike = more_alike done done' o o' a k.value in
+              side b next next' both
+              (λ low. by_found (list_until n b plain (done ++ option_to_list o) (done' ++ option_to_list o') g g' next next' (sound_on end (through one.leads leads) l) alike k.rows both)
+                  (λ x m. lost x (misses_both (found_before b one (let past = then_laid.past in omega arith)) m)) (λ t. slack t) (λ j. same j))
+              (λ far. unpassed b (list_until n (passed b) (plain_passed b plain) (done ++ option_to_list o) (done' ++ option_to_list o') g g' next next' (sound_on end (through one.leads leads) l) alike k.rows far)))))
+
+-- ---- blocks
+
+pub record BlockAlike (r s : BlockRead) : Type 0 where
+  pub attrs : s.attrs ≡ r.attrs
+  pub items : option_map (map item_without_bodies) s.items ≡ option_map (map item_without_bodies) r.items
+
+abbrev pub SomeLoose : Option (List ItemView) → Type 0
+SomeLoose None = ⊥
+SomeLoose (Some is) = ListLoose is
+
+abbrev pub BlockLoose : BlockRead → Type 0
+BlockLoose r = SomeLoose r.items
+
+abbrev UpToBlock : ℕ → Bodies → Finder BlockRead → Type 0
+UpToBlock end b inside = (f f' : Found) (ts us : Tokens) → IsSound end ts → f'.rows ≡ f.rows → Beside b ts us → FoundUntil BlockAlike BlockLoose b f (inside f ts) (inside f' us)
+
+list_end_same : (is_top : Bool) (b : Bodies) (ts us : Tokens) → Beside b ts us → is_list_end is_top us ≡ is_list_end is_top ts
+unfolding is_list_end
+list_end_same is_top b ts us h = rw (empty_same b ts us h, symbol_same b ts us h) refl
+
+module _ (end : ℕ) (turn : Finder (Option ItemView)) (finds : Finds end turn) (each : (b : Bodies) → BeginPlain b → UpToFound end b turn) where
+  block_until : (b : Bodies) → BeginPlain b → UpToBlock end b (block_of turn)
+  unfolding finding
+  block_until b plain f f' ts us l e h =
+      let inner = inner_attributes (bumped ts) in
+      let inner' = inner_attributes (bumped us) in
+      let open_leads : LeadsTo ts inner.1 = further (inner_attributes_leads (bumped ts)) in
+      let first = laid.behind end open_leads l.laid in
+      let list = list_found end (is_list_end false) turn finds f inner.1 first.laid in
+      by_next (bumped_onward b ts us h)
+      (λ g. let k = gone_on g (inner_attributes_leads (bumped ts)) in lost (gone_on (gone_on k list.leads) (eat_leads 125 _)) (found_gone list k))
+      (λ n. by_kept (inner_attributes_until b (bumped ts) (bumped us) n)
+          (λ k. lost (gone_on (gone_on k list.leads) (eat_leads 125 _)) (found_gone list k))
+          (λ k. by_found (list_until end (is_list_end false) (list_end_same false) turn finds each most b plain [] [] f f' inner.1 inner'.1 (sound_on end open_leads l) refl e k.rest)
+              (λ g m. lost (gone_on g (eat_leads 125 _)) m)
+              (λ t. slack t)
+              (λ j. same (record { value = record { attrs = k.value; items = ap Some j.value }; rows = j.rows; rest = (eat_local b 125 refl _ _ j.rest).rest }))))
+
+-- ---- items that hold others
+
+from_list : (is : List ItemView) → items_without_bodies (items_from is) ≡ items_from (map item_without_bodies is)
+from_list [] = refl
+from_list (i ∷ is) = ap (item_and (item_without_bodies i)) (from_list is)
+
+module_alike : (n : NamedView) (semicolon : Bool) (is : Option (List ItemView)) → item_without_bodies (module_from n semicolon is) ≡ module_from (named_without_body n) semicolon (option_map (map item_without_bodies) is)
+module_alike n semicolon None = refl
+module_alike n semicolon (Some is) = ap (listed_module (named_without_body n) semicolon) (from_list is)
+
+module_same : (attrs attrs' : List MetaView) (n n' : Option (List ℕ)) (v v' : Option Visibility) (s s' : Bool) (is is' : Option (List ItemView)) → attrs' ≡ attrs → n' ≡ n → v' ≡ v → s' ≡ s
+    → option_map (map item_without_bodies) is' ≡ option_map (map item_without_bodies) is → item_without_bodies (module_from (named_node attrs' n' v' []) s' is') ≡ item_without_bodies (module_from (named_node attrs n v []) s is)
+module_same attrs attrs' n n' v v' s s' is is' a b c d e =
+    module_alike (named_node attrs' n' v' []) s' is' ∙ ap (module_from (named_node attrs' n' v' []) s') e ∙ ap (λ t. module_from (named_node attrs' n' v' []) t (option_map (map item_without_bodies) is)) d
+    ∙ ap (λ (t : Option Visibility). module_from (named_node attrs' n' t []) s (option_map (map item_without_bodies) is)) c
+    ∙ ap (λ (t : Option (List ℕ)). module_from (named_node attrs' t v []) s (option_map (map item_without_bodies) is)) b
+    ∙ ap (λ (t : List MetaView). module_from (named_node t n v []) s (option_map (map item_without_bodies) is)) a ∙ sym (module_alike (named_node attrs n v []) s is)
+
+module_loose : (n : NamedView) (semicolon : Bool) (is : Option (List ItemView)) → SomeLoose is → has_tuple_struct (module_from n semicolon is) ≡ true
+module_loose n semicolon None l = absurd l
+module_loose n semicolon (Some is) l = l
+
+extern_block_alike : (n : NodeView) (is : Option (List ItemView)) → item_without_bodies (extern_block_from n is) ≡ extern_block_from (node_without_body n) (option_map (map item_without_bodies) is)
+extern_block_alike n None = refl
+extern_block_alike n (Some is) = ap (listed_extern_block (node_without_body n)) (from_list is)
+
+extern_block_same : (attrs attrs' : List MetaView) (is is' : Option (List ItemView)) → attrs' ≡ attrs → option_map (map item_without_bodies) is' ≡ option_map (map item_without_bodies) is
+    → item_without_bodies (extern_block_from (node attrs' []) is') ≡ item_without_bodies (extern_block_from (node attrs []) is)
+extern_block_same attrs attrs' is is' a e =
+    extern_block_alike (node attrs' []) is' ∙ ap (extern_block_from (node attrs' [])) e ∙ ap (λ (t : List MetaView). extern_block_from (node t []) (option_map (map item_without_bodies) is)) a
+    ∙ sym (extern_block_alike (node attrs []) is)
+
+extern_block_loose : (n : NodeView) (is : Option (List ItemView)) → SomeLoose is → has_tuple_struct (extern_block_from n is) ≡ true
+extern_block_loose n None l = absurd l
+extern_block_loose n (Some is) l = l
+
+-- extern blocks
+extern_inside_until : (end depth : ℕ) (b : Bodies) → BeginPlain b → UpToBlock end b (extern_inside depth)
+unfolding extern_inside
+extern_inside_until end depth b plain f f' ts us l e h =
+    when (symbol ts == 123)
+    (λ z. rw (symbol_same b ts us h, z) (block_until end (extern_turn depth) (extern_turn_found end depth) (extern_turn_until end depth) b plain f f' ts us l e h))
+    (λ z. rw (symbol_same b ts us h, z) (same (record { value = record { attrs = refl; items = refl }; rows = e; rest = h })))
+
+extern_block_until : (end depth start start' : ℕ) (attrs attrs' : List MetaView) (b : Bodies) → BeginPlain b → attrs' ≡ attrs → (f f' : Found) (ts us : Tokens) → IsSound end ts → f'.rows ≡ f.rows → Beside b ts us
+    → FoundUntil ItemAlike ItemLoose b f (some_item (extern_block depth start attrs f ts)) (some_item (extern_block depth start' attrs' f' us))
+unfolding extern_block
+extern_block_until end depth start start' attrs attrs' b plain a f f' ts us l e h =
+    let x = extern_inside (one_more depth) nothing_found ts in
+    let y = extern_inside (one_more depth) nothing_found us in
+    by_found (extern_inside_until end (one_more depth) b plain nothing_found nothing_found ts us l refl h)
+    (λ g m. lost g (parent_misses b.opening.at depth start x.1.1.past kind.ExternBlock no_name x.0.is_ended x.1.0 f m))
+    (λ t. slack (or_false _ (extern_block_loose (node (attrs ++ x.0.attrs) []) x.0.items t)))
+    (λ k. same (record {
+      value = ap Some (extern_block_same (attrs ++ x.0.attrs) (attrs' ++ y.0.attrs) x.0.items y.0.items (ap (λ l. l ++ y.0.attrs) a ∙ ap (λ l. attrs ++ l) k.value.attrs) k.value.items);
+      rows = parent_same depth start x.1.1.past start' y.1.1.past kind.ExternBlock no_name no_name x.0.is_ended y.0.is_ended x.1.0 y.1.0 f f' refl k.rows e;
+      rest = k.rest;
+    }))
+
+extern_block_lost : (end depth start : ℕ) (attrs : List MetaView) (b : Bodies) (f : Found) (ts : Tokens) → IsSound end ts → Gone b ts → Lost b f (some_item (extern_block depth start attrs f ts))
+unfolding extern_block
+extern_block_lost end depth start attrs b f ts l g =
+    let x = extern_inside (one_more depth) nothing_found ts in
+    let found = extern_inside_found end (one_more depth) nothing_found ts l.laid in
+    record { gone = gone_on g found.leads; misses = parent_misses b.opening.at depth start x.1.1.past kind.ExternBlock no_name x.0.is_ended x.1.0 f (found_gone found g) }
+
+-- modules
+module _ (end : ℕ) (inside : Finder BlockRead) (finds : FindsIn end inside) (each : (b : Bodies) → BeginPlain b → UpToBlock end b inside) (depth : ℕ) where
+  unless_until : (b : Bodies) → BeginPlain b → (s s' : Bool) → s' ≡ s → (f f' : Found) (ts us : Tokens) → IsSound end ts → f'.rows ≡ f.rows → Beside b ts us
+      → FoundUntil BlockAlike BlockLoose b f (inside_unless s inside f ts) (inside_unless s' inside f' us)
+  unless_until b plain true s' d f f' ts us l e h = rw d (same (record { value = record { attrs = refl; items = refl }; rows = e; rest = h }))
+  unless_until b plain false s' d f f' ts us l e h = rw d (each b plain f f' ts us l e h)
+
+  module_until : (b : Bodies) → BeginPlain b → (h h' : FrontRead) → FrontAlike h h' → (f f' : Found) (ts us : Tokens) → IsSound end ts → f'.rows ≡ f.rows → Beside b ts us
+      → FoundUntil ItemAlike ItemLoose b f (some_item (module_with inside depth h f ts)) (some_item (module_with inside depth h' f' us))
+  module_until b plain h h' a f f' ts us l e k =
+      let n = named_local b ts us k in
+      let s = eat_local b 59 refl (named ts).1 (named us).1 n.rest in
+      let c = eat 59 (named ts).1 in
+      let c' = eat 59 (named us).1 in
+      let x = inside_unless c.0 inside nothing_found c.1 in
+      let y = inside_unless c'.0 inside nothing_found c'.1 in
+      let sound = sound_on end (through (named_leads ts) (eat_leads 59 (named ts).1)) l in
+      by_found (unless_until b plain c.0 c'.0 s.value nothing_found nothing_found c.1 c'.1 sound refl s.rest)
+      (λ g m. lost g (parent_misses b.opening.at depth h.start x.1.1.past kind.Module (named ts).0 (c.0 || x.0.is_ended) x.1.0 f m))
+      (λ t. slack (or_false _ (module_loose (named_node (h.attrs ++ x.0.attrs) (named ts).0.name h.visibility []) c.0 x.0.items t)))
+      (λ j. same (record {
+        value = ap Some (module_same (h.attrs ++ x.0.attrs) (h'.attrs ++ y.0.attrs) (named ts).0.name (named us).0.name h.visibility h'.visibility c.0 c'.0 x.0.items y.0.items
+            (ap (λ l. l ++ y.0.attrs) a.attrs ∙ ap (λ l. h.attrs ++ l) j.value.attrs) n.value.name a.visibility s.value j.value.items);
+        rows = parent_same depth h.start x.1.1.past h'.start y.1.1.past kind.Module (named ts).0 (named us).0 (c.0 || x.0.is_ended) (c'.0 || y.0.is_ended) x.1.0 y.1.0 f f' n.value.hashed j.rows e;
+        rest = j.rest;
+      }))
+
+  module_lost : (b : Bodies) (h : FrontRead) (f : Found) (ts : Tokens) → IsSound end ts → Gone b ts → Lost b f (some_item (module_with inside depth h f ts))
+  module_lost b h f ts l g =
+      let c = eat 59 (named ts).1 in
+      let x = inside_unless c.0 inside nothing_found c.1 in
+      let leads = through (named_leads ts) (eat_leads 59 (named ts).1) in
+      let sound = sound_on end leads l in
+      let found = unless_found end inside finds depth c.0 nothing_found c.1 sound.laid in
+      record { gone = gone_on (gone_on g leads) found.leads; misses = parent_misses b.opening.at depth h.start x.1.1.past kind.Module (named ts).0 (c.0 || x.0.is_ended) x.1.0 f (found_gone found (gone_on g leads)) }
+
+  head_lost : (b : Bodies) (k : Head) (h : FrontRead) (f : Found) (ts : Tokens) → IsSound end ts → Gone b ts → Lost b f (by_head inside depth k h f ts)
+  head_lost b heads.Module h f ts l g = module_lost b h f ts l g
+  head_lost b heads.ExternBlock h f ts l g = extern_block_lost end depth h.start h.attrs b f ts l g
+  head_lost b _ h f ts l g = leaf_turn_lost end depth b h f ts l g
+
+  head_until : (b : Bodies) → BeginPlain b → (k : Head) (h h' : FrontRead) → FrontAlike h h' → (f f' : Found) (ts us : Tokens) → IsSound end ts → f'.rows ≡ f.rows → Beside b ts us
+      → FoundUntil ItemAlike ItemLoose b f (by_head inside depth k h f ts) (by_head inside depth k h' f' us)
+  head_until b plain heads.Module h h' a f f' ts us l e k = module_until b plain h h' a f f' ts us l e k
+  head_until b plain heads.ExternBlock h h' a f f' ts us l e k = extern_block_until end depth h.start h'.start h.attrs h'.attrs b plain a.attrs f f' ts us l e k
+  head_until b plain _ h h' a f f' ts us l e k = leaf_turn_until end depth b plain h h' f f' ts us l e a k
+
+  turn_with_until : (b : Bodies) → BeginPlain b → UpToFound end b (turn_with inside depth)
+  turn_with_until b plain f f' ts us l e h =
+      when (is_at_end ts)
+      (λ t. rw (end_same b ts us h, t) (unmatched_until b f f' ts us e h))
+      (λ t. rw (end_same b ts us h, t) (by_stayed (front_until b ts us h)
+          (λ g. let x = head_lost b (front ts).0.head (front ts).0 f (front ts).1 (front_laid end ts l) g in lost x.gone x.misses)
+          (λ k. rw k.value.head (head_until b plain (front ts).0.head (front ts).0 (front us).0 k.value f f' (front ts).1 (front us).1 (front_laid end ts l) e k.rest))))
+
+inside_until : (end left : ℕ) (b : Bodies) → BeginPlain b → UpToBlock end b (inside left)
+unfolding inside
+inside_until end zero b plain f f' ts us l e h =
+    when (symbol ts == 123)
+    (λ z. rw (symbol_same b ts us h, z) (same (record { value = record { attrs = refl; items = refl }; rows = e; rest = behind_tree_beside b ts us h })))
+    (λ z. rw (symbol_same b ts us h, z) (same (record { value = record { attrs = refl; items = refl }; rows = e; rest = h })))
+inside_until end (suc left) b plain f f' ts us l e h =
+    when (symbol ts == 123)
+    (λ z. rw (symbol_same b ts us h, z)
+        (block_until end (turn_with (inside left) (depth_of left)) (turn_with_found end (inside left) (inside_found end left) (depth_of left))
+            (turn_with_until end (inside left) (inside_found end left) (inside_until end left) (depth_of left)) b plain f f' ts us l e h))
+    (λ z. rw (symbol_same b ts us h, z) (same (record { value = record { attrs = refl; items = refl }; rows = e; rest = h })))
+
+turn_until : (end left : ℕ) (b : Bodies) → BeginPlain b → UpToFound end b (turn left)
+unfolding turn
+turn_until end left b plain f f' ts us l e h = turn_with_until end (inside left) (inside_found end left) (inside_until end left) (depth_of left) b plain f f' ts us l e h
+
+-- the items of a file
+pub items_until : (end : ℕ) (is_top : Bool) (left : ℕ) (b : Bodies) → BeginPlain b → (f f' : Found) (ts us : Tokens) → IsSound end ts → f'.rows ≡ f.rows → Beside b ts us
+    → FoundUntil ListAlike ListLoose b f (items is_top left f ts) (items is_top left f' us)
+unfolding finding
+items_until end is_top left b plain f f' ts us l e h =
+    list_until end (is_list_end is_top) (list_end_same is_top) (turn left) (turn_found end left) (turn_until end left) most b plain [] [] f f' ts us l refl e h
+
+-- ---- whole files
+
+abbrev pub items_behind : Tokens → List ItemView × (Found × Tokens)
+items_behind ts = items true 128 nothing_found (inner_attributes ts).1
+
+-- the braces are of no item of the file, or a struct has its fields in parentheses, or the same is read but for body texts
+pub data FileUntil (b : Bodies) (ts us : Tokens) : Type 0 where
+  of_none : AreElsewhere b.opening.at (items_behind ts).1.0.spans → FileUntil b ts us
+  tuples : ListLoose (items_behind ts).0 → FileUntil b ts us
+  alike : (inner_attributes us).0 ≡ (inner_attributes ts).0 → ListAlike (items_behind ts).0 (items_behind us).0 → (items_behind us).1.0.rows ≡ (items_behind ts).1.0.rows → FileUntil b ts us
+
+pub file_until : (end : ℕ) (b : Bodies) → BeginPlain b → (ts us : Tokens) → IsSound end ts → Beside b ts us → FileUntil b ts us
+file_until end b plain ts us l h =
+    let inner = inner_attributes ts in
+    let sound = sound_on end (inner_attributes_leads ts) l in
+    by_kept (inner_attributes_until b ts us h)
+    (λ g. let m = found_gone (items_found end true 128 nothing_found inner.1 sound.laid) g in of_none (subst (AreElsewhere b.opening.at) (sym m.is) m.free))
+    (λ k. by_found (items_until end true 128 b plain nothing_found nothing_found inner.1 (inner_attributes us).1 sound refl k.rest)
+        (λ g m. of_none (subst (AreElsewhere b.opening.at) (sym m.is) m.free)) (λ t. tuples t) (λ j. alike k.value j.value j.rows))

@@ -1,0 +1,353 @@
+-- Items that hold none, of tokens beside, are the same but for body texts, until one goes into the braces.
+use Rattle.std.proofs.Common.{◌≡◌, ◌≤◌, ◌<◌, ◌+◌, ◌==◌, ◌&&◌, ℕ, zero, suc, Bool, true, false, Option, Some, None, List, [], ◌∷◌, ◌++◌, codes, map, refl, ap, sym, subst, ◌∙◌, arith}
+use Rattle.std.specs.Prelude.{is_some}
+use Rattle.std.proofs.lemmas.Bool.{and_parts}
+use Rattle.hir_input.specs.declared.ast.PathNode.{PathNode}
+use Rattle.hir_input.specs.declared.ast.Visibility.{Visibility}
+use Rattle.hir_input.specs.Attr.{MetaView}
+use Rattle.hir_input.specs.Bodies.{item_without_bodies}
+use Rattle.hir_input.specs.Syntax.{FieldsView, NamedView, ItemView, tuple_fields, record_fields, no_fields, struct_item, use_item, union_kind, enum_kind, trait_kind}
+use Rattle.hir_input.specs.UseTreeView.{UseTreeView}
+use Rattle.rust_lexer.specs.Piece.{Piece}
+use Rattle.rust_lexer.specs.Alone.{moved}
+use Rattle.rust_cursor.specs.Tokens.{Tokens, end_of}
+use Rattle.rust_cursor.specs.Words.{symbol, at, is_empty, bumped, eat}
+use Rattle.rust_cursor.specs.Elements.{elements, one}
+use Rattle.rust_cursor.specs.Beside.{Bodies, AreBehind, Beside, ahead, behind}
+use Rattle.rust_cursor.proofs.Leads.{LeadsTo, here, further, through, Forwards, when, bumped_leads, eat_leads, reached_leads, Takes, HasBlock, no_block, block, taken_block}
+use Rattle.rust_cursor.proofs.Laid.{IsLaid, at_behind, taken_behind}
+use Rattle.rust_cursor.proofs.Laid as laid
+use Rattle.rust_cursor.proofs.Views.{before_at, behind_at, symbol_same, next_ahead, next_behind, next_none}
+use Rattle.rust_cursor.proofs.Braced.{tokens_at}
+use Rattle.rust_cursor.proofs.Passing.{BothBeside, behind_angles_beside, behind_field_beside}
+use Rattle.rust_cursor.proofs.Passing as passing
+use Rattle.rust_cursor.proofs.Local.{Kept, Local, eat_local, after_symbol}
+use Rattle.rust_cursor.proofs.Until.{Gone, gone_on, Until, gone, kept, UpTo, by_kept, elements_until, one_until}
+use Rattle.rust_cursor.proofs.Alike.{KeptBy, UntilBy, went, stayed, by_stayed}
+use Rattle.rust_cursor.proofs.Places.{IsAlike}
+use Rattle.rust_cursor.proofs.Places as places
+use Rattle.rust_paths.specs.declared.names.TextRange.{TextRange}
+use Rattle.rust_paths.specs.Paths.{path}
+use Rattle.rust_paths.specs.UseTrees.{use_tree}
+use Rattle.rust_paths.specs.UseTrees as trees
+use Rattle.rust_paths.specs.Visibilities.{visibility}
+use Rattle.rust_paths.proofs.Beside.{path_local, visibility_local}
+use Rattle.rust_paths.proofs.Leads.{path_leads, visibility_leads, use_tree_leads}
+use Rattle.rust_paths.proofs.UntilTrees.{SameFound, use_tree_until}
+use Rattle.rust_metas.specs.Attributes.{outer_attributes, inner_attributes}
+use Rattle.rust_metas.proofs.Leads.{outer_attributes_leads, inner_attributes_leads}
+use Rattle.rust_cursor.proofs.Around.{IsSound, sound_on}
+use Rattle.rust_cursor.proofs.Enclosed.{item_enclosed, impl_enclosed}
+use Rattle.rust_metas.proofs.Around.{inner_within}
+use Rattle.rust_metas.proofs.UntilAttributes.{outer_attributes_until, inner_attributes_until}
+use Rattle.rust_leaves.specs.declared.head.Head.{Head}
+use Rattle.rust_leaves.specs.declared.head.Head.TheVariants as heads
+use Rattle.rust_leaves.specs.Heads.{behind_modifiers, head}
+use Rattle.rust_leaves.specs.Fronts.{FrontRead, front_behind, front}
+use Rattle.rust_leaves.specs.Leaves.{RestRead, LeafRead, named, impl_end, item_end, call_end, block_attributes, range_to, field, fields, fields_at, struct_fields}
+use Rattle.rust_cursor.specs.Angles.{behind_angles}
+use Rattle.rust_leaves.specs.Kinds.{node, named_node, function, union_item, enumeration, trait_item, structure, implementation, use_read, use_declaration, is_called, called, call_behind, some_read, invocation, leaf_by, leaf}
+use Rattle.rust_leaves.specs.Texts.{bare, last_text}
+use Rattle.rust_leaves.proofs.Fronts.{modifiers_beside, head_local}
+use Rattle.rust_leaves.proofs.Beside.{named_local, item_end_local, impl_end_local, call_end_local, NameAlike, RestAlike, LeafAlike, function_local, block_item_local, macro_def_local, type_alias_local, static_local, constant_local, structure_local, implementation_local, macro_definition_local}
+use Rattle.rust_leaves.proofs.Crates.{crate_item_local, is_called_same, called_next, SameLast, beyond_braces, same_text, last_same}
+use Rattle.rust_items.specs.Items.{as_extern}
+use Rattle.rust_items.proofs.Leads.{LeafAt, leaf_at, named_leads, behind_modifiers_leads, head_takes, call_end_leads, call_end_braced, IsBraced, unbraced, braced, braces_behind, IsTaken, LeafFound, TakesBy, leaf_found, front_takes}
+
+-- ---- what stands in front
+
+pub record FrontAlike (f g : FrontRead) : Type 0 where
+  pub attrs : g.attrs ≡ f.attrs
+  pub visibility : g.visibility ≡ f.visibility
+  pub head : g.head ≡ f.head
+
+front_rest : (start : ℕ) (attrs : List MetaView) → Forwards (front_behind start attrs)
+unfolding front_behind
+front_rest start attrs ts = through (visibility_leads ts) (through (behind_modifiers_leads _) (head_takes _).leads)
+
+front_behind_local : (b : Bodies) (start start' : ℕ) (attrs attrs' : List MetaView) (ts us : Tokens) → attrs' ≡ attrs → Beside b ts us → KeptBy FrontAlike b (front_behind start attrs ts) (front_behind start' attrs' us)
+unfolding front_behind
+front_behind_local b start start' attrs attrs' ts us e h =
+    let v = visibility_local b ts us h in
+    let m = modifiers_beside b (visibility ts).1 (visibility us).1 v.rest in
+    let k = head_local b (behind_modifiers (visibility ts).1) (behind_modifiers (visibility us).1) m in
+    record { value = record { attrs = e; visibility = v.value; head = k.value }; rest = k.rest }
+
+pub front_until : (b : Bodies) (ts us : Tokens) → Beside b ts us → UntilBy FrontAlike b (front ts) (front us)
+unfolding front
+front_until b ts us h =
+    by_kept (outer_attributes_until b ts us h) (λ g. went (gone_on g (front_rest (at ts) (outer_attributes ts).0 _)))
+    (λ k. stayed (front_behind_local b (at ts) (at us) (outer_attributes ts).0 (outer_attributes us).0 (outer_attributes ts).1 (outer_attributes us).1 k.value k.rest))
+
+-- ---- braces
+
+-- what stands between the braces begins with no inner attribute, in both texts
+pub record BeginPlain (b : Bodies) : Type 0 where
+  pub old : (past : ℕ) (r : List Piece) (u : Option ℕ) → (inner_attributes (bumped (tokens_at b.edition past (b.opening ∷ (b.old ++ moved b.by b.closing ∷ map (moved b.by) r)) u))).0 ≡ []
+  pub new : (past : ℕ) (r : List Piece) (u : Option ℕ) → (inner_attributes (bumped (tokens_at b.edition past (b.opening ∷ (b.new ++ moved b.by_new b.closing ∷ map (moved b.by_new) r)) u))).0 ≡ []
+
+-- what has gone into the braces comes to no `{` at their place
+pub braced_gone : (b : Bodies) (end : ℕ) {ts us : Tokens} (r : TextRange) → IsLaid end ts → Gone b ts → IsBraced ts us (Some r) → r.start ≡ b.opening.at → ⊥
+braced_gone b end r l g (braced t before some close) e =
+    let k = gone_on g before in
+    let over = behind_at (suc b.opening.at) t.past t.left k.over in
+    let place = at_behind end t (laid.behind end before l).laid in
+    absurd (omega arith)
+
+-- the `{` of some braces is that of ours, or stands elsewhere
+data Opens (b : Bodies) (t u : Tokens) : Type 0 where
+  ours : (inner_attributes (bumped t)).0 ≡ [] → (inner_attributes (bumped u)).0 ≡ [] → Opens b t u
+  elsewhere : Beside b (bumped t) (bumped u) → (at t ≡ b.opening.at → ⊥) → Opens b t u
+
+opens_at : (b : Bodies) → BeginPlain b → (end : ℕ) (t u : Tokens) → IsLaid end t → is_empty t ≡ false → Beside b t u → Opens b t u
+unfolding at bumped is_empty
+opens_at b plain end t u l some (ahead past [] r v v' i j) = ours (plain.old past r v) (plain.new past r v')
+opens_at b plain end t u l some (ahead past (p ∷ x) r v v' i j) =
+    let first = taken_behind end t l some in
+    let low = before_at b.opening.at (end_of p) x i.1 in
+    elsewhere (next_ahead b past p x r v v' i.1 j) (λ e. absurd (omega arith))
+opens_at b plain end t u l some (behind past [] v v' i) = absurd cc
+opens_at b plain end t u l some (behind past (p ∷ r) v v' i) =
+    let low : end_of b.closing ≤ past = i.0 in
+    let far = b.apart in
+    let place = at_behind end t l in
+    elsewhere (next_behind b (past + b.by) (past + b.by_new) p r v v' i.1) (λ e. absurd (omega arith))
+
+-- the same, or what is left has gone into the braces and these do not stand at their place
+data SameOr {A : Type 0} (b : Bodies) (v : Tokens) (o : Option Tokens) (z z' : A) : Type 0 where
+  not_same : Gone b v → ((t : Tokens) → o ≡ Some t → at t ≡ b.opening.at → ⊥) → SameOr b v o z z'
+  both_same : z' ≡ z → SameOr b v o z z'
+
+block_attributes_until : (b : Bodies) → BeginPlain b → (end : ℕ) {ts v : Tokens} {o o' : Option Tokens} → IsLaid end ts → HasBlock ts v o → BothBeside b o o'
+    → ((t : Tokens) → o ≡ Some t → LeadsTo (inner_attributes (bumped t)).1 v) → SameOr b v o (block_attributes o) (block_attributes o')
+unfolding block_attributes
+block_attributes_until b plain end l no_block passing.neither within = both_same refl
+block_attributes_until b plain end {v = v} l (block t before some close) (passing.both _ u h) within =
+    by (opens_at b plain end t u (laid.behind end before l).laid some h)
+  where
+    by : Opens b t u → SameOr b v (Some t) (inner_attributes (bumped t)).0 (inner_attributes (bumped u)).0
+    by (ours e f) = both_same (f ∙ sym e)
+    by (elsewhere n other) =
+        by_kept (inner_attributes_until b (bumped t) (bumped u) n) (λ g. not_same (gone_on g (within t refl)) (λ s e. let same : t ≡ s = cc in subst (λ (k : Tokens). at k ≡ b.opening.at → ⊥) same other))
+        (λ k. both_same k.value)
+
+-- ---- fields
+
+field_leads : Forwards field
+unfolding field
+field_leads ts = through (outer_attributes_leads ts) (through (visibility_leads _) (through (reached_leads _ _) (eat_leads _ _)))
+
+field_until : (b : Bodies) → UpTo b field
+unfolding field
+field_until b ts us h =
+    by_kept (outer_attributes_until b ts us h) (λ g. gone (gone_on g (through (visibility_leads _) (through (reached_leads _ _) (eat_leads _ _)))))
+    (λ k. let v = visibility_local b (outer_attributes ts).1 (outer_attributes us).1 k.rest in
+        let f = behind_field_beside b (visibility (outer_attributes ts).1).1 (visibility (outer_attributes us).1).1 v.rest in
+        let e = eat_local b 44 refl _ _ f in
+        kept (record { value = v.value; rest = e.rest }))
+
+fields_until : (b : Bodies) → UpTo b fields
+unfolding fields
+fields_until b = elements_until b (one field) (one_until b field (field_until b)) field_leads
+
+-- a struct with fields in parentheses
+abbrev pub is_tuple_struct : ItemView → Bool
+is_tuple_struct (struct_item n (tuple_fields fs)) = true
+is_tuple_struct _ = false
+
+abbrev pub are_tuple : FieldsView → Bool
+are_tuple (tuple_fields fs) = true
+are_tuple _ = false
+
+data SameFields (f g : FieldsView) : Type 0 where
+  tuples : are_tuple f ≡ true → SameFields f g
+  same_fields : g ≡ f → SameFields f g
+
+fields_at_until : (b : Bodies) (has : Bool) (ts us : Tokens) → Beside b ts us → SameFields (fields_at has ts) (fields_at has us)
+fields_at_until b has ts us h =
+    when (symbol ts == 40)
+    (λ e. rw (symbol_same b ts us h, e)
+        (by_kept (fields_until b (bumped ts) (bumped us) (after_symbol b 40 ts us refl h e)) (λ g. tuples refl) (λ k. same_fields (ap tuple_fields k.value))))
+    (λ e. same_fields (rw (symbol_same b ts us h, e) refl))
+
+both_some : {b : Bodies} {o o' : Option Tokens} → BothBeside b o o' → is_some o' ≡ is_some o
+both_some passing.neither = refl
+both_some (passing.both t u h) = refl
+
+struct_fields_until : (b : Bodies) (has has' : Bool) (ts us : Tokens) → has' ≡ has → Beside b ts us → SameFields (struct_fields has ts) (struct_fields has' us)
+unfolding struct_fields
+struct_fields_until b has has' ts us e h = rw e (fields_at_until b has (behind_angles ts) (behind_angles us) (behind_angles_beside b ts us h))
+
+-- ---- items
+
+-- a list that was read aside stays before the end of the item
+abbrev IsWithin : Option Tokens → Tokens → Type 0
+IsWithin o v = (t : Tokens) → o ≡ Some t → LeadsTo (inner_attributes (bumped t)).1 v
+
+-- an item of both texts, or none of either; or the one went into the braces, and its own do not stand at their place; or a struct with fields in parentheses
+pub data LeafUntil (b : Bodies) (p q : Option LeafRead × Tokens) : Type 0 where
+  leaf_lost : Gone b p.1 → ((l : LeafRead) (r : TextRange) → p.0 ≡ Some l → l.body ≡ Some r → r.start ≡ b.opening.at → ⊥) → LeafUntil b p q
+  leaf_loose : (l m : LeafRead) → p.0 ≡ Some l → q.0 ≡ Some m → is_tuple_struct l.item ≡ true → as_extern l.item ≡ None → as_extern m.item ≡ None → Beside b p.1 q.1 → LeafUntil b p q
+  leaf_same : IsAlike LeafAlike p.0 q.0 → Beside b p.1 q.1 → LeafUntil b p q
+
+some_alike : {b : Bodies} {p q : LeafRead × Tokens} → KeptBy LeafAlike b p q → LeafUntil b (Some p.0, p.1) (Some q.0, q.1)
+some_alike k = leaf_same (places.both k.value) k.rest
+
+some_is : {A : Type 0} (x y : A) → Some x ≡ Some y → x ≡ y
+some_is x y e = cc
+
+no_start : (b : Bodies) (o : Option Tokens) (end : ℕ) → ((t : Tokens) → o ≡ Some t → at t ≡ b.opening.at → ⊥) → (r : TextRange) → range_to end o ≡ Some r → r.start ≡ b.opening.at → ⊥
+no_start b None end f r e g = absurd cc
+no_start b (Some t) end f r e g = f t refl (ap (λ (x : TextRange). x.start) (some_is (record { start = at t; end = end }) r e) ∙ g)
+
+lost_block : {b : Bodies} {q : Option LeafRead × Tokens} (p : LeafRead × Tokens) (o : Option Tokens) (end : ℕ) → p.0.body ≡ range_to end o → Gone b p.1
+    → ((t : Tokens) → o ≡ Some t → at t ≡ b.opening.at → ⊥) → LeafUntil b (some_read p) q
+lost_block {b} p o end is g f = leaf_lost g (λ l r e d s. no_start b o end f r (sym is ∙ ap (λ (x : LeafRead). x.body) (some_is p.0 l e) ∙ d) s)
+
+tuple_item : (n : NamedView) (f : FieldsView) → are_tuple f ≡ true → is_tuple_struct (struct_item n f) ≡ true
+tuple_item n (tuple_fields fs) e = refl
+tuple_item n record_fields e = absurd cc
+tuple_item n no_fields e = absurd cc
+
+item_end_block : (ts : Tokens) → HasBlock ts (item_end ts).1 (item_end ts).0.block
+unfolding item_end
+item_end_block ts = taken_block _ _ ts
+
+impl_end_block : (ts : Tokens) → HasBlock ts (impl_end ts).1 (impl_end ts).0.block
+unfolding impl_end
+impl_end_block ts = taken_block _ _ ts
+
+item_end_braces : (ts : Tokens) → (item_end ts).0.braces ≡ range_to (item_end ts).1.past (item_end ts).0.block
+unfolding item_end
+item_end_braces ts = refl
+
+impl_end_braces : (ts : Tokens) → (impl_end ts).0.braces ≡ range_to (impl_end ts).1.past (impl_end ts).0.block
+unfolding impl_end
+impl_end_braces ts = refl
+
+item_end_within : (end : ℕ) (ts : Tokens) → IsSound end ts → IsWithin (item_end ts).0.block (item_end ts).1
+unfolding item_end
+item_end_within end ts s t e = inner_within end ts (item_end ts).1 t s (item_enclosed ts t e)
+
+impl_end_within : (end : ℕ) (ts : Tokens) → IsSound end ts → IsWithin (impl_end ts).0.block (impl_end ts).1
+unfolding impl_end
+impl_end_within end ts s t e = inner_within end ts (impl_end ts).1 t s (impl_enclosed ts t e)
+
+module _ (b : Bodies) (plain : BeginPlain b) (end : ℕ) (attrs : List MetaView) (v : Option Visibility) (ts us : Tokens) (l : IsSound end ts) (h : Beside b ts us) where
+  function_until : LeafUntil b (some_read (function attrs v ts)) (some_read (function attrs v us))
+  unfolding function
+  function_until = by (block_attributes_until b plain end sound.laid (item_end_block (named ts).1) r.value (item_end_within end (named ts).1 sound))
+    where
+      sound : IsSound end (named ts).1
+      sound = sound_on end (named_leads ts) l
+      n : KeptBy NameAlike b (named ts) (named us)
+      n = named_local b ts us h
+      r : KeptBy (RestAlike b) b (item_end (named ts).1) (item_end (named us).1)
+      r = item_end_local b (named ts).1 (named us).1 n.rest
+      by : SameOr b (item_end (named ts).1).1 (item_end (named ts).1).0.block (block_attributes (item_end (named ts).1).0.block) (block_attributes (item_end (named us).1).0.block)
+          → LeafUntil b (some_read (function attrs v ts)) (some_read (function attrs v us))
+      by (not_same g f) = lost_block (function attrs v ts) (item_end (named ts).1).0.block (item_end (named ts).1).1.past (item_end_braces (named ts).1) g f
+      by (both_same e) = some_alike (function_local b attrs v ts us h e)
+
+  implementation_until : LeafUntil b (some_read (implementation attrs ts)) (some_read (implementation attrs us))
+  unfolding implementation
+  implementation_until = by (block_attributes_until b plain end l.laid (impl_end_block ts) (impl_end_local b ts us h).value (impl_end_within end ts l))
+    where
+      by : SameOr b (impl_end ts).1 (impl_end ts).0.block (block_attributes (impl_end ts).0.block) (block_attributes (impl_end us).0.block)
+          → LeafUntil b (some_read (implementation attrs ts)) (some_read (implementation attrs us))
+      by (not_same g f) = lost_block (implementation attrs ts) (impl_end ts).0.block (impl_end ts).1.past (impl_end_braces ts) g f
+      by (both_same e) = some_alike (implementation_local b attrs ts us h e)
+
+  structure_until : LeafUntil b (some_read (structure attrs v ts)) (some_read (structure attrs v us))
+  unfolding structure
+  structure_until = by (struct_fields_until b (is_some (item_end (named ts).1).0.block) (is_some (item_end (named us).1).0.block) (named ts).1 (named us).1 (both_some r.value) n.rest)
+    where
+      n : KeptBy NameAlike b (named ts) (named us)
+      n = named_local b ts us h
+      r : KeptBy (RestAlike b) b (item_end (named ts).1) (item_end (named us).1)
+      r = item_end_local b (named ts).1 (named us).1 n.rest
+      by : SameFields (struct_fields (is_some (item_end (named ts).1).0.block) (named ts).1) (struct_fields (is_some (item_end (named us).1).0.block) (named us).1)
+          → LeafUntil b (some_read (structure attrs v ts)) (some_read (structure attrs v us))
+      by (tuples e) = leaf_loose (structure attrs v ts).0 (structure attrs v us).0 refl refl (tuple_item (named_node attrs (named ts).0.name v (item_end (named ts).1).0.body) (struct_fields (is_some (item_end (named ts).1).0.block) (named ts).1) e) refl refl r.rest
+      by (same_fields e) = some_alike (structure_local b attrs v ts us h e)
+
+  use_until : LeafUntil b (some_read (use_declaration attrs v ts)) (some_read (use_declaration attrs v us))
+  unfolding use_declaration
+  use_until =
+      by_stayed (use_tree_until b ts us h)
+      (λ g. leaf_lost (gone_on g (eat_leads 59 _)) (λ l r e d s. absurd (let none : (use_read attrs v (use_tree ts).0 (eat 59 (use_tree ts).1).0).body ≡ Some r = ap (λ (x : LeafRead). x.body) (some_is _ l e) ∙ d in cc)))
+      (λ k. let s = eat_local b 59 refl (use_tree ts).1 (use_tree us).1 k.rest in
+        leaf_same (places.both (record {
+          item = ap (λ (t : Option UseTreeView). item_without_bodies (use_item (record { node = node attrs []; visibility = v; use_tree = t }))) k.value.value;
+          kind = refl;
+          name = refl;
+          named = refl;
+        })) s.rest)
+
+  invocation_until : LeafUntil b (invocation attrs ts) (invocation attrs us)
+  unfolding invocation
+  invocation_until =
+      when (is_some (path ts).0 && is_called (path ts).1)
+      (λ e. rw (tests, e) (by (last_same b ts us (path ts).1 (path us).1 (path_leads ts) p.rest h) (and_parts (is_some (path ts).0) (is_called (path ts).1) e).1))
+      (λ e. rw (tests, e) (leaf_same places.neither h))
+    where
+      p : Kept b (path ts) (path us)
+      p = path_local b ts us h
+      tests : (is_some (path us).0 && is_called (path us).1) ≡ (is_some (path ts).0 && is_called (path ts).1)
+      tests = ap (λ o. is_some o && is_called (path us).1) p.value ∙ ap (λ t. is_some (path ts).0 && t) (is_called_same b (path ts).1 (path us).1 p.rest)
+      by : SameLast b (path ts).1 (last_text (path ts).1.past ts) (last_text (path us).1.past us) → is_called (path ts).1 ≡ true
+          → LeafUntil b (some_read (call_behind attrs (path ts).0 (bare (last_text (path ts).1.past ts)) (bumped (path ts).1))) (some_read (call_behind attrs (path us).0 (bare (last_text (path us).1.past us)) (bumped (path us).1)))
+      by (beyond_braces g) e =
+          let k = gone_on g (bumped_leads (path ts).1) in
+          leaf_lost (gone_on k (call_end_leads (bumped (path ts).1)))
+          (λ m r f d s. let body : (call_end (bumped (path ts).1)).0.braces ≡ Some r = ap (λ (x : LeafRead). x.body) (some_is _ m f) ∙ d in
+            braced_gone b end r (laid.behind end (through (path_leads ts) (bumped_leads (path ts).1)) l.laid).laid k (subst (λ (o : Option TextRange). IsBraced (bumped (path ts).1) (call_end (bumped (path ts).1)).1 o) body (call_end_braced (bumped (path ts).1))) s)
+      by (same_text f) e =
+          let c = call_end_local b (bumped (path ts).1) (bumped (path us).1) (called_next b (path ts).1 (path us).1 p.rest e) in
+          leaf_same (places.both (record {
+            item = ap (λ (x : Option PathNode). item_without_bodies (called attrs x [] (call_end (bumped (path us).1)).0).item) p.value;
+            kind = refl;
+            name = ap bare f;
+            named = refl;
+          })) c.rest
+
+-- ---- all kinds
+
+leaf_by_until : (b : Bodies) → BeginPlain b → (end : ℕ) (k : Head) (attrs : List MetaView) (v : Option Visibility) (ts us : Tokens) → IsSound end ts → Beside b ts us → LeafUntil b (leaf_by k attrs v ts) (leaf_by k attrs v us)
+unfolding trait_item union_item enumeration
+leaf_by_until b plain end heads.Use attrs v ts us l h = use_until b plain end attrs v ts us l h
+leaf_by_until b plain end heads.ExternCrate attrs v ts us l h = some_alike (crate_item_local b attrs v ts us h)
+leaf_by_until b plain end heads.Fn attrs v ts us l h = function_until b plain end attrs v ts us l h
+leaf_by_until b plain end heads.Impl attrs v ts us l h = implementation_until b plain end attrs v ts us l h
+leaf_by_until b plain end heads.Trait attrs v ts us l h = some_alike (block_item_local b trait_kind attrs v ts us h)
+leaf_by_until b plain end heads.Struct attrs v ts us l h = structure_until b plain end attrs v ts us l h
+leaf_by_until b plain end heads.Union attrs v ts us l h = some_alike (block_item_local b union_kind attrs v ts us h)
+leaf_by_until b plain end heads.Enum attrs v ts us l h = some_alike (block_item_local b enum_kind attrs v ts us h)
+leaf_by_until b plain end heads.Const attrs v ts us l h = some_alike (constant_local b attrs v ts us h)
+leaf_by_until b plain end heads.Static attrs v ts us l h = some_alike (static_local b attrs v ts us h)
+leaf_by_until b plain end heads.TypeAlias attrs v ts us l h = some_alike (type_alias_local b attrs v ts us h)
+leaf_by_until b plain end heads.MacroDef attrs v ts us l h = some_alike (macro_def_local b attrs v ts us h)
+leaf_by_until b plain end heads.MacroRules attrs v ts us l h = some_alike (macro_definition_local b attrs ts us h)
+leaf_by_until b plain end _ attrs v ts us l h = invocation_until b plain end attrs v ts us l h
+
+pub leaf_until : (b : Bodies) → BeginPlain b → (end : ℕ) (f g : FrontRead) (ts us : Tokens) → FrontAlike f g → IsSound end ts → Beside b ts us → LeafUntil b (leaf f ts) (leaf g us)
+unfolding leaf
+leaf_until b plain end f g ts us a l h =
+    rw (a.head, a.attrs, a.visibility) (leaf_by_until b plain end f.head f.attrs f.visibility ts us l h)
+
+-- what is left has gone into the braces, and they are not those of the item
+pub record LeafLost (b : Bodies) (p : Option LeafRead × Tokens) : Type 0 where
+  pub gone : Gone b p.1
+  pub free : (l : LeafRead) (r : TextRange) → p.0 ≡ Some l → l.body ≡ Some r → r.start ≡ b.opening.at → ⊥
+
+-- behind the `{`
+pub leaf_gone : (b : Bodies) (end : ℕ) (h : FrontRead) (ts : Tokens) → IsSound end ts → Gone b ts → LeafLost b (leaf h ts)
+leaf_gone b end h ts l g = record { gone = gone_on g (leads (leaf h ts).0 (leaf_at h ts)); free = λ m r e d s. some m r e d s (leaf_at h ts) }
+  where
+    leads : (o : Option LeafRead) → LeafAt ts (leaf h ts).1 o → LeadsTo ts (leaf h ts).1
+    leads None p = p
+    leads (Some m) p = p.leads
+    some : (m : LeafRead) (r : TextRange) → (leaf h ts).0 ≡ Some m → m.body ≡ Some r → r.start ≡ b.opening.at → LeafAt ts (leaf h ts).1 (leaf h ts).0 → ⊥
+    some m r e d s p =
+        let is : LeafAt ts (leaf h ts).1 (Some m) = subst (LeafAt ts (leaf h ts).1) e p in
+        braced_gone b end r l.laid g (subst (λ (o : Option TextRange). IsBraced ts (leaf h ts).1 o) d is.body) s
