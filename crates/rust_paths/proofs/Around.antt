@@ -1,18 +1,24 @@
--- Paths leave the braces around as they are.
-use Rattle.std.proofs.Common.{◌≡◌, ◌==◌, ℕ, zero, suc, true, false, Option, Some, None, List, [], ◌∷◌, refl, ◌∙◌, codes}
+-- Paths and visibilities stay in the brackets that they stand in.
+use Rattle.std.proofs.Common.{◌≡◌, ◌==◌, ◌&&◌, ℕ, zero, suc, Bool, true, false, Option, Some, None, List, [], ◌∷◌, refl, ap, ◌∙◌, sym, subst, codes}
+use Rattle.std.specs.Prelude.{if◌then◌else◌}
 use Rattle.std.specs.Str.{bytes_eq}
+use Rattle.std.proofs.lemmas.Bool.{eqb-true}
 use Rattle.hir_input.specs.declared.edition.EditionYear.{EditionYear}
 use Rattle.rust_lexer.specs.declared.kind.TokenKind.{TokenKind}
 use Rattle.rust_lexer.specs.declared.kind.TokenKind.TheVariants as kinds
 use Rattle.rust_lexer.specs.Piece.{Piece}
 use Rattle.rust_lexer.specs.Symbol.{symbol_of}
 use Rattle.rust_cursor.specs.Tokens.{Tokens}
+use Rattle.rust_cursor.specs.Brackets.{behind_closed}
 use Rattle.rust_cursor.specs.Words.{by_first, symbol, word, kind, text, bumped, eat_colons}
-use Rattle.rust_cursor.proofs.Leads.{when}
+use Rattle.rust_cursor.proofs.Leads.{LeadsTo, here, further, through, when, bumped_leads, eat_pair_leads}
 use Rattle.rust_cursor.proofs.Local.{both_true}
-use Rattle.rust_cursor.proofs.Around.{around, plain_around, other_around, word_symbol, pair_around, eat_pair_around, behind_angles_around}
+use Rattle.rust_cursor.proofs.Around.{around, Within, same_within, IsSound, sound_on, Remains, inside_within, round_opens, closed_here, plain_around, other_around, word_symbol, pair_around, eat_pair_around, behind_angles_within}
+use Rattle.hir_input.specs.declared.ast.Visibility.{Visibility}
+use Rattle.rust_paths.specs.Visibilities.{path_scope, plain_scope, scope_of, scope, is_in, scoped, visibility}
+use Rattle.rust_paths.proofs.Leads.{segment_leads, path_leads}
 use Rattle.rust_paths.specs.Names.{name_text, as_name, next_name, taken_with, name}
-use Rattle.rust_paths.specs.Paths.{is_raw, is_dollar_crate, named_word, other_segment, segment, is_colons, is_path_colons, more_from, more_segments, written_path, is_path_start, path}
+use Rattle.rust_paths.specs.Paths.{is_raw, is_dollar_crate, named_word, other_segment, segment, is_colons, is_path_colons, more_from, more_segments, written_path, is_path_start, path_in, path}
 
 name_first : (y : EditionYear) (n : List ℕ) (left : List Piece) → as_name (name_text y (by_first None (λ t. Some t.kind) left) (by_first [] (λ t. t.text) left)) ≡ Some n → by_first 0 symbol_of left ≡ 0
 name_first y n [] e = refl
@@ -28,13 +34,13 @@ pub name_symbol : (n : List ℕ) (ts : Tokens) → next_name ts ≡ Some n → s
 unfolding next_name symbol kind text
 name_symbol n ts e = name_first ts.edition n ts.left e
 
-taken_around : (o : Option (List ℕ)) (ts : Tokens) → next_name ts ≡ o → around 0 (taken_with o ts).1 ≡ around 0 ts
-taken_around None ts e = refl
-taken_around (Some n) ts e = plain_around ts (name_symbol n ts e)
+taken_around : (c : ℕ) (o : Option (List ℕ)) (ts : Tokens) → next_name ts ≡ o → around c (taken_with o ts).1 ≡ around c ts
+taken_around c None ts e = refl
+taken_around c (Some n) ts e = plain_around c ts (name_symbol n ts e)
 
-pub name_around : (ts : Tokens) → around 0 (name ts).1 ≡ around 0 ts
+pub name_around : (c : ℕ) (ts : Tokens) → around c (name ts).1 ≡ around c ts
 unfolding name
-name_around ts = taken_around (next_name ts) ts refl
+name_around c ts = taken_around c (next_name ts) ts refl
 
 raw_first : (left : List Piece) → is_raw (by_first None (λ t. Some t.kind) left) ≡ true → by_first 0 symbol_of left ≡ 0
 raw_first [] e = refl
@@ -48,46 +54,106 @@ raw_symbol : (ts : Tokens) → is_raw (kind ts) ≡ true → symbol ts ≡ 0
 unfolding kind symbol
 raw_symbol ts e = raw_first ts.left e
 
-named_word_around : (ts : Tokens) → around 0 (named_word ts).1 ≡ around 0 ts
-named_word_around ts = when (is_raw (kind ts)) (λ e. rw e (plain_around ts (raw_symbol ts e))) (λ e. rw e (name_around ts))
+named_word_around : (c : ℕ) (ts : Tokens) → around c (named_word ts).1 ≡ around c ts
+named_word_around c ts = when (is_raw (kind ts)) (λ e. rw e (plain_around c ts (raw_symbol ts e))) (λ e. rw e (name_around c ts))
 
-dollar_around : (ts : Tokens) → is_dollar_crate ts ≡ true → around 0 (bumped (bumped ts)) ≡ around 0 ts
+word_around : (c : ℕ) (w : List ℕ) (ts : Tokens) → bytes_eq [] w ≡ false → bytes_eq (word ts) w ≡ true → around c (bumped ts) ≡ around c ts
+word_around c w ts empty e = plain_around c ts (word_symbol w ts empty e)
+
+dollar_around : (c : ℕ) (ts : Tokens) → is_dollar_crate ts ≡ true → around c (bumped (bumped ts)) ≡ around c ts
 unfolding is_dollar_crate
-dollar_around ts e =
+dollar_around c ts e =
     let first = both_true (symbol ts == 36) (bytes_eq (word (bumped ts)) (codes "crate")) e in
-    plain_around (bumped ts) (word_symbol (codes "crate") (bumped ts) refl first.1) ∙ other_around 36 ts refl refl first.0
+    word_around c (codes "crate") (bumped ts) refl first.1 ∙ other_around c 36 ts refl first.0
 
-other_segment_around : (ts : Tokens) → around 0 (other_segment ts).1 ≡ around 0 ts
+other_segment_within : (end c : ℕ) → Remains end c other_segment
 unfolding other_segment
-other_segment_around ts =
-    when (symbol ts == 60) (λ e. rw e (behind_angles_around ts))
-    (λ e. rw e (when (is_dollar_crate ts) (λ f. rw f (dollar_around ts f)) (λ f. rw f (named_word_around ts))))
+other_segment_within end c ts s =
+    when (symbol ts == 60) (λ e. rw e (behind_angles_within end c ts s))
+    (λ e. rw e (when (is_dollar_crate ts) (λ f. rw f (same_within c _ ts (dollar_around c ts f))) (λ f. rw f (same_within c _ ts (named_word_around c ts)))))
 
-pub segment_around : (ts : Tokens) → around 0 (segment ts).1 ≡ around 0 ts
+segment_within : (end c : ℕ) → Remains end c segment
 unfolding segment
-segment_around ts =
-    when (bytes_eq (word ts) (codes "self")) (λ e. rw e (plain_around ts (word_symbol (codes "self") ts refl e)))
-    (λ e. rw e (when (bytes_eq (word ts) (codes "super")) (λ f. rw f (plain_around ts (word_symbol (codes "super") ts refl f)))
-    (λ f. rw f (when (bytes_eq (word ts) (codes "crate")) (λ g. rw g (plain_around ts (word_symbol (codes "crate") ts refl g)))
-    (λ g. rw g (when (bytes_eq (word ts) (codes "Self")) (λ h. rw h (plain_around ts (word_symbol (codes "Self") ts refl h))) (λ h. rw h (other_segment_around ts))))))))
+segment_within end c ts s =
+    when (bytes_eq (word ts) (codes "self")) (λ e. rw e (same_within c _ ts (word_around c (codes "self") ts refl e)))
+    (λ e. rw e (when (bytes_eq (word ts) (codes "super")) (λ f. rw f (same_within c _ ts (word_around c (codes "super") ts refl f)))
+    (λ f. rw f (when (bytes_eq (word ts) (codes "crate")) (λ g. rw g (same_within c _ ts (word_around c (codes "crate") ts refl g)))
+    (λ g. rw g (when (bytes_eq (word ts) (codes "Self")) (λ h. rw h (same_within c _ ts (word_around c (codes "Self") ts refl h))) (λ h. rw h (other_segment_within end c ts s))))))))
 
-colons_around : (ts : Tokens) → is_path_colons false ts ≡ true → around 0 (bumped (bumped ts)) ≡ around 0 ts
+colons_around : (c : ℕ) (ts : Tokens) → is_path_colons false ts ≡ true → around c (bumped (bumped ts)) ≡ around c ts
 unfolding is_path_colons is_colons
-colons_around ts e = pair_around 58 58 ts refl refl refl refl e
+colons_around c ts e = pair_around c 58 58 ts refl refl e
 
-more_around : (n : ℕ) (ts : Tokens) → around 0 (more_from false n ts).1 ≡ around 0 ts
-more_around zero ts = refl
-more_around (suc n) ts =
+more_within : (end c n : ℕ) → Remains end c (more_from false n)
+more_within end c zero ts s = here
+more_within end c (suc n) ts s =
+    let twice = bumped (bumped ts) in
+    let s2 = sound_on end (further (bumped_leads (bumped ts))) s in
     when (is_path_colons false ts)
-    (λ e. rw e (more_around n (segment (bumped (bumped ts))).1 ∙ segment_around (bumped (bumped ts)) ∙ colons_around ts e))
-    (λ e. rw e refl)
+    (λ e. rw e (through (more_within end c n (segment twice).1 (sound_on end (segment_leads twice) s2)) (through (segment_within end c twice s2) (same_within c twice ts (colons_around c ts e)))))
+    (λ e. rw e here)
 
-written_around : (ts : Tokens) → around 0 (written_path false ts).1 ≡ around 0 ts
+written_within : (end c : ℕ) → Remains end c (written_path false)
 unfolding more_segments
-written_around ts =
-    let c = (eat_colons ts).1 in
-    more_around _ (segment c).1 ∙ segment_around c ∙ eat_pair_around 58 58 ts refl refl refl refl
+written_within end c ts s =
+    let first = (eat_colons ts).1 in
+    let s1 = sound_on end (eat_pair_leads 58 58 ts) s in
+    through (more_within end c _ (segment first).1 (sound_on end (segment_leads first) s1)) (through (segment_within end c first s1) (same_within c first ts (eat_pair_around c 58 58 ts refl refl)))
 
-pub path_around : (ts : Tokens) → around 0 (path ts).1 ≡ around 0 ts
+pub path_within : (end c : ℕ) → Remains end c path
 unfolding path
-path_around ts = when (is_path_start false ts) (λ e. rw e (written_around ts)) (λ e. rw e refl)
+path_within end c ts s = when (is_path_start false ts) (λ e. rw e (written_within end c ts s)) (λ e. rw e here)
+
+-- ---- visibilities
+
+in_around : (c : ℕ) (ts : Tokens) → is_in ts ≡ true → around c (bumped (bumped ts)) ≡ around c (bumped ts)
+unfolding is_in
+in_around c ts e = word_around c (codes "in") (bumped ts) refl e
+
+scope_word : (ts : Tokens) (v : Visibility) → scope ts ≡ Some v → symbol (bumped ts) ≡ 0
+unfolding scope scope_of
+scope_word ts v e =
+    when (symbol (bumped (bumped ts)) == 41)
+    (λ f. let g = rw f at e in
+        when (bytes_eq (word (bumped ts)) (codes "crate")) (λ h. word_symbol (codes "crate") (bumped ts) refl h)
+        (λ h. let i = rw h at g in
+            when (bytes_eq (word (bumped ts)) (codes "super")) (λ j. word_symbol (codes "super") (bumped ts) refl j)
+            (λ j. let k = rw j at i in
+                when (bytes_eq (word (bumped ts)) (codes "self")) (λ l. word_symbol (codes "self") (bumped ts) refl l) (λ l. absurd (let no = rw l at k in cc)))))
+    (λ f. absurd (let no = rw f at e in cc))
+
+scope_closed : (ts : Tokens) (v : Visibility) → scope ts ≡ Some v → (symbol (bumped (bumped ts)) == 41) ≡ true
+unfolding scope
+scope_closed ts v e = when (symbol (bumped (bumped ts)) == 41) (λ f. f) (λ f. absurd (let no = rw f at e in cc))
+
+-- in round brackets
+round_within : (end c : ℕ) (ts us : Tokens) → IsSound end ts → (symbol ts == 40) ≡ true → LeadsTo (bumped ts) us → Within 40 us (bumped ts) → Within c (behind_closed 40 us) ts
+round_within end c ts us s e p w =
+    let is = eqb-true (symbol ts) 40 e in
+    subst (λ (b : ℕ). Within c (behind_closed b us) ts) is (inside_within end c ts us s (round_opens ts e) p (subst (λ (b : ℕ). Within b us (bumped ts)) (sym is) w))
+
+plain_scope_within : (end c : ℕ) (o : Option Visibility) (ts : Tokens) → IsSound end ts → (symbol ts == 40) ≡ true → scope ts ≡ o → Within c (plain_scope o ts).1 ts
+plain_scope_within end c None ts s e f = here
+plain_scope_within end c (Some v) ts s e f =
+    let twice = bumped (bumped ts) in
+    subst (λ (t : Tokens). Within c t ts) (closed_here twice (scope_closed ts v f))
+    (round_within end c ts twice s e (bumped_leads (bumped ts)) (same_within 40 twice (bumped ts) (plain_around 40 (bumped ts) (scope_word ts v f))))
+
+path_scope_within : (end c : ℕ) (ts : Tokens) → IsSound end ts → (symbol ts == 40) ≡ true → is_in ts ≡ true → Within c (path_scope ts).1 ts
+path_scope_within end c ts s e f =
+    let twice = bumped (bumped ts) in
+    round_within end c ts (path twice).1 s e (further (path_leads twice)) (through (path_within end 40 twice (sound_on end (further (bumped_leads (bumped ts))) s)) (same_within 40 twice (bumped ts) (in_around 40 ts f)))
+
+scoped_within : (end c : ℕ) → Remains end c scoped
+unfolding scoped
+scoped_within end c ts s =
+    when (symbol ts == 40)
+    (λ e. rw e (when (is_in ts) (λ f. rw f (path_scope_within end c ts s e f)) (λ f. rw f (plain_scope_within end c (scope ts) ts s e refl))))
+    (λ e. rw e here)
+
+pub visibility_within : (end c : ℕ) → Remains end c visibility
+unfolding visibility
+visibility_within end c ts s =
+    when (bytes_eq (word ts) (codes "pub"))
+    (λ e. rw e (through (scoped_within end c (bumped ts) (sound_on end (bumped_leads ts) s)) (same_within c (bumped ts) ts (word_around c (codes "pub") ts refl e))))
+    (λ e. rw e here)
