@@ -17,3 +17,4 @@ pub mod NearTests
 pub mod NearPassing
 pub mod NearUntil
 pub mod NearTexts
+pub mod High

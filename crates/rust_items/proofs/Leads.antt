@@ -74,11 +74,11 @@ modifiers_leads : (n : ℕ) (ts : Tokens) → LeadsTo ts (behind_modifiers_from 
 modifiers_leads zero ts = here
 modifiers_leads (suc n) ts = when (is_modifier ts) (λ e. rw e (through (behind_modifier_leads ts) (modifiers_leads n _))) (λ e. rw e here)
 
-behind_modifiers_leads : (ts : Tokens) → LeadsTo ts (behind_modifiers ts)
+pub behind_modifiers_leads : (ts : Tokens) → LeadsTo ts (behind_modifiers ts)
 unfolding behind_modifiers
 behind_modifiers_leads ts = modifiers_leads _ ts
 
-others_leads : (n : ℕ) (ts : Tokens) → LeadsTo ts (behind_others_from n ts)
+pub others_leads : (n : ℕ) (ts : Tokens) → LeadsTo ts (behind_others_from n ts)
 others_leads zero ts = here
 others_leads (suc n) ts = when (is_behind_others ts) (λ e. rw e here) (λ e. rw e (through (behind_tree_leads ts) (others_leads n _)))
 
@@ -105,7 +105,7 @@ no_head : (behind : Tokens) → head_by [] behind ≡ heads.Other
 unfolding head_by
 no_head behind = refl
 
-head_takes : (ts : Tokens) → TakesBy (head ts).0 ts (head ts).1
+pub head_takes : (ts : Tokens) → TakesBy (head ts).0 ts (head ts).1
 unfolding head
 head_takes ts =
     when (is_empty ts)

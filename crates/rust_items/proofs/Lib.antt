@@ -6,3 +6,4 @@ pub mod Leads
 pub mod Places
 pub mod LineEnds
 pub mod FilePlaces
+pub mod NearFronts

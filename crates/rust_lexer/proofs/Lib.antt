@@ -13,3 +13,4 @@ pub mod SameQuoted
 pub mod SameCut
 pub mod Apart
 pub mod Whole
+pub mod Each

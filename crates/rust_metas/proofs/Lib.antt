@@ -7,3 +7,4 @@ pub mod Strings
 pub mod Texts
 pub mod Leads
 pub mod Near
+pub mod High

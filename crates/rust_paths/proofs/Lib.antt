@@ -5,3 +5,4 @@ pub mod Trees
 pub mod Leads
 pub mod Near
 pub mod NearTrees
+pub mod High
