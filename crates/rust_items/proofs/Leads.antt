@@ -34,26 +34,26 @@ use Rattle.rust_items.proofs.Names.{IsToken, untold, told_behind, named_told, na
 tree_body_leads : Forwards tree_body
 tree_body_leads ts = taken_leads_on _ _ ts
 
-item_end_leads : Forwards item_end
+pub item_end_leads : Forwards item_end
 unfolding item_end
 item_end_leads ts = taken_leads_on _ _ ts
 
-impl_end_leads : Forwards impl_end
+pub impl_end_leads : Forwards impl_end
 unfolding impl_end
 impl_end_leads ts = taken_leads_on _ _ ts
 
-macro_end_leads : Forwards macro_end
+pub macro_end_leads : Forwards macro_end
 unfolding macro_end
 macro_end_leads ts = taken_leads_on _ _ ts
 
-value_end_leads : Forwards value_end
+pub value_end_leads : Forwards value_end
 unfolding value_end
 value_end_leads ts = taken_leads_on _ _ ts
 
 semicolon_end_leads : (read : ExcerptRead) → Forwards (semicolon_end read)
 semicolon_end_leads read ts = eat_leads _ ts
 
-call_end_leads : Forwards call_end
+pub call_end_leads : Forwards call_end
 unfolding call_end
 call_end_leads ts =
     when (is_at_open ts)
@@ -151,7 +151,7 @@ pub named_named : (ts : Tokens) → IsNamed ts (named ts).1 (named ts).0.range
 unfolding named
 named_named ts = read_named ts (placed_name ts).0 refl
 
-named_or_leads : (keyword : List ℕ) → Forwards (named_or keyword)
+pub named_or_leads : (keyword : List ℕ) → Forwards (named_or keyword)
 unfolding named_or
 named_or_leads keyword ts = when (bytes_eq (word ts) keyword) (λ e. rw e (bumped_leads ts)) (λ e. rw e (named_leads ts))
 
@@ -163,7 +163,7 @@ unfolding named_or
 named_or_named keyword some ts =
     when (bytes_eq (word ts) keyword) (λ e. rw e (by_token ts here (word_some keyword some ts e) here)) (λ e. rw e (named_named ts))
 
-alias_leads : Forwards alias
+pub alias_leads : Forwards alias
 unfolding alias
 alias_leads ts = when (bytes_eq (word ts) (codes "_")) (λ e. rw e (bumped_leads ts)) (λ e. rw e (named_leads ts))
 
@@ -171,11 +171,11 @@ alias_named : (ts : Tokens) → IsNamed ts (alias ts).1 (alias ts).0.range
 unfolding alias
 alias_named ts = when (bytes_eq (word ts) (codes "_")) (λ e. rw e (by_token ts here (word_some (codes "_") refl ts e) here)) (λ e. rw e (named_named ts))
 
-alias_if_leads : (found : Bool) → Forwards (alias_if found)
+pub alias_if_leads : (found : Bool) → Forwards (alias_if found)
 alias_if_leads true ts = alias_leads ts
 alias_if_leads false ts = here
 
-renamed_leads : Forwards renamed
+pub renamed_leads : Forwards renamed
 unfolding renamed
 renamed_leads ts = through (eat_word_leads (codes "as") ts) (alias_if_leads _ _)
 

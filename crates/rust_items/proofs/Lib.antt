@@ -7,3 +7,4 @@ pub mod Places
 pub mod LineEnds
 pub mod FilePlaces
 pub mod NearFronts
+pub mod NearLeaves

@@ -34,6 +34,7 @@ literal_not_last ts e = none ts.left e
     by : (k : TokenKind) (z : List ℕ) → is_literal_kind (Some k) ≡ true → is_last (symbol_of (record { kind = k; text = z; at = 0 })) ≡ false
     by (kinds.Literal _) z e = refl
     by _ z e = absurd cc
+
     none : (left : List Piece) → is_literal_kind (by_first None (λ t. Some t.kind) left) ≡ true → is_last (by_first 0 symbol_of left) ≡ false
     none [] e = refl
     none (t ∷ left) e = by t.kind t.text e
@@ -63,7 +64,7 @@ unfolding is_modifier
 modifier_same b ts us h =
     when (is_last (symbol ts))
     (λ e. let f = last_test b ts us h e in
-        ap (λ w. is_modifier_before w (bumped us)) (last_word us f) ∙ nothing_before (bumped us) ∙ sym (ap (λ w. is_modifier_before w (bumped ts)) (last_word ts e) ∙ nothing_before (bumped ts)))
+    ap (λ w. is_modifier_before w (bumped us)) (last_word us f) ∙ nothing_before (bumped us) ∙ sym (ap (λ w. is_modifier_before w (bumped ts)) (last_word ts e) ∙ nothing_before (bumped ts)))
     (λ e. ap (λ w. is_modifier_before w (bumped us)) (word_same b ts us h) ∙ before_same b (word ts) (bumped ts) (bumped us) (not_last b ts us h e))
 
 modifier_not_last : (ts : Tokens) → is_modifier ts ≡ true → is_last (symbol ts) ≡ false
@@ -156,12 +157,12 @@ unfolding head
 head_until b ts us h =
     when (is_last (symbol ts))
     (λ e. let f = last_test b ts us h e in
-        let old = no_word_head ts (last_word ts e) in
-        let new = no_word_head us (last_word us f) in
-        subst (λ (p : Head × Tokens). Until b p (head us)) (sym old) (subst (λ (q : Head × Tokens). Until b (heads.Other, ts) q) (sym new) (kept (record { value = refl; rest = h }))))
+    let old = no_word_head ts (last_word ts e) in
+    let new = no_word_head us (last_word us f) in
+    subst (λ (p : Head × Tokens). Until b p (head us)) (sym old) (subst (λ (q : Head × Tokens). Until b (heads.Other, ts) q) (sym new) (kept (record { value = refl; rest = h }))))
     (λ e. let n = not_last b ts us h e in
-        let same : head_by (word us) (bumped us) ≡ head_by (word ts) (bumped ts) = ap (λ w. head_by w (bumped us)) (word_same b ts us h) ∙ by_same b (word ts) (bumped ts) (bumped us) n in
-        kept (record { value = same; rest = subst (λ (k : Head). Near b (behind_head (head_by (word ts) (bumped ts)) ts) (behind_head k us)) (sym same) (head_next b ts us h n (word ts)) }))
+    let same : head_by (word us) (bumped us) ≡ head_by (word ts) (bumped ts) = ap (λ w. head_by w (bumped us)) (word_same b ts us h) ∙ by_same b (word ts) (bumped ts) (bumped us) n in
+    kept (record { value = same; rest = subst (λ (k : Head). Near b (behind_head (head_by (word ts) (bumped ts)) ts) (behind_head k us)) (sym same) (head_next b ts us h n (word ts)) }))
 
 -- ---- what is no item
 
@@ -179,8 +180,8 @@ segments_near b zero ts us h = h
 segments_near b (suc n) ts us h =
     when (is_segment ts)
     (λ e. let both = both_true (is_at_identifier ts) (is_pair 58 58 (bumped ts)) e in
-        let next = after_pair b 58 58 (bumped ts) (bumped us) refl refl (identifier_next b ts us h both.0) both.1 in
-        rw (segment_next b ts us h, e) (segments_near b n (bumped (bumped (bumped ts))) (bumped (bumped (bumped us))) next))
+    let next = after_pair b 58 58 (bumped ts) (bumped us) refl refl (identifier_next b ts us h both.0) both.1 in
+    rw (segment_next b ts us h, e) (segments_near b n (bumped (bumped (bumped ts))) (bumped (bumped (bumped us))) next))
     (λ e. rw (segment_next b ts us h, e) h)
 
 behind_segments_near : (b : Ending) (ts us : Tokens) → Near b ts us → Near b (behind_segments ts) (behind_segments us)

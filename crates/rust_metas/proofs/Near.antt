@@ -183,7 +183,7 @@ start_same b a a' ts us e h = from_there (at us) a' b.by ∙ sym (ap (λ n. n - 
 end_place : (n m d : ℕ) → n + d + m ≡ n + m + d
 end_place n m d = omega arith
 
-next_past : (b : Ending) (ts us : Tokens) → Near b ts us → (bumped ts).past ≡ (bumped us).past + b.by
+pub next_past : (b : Ending) (ts us : Tokens) → Near b ts us → (bumped ts).past ≡ (bumped us).past + b.by
 unfolding bumped
 next_past b ts us (near past [] u y e) = absurd cc
 next_past b ts us (near past (t ∷ x) u y e) = omega arith
