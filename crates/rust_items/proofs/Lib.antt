@@ -8,3 +8,4 @@ pub mod LineEnds
 pub mod FilePlaces
 pub mod NearFronts
 pub mod NearLeaves
+pub mod NearItems

@@ -190,7 +190,7 @@ module _ (end : ℕ) (ends : Tokens → Bool) (turn : Finder (Option ItemView)) 
       let rest = list_from n (done ++ option_to_list (turn f ts).0) (turn f ts).1.0 (beyond ts.past (turn f ts).1.1) next.laid in
       when (ends ts) (λ e. rw e (list_end done f ts)) (λ e. rw e (list_more done f ts _ laid rest))
 
-  list_found : (f : Found) (ts : Tokens) → IsLaid end ts → AreFound ts (finding ends turn f ts).1.1 f (finding ends turn f ts).1.0 (items_from (finding ends turn f ts).0)
+  pub list_found : (f : Found) (ts : Tokens) → IsLaid end ts → AreFound ts (finding ends turn f ts).1.1 f (finding ends turn f ts).1.0 (items_from (finding ends turn f ts).0)
   unfolding finding
   list_found f ts laid = let l = list_from most [] f ts laid in rw l.list l.found
 
@@ -273,7 +273,7 @@ unmatched_found ts f = none_found f _ (bumped_leads ts) (adds_problem _ _ (adds_
 abbrev pub FindsIn : ℕ → Finder BlockRead → Type 0
 FindsIn end inside = (f : Found) (ts : Tokens) → IsLaid end ts → AreFound ts (inside f ts).1.1 f (inside f ts).1.0 (listed (inside f ts).0.items)
 
-block_found : (end : ℕ) (turn : Finder (Option ItemView)) → Finds end turn → FindsIn end (block_of turn)
+pub block_found : (end : ℕ) (turn : Finder (Option ItemView)) → Finds end turn → FindsIn end (block_of turn)
 block_found end turn t f ts laid =
     let open_leads : LeadsTo ts (inner_attributes (bumped ts)).1 = further (inner_attributes_leads (bumped ts)) in
     let first = behind end open_leads laid in
@@ -310,13 +310,13 @@ extern_option_found : (end : ℕ) (ts us : Tokens) (depth : ℕ) (o : Option Lea
 extern_option_found end ts us depth None f laid p = none_found f _ (through p (behind_others_leads us)) (adds_problem _ _ (adds_none f))
 extern_option_found end ts us depth (Some l) f laid t = kept_found end ts us depth l (as_extern l.item) f laid t refl
 
-extern_turn_found : (end depth : ℕ) → Finds end (extern_turn depth)
+pub extern_turn_found : (end depth : ℕ) → Finds end (extern_turn depth)
 unfolding extern_turn
 extern_turn_found end depth f ts laid =
     when (is_at_end ts) (λ e. rw e (unmatched_found ts f))
     (λ e. rw (e, front_start ts) (extern_option_found end ts _ depth _ f laid (leads.leaf_found (front ts).0 ts (front ts).1 (front_takes ts))))
 
-extern_inside_found : (end depth : ℕ) → FindsIn end (extern_inside depth)
+pub extern_inside_found : (end depth : ℕ) → FindsIn end (extern_inside depth)
 unfolding extern_inside
 extern_inside_found end depth f ts laid =
     when (symbol ts == 123) (λ e. rw e (block_found end (extern_turn depth) (extern_turn_found end depth) f ts laid)) (λ e. rw e (no_block_found f ts))
@@ -356,7 +356,7 @@ module_name n semicolon None = refl
 module_name n semicolon (Some is) = refl
 
 module _ (end : ℕ) (inside : Finder BlockRead) (finds : FindsIn end inside) (depth : ℕ) where
-  unless_found : (semicolon : Bool) → FindsIn end (inside_unless semicolon inside)
+  pub unless_found : (semicolon : Bool) → FindsIn end (inside_unless semicolon inside)
   unless_found true f ts laid = no_block_found f ts
   unless_found false f ts laid = finds f ts laid
 
@@ -375,12 +375,12 @@ module _ (end : ℕ) (inside : Finder BlockRead) (finds : FindsIn end inside) (d
   head_found heads.ExternBlock ts us h f s laid t u = rw s (extern_block_found end ts us depth h.attrs f laid (t.word (λ e. absurd cc)))
   head_found _ ts us h f s laid t u = leaf_turn_found end ts us depth h f s laid u
 
-  turn_with_found : Finds end (turn_with inside depth)
+  pub turn_with_found : Finds end (turn_with inside depth)
   turn_with_found f ts laid =
       when (is_at_end ts) (λ e. rw e (unmatched_found ts f))
       (λ e. rw e (head_found (front ts).0.head ts (front ts).1 (front ts).0 f (front_start ts) laid (front_takes ts) (front_takes ts)))
 
-inside_found : (end left : ℕ) → FindsIn end (inside left)
+pub inside_found : (end left : ℕ) → FindsIn end (inside left)
 unfolding inside
 inside_found end zero f ts laid =
     when (symbol ts == 123) (λ e. rw e (none_found f _ (behind_tree_leads ts) (adds_problem _ _ (adds_none f)))) (λ e. rw e (no_block_found f ts))
@@ -389,7 +389,7 @@ inside_found end (suc left) f ts laid =
     (λ e. rw e (block_found end (turn_with (inside left) (depth_of left)) (turn_with_found end (inside left) (inside_found end left) (depth_of left)) f ts laid))
     (λ e. rw e (no_block_found f ts))
 
-turn_found : (end left : ℕ) → Finds end (turn left)
+pub turn_found : (end left : ℕ) → Finds end (turn left)
 unfolding turn
 turn_found end left f ts laid = turn_with_found end (inside left) (inside_found end left) (depth_of left) f ts laid
 
