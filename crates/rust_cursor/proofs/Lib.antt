@@ -32,3 +32,4 @@ pub mod NearPassing
 pub mod NearUntil
 pub mod NearTexts
 pub mod Enclosed
+pub mod High

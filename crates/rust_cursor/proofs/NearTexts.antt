@@ -16,7 +16,7 @@ use Rattle.rust_cursor.proofs.Nesting.{shorter}
 use Rattle.rust_cursor.proofs.Scans.{taking_stop, taking_end, taking_more, taking_some}
 use Rattle.rust_cursor.proofs.Near.{Ending, Near, near, is_last, Gone, gone_on, symbol_same, next_near, fewer, nothing}
 use Rattle.rust_cursor.proofs.NearTests.{nest_same, stops_same, ends_same, more_same}
-use Rattle.rust_cursor.proofs.NearUntil.{Kept, UntilBy, gone, kept, UpTo}
+use Rattle.rust_cursor.proofs.NearUntil.{UntilBy, gone, kept, UpTo, AtEnd, Step, at_last, next, step, Outcome, lost, stays, comes, outcome_until}
 
 -- braces that were opened in both
 pub data BlockNear (b : Ending) : Option Tokens → Option Tokens → Type 0 where
@@ -27,24 +27,6 @@ pub record SameText (b : Ending) (r s : ExcerptRead) : Type 0 where
   pub text : s.text ≡ r.text
   pub ended : s.is_ended ≡ r.is_ended
   pub braces : BlockNear b r.block s.block
-
--- both come to the end of the short text
-pub record AtEnd (b : Ending) (ts us : Tokens) : Type 0 where
-  pub behind : ts.left ≡ b.behind
-  pub none : us.left ≡ []
-  pub past : ts.past ≡ us.past + b.by
-
--- ---- one token further
-
-data Step (b : Ending) (ts us : Tokens) : Type 0 where
-  at_last : AtEnd b (bumped ts) (bumped us) → Step b ts us
-  next : Near b (bumped ts) (bumped us) → Step b ts us
-
-step : (b : Ending) (ts us : Tokens) → Near b ts us → Step b ts us
-unfolding bumped
-step b ts us (near past [] u y e) = absurd cc
-step b ts us (near past (t ∷ []) u y e) = at_last (record { behind = refl; none = refl; past = omega arith })
-step b ts us (near past (t ∷ v ∷ x) u y e) = next (next_near b past t v x u y e)
 
 opened_near : (b : Ending) (o o' : Option Tokens) (n : Nest) (ts us : Tokens) → BlockNear b o o' → Near b ts us → BlockNear b (opened_behind o n ts) (opened_behind o' n us)
 opened_near b o o' n ts us k h = when (n.braces == 0 && symbol ts == 123) (λ e. rw (symbol_same b ts us h, e) (block h)) (λ e. rw (symbol_same b ts us h, e) k)
@@ -94,23 +76,17 @@ taken_last e done last o n us s z =
 
 -- ---- texts
 
--- the long text goes past the end, both stay before it, or both come to it
-data Outcome (b : Ending) : ExcerptRead × Tokens → ExcerptRead × Tokens → Type 0 where
-  lost : {p q : ExcerptRead × Tokens} → Gone b p.1 q.1 → (p.0.is_ended ≡ true → length p.1.left < length b.behind) → Outcome b p q
-  stays : {p q : ExcerptRead × Tokens} → Kept (SameText b) b p q → Outcome b p q
-  comes : {p q : ExcerptRead × Tokens} → SameText b p.0 q.0 → AtEnd b p.1 q.1 → Outcome b p q
-
-past_end : (b : Ending) (e : Extent) (done : List ℕ) (last : ℕ) (o : Option Tokens) (n : Nest) (ts : Tokens) (q : ExcerptRead × Tokens) → ts.left ≡ b.behind → q.1.left ≡ [] → Outcome b (taking e done last o n ts) q
+past_end : (b : Ending) (e : Extent) (done : List ℕ) (last : ℕ) (o : Option Tokens) (n : Nest) (ts : Tokens) (q : ExcerptRead × Tokens) → ts.left ≡ b.behind → q.1.left ≡ [] → Outcome (SameText b) (λ r. r.is_ended) b (taking e done last o n ts) q
 past_end b e done last o n ts q same none =
     let less = fewer (taking_leads e done last o n ts) in
     let long = ap length same in
     lost (record { few = omega arith; none = none }) (λ f. let strict = taking_fewer e ts done last o n f in omega arith)
 
 abbrev Outcomes : Ending → Extent → Tokens → Type 0
-Outcomes b e us = (ts : Tokens) (done : List ℕ) (last : ℕ) (o o' : Option Tokens) (n : Nest) → Near b ts us → BlockNear b o o' → Outcome b (taking e done last o n ts) (taking e done last o' n us)
+Outcomes b e us = (ts : Tokens) (done : List ℕ) (last : ℕ) (o o' : Option Tokens) (n : Nest) → Near b ts us → BlockNear b o o' → Outcome (SameText b) (λ r. r.is_ended) b (taking e done last o n ts) (taking e done last o' n us)
 
 text_next : (b : Ending) (e : Extent) (us : Tokens) → Outcomes b e (bumped us) → (ts : Tokens) (done : List ℕ) (last : ℕ) (o o' : Option Tokens) (n : Nest) → Near b ts us → BlockNear b o o'
-    → stops e n ts ≡ false → Step b ts us → Outcome b (taking e done last o n ts) (taking e done last o' n us)
+    → stops e n ts ≡ false → Step b ts us → Outcome (SameText b) (λ r. r.is_ended) b (taking e done last o n ts) (taking e done last o' n us)
 text_next b e us rest ts done last o o' n h k s (next l) =
     let s' = stops_same b e n ts us h ∙ s in
     let call = is_mark n.before in
@@ -146,32 +122,17 @@ text_near b e us =
     (λ s. text_next b e us rest ts done last o o' n h k s (step b ts us h)))
     us
 
+pub taken_outcome : (b : Ending) (before : Before) (e : Extent) (ts us : Tokens) → Near b ts us → Outcome (SameText b) (λ r. r.is_ended) b (taken before e ts) (taken before e us)
+unfolding taken
+taken_outcome b before e ts us h = text_near b e us ts [] 0 None None _ h no_block
+
+-- what is ended takes a token
+pub taken_fewer : (before : Before) (e : Extent) (ts : Tokens) → (taken before e ts).0.is_ended ≡ true → length (taken before e ts).1.left < length ts.left
+unfolding taken
+taken_fewer before e ts f = taking_fewer e ts [] 0 None _ f
+
 pub taken_until : (b : Ending) (before : Before) (e : Extent) (ts us : Tokens) → Near b ts us → UntilBy (SameText b) b (taken before e ts) (taken before e us)
-unfolding taken
-taken_until b before e ts us h = by (text_near b e us ts [] 0 None None _ h no_block)
-  where
-    by : {p q : ExcerptRead × Tokens} → Outcome b p q → UntilBy (SameText b) b p q
-    by (lost g f) = gone g
-    by (stays k) = kept k
-    by (comes t a) = gone (record { few = let long = ap length a.behind in omega arith; none = a.none })
-
--- before the end more is left
-pub more_left : (b : Ending) (ts us : Tokens) → Near b ts us → length ts.left ≡ length b.behind → ⊥
-more_left b ts us (near past [] u y e) l = absurd cc
-more_left b ts us (near past (t ∷ x) u y e) l =
-    let both : length (map (moved b.by) x ++ b.behind) ≡ length (map (moved b.by) x) + length b.behind = length-append (map (moved b.by) x) b.behind in
-    absurd (omega arith)
-
--- where the long text ends there, the short one does
-pub taken_ended : (b : Ending) (before : Before) (e : Extent) (ts us : Tokens) → Near b ts us → (taken before e ts).0.is_ended ≡ true → length (taken before e ts).1.left ≡ length b.behind
-    → SameText b (taken before e ts).0 (taken before e us).0 × AtEnd b (taken before e ts).1 (taken before e us).1
-unfolding taken
-taken_ended b before e ts us h f l = by (text_near b e us ts [] 0 None None _ h no_block) f l
-  where
-    by : {p q : ExcerptRead × Tokens} → Outcome b p q → p.0.is_ended ≡ true → length p.1.left ≡ length b.behind → SameText b p.0 q.0 × AtEnd b p.1 q.1
-    by (lost g f) ended same = let less = f ended in absurd (omega arith)
-    by (stays k) ended same = absurd (more_left b _ _ k.rest same)
-    by (comes t a) ended same = (t, a)
+taken_until b before e ts us h = outcome_until (taken_outcome b before e ts us h)
 
 pub tree_text_until : (b : Ending) → UpTo b tree_text tree_text
 tree_text_until b ts us h = by (taken_until b _ extents.Tree ts us h)

@@ -1,13 +1,15 @@
 -- Readers of a text that ends with a `;` or a `}`, and of a longer one: they read alike, until the one of the longer text passes the end.
-use Rattle.std.proofs.Common.{◌≡◌, ℕ, zero, suc, ◌==◌, Bool, true, false, List, [], ◌∷◌, ◌++◌, refl, ap, ◌∙◌, sym, subst}
+use Rattle.std.proofs.Common.{◌≡◌, ◌≤◌, ◌<◌, ◌+◌, ℕ, zero, suc, ◌==◌, Bool, true, false, List, [], ◌∷◌, ◌++◌, length, refl, ap, ◌∙◌, sym, subst, arith, map, length-append}
 use Rattle.std.specs.Prelude.{if◌then◌else◌}
 use Rattle.std.specs.Str.{bytes_eq}
+use Rattle.rust_lexer.specs.Alone.{moved}
 use Rattle.rust_cursor.specs.Elements.{beyond, turns_from, turns, elements, one}
 use Rattle.rust_cursor.specs.Reader.{Reader, ◌>>=◌, pure, look, pass}
 use Rattle.rust_cursor.specs.Tokens.{Tokens}
 use Rattle.rust_cursor.specs.Words.{symbol, word, bumped, taken_if, eat, eat_word, is_pair, eat_pair, is_at_end}
-use Rattle.rust_cursor.proofs.Leads.{LeadsTo, through, Forwards, when, beyond_leads, turns_from_leads}
-use Rattle.rust_cursor.proofs.Near.{Ending, Near, Gone, is_last, gone_on, Onward, into, on, by_next, word_test, symbol_test, end_same, after_word, after_symbol, pair_same, after_pair}
+use Rattle.rust_cursor.proofs.Leads.{LeadsTo, through, Forwards, when, symbol_some, beyond_leads, turns_from_leads}
+use Rattle.rust_cursor.proofs.Near.{Ending, Near, near, next_near, Gone, is_last, gone_on, Onward, into, on, by_next, word_test, symbol_test, end_same, after_word, after_symbol, pair_same, after_pair}
+use Rattle.rust_cursor.proofs.Nesting.{shorter}
 use Rattle.rust_cursor.proofs.NearPassing.{beyond_near}
 
 -- what is read is alike, and what is left is near
@@ -51,8 +53,8 @@ map_until f (kept k) = kept (record { value = ap f k.value; rest = k.rest })
 -- and then others are passed over
 pub pass_until : {A : Type 0} {b : Ending} {p q : A × Tokens} (behind behind' : Tokens → Tokens) → ((ts : Tokens) → LeadsTo ts (behind ts)) → ((ts : Tokens) → LeadsTo ts (behind' ts)) → ((ts us : Tokens) → Near b ts us → Onward b (behind ts) (behind' us))
     → Until b p q → Until b (p.0, behind p.1) (q.0, behind' q.1)
-pass_until behind behind' leads leads' near (gone g) = gone (gone_on g (leads _) (leads' _))
-pass_until {b = b} {p = p} {q = q} behind behind' leads leads' near (kept k) = by_next (near p.1 q.1 k.rest) (λ g. gone g) (λ h. kept (record { value = k.value; rest = h }))
+pass_until behind behind' leads leads' same (gone g) = gone (gone_on g (leads _) (leads' _))
+pass_until {b = b} {p = p} {q = q} behind behind' leads leads' same (kept k) = by_next (same p.1 q.1 k.rest) (λ g. gone g) (λ h. kept (record { value = k.value; rest = h }))
 
 -- ---- one reader after another
 
@@ -121,3 +123,78 @@ one_until b m m' u ts us h = map_until (λ a. a ∷ []) (u ts us h)
 
 pub elements_until : {A : Type 0} (b : Ending) (m m' : Reader A) → UpTo b m m' → Forwards (one m) → Forwards (one m') → UpTo b (elements (one m)) (elements (one m'))
 elements_until b m m' each leads leads' = turns_until b is_at_end (one m) (one m') (end_same b) (one_until b m m' each) leads leads'
+
+-- ---- what an item ends with
+
+-- both come to the end of the short text
+pub record AtEnd (b : Ending) (ts us : Tokens) : Type 0 where
+  pub behind : ts.left ≡ b.behind
+  pub none : us.left ≡ []
+  pub past : ts.past ≡ us.past + b.by
+
+-- Both go past the end, the longer one further where what it read is ended; or both stay before it, or both come to it.
+pub data Outcome {A : Type 0} (alike : A → A → Type 0) (ended : A → Bool) (b : Ending) : A × Tokens → A × Tokens → Type 0 where
+  lost : {p q : A × Tokens} → Gone b p.1 q.1 → (ended p.0 ≡ true → length p.1.left < length b.behind) → Outcome alike ended b p q
+  stays : {p q : A × Tokens} → Kept alike b p q → Outcome alike ended b p q
+  comes : {p q : A × Tokens} → alike p.0 q.0 → AtEnd b p.1 q.1 → Outcome alike ended b p q
+
+pub outcome_until : {A : Type 0} {alike : A → A → Type 0} {ended : A → Bool} {b : Ending} {p q : A × Tokens} → Outcome alike ended b p q → UntilBy alike b p q
+outcome_until (lost g f) = gone g
+outcome_until (stays k) = kept k
+outcome_until (comes t a) = gone (record { few = let long = ap length a.behind in omega arith; none = a.none })
+
+-- before the end more is left
+pub more_left : (b : Ending) (ts us : Tokens) → Near b ts us → length b.behind < length ts.left
+more_left b ts us (near past [] u y e) = absurd cc
+more_left b ts us (near past (t ∷ x) u y e) =
+    let both : length (map (moved b.by) x ++ b.behind) ≡ length (map (moved b.by) x) + length b.behind = length-append (map (moved b.by) x) b.behind in
+    omega arith
+
+-- where the longer one is ended there, the short one is
+pub outcome_ended : {A : Type 0} {alike : A → A → Type 0} {ended : A → Bool} {b : Ending} {p q : A × Tokens} → Outcome alike ended b p q → ended p.0 ≡ true → length p.1.left ≡ length b.behind → alike p.0 q.0 × AtEnd b p.1 q.1
+outcome_ended (lost g f) e l = let less = f e in absurd (omega arith)
+outcome_ended {b = b} {p = p} {q = q} (stays k) e l = let more = more_left b p.1 q.1 k.rest in absurd (omega arith)
+outcome_ended (comes t a) e l = (t, a)
+
+pub map_outcome : {A C : Type 0} {alike : A → A → Type 0} {alike' : C → C → Type 0} {ended : A → Bool} {ended' : C → Bool} {b : Ending} {p q : A × Tokens} (f f' : A → C)
+    → (alike p.0 q.0 → alike' (f p.0) (f' q.0)) → (ended' (f p.0) ≡ true → ended p.0 ≡ true) → Outcome alike ended b p q → Outcome alike' ended' b (f p.0, p.1) (f' q.0, q.1)
+map_outcome f f' same tells (lost g strict) = lost g (λ e. strict (tells e))
+map_outcome f f' same tells (stays k) = stays (record { value = same k.value; rest = k.rest })
+map_outcome f f' same tells (comes t a) = comes (same t) a
+
+-- the last of some readers, which takes a token where what it reads is ended
+pub then_outcome : {A B : Type 0} {first : A → A → Type 0} {alike : B → B → Type 0} {ended : B → Bool} {b : Ending} {p q : A × Tokens} (f f' : A → Reader B) → ((a : A) → Forwards (f a)) → ((a : A) → Forwards (f' a))
+    → ((a : A) (ts : Tokens) → ended (f a ts).0 ≡ true → length (f a ts).1.left < length ts.left) → ((a a' : A) → first a a' → (ts us : Tokens) → Near b ts us → Outcome alike ended b (f a ts) (f' a' us))
+    → UntilBy first b p q → Outcome alike ended b (f p.0 p.1) (f' q.0 q.1)
+then_outcome {p = p} {q = q} f f' leads leads' strict more (gone g) =
+    lost (gone_on g (leads p.0 p.1) (leads' q.0 q.1)) (λ e. let less = strict p.0 p.1 e in let few = g.few in omega arith)
+then_outcome {p = p} {q = q} f f' leads leads' strict more (kept k) = more p.0 q.0 k.value p.1 q.1 k.rest
+
+-- ---- one token
+
+pub data Step (b : Ending) (ts us : Tokens) : Type 0 where
+  at_last : AtEnd b (bumped ts) (bumped us) → Step b ts us
+  next : Near b (bumped ts) (bumped us) → Step b ts us
+
+pub step : (b : Ending) (ts us : Tokens) → Near b ts us → Step b ts us
+unfolding bumped
+step b ts us (near past [] u y e) = absurd cc
+step b ts us (near past (t ∷ []) u y e) = at_last (record { behind = refl; none = refl; past = omega arith })
+step b ts us (near past (t ∷ v ∷ x) u y e) = next (next_near b past t v x u y e)
+
+pub bump_outcome : {A : Type 0} {alike : A → A → Type 0} {ended : A → Bool} (b : Ending) (a a' : A) {ts us : Tokens} → alike a a' → Step b ts us → Outcome alike ended b (a, bumped ts) (a', bumped us)
+bump_outcome b a a' same (at_last e) = comes same e
+bump_outcome b a a' same (next h) = stays (record { value = same; rest = h })
+
+-- a symbol that ends an item
+pub eat_outcome : (b : Ending) (c : ℕ) (ts us : Tokens) → Near b ts us → Outcome Same (λ t. t) b (eat c ts) (eat c us)
+unfolding eat
+eat_outcome b c ts us h =
+    when (symbol ts == c)
+    (λ e. rw (symbol_test b c ts us h, e) (bump_outcome b true true refl (step b ts us h)))
+    (λ e. rw (symbol_test b c ts us h, e) (stays (record { value = refl; rest = h })))
+
+pub eat_fewer : (c : ℕ) (ts : Tokens) → 0 < c → (eat c ts).0 ≡ true → length (eat c ts).1.left < length ts.left
+unfolding eat
+eat_fewer c ts some e =
+    when (symbol ts == c) (λ f. let less = shorter ts (symbol_some c ts some f) in rw f (omega arith)) (λ f. absurd (let no = rw f at e in cc))

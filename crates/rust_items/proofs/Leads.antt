@@ -34,19 +34,19 @@ use Rattle.rust_items.proofs.Names.{IsToken, untold, told_behind, named_told, na
 tree_body_leads : Forwards tree_body
 tree_body_leads ts = taken_leads_on _ _ ts
 
-item_end_leads : Forwards item_end
+pub item_end_leads : Forwards item_end
 unfolding item_end
 item_end_leads ts = taken_leads_on _ _ ts
 
-impl_end_leads : Forwards impl_end
+pub impl_end_leads : Forwards impl_end
 unfolding impl_end
 impl_end_leads ts = taken_leads_on _ _ ts
 
-macro_end_leads : Forwards macro_end
+pub macro_end_leads : Forwards macro_end
 unfolding macro_end
 macro_end_leads ts = taken_leads_on _ _ ts
 
-value_end_leads : Forwards value_end
+pub value_end_leads : Forwards value_end
 unfolding value_end
 value_end_leads ts = taken_leads_on _ _ ts
 
@@ -78,7 +78,7 @@ pub behind_modifiers_leads : (ts : Tokens) → LeadsTo ts (behind_modifiers ts)
 unfolding behind_modifiers
 behind_modifiers_leads ts = modifiers_leads _ ts
 
-others_leads : (n : ℕ) (ts : Tokens) → LeadsTo ts (behind_others_from n ts)
+pub others_leads : (n : ℕ) (ts : Tokens) → LeadsTo ts (behind_others_from n ts)
 others_leads zero ts = here
 others_leads (suc n) ts = when (is_behind_others ts) (λ e. rw e here) (λ e. rw e (through (behind_tree_leads ts) (others_leads n _)))
 
@@ -151,7 +151,7 @@ pub named_named : (ts : Tokens) → IsNamed ts (named ts).1 (named ts).0.range
 unfolding named
 named_named ts = read_named ts (placed_name ts).0 refl
 
-named_or_leads : (keyword : List ℕ) → Forwards (named_or keyword)
+pub named_or_leads : (keyword : List ℕ) → Forwards (named_or keyword)
 unfolding named_or
 named_or_leads keyword ts = when (bytes_eq (word ts) keyword) (λ e. rw e (bumped_leads ts)) (λ e. rw e (named_leads ts))
 
@@ -163,7 +163,7 @@ unfolding named_or
 named_or_named keyword some ts =
     when (bytes_eq (word ts) keyword) (λ e. rw e (by_token ts here (word_some keyword some ts e) here)) (λ e. rw e (named_named ts))
 
-alias_leads : Forwards alias
+pub alias_leads : Forwards alias
 unfolding alias
 alias_leads ts = when (bytes_eq (word ts) (codes "_")) (λ e. rw e (bumped_leads ts)) (λ e. rw e (named_leads ts))
 
@@ -171,11 +171,11 @@ alias_named : (ts : Tokens) → IsNamed ts (alias ts).1 (alias ts).0.range
 unfolding alias
 alias_named ts = when (bytes_eq (word ts) (codes "_")) (λ e. rw e (by_token ts here (word_some (codes "_") refl ts e) here)) (λ e. rw e (named_named ts))
 
-alias_if_leads : (found : Bool) → Forwards (alias_if found)
+pub alias_if_leads : (found : Bool) → Forwards (alias_if found)
 alias_if_leads true ts = alias_leads ts
 alias_if_leads false ts = here
 
-renamed_leads : Forwards renamed
+pub renamed_leads : Forwards renamed
 unfolding renamed
 renamed_leads ts = through (eat_word_leads (codes "as") ts) (alias_if_leads _ _)
 
@@ -245,34 +245,34 @@ pub record IsLeaf (ts us : Tokens) (l : LeafRead) : Type 0 where
   pub told : (l.kind ≡ ast.ExternCrate → ⊥) → IsToken ts (name_of l.item) l.named
 
 module _ (attrs : List MetaView) (v : Option Visibility) (ts : Tokens) where
-  function_leaf : IsLeaf ts (function attrs v ts).1 (function attrs v ts).0
+  pub function_leaf : IsLeaf ts (function attrs v ts).1 (function attrs v ts).0
   unfolding function
   function_leaf = record { leads = through (named_leads ts) (item_end_leads _); id = refl; alone = refl; name = name_before (named_named ts) (item_end_leads _); body = braces_behind (named_leads ts) (item_end_braced _); told = λ _. named_told ts }
 
   block_leaf : (k : PlainKind) → IsLeaf ts (block_item k attrs v ts).1 (block_item k attrs v ts).0
   block_leaf k = record { leads = through (named_leads ts) (item_end_leads _); id = refl; alone = refl; name = name_before (named_named ts) (item_end_leads _); body = braces_behind (named_leads ts) (item_end_braced _); told = λ _. named_told ts }
 
-  union_leaf : IsLeaf ts (union_item attrs v ts).1 (union_item attrs v ts).0
+  pub union_leaf : IsLeaf ts (union_item attrs v ts).1 (union_item attrs v ts).0
   unfolding union_item
   union_leaf = block_leaf union_kind
 
-  enum_leaf : IsLeaf ts (enumeration attrs v ts).1 (enumeration attrs v ts).0
+  pub enum_leaf : IsLeaf ts (enumeration attrs v ts).1 (enumeration attrs v ts).0
   unfolding enumeration
   enum_leaf = block_leaf enum_kind
 
-  trait_leaf : IsLeaf ts (trait_item attrs v ts).1 (trait_item attrs v ts).0
+  pub trait_leaf : IsLeaf ts (trait_item attrs v ts).1 (trait_item attrs v ts).0
   unfolding trait_item
   trait_leaf = block_leaf trait_kind
 
-  macro_def_leaf : IsLeaf ts (macro_def attrs v ts).1 (macro_def attrs v ts).0
+  pub macro_def_leaf : IsLeaf ts (macro_def attrs v ts).1 (macro_def attrs v ts).0
   unfolding macro_def
   macro_def_leaf = record { leads = through (named_leads ts) (macro_end_leads _); id = refl; alone = refl; name = name_before (named_named ts) (macro_end_leads _); body = braces_behind (named_leads ts) (macro_end_braced _); told = λ _. named_told ts }
 
-  type_alias_leaf : IsLeaf ts (type_alias attrs v ts).1 (type_alias attrs v ts).0
+  pub type_alias_leaf : IsLeaf ts (type_alias attrs v ts).1 (type_alias attrs v ts).0
   unfolding type_alias
   type_alias_leaf = record { leads = through (named_leads ts) (value_end_leads _); id = refl; alone = refl; name = name_before (named_named ts) (value_end_leads _); body = braces_behind (named_leads ts) (value_end_braced _); told = λ _. named_told ts }
 
-  static_leaf : IsLeaf ts (static_value attrs v ts).1 (static_value attrs v ts).0
+  pub static_leaf : IsLeaf ts (static_value attrs v ts).1 (static_value attrs v ts).0
   unfolding static_value
   static_leaf = record {
     leads = through (eat_word_leads _ ts) (through (named_leads _) (value_end_leads _));
@@ -283,7 +283,7 @@ module _ (attrs : List MetaView) (v : Option Visibility) (ts : Tokens) where
     told = λ _. told_behind (eat_word_leads _ ts) _ _ (named_told _);
   }
 
-  const_leaf : IsLeaf ts (constant attrs v ts).1 (constant attrs v ts).0
+  pub const_leaf : IsLeaf ts (constant attrs v ts).1 (constant attrs v ts).0
   unfolding constant
   const_leaf = record {
     leads = through (named_leads ts) (through (eat_word_leads _ _) (value_end_leads _));
@@ -294,15 +294,15 @@ module _ (attrs : List MetaView) (v : Option Visibility) (ts : Tokens) where
     told = λ _. named_told ts;
   }
 
-  struct_leaf : IsLeaf ts (structure attrs v ts).1 (structure attrs v ts).0
+  pub struct_leaf : IsLeaf ts (structure attrs v ts).1 (structure attrs v ts).0
   unfolding structure
   struct_leaf = record { leads = through (named_leads ts) (item_end_leads _); id = refl; alone = refl; name = name_before (named_named ts) (item_end_leads _); body = braces_behind (named_leads ts) (item_end_braced _); told = λ _. named_told ts }
 
-  impl_leaf : IsLeaf ts (implementation attrs ts).1 (implementation attrs ts).0
+  pub impl_leaf : IsLeaf ts (implementation attrs ts).1 (implementation attrs ts).0
   unfolding implementation
   impl_leaf = record { leads = impl_end_leads ts; id = refl; alone = refl; name = nameless; body = impl_end_braced ts; told = λ _. untold }
 
-  crate_leaf : IsLeaf ts (crate_item attrs v ts).1 (crate_item attrs v ts).0
+  pub crate_leaf : IsLeaf ts (crate_item attrs v ts).1 (crate_item attrs v ts).0
   unfolding crate_item
   crate_leaf = record {
     leads = through (named_or_leads (codes "self") ts) (through (renamed_leads _) (eat_leads _ _));
@@ -313,11 +313,11 @@ module _ (attrs : List MetaView) (v : Option Visibility) (ts : Tokens) where
     told = λ other. absurd (other refl);
   }
 
-  use_leaf : IsLeaf ts (use_declaration attrs v ts).1 (use_declaration attrs v ts).0
+  pub use_leaf : IsLeaf ts (use_declaration attrs v ts).1 (use_declaration attrs v ts).0
   unfolding use_declaration
   use_leaf = record { leads = through (use_tree_leads ts) (eat_leads _ _); id = refl; alone = refl; name = nameless; body = unbraced; told = λ _. untold }
 
-  macro_rules_leaf : IsLeaf ts (macro_definition attrs ts).1 (macro_definition attrs ts).0
+  pub macro_rules_leaf : IsLeaf ts (macro_definition attrs ts).1 (macro_definition attrs ts).0
   unfolding macro_definition
   macro_rules_leaf = record {
     leads = through (named_or_leads (codes "try") ts) (call_end_leads _);

@@ -9,3 +9,6 @@ pub mod FilePlaces
 pub mod Bodiless
 pub mod UntilLeaves
 pub mod UntilItems
+pub mod NearFronts
+pub mod NearLeaves
+pub mod NearItems

@@ -11,3 +11,4 @@ pub mod UntilMetas
 pub mod UntilAttributes
 pub mod Near
 pub mod Around
+pub mod High

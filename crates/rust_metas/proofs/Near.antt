@@ -72,7 +72,7 @@ no_option_kind kinds.CloseDelim z e = no_option z e
 no_option_kind kinds.Punct z e = no_option z e
 no_option_kind _ z e = absurd cc
 
-option_not_last : (ts : Tokens) → is_option_word ts ≡ true → is_last (symbol ts) ≡ false
+pub option_not_last : (ts : Tokens) → is_option_word ts ≡ true → is_last (symbol ts) ≡ false
 unfolding is_option_word symbol text kind
 option_not_last ts e = no_first ts.left e
   where
@@ -156,7 +156,7 @@ no_literal : (k : TokenKind) (z : List ℕ) → is_last (symbol_of (record { kin
 no_literal (kinds.Literal l) z e = absurd cc
 no_literal _ z e = refl
 
-last_no_literal : (ts : Tokens) → is_last (symbol ts) ≡ true → is_literal_kind (kind ts) ≡ false
+pub last_no_literal : (ts : Tokens) → is_last (symbol ts) ≡ true → is_literal_kind (kind ts) ≡ false
 unfolding symbol kind
 last_no_literal ts e = first ts.left e
   where
@@ -165,7 +165,7 @@ last_no_literal ts e = first ts.left e
     first (t ∷ left) e = no_literal t.kind t.text e
 
 -- a `;` or a `}` is no literal
-last_literal : (ts : Tokens) → is_last (symbol ts) ≡ true → is_literal ts ≡ false
+pub last_literal : (ts : Tokens) → is_last (symbol ts) ≡ true → is_literal ts ≡ false
 unfolding is_literal is_truth
 last_literal ts e = rw (last_no_literal ts e, last_word ts e) refl
 
@@ -183,7 +183,7 @@ start_same b a a' ts us e h = from_there (at us) a' b.by ∙ sym (ap (λ n. n - 
 end_place : (n m d : ℕ) → n + d + m ≡ n + m + d
 end_place n m d = omega arith
 
-next_past : (b : Ending) (ts us : Tokens) → Near b ts us → (bumped ts).past ≡ (bumped us).past + b.by
+pub next_past : (b : Ending) (ts us : Tokens) → Near b ts us → (bumped ts).past ≡ (bumped us).past + b.by
 unfolding bumped
 next_past b ts us (near past [] u y e) = absurd cc
 next_past b ts us (near past (t ∷ x) u y e) = omega arith
@@ -300,7 +300,7 @@ no_style : (style : DocStyle) → is_style style None ≡ false
 no_style Outer = refl
 no_style Inner = refl
 
-doc_not_last : (style : DocStyle) (ts : Tokens) → is_doc style ts ≡ true → is_last (symbol ts) ≡ false
+pub doc_not_last : (style : DocStyle) (ts : Tokens) → is_doc style ts ≡ true → is_last (symbol ts) ≡ false
 unfolding is_doc
 doc_not_last style ts e =
     when (is_last (symbol ts)) (λ f. let none : is_style style (style_by (kind ts)) ≡ false = rw (last_style ts f) (no_style style) in absurd cc) (λ f. f)

@@ -8,3 +8,4 @@ pub mod UntilTrees
 pub mod Near
 pub mod NearTrees
 pub mod Around
+pub mod High

@@ -45,7 +45,7 @@ no_name_text y kinds.RawIdent z e = absurd cc
 no_name_text y _ z e = refl
 
 -- a `;` or a `}` is no name
-last_name : (ts : Tokens) → is_last (symbol ts) ≡ true → next_name ts ≡ None
+pub last_name : (ts : Tokens) → is_last (symbol ts) ≡ true → next_name ts ≡ None
 unfolding next_name symbol kind text
 last_name ts e = first ts.left e
   where
@@ -97,7 +97,7 @@ no_raw : (k : TokenKind) (z : List ℕ) → is_last (symbol_of (record { kind = 
 no_raw kinds.RawIdent z e = absurd cc
 no_raw _ z e = refl
 
-last_raw : (ts : Tokens) → is_last (symbol ts) ≡ true → is_raw (kind ts) ≡ false
+pub last_raw : (ts : Tokens) → is_last (symbol ts) ≡ true → is_raw (kind ts) ≡ false
 unfolding kind symbol
 last_raw ts e = first ts.left e
   where
@@ -156,7 +156,7 @@ path_colons_same : (b : Ending) (in_use : Bool) (ts us : Tokens) → Near b ts u
 unfolding is_path_colons
 path_colons_same b in_use ts us h = rw (colons_same b ts us h, joint_same b ts us h) refl
 
-are_colons : (in_use : Bool) (ts : Tokens) → is_path_colons in_use ts ≡ true → is_colons ts ≡ true
+pub are_colons : (in_use : Bool) (ts : Tokens) → is_path_colons in_use ts ≡ true → is_colons ts ≡ true
 unfolding is_path_colons
 are_colons true ts e = (both_true (is_colons ts) (not (is_joint ts)) e).0
 are_colons false ts e = e
