@@ -1,0 +1,6 @@
+pub mod Problems
+pub mod Brackets
+pub mod Metas
+pub mod Items
+pub mod Texts
+pub mod Inner

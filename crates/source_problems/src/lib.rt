@@ -1,0 +1,13 @@
+//! All that is wrong with Rust source text, as far as its items, its brackets and its quotes are read.
+#![tactic(auto)]
+
+mod brackets;
+mod conditions;
+mod items;
+mod metas;
+mod problem;
+mod text;
+mod use_trees;
+
+pub use problem::{SourceProblem, SourceProblemKind};
+pub use text::source_problems;

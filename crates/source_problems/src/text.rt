@@ -1,0 +1,112 @@
+//! All that is wrong with a text.
+
+ghost use Rattle.std.specs.Prelude.{◌≡◌, ◌++◌, IfOk, OnOk, map};
+ghost use Rattle.hir_input.specs.Syntax.{syntax_view};
+ghost use Rattle.rust_items.specs.LineEnds.{place_by};
+ghost use Rattle.rust_lexer.specs.Tokens.{tokens};
+ghost use Rattle.source_problems.specs.Brackets as brackets;
+ghost use Rattle.source_problems.specs.Problems as found;
+ghost use Rattle.source_problems.specs.Texts as spec;
+
+use crate::brackets::bracket_problems;
+use crate::items::push_syntax;
+use crate::problem::{SourceProblem, told};
+use rust_items::line_ends::{LineEnds, has_return, with_feeds};
+use rust_items::{Problem, SourceFile};
+use std::alloc::{AllocError, Global};
+use std::collections::BTreeSet;
+
+/// Problems of a text with line feeds alone, at the places of the text as it is.
+fn placed(
+    alloc: Global,
+    problems: &[SourceProblem],
+    ends: &LineEnds,
+) -> Result<Vec<SourceProblem>, AllocError>
+    ensures { IfOk result (λ v. v.items
+        ≡ map (spec.moved (place_by ends.now.len ends.now.returns.items)) problems.now) }
+{
+    let mut moved = Vec::with_capacity(alloc, problems.len())?;
+    for problem in problems {
+        moved.push(SourceProblem {
+            at: ends.place(problem.at),
+            kind: problem.kind,
+        })?;
+    }
+    Ok(moved)
+}
+
+/// What is wrong with the brackets and the quotes of a text with line feeds alone, at the places of the text as it is.
+fn feed_problems(
+    alloc: Global,
+    feeds: &str,
+    ends: &LineEnds,
+) -> Result<Vec<SourceProblem>, AllocError>
+    ensures { IfOk result (λ v. v.items
+        ≡ map (spec.moved (place_by ends.now.len ends.now.returns.items)) (brackets.problems_from (tokens feeds.now) brackets.none)) }
+{
+    let problems = bracket_problems(alloc, feeds)?;
+    placed(alloc, &problems, ends)
+}
+
+/// The same of a text, whichever line ends it has.
+#[tactic(auto, using(crate::proofs::Feeds::same_problems))]
+fn line_problems(alloc: Global, text: &str) -> Result<Vec<SourceProblem>, AllocError>
+    ensures { IfOk result (λ v. v.items ≡ spec.bracket_problems text.now) }
+{
+    if !has_return(text) {
+        let ends = LineEnds::none(alloc, text);
+        return feed_problems(alloc, text, &ends);
+    }
+    let (feeds, ends) = with_feeds(alloc, text)?;
+    feed_problems(alloc, &feeds, &ends)
+}
+
+/// Adds what the reader of items tells.
+fn push_told(read: &[Problem], problems: &mut Vec<SourceProblem>) -> Result<(), AllocError>
+    ensures { OnOk result (problems.new.items ≡ problems.old.items ++ map found.told read.now) }
+{
+    for problem in read {
+        problems.push(told(*problem))?;
+    }
+    Ok(())
+}
+
+/// The problems that are known, in order.
+fn listed(alloc: Global, known: &BTreeSet<SourceProblem>) -> Result<Vec<SourceProblem>, AllocError>
+    ensures { IfOk result (λ v. v.items ≡ known.now.keys) }
+{
+    let mut ordered = Vec::with_capacity(alloc, known.len())?;
+    for problem in known {
+        ordered.push(*problem)?;
+    }
+    Ok(ordered)
+}
+
+/// The problems in order, each once.
+fn in_order(alloc: Global, problems: &[SourceProblem]) -> Result<Vec<SourceProblem>, AllocError>
+    ensures { IfOk result (λ v. v.items ≡ spec.in_order problems.now) }
+{
+    let mut known = BTreeSet::new(alloc);
+    for problem in problems {
+        known.insert(*problem)?;
+    }
+    listed(alloc, &known)
+}
+
+/// All that is wrong with a text of which this was read, in the order of places, each once: what the reader of items tells; brackets
+/// that do not match; literals and comments without their ends, also those behind which the text goes on; and the paths
+/// without a meaning and the attributes that are too deep, at the items that have them, or at the beginning of the file.
+///
+/// The only error is want of memory.
+pub fn source_problems(
+    alloc: Global,
+    text: &str,
+    file: &SourceFile,
+) -> Result<Vec<SourceProblem>, AllocError>
+    ensures all { IfOk result (λ v. v.items ≡ spec.source_problems text.now file.now) }
+{
+    let mut problems = line_problems(alloc, text)?;
+    push_told(&file.problems, &mut problems)?;
+    push_syntax(&file.syntax, &file.places, &mut problems)?;
+    in_order(alloc, &problems)
+}
