@@ -1,6 +1,6 @@
 -- The data of an item, with its body or without.
 use Rattle.std.specs.Prelude.{ℕ, ◌^◌, List, Bool, true, false, codes, Option, Some, None, option_map}
-use Rattle.serde_json.specs.Data.{Data, null, boolean, string, array, object, Items, no_items, item, no_members, member}
+use Rattle.serde_json.specs.Data.{Data, null, boolean, number as number_value, unsigned, string, array, object, Items, no_items, item, Members, no_members, member}
 use Rattle.hir_input.specs.declared.ast.Rename.{Rename}
 use Rattle.hir_input.specs.declared.ast.Visibility.{Visibility}
 use Rattle.hir_input.specs.Attr.{MetaView, metas_from}
@@ -56,10 +56,22 @@ named_data bodies n = do
 
 -- ---- the objects, whose members are in the order of their keys
 
+-- the members that are no values of others
+abbrev pub numbered_members : List ℕ → (hash number : ℕ) → Members
+numbered_members word hash n = member (codes "hash") (number_value (unsigned hash)) (member (codes "is") (string word) (member (codes "number") (number_value (unsigned n)) no_members))
+
+-- the members that every item has
+abbrev pub node_members : List ℕ → NodeData → Members
+node_members word n = member (codes "attrs") n.attrs (member (codes "body") n.body (member (codes "hash") n.hash (member (codes "is") (string word) (member (codes "number") n.number no_members))))
+
+-- and with a name and a visibility
+abbrev pub named_members : List ℕ → NamedData → Members
+named_members word n =
+    member (codes "attrs") n.node.attrs (member (codes "body") n.node.body (member (codes "hash") n.node.hash (member (codes "is") (string word)
+    (member (codes "name") n.name (member (codes "number") n.node.number (member (codes "vis") n.vis no_members))))))
+
 abbrev pub plain_object : List ℕ → NamedData → Data
-plain_object word n =
-    object (member (codes "attrs") n.node.attrs (member (codes "body") n.node.body (member (codes "hash") n.node.hash (member (codes "is") (string word)
-    (member (codes "name") n.name (member (codes "number") n.node.number (member (codes "vis") n.vis no_members)))))))
+plain_object word n = object (named_members word n)
 
 abbrev pub struct_object : NamedData → Data → Data
 struct_object n fields =
@@ -102,8 +114,7 @@ macro_rules_object n name =
     (member (codes "name") name (member (codes "number") n.number no_members))))))
 
 abbrev pub asm_object : NodeData → Data
-asm_object n =
-    object (member (codes "attrs") n.attrs (member (codes "body") n.body (member (codes "hash") n.hash (member (codes "is") (string (codes "asm")) (member (codes "number") n.number no_members)))))
+asm_object n = object (node_members (codes "asm") n)
 
 -- ---- the kinds of items
 

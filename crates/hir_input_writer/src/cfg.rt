@@ -10,13 +10,15 @@ ghost use Rattle.hir_input_writer.specs.Writes.{Writes};
 use crate::fault::WriteFault;
 use crate::name::name_value;
 use hir_input::{CfgAtom, CfgExpr};
-use serde_json::{Value, json};
+use json_object::{of_text, one, with};
+use serde_json::Value;
 use std::alloc::{AllocError, Global};
 
 fn key_object(alloc: Global, key: Value, value: &String) -> Result<Value, AllocError>
     ensures { IfOk result (λ v. view v ≡ keyed (view key) (string_bytes value.now)) }
 {
-    json!(in alloc; {"key": key, "value": value})
+    let members = of_text(alloc, "value", value.as_str())?;
+    Ok(Value::Object(with(alloc, members, "key", key)?))
 }
 
 fn written(alloc: Global, atom: &CfgAtom) -> Result<Value, WriteFault>
@@ -52,15 +54,15 @@ pub(crate) fn cfg_value(alloc: Global, cfg: &CfgExpr) -> Result<Value, WriteFaul
         CfgExpr::Atom(atom) => atom_value(alloc, atom),
         CfgExpr::All(members) => {
             let members = cfg_values(alloc, members)?;
-            Ok(json!(in alloc; {"all": members})?)
+            Ok(one(alloc, "all", Value::from(members))?)
         }
         CfgExpr::Any(members) => {
             let members = cfg_values(alloc, members)?;
-            Ok(json!(in alloc; {"any": members})?)
+            Ok(one(alloc, "any", Value::from(members))?)
         }
         CfgExpr::Not(inner) => {
             let inner = cfg_value(alloc, inner)?;
-            Ok(json!(in alloc; {"not": inner})?)
+            Ok(one(alloc, "not", inner)?)
         }
     }
 }

@@ -9,10 +9,11 @@ ghost use Rattle.hir_input_writer.specs.Writes.{Writes};
 
 use crate::fault::WriteFault;
 use crate::kinds::call_value;
-use crate::node::{Node, node, node_of};
+use crate::node::{Node, node, node_members, node_of};
 use crate::plain::{fn_value, static_value, type_alias_value};
 use hir_input::ast::{ExternBlock, ExternItem};
-use serde_json::{Value, json};
+use json_object::with;
+use serde_json::Value;
 use std::alloc::{AllocError, Global};
 
 fn extern_item_value(alloc: Global, bodies: bool, item: &ExternItem) -> Result<Value, WriteFault>
@@ -44,10 +45,8 @@ fn extern_item_values(
 fn extern_block_object(alloc: Global, node: Node, items: Value) -> Result<Value, AllocError>
     ensures { IfOk result (λ v. view v ≡ objects.extern_block_object (node_seen node) (view items)) }
 {
-    json!(in alloc; {
-        "attrs": node.attrs, "body": node.body, "hash": node.hash, "is": "extern_block", "items": items,
-        "number": node.number
-    })
+    let members = node_members(alloc, "extern_block", node)?;
+    Ok(Value::Object(with(alloc, members, "items", items)?))
 }
 
 // An extern block, whose items are written.

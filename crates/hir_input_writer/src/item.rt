@@ -13,13 +13,14 @@ use crate::kinds::{
     asm_value, call_value, extern_crate_value, impl_value, macro_rules_value, struct_value,
     use_value,
 };
-use crate::node::{Named, named_of, node, node_of};
+use crate::node::{Named, named_members, named_of, node, node_of};
 use crate::plain::{
     const_value, enum_value, fn_value, macro_def_value, static_value, trait_value,
     type_alias_value, union_value,
 };
 use hir_input::ast::{Item, Module};
-use serde_json::{Value, json};
+use json_object::with;
+use serde_json::Value;
 use std::alloc::{AllocError, Global};
 
 fn module_object(
@@ -30,11 +31,10 @@ fn module_object(
 ) -> Result<Value, AllocError>
     ensures { IfOk result (λ v. view v ≡ objects.module_object (named_seen item) semicolon (view items)) }
 {
-    let Named { node, name, vis } = item;
-    json!(in alloc; {
-        "attrs": node.attrs, "body": node.body, "hash": node.hash, "is": "module", "items": items,
-        "name": name, "number": node.number, "semicolon": semicolon, "vis": vis
-    })
+    let members = named_members(alloc, "module", item)?;
+    let members = with(alloc, members, "items", items)?;
+    let members = with(alloc, members, "semicolon", Value::from(semicolon))?;
+    Ok(Value::Object(members))
 }
 
 // A module, whose items are written.

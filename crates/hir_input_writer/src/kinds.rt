@@ -14,7 +14,7 @@ ghost use Rattle.hir_input_writer.specs.Writes.{Writes};
 use crate::context::context_value;
 use crate::fault::WriteFault;
 use crate::name::name_or_null;
-use crate::node::{Named, Node, named_of, node, node_of};
+use crate::node::{Named, Node, named_members, named_of, node, node_members, node_of};
 use crate::path::path_or_null;
 use crate::use_tree::{rename_or_null, use_tree_or_null};
 use crate::visibility::visibility_or_null;
@@ -22,7 +22,8 @@ use hir_input::ExpandTo;
 use hir_input::ast::{
     AsmExpr, ExternCrate, Impl, MacroCall, MacroRules, Struct, StructKind, TupleField, Use,
 };
-use serde_json::{Value, json};
+use json_object::with;
+use serde_json::Value;
 use std::alloc::{AllocError, Global};
 
 // The visibility of each field.
@@ -49,11 +50,8 @@ fn fields_value(alloc: Global, kind: &StructKind) -> Result<Value, WriteFault>
 fn struct_object(alloc: Global, item: Named, fields: Value) -> Result<Value, AllocError>
     ensures { IfOk result (λ v. view v ≡ items.struct_object (named_seen item) (view fields)) }
 {
-    let Named { node, name, vis } = item;
-    json!(in alloc; {
-        "attrs": node.attrs, "body": node.body, "fields": fields, "hash": node.hash, "is": "struct",
-        "name": name, "number": node.number, "vis": vis
-    })
+    let members = named_members(alloc, "struct", item)?;
+    Ok(Value::Object(with(alloc, members, "fields", fields)?))
 }
 
 pub(crate) fn struct_value(alloc: Global, bodies: bool, item: &Struct) -> Result<Value, WriteFault>
@@ -68,10 +66,9 @@ pub(crate) fn struct_value(alloc: Global, bodies: bool, item: &Struct) -> Result
 fn use_object(alloc: Global, node: Node, tree: Value, vis: Value) -> Result<Value, AllocError>
     ensures { IfOk result (λ v. view v ≡ items.use_object (node_seen node) (view tree) (view vis)) }
 {
-    json!(in alloc; {
-        "attrs": node.attrs, "body": node.body, "hash": node.hash, "is": "use", "number": node.number,
-        "tree": tree, "vis": vis
-    })
+    let members = node_members(alloc, "use", node)?;
+    let members = with(alloc, members, "tree", tree)?;
+    Ok(Value::Object(with(alloc, members, "vis", vis)?))
 }
 
 pub(crate) fn use_value(alloc: Global, bodies: bool, item: &Use) -> Result<Value, WriteFault>
@@ -86,11 +83,8 @@ pub(crate) fn use_value(alloc: Global, bodies: bool, item: &Use) -> Result<Value
 fn extern_crate_object(alloc: Global, item: Named, rename: Value) -> Result<Value, AllocError>
     ensures { IfOk result (λ v. view v ≡ items.extern_crate_object (named_seen item) (view rename)) }
 {
-    let Named { node, name, vis } = item;
-    json!(in alloc; {
-        "attrs": node.attrs, "body": node.body, "hash": node.hash, "is": "extern_crate", "name": name,
-        "number": node.number, "rename": rename, "vis": vis
-    })
+    let members = named_members(alloc, "extern_crate", item)?;
+    Ok(Value::Object(with(alloc, members, "rename", rename)?))
 }
 
 pub(crate) fn extern_crate_value(
@@ -109,10 +103,9 @@ pub(crate) fn extern_crate_value(
 fn impl_object(alloc: Global, node: Node, is_trait_impl: bool) -> Result<Value, AllocError>
     ensures { IfOk result (λ v. view v ≡ items.impl_object (node_seen node) is_trait_impl) }
 {
-    json!(in alloc; {
-        "attrs": node.attrs, "body": node.body, "hash": node.hash, "is": "impl", "number": node.number,
-        "trait": is_trait_impl
-    })
+    let members = node_members(alloc, "impl", node)?;
+    let members = with(alloc, members, "trait", Value::from(is_trait_impl))?;
+    Ok(Value::Object(members))
 }
 
 pub(crate) fn impl_value(alloc: Global, bodies: bool, item: &Impl) -> Result<Value, WriteFault>
@@ -131,11 +124,11 @@ fn call_object(
 ) -> Result<Value, AllocError>
     ensures { IfOk result (λ v. view v ≡ items.call_object (node_seen node) (view path) (string (shown_expand_to expand_to)) (view context)) }
 {
-    let expand_to = expand_to.to_string(alloc)?;
-    json!(in alloc; {
-        "attrs": node.attrs, "body": node.body, "ctxt": context, "expand_to": expand_to, "hash": node.hash,
-        "is": "macro_call", "number": node.number, "path": path
-    })
+    let expand_to = Value::from(expand_to.to_string(alloc)?);
+    let members = node_members(alloc, "macro_call", node)?;
+    let members = with(alloc, members, "ctxt", context)?;
+    let members = with(alloc, members, "expand_to", expand_to)?;
+    Ok(Value::Object(with(alloc, members, "path", path)?))
 }
 
 pub(crate) fn call_value(alloc: Global, bodies: bool, item: &MacroCall) -> Result<Value, WriteFault>
@@ -150,10 +143,8 @@ pub(crate) fn call_value(alloc: Global, bodies: bool, item: &MacroCall) -> Resul
 fn macro_rules_object(alloc: Global, node: Node, name: Value) -> Result<Value, AllocError>
     ensures { IfOk result (λ v. view v ≡ items.macro_rules_object (node_seen node) (view name)) }
 {
-    json!(in alloc; {
-        "attrs": node.attrs, "body": node.body, "hash": node.hash, "is": "macro_rules", "name": name,
-        "number": node.number
-    })
+    let members = node_members(alloc, "macro_rules", node)?;
+    Ok(Value::Object(with(alloc, members, "name", name)?))
 }
 
 pub(crate) fn macro_rules_value(
@@ -168,15 +159,9 @@ pub(crate) fn macro_rules_value(
     Ok(macro_rules_object(alloc, node, name)?)
 }
 
-fn asm_object(alloc: Global, node: Node) -> Result<Value, AllocError>
-    ensures { IfOk result (λ v. view v ≡ items.asm_object (node_seen node)) }
-{
-    json!(in alloc; {"attrs": node.attrs, "body": node.body, "hash": node.hash, "is": "asm", "number": node.number})
-}
-
 pub(crate) fn asm_value(alloc: Global, bodies: bool, item: &AsmExpr) -> Result<Value, WriteFault>
     ensures { let n = item.now in Writes view result (asm_data bodies (node_from n.hash n.number n.attrs.items n.body)) }
 {
     let node = node!(alloc, bodies, item)?;
-    Ok(asm_object(alloc, node)?)
+    Ok(Value::Object(node_members(alloc, "asm", node)?))
 }

@@ -8,6 +8,7 @@ ghost use Rattle.hir_input_writer.specs.Writes.{Writes};
 use crate::context::is_same;
 use crate::fault::WriteFault;
 use hir_input::{Literal, Span, SyntaxContext};
+use json_object::{of_text, with};
 use serde_json::{Value, json};
 use std::alloc::{AllocError, Global};
 
@@ -34,7 +35,9 @@ fn literal_object(
 ) -> Result<Value, AllocError>
     ensures { IfOk result (λ v. view v ≡ object_of (string_bytes rendered.now) (view span) (view string)) }
 {
-    json!(in alloc; {"rendered": rendered, "span": span, "string": string})
+    let members = of_text(alloc, "rendered", rendered.as_str())?;
+    let members = with(alloc, members, "span", span)?;
+    Ok(Value::Object(with(alloc, members, "string", string)?))
 }
 
 fn literal_value(

@@ -13,13 +13,16 @@ use crate::literal::literal_or_null;
 use crate::path::path_or_null;
 use hir_input::ast::PathNode;
 use hir_input::{Literal, Meta, SyntaxContext, TokenTree};
-use serde_json::{Value, json};
+use json_object::{of_text, with, with_text};
+use serde_json::Value;
 use std::alloc::{AllocError, Global};
 
 fn path_object(alloc: Global, path: Value, context: Value) -> Result<Value, AllocError>
     ensures { IfOk result (λ v. view v ≡ objects.path_object (view path) (view context)) }
 {
-    json!(in alloc; {"ctxt": context, "meta": "path", "path": path})
+    let members = of_text(alloc, "meta", "path")?;
+    let members = with(alloc, members, "ctxt", context)?;
+    Ok(Value::Object(with(alloc, members, "path", path)?))
 }
 
 fn key_value_object(
@@ -30,7 +33,10 @@ fn key_value_object(
 ) -> Result<Value, AllocError>
     ensures { IfOk result (λ v. view v ≡ objects.key_value_object (view path) (view value) (view context)) }
 {
-    json!(in alloc; {"ctxt": context, "meta": "key_value", "path": path, "value": value})
+    let members = of_text(alloc, "meta", "key_value")?;
+    let members = with(alloc, members, "ctxt", context)?;
+    let members = with(alloc, members, "path", path)?;
+    Ok(Value::Object(with(alloc, members, "value", value)?))
 }
 
 fn tokens_object(
@@ -41,25 +47,32 @@ fn tokens_object(
 ) -> Result<Value, AllocError>
     ensures { IfOk result (λ v. view v ≡ objects.tokens_object (view path) (string_bytes tokens.now) (view context)) }
 {
-    json!(in alloc; {"ctxt": context, "meta": "tokens", "path": path, "tokens": tokens})
+    let members = of_text(alloc, "meta", "tokens")?;
+    let members = with_text(alloc, members, "tokens", tokens.as_str())?;
+    let members = with(alloc, members, "ctxt", context)?;
+    Ok(Value::Object(with(alloc, members, "path", path)?))
 }
 
 fn cfg_object(alloc: Global, condition: Value) -> Result<Value, AllocError>
     ensures { IfOk result (λ v. view v ≡ objects.cfg_object (view condition)) }
 {
-    json!(in alloc; {"cfg": condition, "meta": "cfg"})
+    let members = of_text(alloc, "meta", "cfg")?;
+    Ok(Value::Object(with(alloc, members, "cfg", condition)?))
 }
 
 fn cfg_attr_object(alloc: Global, condition: Value, metas: Vec<Value>) -> Result<Value, AllocError>
     ensures { IfOk result (λ v. view v ≡ objects.cfg_attr_object (view condition) (items_view metas.items)) }
 {
-    json!(in alloc; {"cfg": condition, "meta": "cfg_attr", "metas": metas})
+    let members = of_text(alloc, "meta", "cfg_attr")?;
+    let members = with(alloc, members, "cfg", condition)?;
+    Ok(Value::Object(with(alloc, members, "metas", Value::from(metas))?))
 }
 
 fn unsafe_object(alloc: Global, inner: Value) -> Result<Value, AllocError>
     ensures { IfOk result (λ v. view v ≡ objects.unsafe_object (view inner)) }
 {
-    json!(in alloc; {"inner": inner, "meta": "unsafe"})
+    let members = of_text(alloc, "meta", "unsafe")?;
+    Ok(Value::Object(with(alloc, members, "inner", inner)?))
 }
 
 fn path_meta(

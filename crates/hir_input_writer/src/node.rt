@@ -1,9 +1,9 @@
 //! What items have in common, as JSON.
 ghost use Rattle.std.specs.Prelude.{◌≡◌, IfOk, map, option_map, string_bytes};
-ghost use Rattle.serde_json.specs.View.{view};
+ghost use Rattle.serde_json.specs.View.{members_view, view};
 ghost use Rattle.hir_input.specs.Attr.{meta_view};
 ghost use Rattle.hir_input.specs.Syntax.{node_from};
-ghost use Rattle.hir_input_writer.specs.Items.{attrs_data, body_data, node_data, plain_object as object_of, with_name};
+ghost use Rattle.hir_input_writer.specs.Items.{attrs_data, body_data, named_members as members_of_named, node_data, node_members as members_of_node, numbered_members, plain_object as object_of, with_name};
 ghost use Rattle.hir_input_writer.specs.Seen.{named_seen, node_seen};
 ghost use Rattle.hir_input_writer.specs.Writes.{Writes};
 
@@ -13,7 +13,8 @@ use crate::name::name_or_null;
 use crate::visibility::visibility_or_null;
 use hir_input::ast::Visibility;
 use hir_input::{Meta, Name};
-use serde_json::{Value, json};
+use json_object::{Members, with, with_text};
+use serde_json::{Map, Value};
 use std::alloc::{AllocError, Global};
 
 // The parts of every item.
@@ -92,14 +93,29 @@ pub(crate) fn named_of(
     Ok(Named { node, name, vis })
 }
 
-fn plain_object(alloc: Global, word: &str, item: Named) -> Result<Value, AllocError>
-    ensures { IfOk result (λ v. view v ≡ object_of word.now (named_seen item)) }
+// The members that are no values of others: the hash, the word of the kind and the number.
+fn numbered(alloc: Global, word: &str, hash: u16, number: u32) -> Result<Members, AllocError>
+    ensures { IfOk result (λ ms. members_view ms.entries ≡ numbered_members word.now hash number) }
 {
-    let Named { node, name, vis } = item;
-    json!(in alloc; {
-        "attrs": node.attrs, "body": node.body, "hash": node.hash, "is": word,
-        "name": name, "number": node.number, "vis": vis
-    })
+    let members = with(alloc, Map::new(alloc), "hash", Value::from(hash))?;
+    let members = with_text(alloc, members, "is", word)?;
+    with(alloc, members, "number", Value::from(number))
+}
+
+pub(crate) fn node_members(alloc: Global, word: &str, node: Node) -> Result<Members, AllocError>
+    ensures { IfOk result (λ ms. members_view ms.entries ≡ members_of_node word.now (node_seen node)) }
+{
+    let members = numbered(alloc, word, node.hash, node.number)?;
+    let members = with(alloc, members, "attrs", node.attrs)?;
+    with(alloc, members, "body", node.body)
+}
+
+pub(crate) fn named_members(alloc: Global, word: &str, item: Named) -> Result<Members, AllocError>
+    ensures { IfOk result (λ ms. members_view ms.entries ≡ members_of_named word.now (named_seen item)) }
+{
+    let members = node_members(alloc, word, item.node)?;
+    let members = with(alloc, members, "name", item.name)?;
+    with(alloc, members, "vis", item.vis)
 }
 
 // An item that has no parts but a name and a visibility.
@@ -113,5 +129,5 @@ pub(crate) fn plain_value(
     ensures { Writes view result (option_map (object_of word.now) (with_name (node_seen node) name.now visibility.now)) }
 {
     let named = named_of(alloc, node, name, visibility)?;
-    Ok(plain_object(alloc, word, named)?)
+    Ok(Value::Object(named_members(alloc, word, named)?))
 }

@@ -15,19 +15,20 @@ use crate::kinds::call_value;
 use crate::node::attrs_value;
 use hir_input::Meta;
 use hir_input::ast::{Item, Stmt, Syntax, Tail};
-use serde_json::{Value, json};
+use json_object::{of_text, one, with};
+use serde_json::Value;
 use std::alloc::{AllocError, Global};
 
 fn item_object(alloc: Global, item: Value) -> Result<Value, AllocError>
     ensures { IfOk result (λ v. view v ≡ objects.item_object (view item)) }
 {
-    json!(in alloc; {"item": item})
+    one(alloc, "item", item)
 }
 
 fn call_object(alloc: Global, call: Value) -> Result<Value, AllocError>
     ensures { IfOk result (λ v. view v ≡ objects.call_object (view call)) }
 {
-    json!(in alloc; {"call": call})
+    one(alloc, "call", call)
 }
 
 fn stmt_value(alloc: Global, bodies: bool, stmt: &Stmt) -> Result<Value, WriteFault>
@@ -73,7 +74,9 @@ fn tail_value(alloc: Global, bodies: bool, tail: &Tail) -> Result<Value, WriteFa
 fn source_object(alloc: Global, attrs: Value, items: Vec<Value>) -> Result<Value, AllocError>
     ensures { IfOk result (λ v. view v ≡ objects.source_object (view attrs) (items_view items.items)) }
 {
-    json!(in alloc; {"attrs": attrs, "items": items, "root": "source_file"})
+    let members = of_text(alloc, "root", "source_file")?;
+    let members = with(alloc, members, "attrs", attrs)?;
+    Ok(Value::Object(with(alloc, members, "items", Value::from(items))?))
 }
 
 fn source_value(
@@ -92,7 +95,8 @@ fn source_value(
 fn macro_items_object(alloc: Global, items: Vec<Value>) -> Result<Value, AllocError>
     ensures { IfOk result (λ v. view v ≡ objects.macro_items_object (items_view items.items)) }
 {
-    json!(in alloc; {"items": items, "root": "macro_items"})
+    let members = of_text(alloc, "root", "macro_items")?;
+    Ok(Value::Object(with(alloc, members, "items", Value::from(items))?))
 }
 
 fn macro_items_value(alloc: Global, bodies: bool, items: &[Item]) -> Result<Value, WriteFault>
@@ -105,7 +109,9 @@ fn macro_items_value(alloc: Global, bodies: bool, items: &[Item]) -> Result<Valu
 fn macro_stmts_object(alloc: Global, stmts: Vec<Value>, tail: Value) -> Result<Value, AllocError>
     ensures { IfOk result (λ v. view v ≡ objects.macro_stmts_object (items_view stmts.items) (view tail)) }
 {
-    json!(in alloc; {"root": "macro_stmts", "stmts": stmts, "tail": tail})
+    let members = of_text(alloc, "root", "macro_stmts")?;
+    let members = with(alloc, members, "stmts", Value::from(stmts))?;
+    Ok(Value::Object(with(alloc, members, "tail", tail)?))
 }
 
 fn macro_stmts_value(
@@ -124,7 +130,7 @@ fn macro_stmts_value(
 fn error_value(alloc: Global) -> Result<Value, AllocError>
     ensures { IfOk result (λ v. view v ≡ objects.error_object) }
 {
-    json!(in alloc; {"root": "error"})
+    Ok(Value::Object(of_text(alloc, "root", "error")?))
 }
 
 fn written(alloc: Global, syntax: &Syntax, bodies: bool) -> Result<Value, WriteFault>

@@ -10,7 +10,8 @@ use crate::fault::WriteFault;
 use crate::name::name_value;
 use crate::path::path_or_null;
 use hir_input::ast::{PathNode, Rename, UseTree};
-use serde_json::{Value, json};
+use json_object::with;
+use serde_json::{Map, Value};
 use std::alloc::{AllocError, Global};
 
 fn rename_value(alloc: Global, rename: &Rename) -> Result<Value, WriteFault>
@@ -46,7 +47,10 @@ fn tree_object(
 ) -> Result<Value, AllocError>
     ensures { IfOk result (λ v. view v ≡ use_tree_object (view path) star (view rename) (view list)) }
 {
-    json!(in alloc; {"list": list, "path": path, "rename": rename, "star": star})
+    let members = with(alloc, Map::new(alloc), "star", Value::from(star))?;
+    let members = with(alloc, members, "list", list)?;
+    let members = with(alloc, members, "path", path)?;
+    Ok(Value::Object(with(alloc, members, "rename", rename)?))
 }
 
 // A use tree, whose list is written.

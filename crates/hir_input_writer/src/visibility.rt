@@ -7,7 +7,8 @@ ghost use Rattle.hir_input_writer.specs.Writes.{Writes};
 use crate::fault::WriteFault;
 use crate::path::path_value;
 use hir_input::ast::{PathNode, Visibility};
-use serde_json::{Value, json};
+use json_object::one;
+use serde_json::Value;
 use std::alloc::Global;
 
 pub(crate) fn visibility_value(alloc: Global, visibility: &Visibility) -> Result<Value, WriteFault>
@@ -20,7 +21,7 @@ pub(crate) fn visibility_value(alloc: Global, visibility: &Visibility) -> Result
         Visibility::PubSelf => Ok(Value::try_from_str(alloc, "self")?),
         Visibility::InPath(path) => {
             let path = path_value(alloc, path)?;
-            Ok(json!(in alloc; {"in": path})?)
+            Ok(one(alloc, "in", path)?)
         }
     }
 }

@@ -1,13 +1,11 @@
 //! The imports of `use a::{*, self as b, {c, {d::*}}};`, called for and listed, and those of as many supers as fit.
-use crate::lowered::{first_use, is_right, tree_of, tree_of_all_kinds};
-use hir_input::ast::Syntax;
+use crate::lowered::{first_use, is_right, tree_of_all_kinds, tree_of_use};
+use hir_input::ast::UseTree;
 use hir_input::{ModPath, PathKind};
 use import_lister::{Listed, count_imports, list_imports};
-use item_tree::{ImportAlias, ImportKind, LowerError, Use, UseTreeIdx};
-use item_tree_samples::items::{file_of, use_of};
+use item_tree::{ImportAlias, ImportKind, ItemTree, LowerError, Use, UseTreeIdx};
 use item_tree_samples::use_trees::{below, leaf};
 use std::alloc::{AllocError, Global};
-use std::test::Fail;
 
 const CALLS: &str = "\
 UseTreeIdx(1) ModPath { kind: Plain, segments: [Name { text: \"a\" }] } Glob None
@@ -73,7 +71,7 @@ fn imports_are_called_in_order_when_memory_is_refused(rt: HostRuntime) {
     assert!(rt; is_right(are_called(rt.alloc())));
 }
 
-fn show(alloc: Global, imports: &[Listed]) -> Result<String, Fail> {
+fn show(alloc: Global, imports: &[Listed]) -> Result<String, AllocError> {
     let mut text = String::new(alloc);
     for import in imports {
         let (path, alias) = (&import.path, &import.alias);
@@ -86,35 +84,47 @@ fn show(alloc: Global, imports: &[Listed]) -> Result<String, Fail> {
     Ok(text)
 }
 
-fn shown_imports(alloc: Global, item: &Use) -> Result<String, Fail> {
+// Whether the imports of the first use are so many, and listed so.
+fn are_listed(
+    alloc: Global,
+    tree: &ItemTree,
+    count: u32,
+    wanted: &str,
+) -> Result<bool, LowerError> {
+    let Some(item) = first_use(tree) else {
+        return Ok(false);
+    };
     let imports = list_imports(alloc, item)?;
-    show(alloc, imports.as_slice())
+    let text = show(alloc, imports.as_slice())?;
+    Ok(count_imports(alloc, item)? == count && text.as_str() == wanted)
+}
+
+fn are_all_listed(alloc: Global) -> Result<bool, LowerError> {
+    let tree = tree_of_all_kinds(alloc)?;
+    are_listed(alloc, &tree, 4, CALLS)
 }
 
 #[test]
-fn imports_are_counted_and_listed(rt: HostRuntime) -> Result<(), Fail> {
-    let tree = tree_of_all_kinds(rt.alloc())?;
-    let item = first_use(&tree).ok_or("no use")?;
-    assert_eq!(rt; count_imports(rt.alloc(), item)?, 4);
-    assert_eq!(rt; shown_imports(rt.alloc(), item)?.as_str(), CALLS);
-    Ok(())
+fn imports_are_counted_and_listed(rt: HostRuntime) {
+    assert!(rt; are_all_listed(rt.alloc()).unwrap_or(false));
 }
 
 // `use super::..::super::{self};`, with as many supers as a path may have.
-fn most_supers(alloc: Global) -> Result<Syntax, AllocError> {
+fn most_supers(alloc: Global) -> Result<UseTree, AllocError> {
     let prefix = leaf(alloc, PathKind::Super(u32::MAX), "")?;
     let child = leaf(alloc, PathKind::Super(0), "")?;
-    let tree = below(prefix, vec![in alloc; child]?);
-    file_of(alloc, use_of(alloc, 1, tree))
+    Ok(below(prefix, vec![in alloc; child]?))
+}
+
+const OF_SUPERS: &str =
+    "UseTreeIdx(1) ModPath { kind: Super(4294967295), segments: [] } TypeOnly None\n";
+
+fn are_supers_listed(alloc: Global) -> Result<bool, LowerError> {
+    let tree = tree_of_use(alloc, most_supers(alloc)?)?;
+    are_listed(alloc, &tree, 1, OF_SUPERS)
 }
 
 #[test]
-fn as_many_supers_as_fit_are_imported(rt: HostRuntime) -> Result<(), Fail> {
-    let tree = tree_of(rt.alloc(), &most_supers(rt.alloc())?)?;
-    let item = first_use(&tree).ok_or("no use")?;
-    assert_eq!(rt;
-        shown_imports(rt.alloc(), item)?.as_str(),
-        "UseTreeIdx(1) ModPath { kind: Super(4294967295), segments: [] } TypeOnly None\n"
-    );
-    Ok(())
+fn as_many_supers_as_fit_are_imported(rt: HostRuntime) {
+    assert!(rt; are_supers_listed(rt.alloc()).unwrap_or(false));
 }

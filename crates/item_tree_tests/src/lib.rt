@@ -2,6 +2,9 @@
 //! trees, blocks of Rust texts, what stands where a request for memory is refused, ids of other trees, and tables as `Debug` shows
 //! them. They are one crate, since each crate that drops a tree proves anew how each of its parts is dropped.
 //!
+//! A test asserts what a function of its own answers: a test that holds a tree, fails by `Fail` or compares texts itself is proved
+//! slowly.
+//!
 //! A crate with tests is proved twice; these call what is public, so no library has any.
 //!
 //! A plain run refuses no memory, and compares each answer. `tests/refused_memory.sh` runs the tests whose names hold
@@ -9,8 +12,6 @@
 //! `where_no_memory_is_left` with all refused from a mark on.
 #![tactic(auto)]
 
-#[cfg(test)]
-mod blocks;
 #[cfg(test)]
 mod copies;
 #[cfg(test)]
@@ -29,8 +30,6 @@ mod lowered;
 mod no_memory;
 #[cfg(test)]
 mod outlines;
-#[cfg(test)]
-mod pages;
 #[cfg(test)]
 mod read_blocks;
 #[cfg(test)]

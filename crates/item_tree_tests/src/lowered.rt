@@ -1,8 +1,9 @@
 //! Trees that the tests read, of a crate without options and attributes.
-use hir_input::ast::Syntax;
+use hir_input::ast::{Syntax, UseTree};
 use hir_input::{CfgOptions, Edition, EditionYear, HirFileId};
 use item_tree::{CrateData, ItemTree, LowerError, ModItemKind, Use, lower_syntax};
 use item_tree_samples::file::file;
+use item_tree_samples::items::{file_of, use_of};
 use std::alloc::Global;
 
 pub fn bare_crate(alloc: Global) -> CrateData {
@@ -25,6 +26,11 @@ pub fn edition(alloc: Global) -> Edition {
 pub fn tree_of(alloc: Global, syntax: &Syntax) -> Result<Box<ItemTree>, LowerError> {
     let tree = lower_syntax(alloc, syntax, false, &bare_crate(alloc), &[])?;
     Ok(Box::new(alloc, tree)?)
+}
+
+// The tree of a file with this use tree alone.
+pub fn tree_of_use(alloc: Global, tree: UseTree) -> Result<Box<ItemTree>, LowerError> {
+    tree_of(alloc, &file_of(alloc, use_of(alloc, 1, tree))?)
 }
 
 // The tree of the file with an item of each kind.

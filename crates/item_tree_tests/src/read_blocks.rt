@@ -1,13 +1,13 @@
 //! Blocks of Rust texts: which parts are items and macro calls, and which ids they have.
-use crate::blocks::page_of;
+use crate::lowered::{bare_crate, edition};
 use hir_input::EditionYear;
 use hir_input::ast::{BlockExpr, Stmt, Tail};
+use item_tree::{ItemTree, LowerError, lower_block};
 use rust_items::read_block;
-use std::alloc::Global;
-use std::test::Fail;
+use std::alloc::{AllocError, Global};
 
 /// A letter for each statement (`I`tem, `M`acro call or `O`ther) and, behind a line, for what stands last.
-fn shape_of(alloc: Global, block: &BlockExpr) -> Result<String, Fail> {
+fn shape_of(alloc: Global, block: &BlockExpr) -> Result<String, AllocError> {
     let mut text = String::new(alloc);
     for stmt in &block.stmts {
         text.push_str(match stmt {
@@ -24,7 +24,7 @@ fn shape_of(alloc: Global, block: &BlockExpr) -> Result<String, Fail> {
     Ok(text)
 }
 
-const SHAPES: [(&str, &str); 28] = [
+const SHAPES: &[(&str, &str)] = &[
     ("", "|"),
     ("{", "|"),
     ("/* a */ { } // b", "|"),
@@ -91,14 +91,24 @@ const SHAPES: [(&str, &str); 28] = [
     ("{ union union {} union r#as {} union + 1 }", "II|O"),
 ];
 
-#[test]
-fn blocks_have_their_parts(rt: HostRuntime) -> Result<(), Fail> {
-    let alloc = rt.alloc();
-    for (text, shape) in SHAPES {
-        let block = read_block(alloc, text, EditionYear::E2024)?.block;
-        assert_eq!(rt; shape_of(alloc, &block)?.as_str(), shape, "of {text}");
+fn has_shape(alloc: Global, text: &str, shape: &str) -> Result<bool, AllocError> {
+    let read = read_block(alloc, text, EditionYear::E2024)?;
+    Ok(shape_of(alloc, &read.block)?.as_str() == shape)
+}
+
+// The first text whose block has other parts.
+fn first_other(alloc: Global) -> Result<Option<&'static str>, AllocError> {
+    for &(text, shape) in SHAPES {
+        if !has_shape(alloc, text, shape)? {
+            return Ok(Some(text));
+        }
     }
-    Ok(())
+    Ok(None)
+}
+
+#[test]
+fn blocks_have_their_parts(rt: HostRuntime) {
+    assert_eq!(rt; first_other(rt.alloc()).unwrap_or(Some("memory")), None);
 }
 
 const BLOCK: &str = "{
@@ -136,12 +146,25 @@ m!(...);
 m!(...);
 ";
 
+fn tree_of_block(alloc: Global, block: &BlockExpr) -> Result<Box<ItemTree>, LowerError> {
+    let tree = lower_block(alloc, block, &bare_crate(alloc), &[])?;
+    Ok(Box::new(alloc, tree)?)
+}
+
+// The page of a block in a crate without options.
+fn page_of(alloc: Global, block: &BlockExpr) -> Result<String, LowerError> {
+    let tree = tree_of_block(alloc, block)?;
+    Ok(tree.pretty_print(alloc, &edition(alloc))?)
+}
+
+fn is_page_printed(alloc: Global) -> Result<bool, LowerError> {
+    let read = read_block(alloc, BLOCK, EditionYear::E2024)?;
+    Ok(page_of(alloc, &read.block)?.as_str() == PAGE)
+}
+
 #[test]
-fn a_block_has_its_page(rt: HostRuntime) -> Result<(), Fail> {
-    let alloc = rt.alloc();
-    let block = read_block(alloc, BLOCK, EditionYear::E2024)?.block;
-    assert_eq!(rt; page_of(alloc, &block)?.as_str(), PAGE);
-    Ok(())
+fn a_block_has_its_page(rt: HostRuntime) {
+    assert!(rt; is_page_printed(rt.alloc()).unwrap_or(false));
 }
 
 // Whether a block is read whole, if it is read.
@@ -153,16 +176,15 @@ fn is_whole(alloc: Global) -> Option<bool> {
 }
 
 #[test]
-fn a_block_is_whole_or_refused_when_memory_is_refused(rt: HostRuntime) -> Result<(), Fail> {
+fn a_block_is_whole_or_refused_when_memory_is_refused(rt: HostRuntime) {
     let first = is_whole(rt.alloc());
     let second = is_whole(rt.alloc());
     assert!(rt; first.unwrap_or(true) && second.unwrap_or(true));
     assert!(rt; first.is_some() || second.is_some());
-    Ok(())
 }
 
 // The places with the braces in them, and the problems.
-fn told(alloc: Global, text: &str) -> Result<String, Fail> {
+fn told(alloc: Global, text: &str) -> Result<String, AllocError> {
     let read = read_block(alloc, text, EditionYear::E2024)?;
     let mut told = String::new(alloc);
     for place in &read.places {
@@ -181,12 +203,12 @@ fn told(alloc: Global, text: &str) -> Result<String, Fail> {
     Ok(told)
 }
 
+fn are_told(alloc: Global) -> Result<bool, AllocError> {
+    let told = told(alloc, "{ fn f() { } m!{} ) const A: u8 = 1 }")?;
+    Ok(told.as_str() == "2..12 9..12; 13..17 15..17; 20..35; Unmatched at 18; Unfinished at 20; ")
+}
+
 #[test]
-fn a_block_tells_places_and_problems(rt: HostRuntime) -> Result<(), Fail> {
-    let told = told(rt.alloc(), "{ fn f() { } m!{} ) const A: u8 = 1 }")?;
-    assert_eq!(rt;
-        told.as_str(),
-        "2..12 9..12; 13..17 15..17; 20..35; Unmatched at 18; Unfinished at 20; "
-    );
-    Ok(())
+fn a_block_tells_places_and_problems(rt: HostRuntime) {
+    assert!(rt; are_told(rt.alloc()).unwrap_or(false));
 }

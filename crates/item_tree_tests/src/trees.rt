@@ -1,10 +1,9 @@
 //! The file with an item of each kind: its page, its tables and a walk over it.
-use crate::lowered::{bare_crate, is_right, tree_of, tree_of_all_kinds};
+use crate::lowered::{bare_crate, is_right, tree_of, tree_of_all_kinds, tree_of_use};
 use hir_input::{Edition, EditionYear};
 use item_tree::{ItemTree, LowerError};
 use item_tree_samples::{file, items, use_trees, words};
 use std::alloc::{AllocError, Global};
-use std::test::Fail;
 use tree_walk::{is_same_tree, outline};
 
 const PAGE: &str = "#![t]
@@ -124,12 +123,7 @@ const TABLES: &[&str] = &[
     "{ text: \"o\" }, visibility: RawVisibilityId(\"pub(self)\"), kind: Outline",
 ];
 
-fn shown_tables(alloc: Global) -> Result<String, Fail> {
-    let tree = tree_of_all_kinds(alloc)?;
-    Ok(format!(in alloc; "{tree:?}")?)
-}
-
-fn first_missing<'a>(text: &str, parts: &'a [&'a str]) -> Option<&'a str> {
+fn first_missing(text: &str, parts: &'static [&'static str]) -> Option<&'static str> {
     for part in parts {
         if !text.contains(*part) {
             return Some(*part);
@@ -138,11 +132,16 @@ fn first_missing<'a>(text: &str, parts: &'a [&'a str]) -> Option<&'a str> {
     None
 }
 
+// The first part that the tables lack.
+fn missing(alloc: Global) -> Result<Option<&'static str>, LowerError> {
+    let tree = tree_of_all_kinds(alloc)?;
+    let shown = format!(in alloc; "{tree:?}")?;
+    Ok(first_missing(shown.as_str(), TABLES))
+}
+
 #[test]
-fn tables_stand_in_order(rt: HostRuntime) -> Result<(), Fail> {
-    let shown = shown_tables(rt.alloc())?;
-    assert_eq!(rt; first_missing(shown.as_str(), TABLES), None);
-    Ok(())
+fn tables_stand_in_order(rt: HostRuntime) {
+    assert_eq!(rt; missing(rt.alloc()).unwrap_or(Some("memory")), None);
 }
 
 // Whether a tree has any of the other's top items, or attributes of them.
@@ -160,8 +159,7 @@ fn one_function(alloc: Global) -> Result<Box<ItemTree>, LowerError> {
 }
 
 fn one_use(alloc: Global) -> Result<Box<ItemTree>, LowerError> {
-    let item = items::use_of(alloc, 1, use_trees::nested(alloc)?);
-    tree_of(alloc, &items::file_of(alloc, item)?)
+    tree_of_use(alloc, use_trees::nested(alloc)?)
 }
 
 // Whether the file with an item of each kind has items of another tree, and the other way round.
@@ -170,14 +168,21 @@ fn share(alloc: Global, other: &ItemTree) -> Result<(bool, bool), LowerError> {
     Ok((has_any_of(&all, other), has_any_of(other, &all)))
 }
 
+fn shared_with_function(alloc: Global) -> Result<(bool, bool), LowerError> {
+    let function = one_function(alloc)?;
+    share(alloc, &function)
+}
+
+fn shared_with_use(alloc: Global) -> Result<(bool, bool), LowerError> {
+    let import = one_use(alloc)?;
+    share(alloc, &import)
+}
+
 // An id names a row, and whether its kind is one of four: uses are, functions are not.
 #[test]
-fn ids_of_other_trees(rt: HostRuntime) -> Result<(), Fail> {
-    let function = one_function(rt.alloc())?;
-    assert!(rt; share(rt.alloc(), &function)? == (true, false));
-    let import = one_use(rt.alloc())?;
-    assert!(rt; share(rt.alloc(), &import)? == (false, false));
-    Ok(())
+fn ids_of_other_trees(rt: HostRuntime) {
+    assert!(rt; matches!(shared_with_function(rt.alloc()), Ok((true, false))));
+    assert!(rt; matches!(shared_with_use(rt.alloc()), Ok((false, false))));
 }
 
 // Whether the outline goes through the items in order.
@@ -191,11 +196,14 @@ fn is_outlined(alloc: Global, tree: &ItemTree) -> Result<bool, AllocError> {
     Ok(ast_ids.len() == 18)
 }
 
+fn is_file_outlined(alloc: Global) -> Result<bool, LowerError> {
+    let tree = tree_of_all_kinds(alloc)?;
+    Ok(is_outlined(alloc, &tree)?)
+}
+
 #[test]
-fn a_walk_meets_every_item(rt: HostRuntime) -> Result<(), Fail> {
-    let tree = tree_of_all_kinds(rt.alloc())?;
-    assert!(rt; is_outlined(rt.alloc(), &tree)?);
-    Ok(())
+fn a_walk_meets_every_item(rt: HostRuntime) {
+    assert!(rt; is_file_outlined(rt.alloc()).unwrap_or(false));
 }
 
 // Whether the file of all kinds has the same tree as that with this hash of its last item.
@@ -205,8 +213,7 @@ fn is_same(alloc: Global, hash: u16) -> Result<bool, LowerError> {
 }
 
 #[test]
-fn same_trees_are_told_from_others(rt: HostRuntime) -> Result<(), Fail> {
-    assert!(rt; is_same(rt.alloc(), 18)?);
-    assert!(rt; !is_same(rt.alloc(), 19)?);
-    Ok(())
+fn same_trees_are_told_from_others(rt: HostRuntime) {
+    assert!(rt; is_same(rt.alloc(), 18).unwrap_or(false));
+    assert!(rt; !is_same(rt.alloc(), 19).unwrap_or(true));
 }

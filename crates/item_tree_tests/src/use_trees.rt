@@ -19,13 +19,24 @@ fn is_kept(alloc: Global, written: &UseTree, kept: &item_tree::UseTree, wanted: 
     is_kept
 }
 
+// Whether a use tree is kept as all of another one, at these places.
+fn is_kept_as(
+    alloc: Global,
+    written: &UseTree,
+    other: &UseTree,
+    wanted: &[u32],
+) -> Result<bool, LowerError> {
+    match lower_use_tree(alloc, other)? {
+        Some((kept, _)) => Ok(is_kept(alloc, written, &kept, wanted)),
+        None => Ok(false),
+    }
+}
+
 // Whether `a::{b, c::* as g, ?, d}` is kept as `a::{b, d}`.
 fn is_partly_kept(alloc: Global) -> Result<bool, LowerError> {
     let written = partly_kept(alloc)?;
-    match lower_use_tree(alloc, &two_names(alloc)?)? {
-        Some((kept, _)) => Ok(is_kept(alloc, &written, &kept, &[0, 1, 4])),
-        None => Ok(false),
-    }
+    let names = two_names(alloc)?;
+    is_kept_as(alloc, &written, &names, &[0, 1, 4])
 }
 
 #[test]

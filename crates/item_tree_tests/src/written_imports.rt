@@ -1,10 +1,9 @@
 //! Imports with the use trees that they are written as, and those that repeat an earlier one.
-use crate::lowered::{first_use, is_right, tree_of};
+use crate::lowered::{first_use, is_right, tree_of_use};
 use hir_input::PathKind;
 use hir_input::ast::UseTree;
 use import_lister::{duplicates, list_imports, written_imports};
 use item_tree::{LowerError, Use};
-use item_tree_samples::items::{file_of, use_of};
 use item_tree_samples::use_trees::{below, leaf, nested, two_names};
 use std::alloc::{AllocError, Global};
 
@@ -20,15 +19,26 @@ fn stars(alloc: Global, item: &Use, written: &UseTree) -> Result<Option<String>,
     Ok(Some(text))
 }
 
+fn has_stars(
+    alloc: Global,
+    item: &Use,
+    written: UseTree,
+    wanted: Option<&str>,
+) -> Result<bool, LowerError> {
+    let text = stars(alloc, item, &written)?;
+    Ok(text.as_deref() == wanted)
+}
+
 // Whether `a::{*, self as b, {c, {d::*}}}` is written with these, and is not another use tree.
 fn are_found(alloc: Global) -> Result<bool, LowerError> {
-    let tree = tree_of(alloc, &file_of(alloc, use_of(alloc, 1, nested(alloc)?))?)?;
-    let Some(item) = first_use(&tree) else {
-        return Ok(false);
-    };
-    let other = two_names(alloc)?;
-    let text = stars(alloc, item, &nested(alloc)?)?;
-    Ok(text.as_deref() == Some("*..*") && stars(alloc, item, &other)?.is_none())
+    let tree = tree_of_use(alloc, nested(alloc)?)?;
+    match first_use(&tree) {
+        Some(item) => Ok(
+            has_stars(alloc, item, nested(alloc)?, Some("*..*"))?
+                && has_stars(alloc, item, two_names(alloc)?, None)?,
+        ),
+        None => Ok(false),
+    }
 }
 
 #[test]
@@ -46,16 +56,20 @@ fn repeated(alloc: Global) -> Result<UseTree, AllocError> {
 }
 
 // Whether the third import repeats the first, and nothing else is repeated.
-fn is_repeated(alloc: Global) -> Result<bool, LowerError> {
-    let tree = tree_of(alloc, &file_of(alloc, use_of(alloc, 1, repeated(alloc)?))?)?;
-    let Some(item) = first_use(&tree) else {
-        return Ok(false);
-    };
+fn repeats_third(alloc: Global, item: &Use) -> Result<bool, LowerError> {
     let imports = list_imports(alloc, item)?;
     let found = duplicates(alloc, &imports)?;
     match found.as_slice() {
         [one] => Ok(one.first == 0 && one.again == 2),
         _ => Ok(false),
+    }
+}
+
+fn is_repeated(alloc: Global) -> Result<bool, LowerError> {
+    let tree = tree_of_use(alloc, repeated(alloc)?)?;
+    match first_use(&tree) {
+        Some(item) => repeats_third(alloc, item),
+        None => Ok(false),
     }
 }
 

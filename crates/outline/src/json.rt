@@ -10,7 +10,8 @@ ghost use Rattle.outline.specs.Inner.{object_at};
 use def_collector::name_at;
 use hir_input::{FileAstId, Name};
 use item_tree::{ItemTree, ModItemId};
-use serde_json::{Value, json};
+use json_object::with;
+use serde_json::{Map, Value};
 use std::alloc::{AllocError, Global};
 use tree_walk::children;
 
@@ -58,10 +59,11 @@ fn object(
 ) -> Result<Value, AllocError>
     ensures { IfOk result (λ object. view object ≡ object_form ast_id (option_copied name.entry) (items_view children.items)) }
 {
-    let kind = ast_id.kind.to_string(alloc)?;
-    let id = ast_id.to_string(alloc)?;
-    let name = name_value(alloc, name)?;
-    json!(in alloc; {"children": children, "id": id, "kind": kind, "name": name})
+    let members = with(alloc, Map::new(alloc), "children", Value::from(children))?;
+    let members = with(alloc, members, "id", Value::from(ast_id.to_string(alloc)?))?;
+    let kind = Value::from(ast_id.kind.to_string(alloc)?);
+    let members = with(alloc, members, "kind", kind)?;
+    Ok(Value::Object(with(alloc, members, "name", name_value(alloc, name)?)?))
 }
 
 fn name_value(alloc: Global, name: Option<&Name>) -> Result<Value, AllocError>

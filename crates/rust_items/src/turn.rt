@@ -3,7 +3,7 @@
 ghost use Rattle.std.specs.Prelude.{◌≡◌, IfOk, OnOk, option_map};
 ghost use Rattle.hir_input.specs.Syntax.{item_view};
 ghost use Rattle.rust_leaves.specs.Views.{front_view, leaf_view};
-ghost use Rattle.rust_items.specs.Found.{Finds, log_view};
+ghost use Rattle.rust_items.specs.Found.{Finds, and_problem_at, log_view};
 ghost use Rattle.rust_items.specs.Items as spec;
 
 use crate::log::{ItemSpan, Log, ProblemKind};
@@ -12,7 +12,7 @@ use hir_input::ast::Item;
 use rust_cursor::Cursor;
 use rust_ids::Node;
 use rust_leaves::{Front, Leaf, pass_others, take_leaf};
-use rust_paths::TextRange;
+use rust_paths::{TextRange, TreeStarts};
 use std::alloc::{AllocError, Global};
 
 /// What of an item goes into the log beside what its name tells.
@@ -67,6 +67,34 @@ fn needs_name(kind: AstIdKind) -> bool
     }
 }
 
+/// Adds an item that holds none, but for its use trees.
+fn push_leaf<'t>(
+    log: &mut Log<'t>,
+    depth: usize,
+    start: usize,
+    end: usize,
+    leaf: &Leaf<'t>,
+) -> Result<(), AllocError>
+    ensures { let l = leaf.now in
+        OnOk result (log_view log.new ≡ and_problem_at ProblemKind.TooDeep l.too_deep (spec.and_item depth start end l.body l.kind l.name.now l.named l.is_ended (log_view log.old))) }
+{
+    let extent = Extent {
+        depth,
+        start,
+        end,
+        body: leaf.body,
+    };
+    push_item(log, extent, leaf.kind, leaf.name, leaf.named, leaf.is_ended)?;
+    log.push_problem_at(ProblemKind::TooDeep, leaf.too_deep)
+}
+
+/// An item that holds none, and where its use trees begin.
+fn parts_of(leaf: Leaf<'_>) -> (Item, TreeStarts)
+    ensures { result ≡ (leaf.entry.item, leaf.entry.use_trees) }
+{
+    (leaf.item, leaf.use_trees)
+}
+
 /// Keeps an item that holds none.
 fn kept<'t>(
     leaf: Leaf<'t>,
@@ -77,16 +105,19 @@ fn kept<'t>(
 ) -> Result<Option<Item>, AllocError>
     ensures { IfOk result (λ item. spec.leaf_kept depth start end (leaf_view leaf.entry) (log_view log.old) ≡ (option_map item_view item, log_view log.new)) }
 {
-    let extent = Extent {
-        depth,
-        start,
-        end,
-        body: leaf.body,
-    };
-    push_item(log, extent, leaf.kind, leaf.name, leaf.named, leaf.is_ended)?;
-    log.push_problem_at(ProblemKind::TooDeep, leaf.too_deep)?;
-    log.push_use_trees(leaf.use_trees)?;
-    Ok(Some(leaf.item))
+    // (the end of a scope that drops an item is proved slowly)
+    if let Err(error) = push_leaf(log, depth, start, end, &leaf) {
+        drop(leaf);
+        return Err(error);
+    }
+    let (item, use_trees) = parts_of(leaf);
+    match log.push_use_trees(use_trees) {
+        Ok(()) => Ok(Some(item)),
+        Err(error) => {
+            drop(item);
+            Err(error)
+        }
+    }
 }
 
 /// An item that holds none, or tokens that begin no item.
