@@ -1,6 +1,8 @@
 //! Lines and columns of places in a text.
 #![tactic(auto)]
 
+mod laws;
+
 ghost use Rattle.std.specs.Prelude.{◌≡◌, ◌≤◌, ◌<◌, ◌+◌, ◌^◌, ◌==◌, drop, length, List, ℕ};
 ghost use Rattle.std.specs.List.{count_by};
 ghost use Rattle.line_index.specs.Positions as spec;

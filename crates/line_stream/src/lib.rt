@@ -4,6 +4,7 @@
 
 pub mod conversation;
 pub mod error;
+mod laws;
 pub mod line;
 mod read;
 pub mod service;

@@ -5,6 +5,7 @@
 #![tactic(auto)]
 
 mod depth;
+mod laws;
 mod parts;
 pub mod request;
 

@@ -5,6 +5,7 @@ mod blocks;
 mod externs;
 mod ids;
 mod items;
+mod laws;
 pub mod line_ends;
 mod log;
 mod source_file;

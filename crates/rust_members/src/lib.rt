@@ -4,6 +4,7 @@
 
 mod associated;
 mod cut;
+mod laws;
 mod member;
 mod members;
 mod part;

@@ -1,6 +1,7 @@
 //! Names, paths, visibilities and use trees, read from the tokens of Rust source text.
 #![tactic(auto)]
 
+mod laws;
 mod meaning;
 mod names;
 mod paths;

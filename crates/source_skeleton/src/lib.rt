@@ -4,6 +4,7 @@
 mod compare;
 mod items;
 mod kept;
+mod laws;
 
 pub use compare::{Change, ChangeKind, Row, changes};
 pub use kept::{Hole, same_texts, skeleton};

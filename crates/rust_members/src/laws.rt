@@ -1,0 +1,10 @@
+//! What holds of the type here: `==` decides whether two values are one, and a copy is its source. The derives are held to it by
+//! clauses; the function does nothing.
+ghost use Rattle.hir_input.specs.Equality.{DecidesEq, IsCopied};
+
+use crate::member::{Member, MemberKind};
+
+fn member_kinds()
+    ensures equal { DecidesEq ⟦<MemberKind as PartialEq>⟧.eq }
+    ensures copied { IsCopied ⟦<MemberKind as Clone>⟧.is_clone }
+{}
