@@ -86,12 +86,12 @@ item_near : (b : Ending) (before f g : Found) (depth start start' end end' : ℕ
 item_near b before f g depth start start' end end' body body' k name range range' ended ended' s e o r d n =
     rw (none_same b range range' r)
     (flaw_near b before _ _ ended ended' _ start start' d s
-        (record {
-          rows = row_near f.rows before.rows g.rows _ n.rows;
-          spans = join_near (moved_span (place_on b)) f.spans before.spans _ g.spans (span_of start' end' body' range' ∷ []) n.spans (rw (s, e, o, r) refl);
-          use_trees = n.use_trees;
-          problems = n.problems;
-        }))
+    (record {
+      rows = row_near f.rows before.rows g.rows _ n.rows;
+      spans = join_near (moved_span (place_on b)) f.spans before.spans _ g.spans (span_of start' end' body' range' ∷ []) n.spans (rw (s, e, o, r) refl);
+      use_trees = n.use_trees;
+      problems = n.problems;
+    }))
 
 deep_near : (b : Ending) (before f g : Found) (o o' : Option ℕ) → o ≡ option_map (λ n. n + b.by) o' → FoundNear b before f g → FoundNear b before (and_problem_at problem.TooDeep o f) (and_problem_at problem.TooDeep o' g)
 deep_near b before f g o None e n = rw e n
@@ -102,7 +102,7 @@ leaf_near : (b : Ending) (before f g : Found) (depth start start' end end' : ℕ
 leaf_near b before f g depth start start' end end' l m s e k n =
     let item = subst (λ (z : AstIdKind). FoundNear b before (and_item depth start end l.body l.kind l.name l.named l.is_ended f) (and_item depth start' end' m.body z m.name m.named m.is_ended g)) (sym k.kind)
     (subst (λ (z : List ℕ). FoundNear b before (and_item depth start end l.body l.kind l.name l.named l.is_ended f) (and_item depth start' end' m.body l.kind z m.named m.is_ended g)) (sym k.name)
-        (item_near b before f g depth start start' end end' l.body m.body l.kind l.name l.named m.named l.is_ended m.is_ended s e k.body k.named k.ended n)) in
+    (item_near b before f g depth start start' end end' l.body m.body l.kind l.name l.named m.named l.is_ended m.is_ended s e k.body k.named k.ended n)) in
     let deep = deep_near b before _ _ l.too_deep m.too_deep k.too_deep item in
     record {
       rows = deep.rows;
@@ -177,12 +177,12 @@ module _ (b : Ending) (turn : Finder (Option ItemView)) (t : TurnLong b turn) (f
       when (is_list_end false ts)
       (λ e. rw (top_end false b ts us h, e) (under (record { value = record { value = d; found = a }; rest = h })))
       (λ e. rw (top_end false b ts us h, e)
-          (by_long (t n m before f g ts us given h a)
-          (λ few. over {p = flat (finding_from (is_list_end false) turn k (done ++ option_to_list r.0) r.1.0 next)} (let less = fewer (through (beyond_leads ts.past r.1.1) rest) in omega arith))
-          (λ l. by_next (beyond_near b ts us r.1.1 r'.1.1 h l.rest)
-              (λ o. over {p = flat (finding_from (is_list_end false) turn k (done ++ option_to_list r.0) r.1.0 next)} (let few = o.few in let less = fewer rest in omega arith))
-              (λ w. list_long n m k before _ _ r.1.0 r'.1.0 next next' (given_on given far far') w
-                  (ap (λ z. z ++ option_to_list r'.0) d ∙ ap (λ z. done ++ option_to_list z) l.value.value) l.value.found))))
+      (by_long (t n m before f g ts us given h a)
+      (λ few. over {p = flat (finding_from (is_list_end false) turn k (done ++ option_to_list r.0) r.1.0 next)} (let less = fewer (through (beyond_leads ts.past r.1.1) rest) in omega arith))
+      (λ l. by_next (beyond_near b ts us r.1.1 r'.1.1 h l.rest)
+      (λ o. over {p = flat (finding_from (is_list_end false) turn k (done ++ option_to_list r.0) r.1.0 next)} (let few = o.few in let less = fewer rest in omega arith))
+      (λ w. list_long n m k before _ _ r.1.0 r'.1.0 next next' (given_on given far far') w
+      (ap (λ z. z ++ option_to_list r'.0) d ∙ ap (λ z. done ++ option_to_list z) l.value.value) l.value.found))))
 
 -- ---- blocks
 
@@ -222,8 +222,8 @@ module _ (b : Ending) (turn : Finder (Option ItemView)) (t : TurnLong b turn) (f
       λ few. passes {p = flat (block_of turn f ts)} (let less = fewer (eat_leads 125 list.1.1) in omega arith) (λ e. let less = eat_fewer 125 list.1.1 (omega arith) e in omega arith) in
       by_next (bumped_onward b ts us h) (λ o. far (let few = o.few in let less = fewer (through (inner_attributes_leads (bumped ts)) list_to) in omega arith))
       (λ k. by_kept (inner_attributes_until b (bumped ts) (bumped us) k) (λ o. far (let few = o.few in let less = fewer list_to in omega arith))
-          (λ l. by_long (list_long b turn t finds n m most before [] [] f g inner.1 inner'.1 given' l.rest refl a) far
-              (λ w. closed_ends b before inner.0 inner'.0 list.0 list'.0 list.1.0 list'.1.0 l.value w.value.value w.value.found (eat_outcome b 125 list.1.1 list'.1.1 w.rest))))
+      (λ l. by_long (list_long b turn t finds n m most before [] [] f g inner.1 inner'.1 given' l.rest refl a) far
+      (λ w. closed_ends b before inner.0 inner'.0 list.0 list'.0 list.1.0 list'.1.0 l.value w.value.value w.value.found (eat_outcome b 125 list.1.1 list'.1.1 w.rest))))
 
 -- ---- items that hold none
 
@@ -282,7 +282,7 @@ sound_leaf : (depth start end : ℕ) (l : LeafRead) (f : Found) → is_sound sta
 sound_leaf depth start end l f e =
     when l.is_ended (λ g. g)
     (λ g. let found = still l.too_deep (λ p. is_unfinished p.kind && p.at == start) _ (flawed l.is_ended _ start (and_row _ _ f) g) in
-        absurd (let no : not true ≡ true = subst (λ (t : Bool). not t ≡ true) found e in cc))
+    absurd (let no : not true ≡ true = subst (λ (t : Bool). not t ≡ true) found e in cc))
 
 none_passes : (b : Ending) (before f : Found) (depth start : ℕ) (ts : Tokens) (r : Option ItemView × (Found × Tokens)) → length ts.left ≤ length b.behind → TurnEnds b before start (leaf_found depth start None f ts) r
 none_passes b before f depth start ts r few = passes {p = flat (leaf_found depth start None f ts)} (let less = fewer (behind_others_leads ts) in omega arith) (λ e. absurd cc)
@@ -360,12 +360,12 @@ extern_turn_long b depth n m before f g ts us given h a =
     when (is_at_end ts)
     (λ e. rw (end_same b ts us h, e) (unmatched_long b before f g ts us h a))
     (λ e. rw (end_same b ts us h, e)
-        (by_kept (front_until b ts us h)
-        (λ o. extern_over b before f depth fr.0.start (leaf fr.0 fr.1).0 (leaf fr.0 fr.1).1 _ (let few = o.few in let less = fewer (leaf_leads fr.0 fr.1) in omega arith))
-        (λ k. let given' = given_on given (front_leads ts) (front_leads us) in
-            by_ends (leaf_ends b fr.0 fr'.0 k.value fr.1 fr'.1 given' k.rest)
-            (λ few. extern_over b before f depth fr.0.start (leaf fr.0 fr.1).0 (leaf fr.0 fr.1).1 _ few)
-            (λ l. extern_under b before f g depth fr.0.start fr'.0.start (leaf fr.0 fr.1).1 (leaf fr'.0 fr'.1).1 k.value.start a l.rest (leaf fr.0 fr.1).0 (leaf fr'.0 fr'.1).0 l.value))))
+    (by_kept (front_until b ts us h)
+    (λ o. extern_over b before f depth fr.0.start (leaf fr.0 fr.1).0 (leaf fr.0 fr.1).1 _ (let few = o.few in let less = fewer (leaf_leads fr.0 fr.1) in omega arith))
+    (λ k. let given' = given_on given (front_leads ts) (front_leads us) in
+    by_ends (leaf_ends b fr.0 fr'.0 k.value fr.1 fr'.1 given' k.rest)
+    (λ few. extern_over b before f depth fr.0.start (leaf fr.0 fr.1).0 (leaf fr.0 fr.1).1 _ few)
+    (λ l. extern_under b before f g depth fr.0.start fr'.0.start (leaf fr.0 fr.1).1 (leaf fr'.0 fr'.1).1 k.value.start a l.rest (leaf fr.0 fr.1).0 (leaf fr'.0 fr'.1).0 l.value))))
   where
     by_ends : {p q : Option LeafRead × Tokens} {B : Type 0} → LeafEnds b p q → (length p.1.left ≤ length b.behind → B) → (Kept (SomeLeaf b) b p q → B) → B
     by_ends (passes few strict) far close = far few

@@ -285,8 +285,8 @@ extern_turn_until end depth b plain f f' ts us l e h =
     when (is_at_end ts)
     (λ t. rw (end_same b ts us h, t) (unmatched_until b f f' ts us e h))
     (λ t. rw (end_same b ts us h, t) (by_stayed (front_until b ts us h)
-        (λ g. extern_found_until b depth (front ts).0.start (front us).0.start f f' e (leaf (front ts).0 (front ts).1) (leaf (front us).0 (front us).1) (let x = leaf_gone b end (front ts).0 (front ts).1 (front_laid end ts l) g in leaf_lost x.gone x.free))
-        (λ k. extern_found_until b depth (front ts).0.start (front us).0.start f f' e (leaf (front ts).0 (front ts).1) (leaf (front us).0 (front us).1) (leaf_until b plain end (front ts).0 (front us).0 (front ts).1 (front us).1 k.value (front_laid end ts l) k.rest))))
+    (λ g. extern_found_until b depth (front ts).0.start (front us).0.start f f' e (leaf (front ts).0 (front ts).1) (leaf (front us).0 (front us).1) (let x = leaf_gone b end (front ts).0 (front ts).1 (front_laid end ts l) g in leaf_lost x.gone x.free))
+    (λ k. extern_found_until b depth (front ts).0.start (front us).0.start f f' e (leaf (front ts).0 (front ts).1) (leaf (front us).0 (front us).1) (leaf_until b plain end (front ts).0 (front us).0 (front ts).1 (front us).1 k.value (front_laid end ts l) k.rest))))
 
 leaf_turn_until : (end depth : ℕ) (b : Bodies) → BeginPlain b → (h h' : FrontRead) (f f' : Found) (ts us : Tokens) → IsSound end ts → f'.rows ≡ f.rows → FrontAlike h h' → Beside b ts us
     → FoundUntil ItemAlike ItemLoose b f (leaf_turn depth h f ts) (leaf_turn depth h' f' us)
@@ -390,14 +390,14 @@ module _ (end : ℕ) (ends : Tokens → Bool) (ends_same : (b : Bodies) (ts us :
       when (ends ts)
       (λ z. rw (ends_same b ts us h, z) (same (record { value = a; rows = e; rest = h })))
       (λ z. rw (ends_same b ts us h, z) (by_found (each b plain f f' ts us l e h)
-          (λ k m. let k' = gone_on k leads in lost (gone_on k' rest.found.leads) (misses_both m (found_gone rest.found k')))
-          (λ t. slack (subst ListLoose (sym rest.list) (tuple_among done (option_to_list o) rest.new t)))
-          (λ k. let both = beyond_beside b ts us _ _ h k.rest in
-              let alike = more_alike done done' o o' a k.value in
-              side b next next' both
-              (λ low. by_found (list_until n b plain (done ++ option_to_list o) (done' ++ option_to_list o') g g' next next' (sound_on end (through one.leads leads) l) alike k.rows both)
-                  (λ x m. lost x (misses_both (found_before b one (let past = then_laid.past in omega arith)) m)) (λ t. slack t) (λ j. same j))
-              (λ far. unpassed b (list_until n (passed b) (plain_passed b plain) (done ++ option_to_list o) (done' ++ option_to_list o') g g' next next' (sound_on end (through one.leads leads) l) alike k.rows far)))))
+      (λ k m. let k' = gone_on k leads in lost (gone_on k' rest.found.leads) (misses_both m (found_gone rest.found k')))
+      (λ t. slack (subst ListLoose (sym rest.list) (tuple_among done (option_to_list o) rest.new t)))
+      (λ k. let both = beyond_beside b ts us _ _ h k.rest in
+      let alike = more_alike done done' o o' a k.value in
+      side b next next' both
+      (λ low. by_found (list_until n b plain (done ++ option_to_list o) (done' ++ option_to_list o') g g' next next' (sound_on end (through one.leads leads) l) alike k.rows both)
+      (λ x m. lost x (misses_both (found_before b one (let past = then_laid.past in omega arith)) m)) (λ t. slack t) (λ j. same j))
+      (λ far. unpassed b (list_until n (passed b) (plain_passed b plain) (done ++ option_to_list o) (done' ++ option_to_list o') g g' next next' (sound_on end (through one.leads leads) l) alike k.rows far)))))
 
 -- ---- blocks
 
@@ -431,11 +431,11 @@ module _ (end : ℕ) (turn : Finder (Option ItemView)) (finds : Finds end turn) 
       by_next (bumped_onward b ts us h)
       (λ g. let k = gone_on g (inner_attributes_leads (bumped ts)) in lost (gone_on (gone_on k list.leads) (eat_leads 125 _)) (found_gone list k))
       (λ n. by_kept (inner_attributes_until b (bumped ts) (bumped us) n)
-          (λ k. lost (gone_on (gone_on k list.leads) (eat_leads 125 _)) (found_gone list k))
-          (λ k. by_found (list_until end (is_list_end false) (list_end_same false) turn finds each most b plain [] [] f f' inner.1 inner'.1 (sound_on end open_leads l) refl e k.rest)
-              (λ g m. lost (gone_on g (eat_leads 125 _)) m)
-              (λ t. slack t)
-              (λ j. same (record { value = record { attrs = k.value; items = ap Some j.value }; rows = j.rows; rest = (eat_local b 125 refl _ _ j.rest).rest }))))
+      (λ k. lost (gone_on (gone_on k list.leads) (eat_leads 125 _)) (found_gone list k))
+      (λ k. by_found (list_until end (is_list_end false) (list_end_same false) turn finds each most b plain [] [] f f' inner.1 inner'.1 (sound_on end open_leads l) refl e k.rest)
+      (λ g m. lost (gone_on g (eat_leads 125 _)) m)
+      (λ t. slack t)
+      (λ j. same (record { value = record { attrs = k.value; items = ap Some j.value }; rows = j.rows; rest = (eat_local b 125 refl _ _ j.rest).rest }))))
 
 -- ---- items that hold others
 
@@ -555,8 +555,8 @@ module _ (end : ℕ) (inside : Finder BlockRead) (finds : FindsIn end inside) (e
       when (is_at_end ts)
       (λ t. rw (end_same b ts us h, t) (unmatched_until b f f' ts us e h))
       (λ t. rw (end_same b ts us h, t) (by_stayed (front_until b ts us h)
-          (λ g. let x = head_lost b (front ts).0.head (front ts).0 f (front ts).1 (front_laid end ts l) g in lost x.gone x.misses)
-          (λ k. rw k.value.head (head_until b plain (front ts).0.head (front ts).0 (front us).0 k.value f f' (front ts).1 (front us).1 (front_laid end ts l) e k.rest))))
+      (λ g. let x = head_lost b (front ts).0.head (front ts).0 f (front ts).1 (front_laid end ts l) g in lost x.gone x.misses)
+      (λ k. rw k.value.head (head_until b plain (front ts).0.head (front ts).0 (front us).0 k.value f f' (front ts).1 (front us).1 (front_laid end ts l) e k.rest))))
 
 inside_until : (end left : ℕ) (b : Bodies) → BeginPlain b → UpToBlock end b (inside left)
 unfolding inside
@@ -567,8 +567,8 @@ inside_until end zero b plain f f' ts us l e h =
 inside_until end (suc left) b plain f f' ts us l e h =
     when (symbol ts == 123)
     (λ z. rw (symbol_same b ts us h, z)
-        (block_until end (turn_with (inside left) (depth_of left)) (turn_with_found end (inside left) (inside_found end left) (depth_of left))
-            (turn_with_until end (inside left) (inside_found end left) (inside_until end left) (depth_of left)) b plain f f' ts us l e h))
+    (block_until end (turn_with (inside left) (depth_of left)) (turn_with_found end (inside left) (inside_found end left) (depth_of left))
+    (turn_with_until end (inside left) (inside_found end left) (inside_until end left) (depth_of left)) b plain f f' ts us l e h))
     (λ z. rw (symbol_same b ts us h, z) (same (record { value = record { attrs = refl; items = refl }; rows = e; rest = h })))
 
 turn_until : (end left : ℕ) (b : Bodies) → BeginPlain b → UpToFound end b (turn left)
@@ -600,4 +600,4 @@ file_until end b plain ts us l h =
     by_kept (inner_attributes_until b ts us h)
     (λ g. let m = found_gone (items_found end true 128 nothing_found inner.1 sound.laid) g in of_none (subst (AreElsewhere b.opening.at) (sym m.is) m.free))
     (λ k. by_found (items_until end true 128 b plain nothing_found nothing_found inner.1 (inner_attributes us).1 sound refl k.rest)
-        (λ g m. of_none (subst (AreElsewhere b.opening.at) (sym m.is) m.free)) (λ t. tuples t) (λ j. alike k.value j.value j.rows))
+    (λ g m. of_none (subst (AreElsewhere b.opening.at) (sym m.is) m.free)) (λ t. tuples t) (λ j. alike k.value j.value j.rows))

@@ -52,8 +52,8 @@ unfolding is_literal is_truth
 literal_symbol ts e =
     when (is_literal_kind (kind ts)) (λ f. kind_symbol ts f)
     (λ f. let g = rw f at e in
-        when (bytes_eq (word ts) (codes "true")) (λ i. word_symbol (codes "true") ts refl i)
-        (λ i. let j = rw i at g in word_symbol (codes "false") ts refl j))
+    when (bytes_eq (word ts) (codes "true")) (λ i. word_symbol (codes "true") ts refl i)
+    (λ i. let j = rw i at g in word_symbol (codes "false") ts refl j))
 
 value_around : (c anchor : ℕ) (ts : Tokens) → around c (value anchor ts).1 ≡ around c ts
 unfolding value
@@ -68,7 +68,7 @@ comma_within end c zero ts s = here
 comma_within end c (suc n) ts s =
     when (is_at_end ts) (λ e. rw e here)
     (λ e. rw e (when (symbol ts == 44) (λ f. rw f (same_within c (bumped ts) ts (other_around c 44 ts refl f)))
-        (λ f. rw f (through (comma_within end c n (behind_tree ts) (sound_on end (behind_tree_leads ts) s)) (tree_within end c ts s (not_end end ts s e))))))
+    (λ f. rw f (through (comma_within end c n (behind_tree ts) (sound_on end (behind_tree_leads ts) s)) (tree_within end c ts s (not_end end ts s e))))))
 
 behind_comma_within : (end c : ℕ) (ts : Tokens) → IsSound end ts → Within c (behind_comma ts) ts
 unfolding behind_comma
@@ -175,9 +175,9 @@ module _ (end : ℕ) (inner : Reader MetaView) (condition : Reader CfgView) (i :
       when (is_call (codes "unsafe") ts) (λ e. rw e (call_within end c (codes "unsafe") ts (inner twice).1 refl s e (f twice) (i b twice s2)))
       (λ e. rw e (when (is_call (codes "cfg") ts) (λ g. rw g (call_within end c (codes "cfg") ts (condition twice).1 refl s g (d twice) (j b twice s2)))
       (λ g. rw g (when (is_call (codes "cfg_attr") ts)
-          (λ h. rw h (call_within end c (codes "cfg_attr") ts (elements (one (member inner)) (condition twice).1).1 refl s h (through (d twice) (members_leads (condition twice).1))
-              (through (elements_within end b (one (member inner)) (member_leads inner condition f d) (member_within b) (condition twice).1 (sound_on end (d twice) s2)) (j b twice s2))))
-          (λ h. rw h (plain_within end c anchor ts s))))))
+      (λ h. rw h (call_within end c (codes "cfg_attr") ts (elements (one (member inner)) (condition twice).1).1 refl s h (through (d twice) (members_leads (condition twice).1))
+      (through (elements_within end b (one (member inner)) (member_leads inner condition f d) (member_within b) (condition twice).1 (sound_on end (d twice) s2)) (j b twice s2))))
+      (λ h. rw h (plain_within end c anchor ts s))))))
 
 meta_within : (end anchor depth c : ℕ) → Remains end c (meta anchor depth)
 unfolding meta
