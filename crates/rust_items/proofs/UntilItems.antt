@@ -2,7 +2,9 @@
 use Rattle.std.proofs.Common.{◌≡◌, ◌≢◌, ◌≤◌, ◌<◌, ◌+◌, ◌==◌, ◌||◌, ◌&&◌, ℕ, zero, suc, Bool, true, false, Option, Some, None, List, [], ◌∷◌, ◌++◌, map, refl, ap, sym, subst, ◌∙◌, arith, append_assoc, append-nil}
 use Rattle.hir_input.specs.declared.ast.Visibility.{Visibility}
 use Rattle.std.specs.Prelude.{option_map, option_to_list, is_none}
+use Rattle.std.proofs.lemmas.Bool.{eqb-true}
 use Rattle.std.proofs.lemmas.List.{map-append}
+use Rattle.hir_input.specs.declared.edition.EditionYear.{EditionYear}
 use Rattle.hir_input.specs.declared.ids.AstIdKind.{AstIdKind}
 use Rattle.hir_input.specs.declared.ids.AstIdKind.TheVariants as kind
 use Rattle.hir_input.specs.Attr.{MetaView}
@@ -42,7 +44,8 @@ use Rattle.rust_items.specs.declared.log.ProblemKind.TheVariants as problem
 use Rattle.rust_items.specs.declared.source_file.ItemPlace.{ItemPlace}
 use Rattle.rust_items.specs.Found.{Found, Finder, nothing_found, and_problem, and_problem_if, and_problem_at, and_row, and_use_trees, and_all}
 use Rattle.rust_items.specs.Items.{BlockRead, empty_block, no_block, deep_block, and_flaw, and_item, and_leaf, and_parent, leaf_found, leaf_turn, finding_from, finding, is_list_end, block_of, as_extern, extern_kept, extern_found, extern_turn, extern_inside, extern_block, one_more, unmatched, inside_unless, module_with, some_item, by_head, turn_with, inside, turn, depth_of, items}
-use Rattle.rust_items.specs.Tuples.{has_tuple_struct, have_tuple_struct}
+use Rattle.rust_items.specs.Typed.{begins_at, has_body, has_tuple_struct, have_tuple_struct}
+use Rattle.rust_items.specs.SourceFiles.{found_in, read_of}
 use Rattle.rust_items.specs.Places.{Telling, IsBodyIn, ArePlaces, nothing, placed}
 use Rattle.rust_items.proofs.Leads.{named_leads, behind_others_leads, front_start, front_takes}
 use Rattle.rust_items.proofs.Places.{Adds, adds_item, adds_problem_at, adds_use_trees, AreFound, Finds, FindsIn, IsListed, list_from, list_found, listed, place_span, inside_found, turn_found, turn_with_found, extern_turn_found, extern_inside_found, unless_found, items_found}
@@ -153,7 +156,7 @@ item_rows : (depth start end : ℕ) (body named : Option TextRange) (k : AstIdKi
     → (and_item depth start end body k name named is_ended f).rows ≡ f.rows ++ record { depth = depth; kind = k; name = name } ∷ []
 item_rows depth start end body named k name is_ended f = flaw_rows is_ended _ start _
 
-pub problem_at_rows : (k : ProblemKind) (o : Option ℕ) (f : Found) → (and_problem_at k o f).rows ≡ f.rows
+problem_at_rows : (k : ProblemKind) (o : Option ℕ) (f : Found) → (and_problem_at k o f).rows ≡ f.rows
 problem_at_rows k None f = refl
 problem_at_rows k (Some at) f = refl
 
@@ -587,9 +590,20 @@ items_until end is_top left b plain f f' ts us l e h =
 abbrev pub items_behind : Tokens → List ItemView × (Found × Tokens)
 items_behind ts = items true 128 nothing_found (inner_attributes ts).1
 
+none_begins : (at : ℕ) (o : Option TextRange) → Elsewhere at o → begins_at at o ≡ false
+none_begins at None h = refl
+none_begins at (Some r) h = when (r.start == at) (λ e. absurd (h (eqb-true r.start at e))) (λ e. e)
+
+none_has : (at : ℕ) (ss : List ItemSpan) → AreElsewhere at ss → has_body at ss ≡ false
+none_has at [] h = refl
+none_has at (s ∷ ss) h = rw (none_begins at s.body h.0) (none_has at ss h.1)
+
+misses_all : {at : ℕ} {g : Found} → Misses at nothing_found g → has_body at g.spans ≡ false
+misses_all {at} m = ap (has_body at) m.is ∙ none_has at m.more m.free
+
 -- the braces are of no item of the file, or a struct has its fields in parentheses, or the same is read but for body texts
 pub data FileUntil (b : Bodies) (ts us : Tokens) : Type 0 where
-  of_none : AreElsewhere b.opening.at (items_behind ts).1.0.spans → FileUntil b ts us
+  of_none : has_body b.opening.at (items_behind ts).1.0.spans ≡ false → FileUntil b ts us
   tuples : ListLoose (items_behind ts).0 → FileUntil b ts us
   alike : (inner_attributes us).0 ≡ (inner_attributes ts).0 → ListAlike (items_behind ts).0 (items_behind us).0 → (items_behind us).1.0.rows ≡ (items_behind ts).1.0.rows → FileUntil b ts us
 
@@ -598,6 +612,18 @@ file_until end b plain ts us l h =
     let inner = inner_attributes ts in
     let sound = sound_on end (inner_attributes_leads ts) l in
     by_kept (inner_attributes_until b ts us h)
-    (λ g. let m = found_gone (items_found end true 128 nothing_found inner.1 sound.laid) g in of_none (subst (AreElsewhere b.opening.at) (sym m.is) m.free))
+    (λ g. let m = found_gone (items_found end true 128 nothing_found inner.1 sound.laid) g in of_none (misses_all m))
     (λ k. by_found (items_until end true 128 b plain nothing_found nothing_found inner.1 (inner_attributes us).1 sound refl k.rest)
-    (λ g m. of_none (subst (AreElsewhere b.opening.at) (sym m.is) m.free)) (λ t. tuples t) (λ j. alike k.value j.value j.rows))
+    (λ g m. of_none (misses_all m)) (λ t. tuples t) (λ j. alike k.value j.value j.rows))
+
+problem_at_spans : (k : ProblemKind) (o : Option ℕ) (f : Found) → (and_problem_at k o f).spans ≡ f.spans
+problem_at_spans k None f = refl
+problem_at_spans k (Some at) f = refl
+
+pub found_spans : (edition : EditionYear) (x : List ℕ) → (found_in edition x).spans ≡ (read_of edition x).1.0.spans
+unfolding found_in
+found_spans edition x = problem_at_spans _ _ _
+
+pub found_rows : (edition : EditionYear) (x : List ℕ) → (found_in edition x).rows ≡ (read_of edition x).1.0.rows
+unfolding found_in
+found_rows edition x = problem_at_rows _ _ _
