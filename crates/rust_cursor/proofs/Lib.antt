@@ -27,3 +27,4 @@ pub mod Level
 pub mod TreeTexts
 pub mod Around
 pub mod Enclosed
+pub mod Lockstep
