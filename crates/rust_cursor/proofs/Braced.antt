@@ -53,10 +53,10 @@ inside_before : (n : Nest) (ts : Tokens) (k : ℕ) → braces_behind n.braces (s
 inside_before n ts k f =
     when (n.braces == 1)
     (λ e. when (symbol ts == 125)
-        (λ g. let one : n.braces ≡ 1 = grind (arith, nat_tests) in
-            let shut : symbol ts ≡ 125 = grind (arith, nat_tests) in
-            absurd (let no = rw (shut, one) at f in omega (arith, no)))
-        (λ g. rw (e, g) refl))
+    (λ g. let one : n.braces ≡ 1 = grind (arith, nat_tests) in
+    let shut : symbol ts ≡ 125 = grind (arith, nat_tests) in
+    absurd (let no = rw (shut, one) at f in omega (arith, no)))
+    (λ g. rw (e, g) refl))
     (λ e. rw e refl)
 
 inside_deeper : (n : Nest) (ts : Tokens) (k : ℕ) → (n.braces == 0) ≡ false → braces_behind n.braces (symbol ts) ≡ suc k → Deeper n (nest_behind n ts) (suc k)
@@ -68,8 +68,8 @@ pub enters : (n : Nest) (ts : Tokens) → symbol ts ≡ 123 → Deeper n (nest_b
 enters n ts s =
     when (n.braces == 0)
     (λ e. let flat : n.braces ≡ 0 = grind (arith, nat_tests) in
-        subst (λ (m : Nest). Deeper n m (suc n.braces)) (sym (outside_is n ts e))
-        (record { braces = rw (s, flat) refl; others = rw s refl; free = rw s refl; angles = outside_angles s; before = rw s refl }))
+    subst (λ (m : Nest). Deeper n m (suc n.braces)) (sym (outside_is n ts e))
+    (record { braces = rw (s, flat) refl; others = rw s refl; free = rw s refl; angles = outside_angles s; before = rw s refl }))
     (λ e. inside_deeper n ts n.braces e (rw s (omega arith)))
   where
     outside_angles : symbol ts ≡ 123 → (nest_outside n ts).angles ≡ n.angles
@@ -125,16 +125,16 @@ module _ {S Z V : Type 0} (walk : S → Nest → Tokens → Z) (step : S → Nes
   through (t ∷ ms) left y past k i u s n e f =
       when (symbol_of t == 123)
       (λ o. let g = rw o at f in
-          let c : braces_behind n.braces (symbol_of t) ≡ suc (suc k) = rw o (omega arith) in
-          goes_on t ms left y past k (suc k) i u s n e c (λ s' n' e'. through ms left y (end_of t) (suc k) i u s' n' e' g))
+      let c : braces_behind n.braces (symbol_of t) ≡ suc (suc k) = rw o (omega arith) in
+      goes_on t ms left y past k (suc k) i u s n e c (λ s' n' e'. through ms left y (end_of t) (suc k) i u s' n' e' g))
       (λ o. let g = rw o at f in
-          when (symbol_of t == 125)
-          (λ p. let h = rw p at g in
-              when (k == 0) (λ q. absurd (let no = rw q at h in cc))
-              (λ q. let r = rw q at h in
-                  let some : k ≢ 0 = grind (arith, nat_tests) in
-                  let c : braces_behind n.braces (symbol_of t) ≡ suc (k - 1) = rw (o, p) (omega arith) in
-                  goes_on t ms left y past k (k - 1) i u s n e c (λ s' n' e'. through ms left y (end_of t) (k - 1) i u s' n' e' r)))
-          (λ p. let h = rw p at g in
-              let c : braces_behind n.braces (symbol_of t) ≡ suc k = rw (o, p) e in
-              goes_on t ms left y past k k i u s n e c (λ s' n' e'. through ms left y (end_of t) k i u s' n' e' h)))
+      when (symbol_of t == 125)
+      (λ p. let h = rw p at g in
+      when (k == 0) (λ q. absurd (let no = rw q at h in cc))
+      (λ q. let r = rw q at h in
+      let some : k ≢ 0 = grind (arith, nat_tests) in
+      let c : braces_behind n.braces (symbol_of t) ≡ suc (k - 1) = rw (o, p) (omega arith) in
+      goes_on t ms left y past k (k - 1) i u s n e c (λ s' n' e'. through ms left y (end_of t) (k - 1) i u s' n' e' r)))
+      (λ p. let h = rw p at g in
+      let c : braces_behind n.braces (symbol_of t) ≡ suc k = rw (o, p) e in
+      goes_on t ms left y past k k i u s n e c (λ s' n' e'. through ms left y (end_of t) k i u s' n' e' h)))

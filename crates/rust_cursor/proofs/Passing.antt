@@ -144,7 +144,7 @@ binder_same : (b : Bodies) (ts us : Tokens) → Beside b ts us → begins_binder
 binder_same b ts us h =
     when (symbol ts == 60)
     (λ e. let n = not_brace b ts us h (other_symbol 60 ts e refl) in
-        rw (symbol_same b ts us h, kind_same b (bumped ts) (bumped us) n, symbol_same b (bumped ts) (bumped us) n) refl)
+    rw (symbol_same b ts us h, kind_same b (bumped ts) (bumped us) n, symbol_same b (bumped ts) (bumped us) n) refl)
     (λ e. rw (symbol_same b ts us h, e) refl)
 
 for_same : (b : Bodies) (ts us : Tokens) → Beside b ts us → is_lone_for us ≡ is_lone_for ts
@@ -299,9 +299,9 @@ unfolding is_closing
 not_open bracket n ts e =
     when (symbol ts == 123)
     (λ f. let is : symbol ts ≡ 123 = grind (arith, nat_tests) in
-        let some : is_empty ts ≡ false = symbol_some 123 ts (omega arith) f in
-        let h = rw some at e in
-        when (n.braces == 0) (λ i. let j = rw (i, is) at h in absurd (both_no (bracket == 123) (n.others == 0) j)) (λ i. absurd (let j = rw i at h in cc)))
+    let some : is_empty ts ≡ false = symbol_some 123 ts (omega arith) f in
+    let h = rw some at e in
+    when (n.braces == 0) (λ i. let j = rw (i, is) at h in absurd (both_no (bracket == 123) (n.others == 0) j)) (λ i. absurd (let j = rw i at h in cc)))
     (λ f. f)
 
 closing_ends : (bracket fuel : ℕ) (ts : Tokens) (n : Nest) → length ts.left < fuel → (symbol (closing bracket n ts) == 123) ≡ false
@@ -356,21 +356,21 @@ out c (t ∷ ms) left y past k u n is e f =
     let seen = symbol_at y past t (ms ++ c ∷ left) u in
     let on : (j : ℕ) → braces_behind n.braces (symbol_of t) ≡ j → (n.braces ≡ 0 → (symbol_of t == 125) ≡ false) → braces_from j ms ≡ Some 0 → Out n ts y (c ∷ left) u =
     λ j g q m.
-      let more = closing_more 123 n ts (shuts_not n ts (some_at y past t (ms ++ c ∷ left) u) (λ z. rw seen (q z))) in
-      let rest = out c ms left y (end_of t) j u (nest_behind n ts) is (braces_of n ts ∙ ap (braces_behind n.braces) seen ∙ g) m in
-      record { past = rest.past; is = more ∙ ap (closing 123 (nest_behind n ts)) (bumped_at y past t (ms ++ c ∷ left) u) ∙ rest.is } in
+    let more = closing_more 123 n ts (shuts_not n ts (some_at y past t (ms ++ c ∷ left) u) (λ z. rw seen (q z))) in
+    let rest = out c ms left y (end_of t) j u (nest_behind n ts) is (braces_of n ts ∙ ap (braces_behind n.braces) seen ∙ g) m in
+    record { past = rest.past; is = more ∙ ap (closing 123 (nest_behind n ts)) (bumped_at y past t (ms ++ c ∷ left) u) ∙ rest.is } in
     when (symbol_of t == 123)
     (λ o. let g = rw o at f in
-        let other : (symbol_of t == 125) ≡ false = grind (arith, nat_tests) in
-        on (suc k) (rw o (omega arith)) (λ _. other) g)
+    let other : (symbol_of t == 125) ≡ false = grind (arith, nat_tests) in
+    on (suc k) (rw o (omega arith)) (λ _. other) g)
     (λ o. let g = rw o at f in
-        when (symbol_of t == 125)
-        (λ p. let h = rw p at g in
-            when (k == 0) (λ q. absurd (let no_depth = rw q at h in cc))
-            (λ q. let r = rw q at h in
-                let some : k ≢ 0 = grind (arith, nat_tests) in
-                on (k - 1) (rw (o, p) (omega arith)) (λ z. absurd (some (sym e ∙ z))) r))
-        (λ p. let h = rw p at g in on k (rw (o, p) e) (λ _. p) h))
+    when (symbol_of t == 125)
+    (λ p. let h = rw p at g in
+    when (k == 0) (λ q. absurd (let no_depth = rw q at h in cc))
+    (λ q. let r = rw q at h in
+    let some : k ≢ 0 = grind (arith, nat_tests) in
+    on (k - 1) (rw (o, p) (omega arith)) (λ z. absurd (some (sym e ∙ z))) r))
+    (λ p. let h = rw p at g in on k (rw (o, p) e) (λ _. p) h))
 
 block_tree : (b : Bodies) (past : ℕ) (r : List Piece) (u u' : Option ℕ) → AreOpen b r → (let ts = tokens_at b.edition past (b.opening ∷ (b.old ++ moved b.by b.closing ∷ map (moved b.by) r)) u in
     let us = tokens_at b.edition past (b.opening ∷ (b.new ++ moved b.by_new b.closing ∷ map (moved b.by_new) r)) u' in

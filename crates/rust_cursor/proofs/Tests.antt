@@ -35,9 +35,9 @@ const_same : (b : Bodies) (ts us : Tokens) → Beside b ts us → follows_const 
 const_same b ts us h =
     when (symbol ts == 123)
     (λ e. let f : (symbol us == 123) ≡ true = rw (symbol_same b ts us h) e in
-        rw (brace_word ts e, brace_word us f, brace_identifier ts e, brace_identifier us f) refl)
+    rw (brace_word ts e, brace_word us f, brace_identifier ts e, brace_identifier us f) refl)
     (λ e. let n = not_brace b ts us h e in
-        rw (word_same b ts us h, identifier_same b ts us h, identifier_same b (bumped ts) (bumped us) n, symbol_same b (bumped ts) (bumped us) n, pair_same b 58 58 (bumped ts) (bumped us) refl n) refl)
+    rw (word_same b ts us h, identifier_same b ts us h, identifier_same b (bumped ts) (bumped us) n, symbol_same b (bumped ts) (bumped us) n, pair_same b 58 58 (bumped ts) (bumped us) refl n) refl)
 
 impl_same : (b : Bodies) (ts us : Tokens) → Beside b ts us → Beside b (bumped ts) (bumped us) → begins_impl_or_const us ≡ begins_impl_or_const ts
 unfolding begins_impl_or_const

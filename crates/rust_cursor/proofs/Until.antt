@@ -112,8 +112,8 @@ turns_from_until b ends reader same each leads zero done done' d ts us h = kept 
 turns_from_until b ends reader same each leads (suc n) done done' d ts us h =
     cond_until (same ts us h) (λ _. kept (record { value = d; rest = h }))
     (λ _. by_kept (each ts us h) (λ g. gone (gone_on g (through (beyond_leads ts.past (reader ts).1) (turns_from_leads ends reader leads n _ _))))
-        (λ k. turns_from_until b ends reader same each leads n (done ++ (reader ts).0) (done' ++ (reader us).0) (ap (λ l. l ++ (reader us).0) d ∙ ap (λ l. done ++ l) k.value)
-            (beyond ts.past (reader ts).1) (beyond us.past (reader us).1) (beyond_beside b ts us _ _ h k.rest)))
+    (λ k. turns_from_until b ends reader same each leads n (done ++ (reader ts).0) (done' ++ (reader us).0) (ap (λ l. l ++ (reader us).0) d ∙ ap (λ l. done ++ l) k.value)
+    (beyond ts.past (reader ts).1) (beyond us.past (reader us).1) (beyond_beside b ts us _ _ h k.rest)))
 
 pub turns_until : {A : Type 0} (b : Bodies) (ends : Tokens → Bool) (reader : Reader (List A)) → ((ts us : Tokens) → Beside b ts us → ends us ≡ ends ts) → UpTo b reader → Forwards reader → UpTo b (turns ends reader)
 unfolding turns

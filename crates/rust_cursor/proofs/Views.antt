@@ -75,7 +75,7 @@ glued_same b ts us (behind past (t ∷ r) u u' i) = glued_by t.at past b.by b.by
 
 pub next_ahead : (b : Bodies) (past : ℕ) (t : Piece) (x r : List Piece) (u u' : Option ℕ) → AreBefore b.opening.at (end_of t) x → AreOpen b r
     → Beside b (bumped (record { past = past; left = t ∷ (x ++ b.opening ∷ (b.old ++ moved b.by b.closing ∷ map (moved b.by) r)); unended = u; edition = b.edition }))
-        (bumped (record { past = past; left = t ∷ (x ++ b.opening ∷ (b.new ++ moved b.by_new b.closing ∷ map (moved b.by_new) r)); unended = u'; edition = b.edition }))
+    (bumped (record { past = past; left = t ∷ (x ++ b.opening ∷ (b.new ++ moved b.by_new b.closing ∷ map (moved b.by_new) r)); unended = u'; edition = b.edition }))
 unfolding bumped
 next_ahead b past t x r u u' i j = ahead (end_of t) x r u u' i j
 
@@ -110,7 +110,7 @@ unfolding is_pair
 pair_next b c d ts us f h =
     when (symbol ts == c)
     (λ e. let n = not_brace b ts us h (other_symbol c ts e f) in
-        rw (symbol_same b ts us h, glued_same b (bumped ts) (bumped us) n, symbol_same b (bumped ts) (bumped us) n) refl)
+    rw (symbol_same b ts us h, glued_same b (bumped ts) (bumped us) n, symbol_same b (bumped ts) (bumped us) n) refl)
     (λ e. rw (symbol_same b ts us h, e) refl)
 
 pub pair_same : (b : Bodies) (c d : ℕ) (ts us : Tokens) → (c == 123) ≡ false → Beside b ts us → is_pair c d us ≡ is_pair c d ts

@@ -47,7 +47,7 @@ nest_inner n i t ts = when (n.braces == 0) (λ e. rw e refl) (λ e. rw e refl)
 
 -- Where a walk stops or ends, what it gives there, and that it goes on elsewhere. Of its state only what is seen matters, and in braces that stays.
 pub record Walk {S R V : Type 0} (walk : S → Nest → Tokens → R) (step : S → Nest → Tokens → S) (stops : Nest → Tokens → Bool) (ends : Before → Nest → Tokens → Bool)
-  (stopped ended : S → Nest → Tokens → R) (seen : S → V) (alike : Bodies → V → V → Type 0) (beside : Bodies → R → R → Type 0) : Type 0 where
+    (stopped ended : S → Nest → Tokens → R) (seen : S → V) (alike : Bodies → V → V → Type 0) (beside : Bodies → R → R → Type 0) : Type 0 where
   pub stop : (s : S) (n : Nest) (ts : Tokens) → stops n ts ≡ true → walk s n ts ≡ stopped s n ts
   pub end : (s : S) (n : Nest) (ts : Tokens) → stops n ts ≡ false → ends n.before (nest_behind n ts) ts ≡ true → walk s n ts ≡ ended s n ts
   pub more : (s : S) (n : Nest) (ts : Tokens) → stops n ts ≡ false → ends n.before (nest_behind n ts) ts ≡ false → walk s n ts ≡ walk (step s n ts) (nest_behind n ts) (bumped ts)
@@ -73,14 +73,14 @@ shifted d k j (t ∷ ms) e =
     when (symbol_of t == 123)
     (λ p. let f = rw p at e in rw p (ap (λ i. braces_from i ms) (omega arith) ∙ shifted d (suc k) j ms f))
     (λ p. let f = rw p at e in
-        when (symbol_of t == 125)
-        (λ q. let g = rw q at f in
-            when (k == 0) (λ r. absurd (let no = rw r at g in cc))
-            (λ r. let h = rw r at g in
-                let some : k ≢ 0 = grind (arith, nat_tests) in
-                let more : (k + d == 0) ≡ false = grind (arith, nat_tests) in
-                rw (p, q, more) (ap (λ i. braces_from i ms) (omega arith) ∙ shifted d (k - 1) j ms h)))
-        (λ q. let g = rw q at f in rw (p, q) (shifted d k j ms g)))
+    when (symbol_of t == 125)
+    (λ q. let g = rw q at f in
+    when (k == 0) (λ r. absurd (let no = rw r at g in cc))
+    (λ r. let h = rw r at g in
+    let some : k ≢ 0 = grind (arith, nat_tests) in
+    let more : (k + d == 0) ≡ false = grind (arith, nat_tests) in
+    rw (p, q, more) (ap (λ i. braces_from i ms) (omega arith) ∙ shifted d (k - 1) j ms h)))
+    (λ q. let g = rw q at f in rw (p, q) (shifted d k j ms g)))
 
 matched_in : (d : ℕ) (ms : List Piece) → braces_from 0 ms ≡ Some 0 → braces_from d ms ≡ Some d
 matched_in d ms e = let same : 0 + d ≡ d = omega arith in subst (λ (k : ℕ). braces_from k ms ≡ Some k) same (shifted d 0 0 ms e)
@@ -152,8 +152,8 @@ module _ {S R V : Type 0} (rest : S → Nest → Tokens → R) (step : S → Nes
       when (stops n ts)
       (λ p. rw (w.stop s n ts p, w.stop s' (inner_by n i t) us (stops' ∙ p)) (w.stopped_beside b s s' n (inner_by n i t) ts us a h))
       (λ p. when (ends n.before m ts)
-          (λ q. rw (w.end s n ts p q, w.end s' (inner_by n i t) us (stops' ∙ p) (ends' ∙ q)) (w.ended_beside b s s' n (inner_by n i t) ts us a (symbol_same b ts us h) next))
-          (λ q. rw (w.more s n ts p q, w.more s' (inner_by n i t) us (stops' ∙ p) (ends' ∙ q), is) (more _ _ m _ _ (w.seen_beside b s s' n i t ts us a h))))
+      (λ q. rw (w.end s n ts p q, w.end s' (inner_by n i t) us (stops' ∙ p) (ends' ∙ q)) (w.ended_beside b s s' n (inner_by n i t) ts us a (symbol_same b ts us h) next))
+      (λ q. rw (w.more s n ts p q, w.more s' (inner_by n i t) us (stops' ∙ p) (ends' ∙ q), is) (more _ _ m _ _ (w.seen_beside b s s' n i t ts us a h))))
 
   -- the braces
   block : (fuel past : ℕ) (r : List Piece) (u u' : Option ℕ) → AreOpen b r → Steps fuel → (let ts = tokens_at b.edition past (b.opening ∷ (b.old ++ moved b.by b.closing ∷ map (moved b.by) r)) u in
@@ -169,33 +169,33 @@ module _ {S R V : Type 0} (rest : S → Nest → Tokens → R) (step : S → Nes
       when (stops n ts)
       (λ p. rw (w.stop s n ts p, w.stop s' (inner_by n i t) us (stops' ∙ p)) (w.stopped_beside b s s' n (inner_by n i t) ts us a h))
       (λ p.
-        let one = crosses b.opening c b.old left past u s n b.opens b.old_matched p in
-        let two = crosses b.opening c b.new left' past u' s' (inner_by n i t) b.opens b.new_matched (stops' ∙ p) in
-        let tc = tokens_at b.edition one.past left u in
-        let uc = tokens_at b.edition two.past left' u' in
-        let next : Beside b (bumped tc) (bumped uc) = next_behind b one.past two.past c r u u' j.behind in
-        let m = nest_behind one.nest tc in
-        let m' = nest_behind two.nest uc in
-        let shuts : symbol tc ≡ 125 = symbol_at b.edition one.past (moved b.by c) (map (moved b.by) r) u ∙ b.closes in
-        let shuts' : symbol uc ≡ 125 = symbol_at b.edition two.past (moved b.by_new c) (map (moved b.by_new) r) u' ∙ b.closes in
-        let m_is = shut n one.nest tc one.deeper shuts in
-        let m'_is = shut (inner_by n i t) two.nest uc two.deeper shuts' in
-        let same : m' ≡ inner_by m m'.inner m'.is_torn = m'_is ∙ ap (λ (k : Nest). inner_by k m'.inner m'.is_torn) (sym m_is) in
-        let go = w.deep_stops one.nest tc (some_at b.edition one.past (moved b.by c) (map (moved b.by) r) u) (suc_off one.nest n.braces one.deeper.braces) in
-        let go' = w.deep_stops two.nest uc (some_at b.edition two.past (moved b.by_new c) (map (moved b.by_new) r) u') (suc_off two.nest n.braces two.deeper.braces) in
-        let ends' : ends two.nest.before m' uc ≡ ends one.nest.before m tc =
-        ap (λ (k : Before). ends k m' uc) (two.deeper.before ∙ sym one.deeper.before) ∙ ap (λ (k : Nest). ends one.nest.before k uc) same
-        ∙ w.ends_inner one.nest.before m _ _ uc ∙ w.ends_beside b one.nest.before m tc uc (shuts' ∙ sym shuts) next in
-        let less = shorter tc (some_at b.edition one.past (moved b.by c) (map (moved b.by) r) u) in
-        let long = length-append b.old left in
-        let entered : alike b (seen (step s n ts)) (seen (step s' (inner_by n i t) us)) = w.seen_beside b s s' n i t ts us a h in
-        let inside : alike b (seen one.state) (seen two.state) = rw (one.stays, two.stays) entered in
-        let left_by : alike b (seen (step one.state one.nest tc)) (seen (step two.state two.nest uc)) =
-        rw (w.seen_stays one.state one.nest tc (suc_off one.nest n.braces one.deeper.braces), w.seen_stays two.state two.nest uc (suc_off two.nest n.braces two.deeper.braces)) inside in
-        rw (one.same, two.same)
-        (when (ends one.nest.before m tc)
-          (λ q. rw (w.end one.state one.nest tc go q, w.end two.state two.nest uc go' (ends' ∙ q)) (w.ended_beside b one.state two.state one.nest two.nest tc uc inside (shuts' ∙ sym shuts) next))
-          (λ q. rw (w.more one.state one.nest tc go q, w.more two.state two.nest uc go' (ends' ∙ q), same) (more (bumped tc) (bumped uc) (omega arith) next _ _ m _ _ left_by))))
+      let one = crosses b.opening c b.old left past u s n b.opens b.old_matched p in
+      let two = crosses b.opening c b.new left' past u' s' (inner_by n i t) b.opens b.new_matched (stops' ∙ p) in
+      let tc = tokens_at b.edition one.past left u in
+      let uc = tokens_at b.edition two.past left' u' in
+      let next : Beside b (bumped tc) (bumped uc) = next_behind b one.past two.past c r u u' j.behind in
+      let m = nest_behind one.nest tc in
+      let m' = nest_behind two.nest uc in
+      let shuts : symbol tc ≡ 125 = symbol_at b.edition one.past (moved b.by c) (map (moved b.by) r) u ∙ b.closes in
+      let shuts' : symbol uc ≡ 125 = symbol_at b.edition two.past (moved b.by_new c) (map (moved b.by_new) r) u' ∙ b.closes in
+      let m_is = shut n one.nest tc one.deeper shuts in
+      let m'_is = shut (inner_by n i t) two.nest uc two.deeper shuts' in
+      let same : m' ≡ inner_by m m'.inner m'.is_torn = m'_is ∙ ap (λ (k : Nest). inner_by k m'.inner m'.is_torn) (sym m_is) in
+      let go = w.deep_stops one.nest tc (some_at b.edition one.past (moved b.by c) (map (moved b.by) r) u) (suc_off one.nest n.braces one.deeper.braces) in
+      let go' = w.deep_stops two.nest uc (some_at b.edition two.past (moved b.by_new c) (map (moved b.by_new) r) u') (suc_off two.nest n.braces two.deeper.braces) in
+      let ends' : ends two.nest.before m' uc ≡ ends one.nest.before m tc =
+      ap (λ (k : Before). ends k m' uc) (two.deeper.before ∙ sym one.deeper.before) ∙ ap (λ (k : Nest). ends one.nest.before k uc) same
+      ∙ w.ends_inner one.nest.before m _ _ uc ∙ w.ends_beside b one.nest.before m tc uc (shuts' ∙ sym shuts) next in
+      let less = shorter tc (some_at b.edition one.past (moved b.by c) (map (moved b.by) r) u) in
+      let long = length-append b.old left in
+      let entered : alike b (seen (step s n ts)) (seen (step s' (inner_by n i t) us)) = w.seen_beside b s s' n i t ts us a h in
+      let inside : alike b (seen one.state) (seen two.state) = rw (one.stays, two.stays) entered in
+      let left_by : alike b (seen (step one.state one.nest tc)) (seen (step two.state two.nest uc)) =
+      rw (w.seen_stays one.state one.nest tc (suc_off one.nest n.braces one.deeper.braces), w.seen_stays two.state two.nest uc (suc_off two.nest n.braces two.deeper.braces)) inside in
+      rw (one.same, two.same)
+      (when (ends one.nest.before m tc)
+      (λ q. rw (w.end one.state one.nest tc go q, w.end two.state two.nest uc go' (ends' ∙ q)) (w.ended_beside b one.state two.state one.nest two.nest tc uc inside (shuts' ∙ sym shuts) next))
+      (λ q. rw (w.more one.state one.nest tc go q, w.more two.state two.nest uc go' (ends' ∙ q), same) (more (bumped tc) (bumped uc) (omega arith) next _ _ m _ _ left_by))))
 
   steps : (fuel : ℕ) → Steps fuel
   steps zero ts us le h s s' n i t a = absurd (omega arith)

@@ -2,7 +2,9 @@
 use Rattle.std.proofs.Common.{◌≡◌, ◌≢◌, ◌≤◌, ◌<◌, ◌+◌, ◌==◌, ◌||◌, ◌&&◌, ℕ, zero, suc, Bool, true, false, Option, Some, None, List, [], ◌∷◌, ◌++◌, map, refl, ap, sym, subst, ◌∙◌, arith, append_assoc, append-nil}
 use Rattle.hir_input.specs.declared.ast.Visibility.{Visibility}
 use Rattle.std.specs.Prelude.{option_map, option_to_list, is_none}
+use Rattle.std.proofs.lemmas.Bool.{eqb-true}
 use Rattle.std.proofs.lemmas.List.{map-append}
+use Rattle.hir_input.specs.declared.edition.EditionYear.{EditionYear}
 use Rattle.hir_input.specs.declared.ids.AstIdKind.{AstIdKind}
 use Rattle.hir_input.specs.declared.ids.AstIdKind.TheVariants as kind
 use Rattle.hir_input.specs.Attr.{MetaView}
@@ -42,7 +44,8 @@ use Rattle.rust_items.specs.declared.log.ProblemKind.TheVariants as problem
 use Rattle.rust_items.specs.declared.source_file.ItemPlace.{ItemPlace}
 use Rattle.rust_items.specs.Found.{Found, Finder, nothing_found, and_problem, and_problem_if, and_problem_at, and_row, and_use_trees, and_all}
 use Rattle.rust_items.specs.Items.{BlockRead, empty_block, no_block, deep_block, and_flaw, and_item, and_leaf, and_parent, leaf_found, leaf_turn, finding_from, finding, is_list_end, block_of, as_extern, extern_kept, extern_found, extern_turn, extern_inside, extern_block, one_more, unmatched, inside_unless, module_with, some_item, by_head, turn_with, inside, turn, depth_of, items}
-use Rattle.rust_items.specs.Tuples.{has_tuple_struct, have_tuple_struct}
+use Rattle.rust_items.specs.Typed.{begins_at, has_body, has_tuple_struct, have_tuple_struct}
+use Rattle.rust_items.specs.SourceFiles.{found_in, read_of}
 use Rattle.rust_items.specs.Places.{Telling, IsBodyIn, ArePlaces, nothing, placed}
 use Rattle.rust_items.proofs.Leads.{named_leads, behind_others_leads, front_start, front_takes}
 use Rattle.rust_items.proofs.Places.{Adds, adds_item, adds_problem_at, adds_use_trees, AreFound, Finds, FindsIn, IsListed, list_from, list_found, listed, place_span, inside_found, turn_found, turn_with_found, extern_turn_found, extern_inside_found, unless_found, items_found}
@@ -153,7 +156,7 @@ item_rows : (depth start end : ℕ) (body named : Option TextRange) (k : AstIdKi
     → (and_item depth start end body k name named is_ended f).rows ≡ f.rows ++ record { depth = depth; kind = k; name = name } ∷ []
 item_rows depth start end body named k name is_ended f = flaw_rows is_ended _ start _
 
-pub problem_at_rows : (k : ProblemKind) (o : Option ℕ) (f : Found) → (and_problem_at k o f).rows ≡ f.rows
+problem_at_rows : (k : ProblemKind) (o : Option ℕ) (f : Found) → (and_problem_at k o f).rows ≡ f.rows
 problem_at_rows k None f = refl
 problem_at_rows k (Some at) f = refl
 
@@ -285,8 +288,8 @@ extern_turn_until end depth b plain f f' ts us l e h =
     when (is_at_end ts)
     (λ t. rw (end_same b ts us h, t) (unmatched_until b f f' ts us e h))
     (λ t. rw (end_same b ts us h, t) (by_stayed (front_until b ts us h)
-        (λ g. extern_found_until b depth (front ts).0.start (front us).0.start f f' e (leaf (front ts).0 (front ts).1) (leaf (front us).0 (front us).1) (let x = leaf_gone b end (front ts).0 (front ts).1 (front_laid end ts l) g in leaf_lost x.gone x.free))
-        (λ k. extern_found_until b depth (front ts).0.start (front us).0.start f f' e (leaf (front ts).0 (front ts).1) (leaf (front us).0 (front us).1) (leaf_until b plain end (front ts).0 (front us).0 (front ts).1 (front us).1 k.value (front_laid end ts l) k.rest))))
+    (λ g. extern_found_until b depth (front ts).0.start (front us).0.start f f' e (leaf (front ts).0 (front ts).1) (leaf (front us).0 (front us).1) (let x = leaf_gone b end (front ts).0 (front ts).1 (front_laid end ts l) g in leaf_lost x.gone x.free))
+    (λ k. extern_found_until b depth (front ts).0.start (front us).0.start f f' e (leaf (front ts).0 (front ts).1) (leaf (front us).0 (front us).1) (leaf_until b plain end (front ts).0 (front us).0 (front ts).1 (front us).1 k.value (front_laid end ts l) k.rest))))
 
 leaf_turn_until : (end depth : ℕ) (b : Bodies) → BeginPlain b → (h h' : FrontRead) (f f' : Found) (ts us : Tokens) → IsSound end ts → f'.rows ≡ f.rows → FrontAlike h h' → Beside b ts us
     → FoundUntil ItemAlike ItemLoose b f (leaf_turn depth h f ts) (leaf_turn depth h' f' us)
@@ -390,14 +393,14 @@ module _ (end : ℕ) (ends : Tokens → Bool) (ends_same : (b : Bodies) (ts us :
       when (ends ts)
       (λ z. rw (ends_same b ts us h, z) (same (record { value = a; rows = e; rest = h })))
       (λ z. rw (ends_same b ts us h, z) (by_found (each b plain f f' ts us l e h)
-          (λ k m. let k' = gone_on k leads in lost (gone_on k' rest.found.leads) (misses_both m (found_gone rest.found k')))
-          (λ t. slack (subst ListLoose (sym rest.list) (tuple_among done (option_to_list o) rest.new t)))
-          (λ k. let both = beyond_beside b ts us _ _ h k.rest in
-              let alike = more_alike done done' o o' a k.value in
-              side b next next' both
-              (λ low. by_found (list_until n b plain (done ++ option_to_list o) (done' ++ option_to_list o') g g' next next' (sound_on end (through one.leads leads) l) alike k.rows both)
-                  (λ x m. lost x (misses_both (found_before b one (let past = then_laid.past in omega arith)) m)) (λ t. slack t) (λ j. same j))
-              (λ far. unpassed b (list_until n (passed b) (plain_passed b plain) (done ++ option_to_list o) (done' ++ option_to_list o') g g' next next' (sound_on end (through one.leads leads) l) alike k.rows far)))))
+      (λ k m. let k' = gone_on k leads in lost (gone_on k' rest.found.leads) (misses_both m (found_gone rest.found k')))
+      (λ t. slack (subst ListLoose (sym rest.list) (tuple_among done (option_to_list o) rest.new t)))
+      (λ k. let both = beyond_beside b ts us _ _ h k.rest in
+      let alike = more_alike done done' o o' a k.value in
+      side b next next' both
+      (λ low. by_found (list_until n b plain (done ++ option_to_list o) (done' ++ option_to_list o') g g' next next' (sound_on end (through one.leads leads) l) alike k.rows both)
+      (λ x m. lost x (misses_both (found_before b one (let past = then_laid.past in omega arith)) m)) (λ t. slack t) (λ j. same j))
+      (λ far. unpassed b (list_until n (passed b) (plain_passed b plain) (done ++ option_to_list o) (done' ++ option_to_list o') g g' next next' (sound_on end (through one.leads leads) l) alike k.rows far)))))
 
 -- ---- blocks
 
@@ -431,11 +434,11 @@ module _ (end : ℕ) (turn : Finder (Option ItemView)) (finds : Finds end turn) 
       by_next (bumped_onward b ts us h)
       (λ g. let k = gone_on g (inner_attributes_leads (bumped ts)) in lost (gone_on (gone_on k list.leads) (eat_leads 125 _)) (found_gone list k))
       (λ n. by_kept (inner_attributes_until b (bumped ts) (bumped us) n)
-          (λ k. lost (gone_on (gone_on k list.leads) (eat_leads 125 _)) (found_gone list k))
-          (λ k. by_found (list_until end (is_list_end false) (list_end_same false) turn finds each most b plain [] [] f f' inner.1 inner'.1 (sound_on end open_leads l) refl e k.rest)
-              (λ g m. lost (gone_on g (eat_leads 125 _)) m)
-              (λ t. slack t)
-              (λ j. same (record { value = record { attrs = k.value; items = ap Some j.value }; rows = j.rows; rest = (eat_local b 125 refl _ _ j.rest).rest }))))
+      (λ k. lost (gone_on (gone_on k list.leads) (eat_leads 125 _)) (found_gone list k))
+      (λ k. by_found (list_until end (is_list_end false) (list_end_same false) turn finds each most b plain [] [] f f' inner.1 inner'.1 (sound_on end open_leads l) refl e k.rest)
+      (λ g m. lost (gone_on g (eat_leads 125 _)) m)
+      (λ t. slack t)
+      (λ j. same (record { value = record { attrs = k.value; items = ap Some j.value }; rows = j.rows; rest = (eat_local b 125 refl _ _ j.rest).rest }))))
 
 -- ---- items that hold others
 
@@ -555,8 +558,8 @@ module _ (end : ℕ) (inside : Finder BlockRead) (finds : FindsIn end inside) (e
       when (is_at_end ts)
       (λ t. rw (end_same b ts us h, t) (unmatched_until b f f' ts us e h))
       (λ t. rw (end_same b ts us h, t) (by_stayed (front_until b ts us h)
-          (λ g. let x = head_lost b (front ts).0.head (front ts).0 f (front ts).1 (front_laid end ts l) g in lost x.gone x.misses)
-          (λ k. rw k.value.head (head_until b plain (front ts).0.head (front ts).0 (front us).0 k.value f f' (front ts).1 (front us).1 (front_laid end ts l) e k.rest))))
+      (λ g. let x = head_lost b (front ts).0.head (front ts).0 f (front ts).1 (front_laid end ts l) g in lost x.gone x.misses)
+      (λ k. rw k.value.head (head_until b plain (front ts).0.head (front ts).0 (front us).0 k.value f f' (front ts).1 (front us).1 (front_laid end ts l) e k.rest))))
 
 inside_until : (end left : ℕ) (b : Bodies) → BeginPlain b → UpToBlock end b (inside left)
 unfolding inside
@@ -567,8 +570,8 @@ inside_until end zero b plain f f' ts us l e h =
 inside_until end (suc left) b plain f f' ts us l e h =
     when (symbol ts == 123)
     (λ z. rw (symbol_same b ts us h, z)
-        (block_until end (turn_with (inside left) (depth_of left)) (turn_with_found end (inside left) (inside_found end left) (depth_of left))
-            (turn_with_until end (inside left) (inside_found end left) (inside_until end left) (depth_of left)) b plain f f' ts us l e h))
+    (block_until end (turn_with (inside left) (depth_of left)) (turn_with_found end (inside left) (inside_found end left) (depth_of left))
+    (turn_with_until end (inside left) (inside_found end left) (inside_until end left) (depth_of left)) b plain f f' ts us l e h))
     (λ z. rw (symbol_same b ts us h, z) (same (record { value = record { attrs = refl; items = refl }; rows = e; rest = h })))
 
 turn_until : (end left : ℕ) (b : Bodies) → BeginPlain b → UpToFound end b (turn left)
@@ -587,9 +590,20 @@ items_until end is_top left b plain f f' ts us l e h =
 abbrev pub items_behind : Tokens → List ItemView × (Found × Tokens)
 items_behind ts = items true 128 nothing_found (inner_attributes ts).1
 
+none_begins : (at : ℕ) (o : Option TextRange) → Elsewhere at o → begins_at at o ≡ false
+none_begins at None h = refl
+none_begins at (Some r) h = when (r.start == at) (λ e. absurd (h (eqb-true r.start at e))) (λ e. e)
+
+none_has : (at : ℕ) (ss : List ItemSpan) → AreElsewhere at ss → has_body at ss ≡ false
+none_has at [] h = refl
+none_has at (s ∷ ss) h = rw (none_begins at s.body h.0) (none_has at ss h.1)
+
+misses_all : {at : ℕ} {g : Found} → Misses at nothing_found g → has_body at g.spans ≡ false
+misses_all {at} m = ap (has_body at) m.is ∙ none_has at m.more m.free
+
 -- the braces are of no item of the file, or a struct has its fields in parentheses, or the same is read but for body texts
 pub data FileUntil (b : Bodies) (ts us : Tokens) : Type 0 where
-  of_none : AreElsewhere b.opening.at (items_behind ts).1.0.spans → FileUntil b ts us
+  of_none : has_body b.opening.at (items_behind ts).1.0.spans ≡ false → FileUntil b ts us
   tuples : ListLoose (items_behind ts).0 → FileUntil b ts us
   alike : (inner_attributes us).0 ≡ (inner_attributes ts).0 → ListAlike (items_behind ts).0 (items_behind us).0 → (items_behind us).1.0.rows ≡ (items_behind ts).1.0.rows → FileUntil b ts us
 
@@ -598,6 +612,18 @@ file_until end b plain ts us l h =
     let inner = inner_attributes ts in
     let sound = sound_on end (inner_attributes_leads ts) l in
     by_kept (inner_attributes_until b ts us h)
-    (λ g. let m = found_gone (items_found end true 128 nothing_found inner.1 sound.laid) g in of_none (subst (AreElsewhere b.opening.at) (sym m.is) m.free))
+    (λ g. let m = found_gone (items_found end true 128 nothing_found inner.1 sound.laid) g in of_none (misses_all m))
     (λ k. by_found (items_until end true 128 b plain nothing_found nothing_found inner.1 (inner_attributes us).1 sound refl k.rest)
-        (λ g m. of_none (subst (AreElsewhere b.opening.at) (sym m.is) m.free)) (λ t. tuples t) (λ j. alike k.value j.value j.rows))
+    (λ g m. of_none (misses_all m)) (λ t. tuples t) (λ j. alike k.value j.value j.rows))
+
+problem_at_spans : (k : ProblemKind) (o : Option ℕ) (f : Found) → (and_problem_at k o f).spans ≡ f.spans
+problem_at_spans k None f = refl
+problem_at_spans k (Some at) f = refl
+
+pub found_spans : (edition : EditionYear) (x : List ℕ) → (found_in edition x).spans ≡ (read_of edition x).1.0.spans
+unfolding found_in
+found_spans edition x = problem_at_spans _ _ _
+
+pub found_rows : (edition : EditionYear) (x : List ℕ) → (found_in edition x).rows ≡ (read_of edition x).1.0.rows
+unfolding found_in
+found_rows edition x = problem_at_rows _ _ _

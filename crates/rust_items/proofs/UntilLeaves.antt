@@ -142,9 +142,9 @@ unfolding field
 field_until b ts us h =
     by_kept (outer_attributes_until b ts us h) (λ g. gone (gone_on g (through (visibility_leads _) (through (reached_leads _ _) (eat_leads _ _)))))
     (λ k. let v = visibility_local b (outer_attributes ts).1 (outer_attributes us).1 k.rest in
-        let f = behind_field_beside b (visibility (outer_attributes ts).1).1 (visibility (outer_attributes us).1).1 v.rest in
-        let e = eat_local b 44 refl _ _ f in
-        kept (record { value = v.value; rest = e.rest }))
+    let f = behind_field_beside b (visibility (outer_attributes ts).1).1 (visibility (outer_attributes us).1).1 v.rest in
+    let e = eat_local b 44 refl _ _ f in
+    kept (record { value = v.value; rest = e.rest }))
 
 fields_until : (b : Bodies) → UpTo b fields
 unfolding fields
@@ -167,7 +167,7 @@ fields_at_until : (b : Bodies) (has : Bool) (ts us : Tokens) → Beside b ts us 
 fields_at_until b has ts us h =
     when (symbol ts == 40)
     (λ e. rw (symbol_same b ts us h, e)
-        (by_kept (fields_until b (bumped ts) (bumped us) (after_symbol b 40 ts us refl h e)) (λ g. tuples refl) (λ k. same_fields (ap tuple_fields k.value))))
+    (by_kept (fields_until b (bumped ts) (bumped us) (after_symbol b 40 ts us refl h e)) (λ g. tuples refl) (λ k. same_fields (ap tuple_fields k.value))))
     (λ e. same_fields (rw (symbol_same b ts us h, e) refl))
 
 both_some : {b : Bodies} {o o' : Option Tokens} → BothBeside b o o' → is_some o' ≡ is_some o
@@ -240,10 +240,13 @@ module _ (b : Bodies) (plain : BeginPlain b) (end : ℕ) (attrs : List MetaView)
     where
       sound : IsSound end (named ts).1
       sound = sound_on end (named_leads ts) l
+
       n : KeptBy NameAlike b (named ts) (named us)
       n = named_local b ts us h
+
       r : KeptBy (RestAlike b) b (item_end (named ts).1) (item_end (named us).1)
       r = item_end_local b (named ts).1 (named us).1 n.rest
+
       by : SameOr b (item_end (named ts).1).1 (item_end (named ts).1).0.block (block_attributes (item_end (named ts).1).0.block) (block_attributes (item_end (named us).1).0.block)
           → LeafUntil b (some_read (function attrs v ts)) (some_read (function attrs v us))
       by (not_same g f) = lost_block (function attrs v ts) (item_end (named ts).1).0.block (item_end (named ts).1).1.past (item_end_braces (named ts).1) g f
@@ -264,8 +267,10 @@ module _ (b : Bodies) (plain : BeginPlain b) (end : ℕ) (attrs : List MetaView)
     where
       n : KeptBy NameAlike b (named ts) (named us)
       n = named_local b ts us h
+
       r : KeptBy (RestAlike b) b (item_end (named ts).1) (item_end (named us).1)
       r = item_end_local b (named ts).1 (named us).1 n.rest
+
       by : SameFields (struct_fields (is_some (item_end (named ts).1).0.block) (named ts).1) (struct_fields (is_some (item_end (named us).1).0.block) (named us).1)
           → LeafUntil b (some_read (structure attrs v ts)) (some_read (structure attrs v us))
       by (tuples e) = leaf_loose (structure attrs v ts).0 (structure attrs v us).0 refl refl (tuple_item (named_node attrs (named ts).0.name v (item_end (named ts).1).0.body) (struct_fields (is_some (item_end (named ts).1).0.block) (named ts).1) e) refl refl r.rest
@@ -277,12 +282,12 @@ module _ (b : Bodies) (plain : BeginPlain b) (end : ℕ) (attrs : List MetaView)
       by_stayed (use_tree_until b ts us h)
       (λ g. leaf_lost (gone_on g (eat_leads 59 _)) (λ l r e d s. absurd (let none : (use_read attrs v (use_tree ts).0 (eat 59 (use_tree ts).1).0).body ≡ Some r = ap (λ (x : LeafRead). x.body) (some_is _ l e) ∙ d in cc)))
       (λ k. let s = eat_local b 59 refl (use_tree ts).1 (use_tree us).1 k.rest in
-        leaf_same (places.both (record {
-          item = ap (λ (t : Option UseTreeView). item_without_bodies (use_item (record { node = node attrs []; visibility = v; use_tree = t }))) k.value.value;
-          kind = refl;
-          name = refl;
-          named = refl;
-        })) s.rest)
+      leaf_same (places.both (record {
+        item = ap (λ (t : Option UseTreeView). item_without_bodies (use_item (record { node = node attrs []; visibility = v; use_tree = t }))) k.value.value;
+        kind = refl;
+        name = refl;
+        named = refl;
+      })) s.rest)
 
   invocation_until : LeafUntil b (invocation attrs ts) (invocation attrs us)
   unfolding invocation
@@ -293,15 +298,17 @@ module _ (b : Bodies) (plain : BeginPlain b) (end : ℕ) (attrs : List MetaView)
     where
       p : Kept b (path ts) (path us)
       p = path_local b ts us h
+
       tests : (is_some (path us).0 && is_called (path us).1) ≡ (is_some (path ts).0 && is_called (path ts).1)
       tests = ap (λ o. is_some o && is_called (path us).1) p.value ∙ ap (λ t. is_some (path ts).0 && t) (is_called_same b (path ts).1 (path us).1 p.rest)
+
       by : SameLast b (path ts).1 (last_text (path ts).1.past ts) (last_text (path us).1.past us) → is_called (path ts).1 ≡ true
           → LeafUntil b (some_read (call_behind attrs (path ts).0 (bare (last_text (path ts).1.past ts)) (bumped (path ts).1))) (some_read (call_behind attrs (path us).0 (bare (last_text (path us).1.past us)) (bumped (path us).1)))
       by (beyond_braces g) e =
           let k = gone_on g (bumped_leads (path ts).1) in
           leaf_lost (gone_on k (call_end_leads (bumped (path ts).1)))
           (λ m r f d s. let body : (call_end (bumped (path ts).1)).0.braces ≡ Some r = ap (λ (x : LeafRead). x.body) (some_is _ m f) ∙ d in
-            braced_gone b end r (laid.behind end (through (path_leads ts) (bumped_leads (path ts).1)) l.laid).laid k (subst (λ (o : Option TextRange). IsBraced (bumped (path ts).1) (call_end (bumped (path ts).1)).1 o) body (call_end_braced (bumped (path ts).1))) s)
+          braced_gone b end r (laid.behind end (through (path_leads ts) (bumped_leads (path ts).1)) l.laid).laid k (subst (λ (o : Option TextRange). IsBraced (bumped (path ts).1) (call_end (bumped (path ts).1)).1 o) body (call_end_braced (bumped (path ts).1))) s)
       by (same_text f) e =
           let c = call_end_local b (bumped (path ts).1) (bumped (path us).1) (called_next b (path ts).1 (path us).1 p.rest e) in
           leaf_same (places.both (record {
@@ -347,6 +354,7 @@ leaf_gone b end h ts l g = record { gone = gone_on g (leads (leaf h ts).0 (leaf_
     leads : (o : Option LeafRead) → LeafAt ts (leaf h ts).1 o → LeadsTo ts (leaf h ts).1
     leads None p = p
     leads (Some m) p = p.leads
+
     some : (m : LeafRead) (r : TextRange) → (leaf h ts).0 ≡ Some m → m.body ≡ Some r → r.start ≡ b.opening.at → LeafAt ts (leaf h ts).1 (leaf h ts).0 → ⊥
     some m r e d s p =
         let is : LeafAt ts (leaf h ts).1 (Some m) = subst (LeafAt ts (leaf h ts).1) e p in

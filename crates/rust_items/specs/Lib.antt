@@ -6,4 +6,4 @@ pub mod Ids
 pub mod LineEnds
 pub mod SourceFiles
 pub mod Places
-pub mod Tuples
+pub mod Typed

@@ -35,7 +35,7 @@ unfolding alias
 alias_local b ts us h =
     when (bytes_eq (word ts) (codes "_"))
     (λ e. let f : bytes_eq (word us) (codes "_") ≡ true = word_test b (codes "_") ts us h ∙ e in
-        rw (e, f) (record { value = record { name = refl; hashed = refl; placed = refl }; rest = after_word b (codes "_") ts us refl h e }))
+    rw (e, f) (record { value = record { name = refl; hashed = refl; placed = refl }; rest = after_word b (codes "_") ts us refl h e }))
     (λ e. let f : bytes_eq (word us) (codes "_") ≡ false = word_test b (codes "_") ts us h ∙ e in rw (e, f) (named_local b ts us h))
 
 alias_if_local : (b : Bodies) (found found' : Bool) (ts us : Tokens) → found' ≡ found → Beside b ts us → KeptBy AliasAlike b (alias_if found ts) (alias_if found' us)

@@ -63,7 +63,7 @@ plain_is : (text : List ℕ) → has_mark text ≡ false → is_shebang (tokens_
 unfolding tokens
 plain_is text e f g = rw (e, f, no_matter 0 text g) refl
 
-inside_of : ℕ → List ℕ → List Piece
+unfoldable pub inside_of : ℕ → List ℕ → List Piece
 inside_of at m = map (moved (suc at)) (front 0 0 m (125 ∷ []))
 
 from_close : ℕ → List ℕ → List ℕ → List Piece
@@ -112,7 +112,7 @@ braces_moved d n (t ∷ ts) =
     (λ f. when (symbol_of t == 125) (λ g. when (n == 0) (λ i. rw (f, g, i) refl) (λ i. rw (f, g, i) (braces_moved d (n - 1) ts))) (λ g. rw (f, g) (braces_moved d n ts)))
 
 -- the tokens that count between braces
-pub body : ℕ → List ℕ → List Piece
+unfoldable pub body : ℕ → List ℕ → List Piece
 body at m = filter is_significant (inside_of at m)
 
 pub body_matched : (at : ℕ) (m : List ℕ) → StandsAlone m → braces_from 0 (body at m) ≡ Some 0

@@ -1,0 +1,90 @@
+-- Typing inside a body changes no syntax but for its body texts.
+use Rattle.std.proofs.Common.{◌≡◌, ℕ, Bool, true, false, ◌==◌, ◌||◌, Option, Some, None, List, [], ◌∷◌, ◌++◌, length, refl, ap, sym, subst, ◌∙◌, map}
+use Rattle.hir_input.specs.declared.edition.EditionYear.{EditionYear}
+use Rattle.hir_input.specs.declared.ids.FileAstId.{FileAstId}
+use Rattle.hir_input.specs.Attr.{MetaView}
+use Rattle.hir_input.specs.Bodies.{item_without_bodies, items_without_bodies, without_bodies}
+use Rattle.hir_input.specs.Syntax.{ItemView, ItemViews, item_and, items_from, source_file, syntax_view}
+use Rattle.rust_cursor.specs.Tokens.{tokens_of}
+use Rattle.rust_cursor.specs.Beside.{Bodies}
+use Rattle.rust_cursor.proofs.Around.{tokens_sound}
+use Rattle.rust_ids.specs.Row.{Row}
+use Rattle.rust_ids.specs.Ids.{AreIds}
+use Rattle.rust_ids.proofs.Consequences.{determined}
+use Rattle.rust_metas.specs.Attributes.{inner_attributes}
+use Rattle.rust_items.specs.declared.source_file.SourceFile.{SourceFile}
+use Rattle.rust_items.specs.Ids.{with_ids}
+use Rattle.rust_items.specs.LineEnds.{with_feeds, place_in}
+use Rattle.rust_items.specs.Typed.{has_body}
+use Rattle.rust_items.specs.SourceFiles.{found_in, items_in, read_of, IsFile, IsSourceFile}
+use Rattle.rust_items.proofs.Bodiless.{with_bodiless}
+use Rattle.rust_items.proofs.UntilItems.{FileUntil, of_none, tuples, alike, file_until, found_rows, found_spans}
+use Rattle.rust_typing.specs.Laws.{with_body, IsTyped, TypingInside}
+use Rattle.rust_typing.proofs.Texts.{bodies, bodies_at, tokens_beside, begin_plain}
+
+-- ---- what was found
+
+items_are : (edition : EditionYear) (x : List ℕ) → items_in edition x ≡ items_from (read_of edition x).0
+unfolding items_in
+items_are edition x = refl
+
+-- ---- the syntax
+
+from_list : (is : List ItemView) → items_without_bodies (items_from is) ≡ items_from (map item_without_bodies is)
+from_list [] = refl
+from_list (i ∷ is) = ap (item_and (item_without_bodies i)) (from_list is)
+
+-- items without bodies, with ids
+abbrev bare : List ItemView → List FileAstId → ItemViews
+bare is ids = (with_ids (items_from (map item_without_bodies is)) ids).0
+
+bare_is : (is : List ItemView) (ids : List FileAstId) → items_without_bodies (with_ids (items_from is) ids).0 ≡ bare is ids
+bare_is is ids = sym (ap (λ r. r.0) (with_bodiless (items_from is) ids)) ∙ ap (λ l. (with_ids l ids).0) (from_list is)
+
+-- what is read without bodies
+read_bare : (edition : EditionYear) (x : List ℕ) (place : ℕ → ℕ) (file : SourceFile) (f : IsFile edition x place file)
+    → without_bodies (syntax_view file.syntax) ≡ source_file (inner_attributes (tokens_of edition x)).0 (bare (read_of edition x).0 f.ids)
+read_bare edition x place file f =
+    ap without_bodies f.syntax ∙ ap (λ (l : ItemViews). source_file (inner_attributes (tokens_of edition x)).0 (items_without_bodies (with_ids l f.ids).0)) (items_are edition x)
+    ∙ ap (source_file (inner_attributes (tokens_of edition x)).0) (bare_is (read_of edition x).0 f.ids)
+
+-- ---- the law
+
+same_ids : (edition : EditionYear) (x x' : List ℕ) (place place' : ℕ → ℕ) (file file' : SourceFile) (f : IsFile edition x place file) (g : IsFile edition x' place' file')
+    → (read_of edition x').1.0.rows ≡ (read_of edition x).1.0.rows → g.ids ≡ f.ids
+same_ids edition x x' place place' file file' f g e =
+    let rows : (found_in edition x').rows ≡ (found_in edition x).rows = found_rows edition x' ∙ e ∙ sym (found_rows edition x) in
+    determined (found_in edition x).rows g.ids f.ids (subst (λ (l : List Row). AreIds l g.ids) rows g.are_ids) f.are_ids
+
+read_alike : (edition : EditionYear) (q m m' s : List ℕ) (place place' : ℕ → ℕ) (file file' : SourceFile) → IsTyped edition q m m' s → IsFile edition (with_body q m s) place file → IsFile edition (with_body q m' s) place' file'
+    → without_bodies (syntax_view file.syntax) ≡ without_bodies (syntax_view file'.syntax)
+read_alike edition q m m' s place place' file file' t f g =
+    by (file_until (length x) b (begin_plain edition q m m' s t.alone t.alone_new t.begins t.begins_new) (tokens_of edition x) (tokens_of edition x') (tokens_sound edition x)
+    (tokens_beside edition q m m' s t.opens t.alone t.alone_new))
+  where
+    x : List ℕ
+    x = with_body q m s
+
+    x' : List ℕ
+    x' = with_body q m' s
+
+    b : Bodies
+    b = bodies edition q m m' s t.alone t.alone_new
+
+    by : FileUntil b (tokens_of edition x) (tokens_of edition x') → without_bodies (syntax_view file.syntax) ≡ without_bodies (syntax_view file'.syntax)
+    by (of_none k) =
+        let none : has_body (length q) (read_of edition x).1.0.spans ≡ false = subst (λ (n : ℕ). has_body n (read_of edition x).1.0.spans ≡ false) (bodies_at edition q m m' s t.alone t.alone_new) k in
+        let same : has_body (length q) (found_in edition x).spans ≡ has_body (length q) (read_of edition x).1.0.spans = ap (has_body (length q)) (found_spans edition x) in
+        let some = t.body in
+        absurd cc
+    by (tuples l) = absurd (let none = rw (items_are edition x) at t.fields in cc)
+    by (alike a v r) =
+        let ids = same_ids edition x x' place place' file file' f g r in
+        read_bare edition x place file f ∙ sym (ap (λ (l : List MetaView). source_file l (bare (read_of edition x).0 f.ids)) a)
+        ∙ sym (ap (λ (l : List ItemView). source_file (inner_attributes (tokens_of edition x')).0 (with_ids (items_from l) f.ids).0) v)
+        ∙ sym (ap (λ (l : List FileAstId). source_file (inner_attributes (tokens_of edition x')).0 (bare (read_of edition x').0 l)) ids)
+        ∙ sym (read_bare edition x' place' file' g)
+
+pub typing_inside : TypingInside
+typing_inside edition q m m' s old new read again e e' t f g =
+    read_alike edition q m m' s (place_in old) (place_in new) read again t (subst (λ (z : List ℕ). IsFile edition z (place_in old) read) e f) (subst (λ (z : List ℕ). IsFile edition z (place_in new) again) e' g)
