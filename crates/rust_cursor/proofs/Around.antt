@@ -58,7 +58,7 @@ closing_by c n ts = refl
 abbrev pub others_next : ℕ → ℕ → ℕ → ℕ
 others_next k j s = if k == 0 then others_behind j s else j
 
-others_of : (n : Nest) (ts : Tokens) → (nest_behind n ts).others ≡ others_next n.braces n.others (symbol ts)
+pub others_of : (n : Nest) (ts : Tokens) → (nest_behind n ts).others ≡ others_next n.braces n.others (symbol ts)
 others_of n ts = when (n.braces == 0) (λ e. ap (λ (m : Nest). m.others) (outside_is n ts e) ∙ rw e refl) (λ e. ap (λ (m : Nest). m.others) (inside_is n ts e) ∙ rw e refl)
 
 next_of : (c : ℕ) (n : Nest) (ts : Tokens) → upto c (nest_behind n ts).braces (nest_behind n ts).others (bumped ts) ≡ upto c (braces_behind n.braces (symbol ts)) (others_next n.braces n.others (symbol ts)) (bumped ts)
@@ -121,7 +121,7 @@ shut_by_other : (c : ℕ) (ts : Tokens) → (c == 123) ≡ false → closes_othe
 unfolding is_closing
 shut_by_other c ts g f = when (is_empty ts) (λ e. rw e refl) (λ e. when (symbol ts == 125) (λ h. rw (e, h) refl) (λ h. rw (e, h, g, f) refl))
 
-no_shut : {A : Type 0} (c k j : ℕ) (ts : Tokens) → is_shut c k j ts ≡ false → Shuts c k j ts → A
+pub no_shut : {A : Type 0} (c k j : ℕ) (ts : Tokens) → is_shut c k j ts ≡ false → Shuts c k j ts → A
 no_shut c k j ts s (by_brace z f) = absurd (let yes = shut_by_brace c j ts f in let no : is_shut c 0 j ts ≡ false = rw z at s in cc)
 no_shut c k j ts s (by_other z y g f h) = absurd (let yes = shut_by_other c ts g f in let no : is_shut c 0 0 ts ≡ false = rw (z, y) at s in cc)
 
@@ -166,7 +166,7 @@ under_leads c ts k j k' j' u =
     ts k j k' j' u
 
 -- in no bracket
-from_flat : (c k j : ℕ) (ts : Tokens) → LeadsTo (around c ts) (upto c k j ts)
+pub from_flat : (c k j : ℕ) (ts : Tokens) → LeadsTo (around c ts) (upto c k j ts)
 from_flat c k j ts = under_leads c ts 0 0 k j (when (k == 0) (λ z. level (sym (eqb-true k 0 z)) (omega arith)) (λ z. deeper (grind (arith, nat_tests))))
 
 -- it is left of them

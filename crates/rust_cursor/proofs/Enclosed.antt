@@ -30,7 +30,7 @@ Opened o n ts = (a : Tokens) → o ≡ Some a → (j : ℕ) → n.braces ≡ suc
 abbrev Encloses : ExcerptRead × Tokens → Type 0
 Encloses r = (a : Tokens) → r.0.block ≡ Some a → LeadsTo (around 123 (bumped a)) r.1
 
-item_open : (n : Nest) (ts : Tokens) → stops extents.Item n ts ≡ false → (n.braces == 0) ≡ true → (symbol ts == 125) ≡ false
+pub item_open : (n : Nest) (ts : Tokens) → stops extents.Item n ts ≡ false → (n.braces == 0) ≡ true → (symbol ts == 125) ≡ false
 unfolding stops
 item_open n ts s z = when (symbol ts == 125) (λ f. when (is_empty ts) (λ e. absurd (let no = rw e at s in cc)) (λ e. absurd (let no = rw (e, z, f) at s in cc))) (λ f. f)
 

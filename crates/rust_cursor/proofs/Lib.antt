@@ -33,3 +33,4 @@ pub mod NearUntil
 pub mod NearTexts
 pub mod Enclosed
 pub mod High
+pub mod Lockstep
