@@ -9,3 +9,4 @@ pub mod FilePlaces
 pub mod NearFronts
 pub mod NearLeaves
 pub mod NearItems
+pub mod NearTurns
