@@ -12,3 +12,4 @@ pub mod UntilItems
 pub mod NearFronts
 pub mod NearLeaves
 pub mod NearItems
+pub mod NearTurns

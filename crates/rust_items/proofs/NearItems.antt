@@ -1,5 +1,5 @@
 -- Items are the same in a text that ends with a `;` or a `}` and in a longer one, where they end there or before.
-use Rattle.std.proofs.Common.{◌≡◌, ◌≤◌, ◌<◌, ◌+◌, ◌==◌, ◌||◌, ◌&&◌, ℕ, zero, suc, Bool, true, false, Option, Some, None, List, [], ◌∷◌, ◌++◌, length, refl, sym, ap, ◌∙◌, subst, arith, map, append_assoc}
+use Rattle.std.proofs.Common.{◌≡◌, ◌≤◌, ◌<◌, ◌+◌, ◌==◌, ◌||◌, ◌&&◌, ℕ, zero, suc, Bool, true, false, Option, Some, None, List, [], ◌∷◌, ◌++◌, length, refl, sym, ap, ◌∙◌, subst, arith, map, append_assoc, codes}
 use Rattle.std.specs.Prelude.{if◌then◌else◌, option_map, option_to_list, is_some, is_none, not}
 use Rattle.std.specs.List.{list_any}
 use Rattle.hir_input.specs.declared.ids.AstIdKind.{AstIdKind}
@@ -11,9 +11,9 @@ use Rattle.std.proofs.lemmas.Bool.Decides.{nat_tests}
 use Rattle.rust_cursor.specs.Brackets.{behind_tree}
 use Rattle.rust_cursor.specs.Elements.{most, beyond}
 use Rattle.rust_cursor.specs.Tokens.{Tokens}
-use Rattle.rust_cursor.specs.Words.{symbol, at, eat, bumped, is_empty, is_at_end}
+use Rattle.rust_cursor.specs.Words.{symbol, at, eat, eat_word, bumped, is_empty, is_at_end}
 use Rattle.rust_cursor.proofs.Laid.{IsLaid, behind}
-use Rattle.rust_cursor.proofs.Leads.{LeadsTo, here, further, through, when, bumped_leads, beyond_leads, behind_tree_leads, eat_leads, symbol_some}
+use Rattle.rust_cursor.proofs.Leads.{LeadsTo, here, further, through, when, bumped_leads, beyond_leads, behind_tree_leads, eat_leads, eat_word_leads, symbol_some}
 use Rattle.rust_cursor.proofs.Near.{Ending, Near, fewer, by_next, bumped_onward, symbol_same, empty_same, end_same, at_same, past_same, symbol_test, not_last}
 use Rattle.rust_cursor.proofs.NearPassing.{behind_tree_near, beyond_near}
 use Rattle.rust_cursor.proofs.NearUntil.{Same, Kept, by_kept, AtEnd, Outcome, lost, stays, comes, Step, at_last, next, step, eat_outcome, eat_fewer}
@@ -29,9 +29,10 @@ use Rattle.rust_leaves.specs.declared.head.Head.TheVariants as heads
 use Rattle.rust_leaves.specs.Fronts.{FrontRead, front}
 use Rattle.rust_leaves.specs.Heads.{behind_others}
 use Rattle.rust_paths.specs.Paths.{path}
-use Rattle.rust_paths.proofs.Leads.{path_leads}
-use Rattle.rust_leaves.specs.Kinds.{named_node, node, is_called, invocation, leaf_by, leaf}
-use Rattle.rust_leaves.specs.Leaves.{LeafRead, NameRead, named, no_name}
+use Rattle.rust_paths.specs.UseTrees.{use_tree}
+use Rattle.rust_paths.proofs.Leads.{path_leads, use_tree_leads}
+use Rattle.rust_leaves.specs.Kinds.{named_node, node, function, trait_item, enumeration, union_item, macro_def, type_alias, static_value, constant, structure, implementation, crate_item, use_declaration, macro_definition, is_called, invocation, leaf_by, leaf}
+use Rattle.rust_leaves.specs.Leaves.{LeafRead, NameRead, named, named_or, renamed, no_name}
 use Rattle.rust_items.specs.declared.log.ItemSpan.{ItemSpan}
 use Rattle.rust_items.specs.declared.log.Problem.{Problem}
 use Rattle.rust_items.specs.declared.log.ProblemKind.{ProblemKind}
@@ -39,9 +40,9 @@ use Rattle.rust_items.specs.declared.log.ProblemKind.TheVariants as problem
 use Rattle.rust_items.specs.Found.{Found, Finder, nothing_found, and_problem, and_problem_if, and_problem_at, and_row, and_use_trees, and_all}
 use Rattle.rust_items.specs.Items.{span_of, needs_name, and_flaw, and_item, and_leaf, leaf_found, leaf_turn, finding_from, finding, is_list_end, BlockRead, no_block, deep_block, block_of, as_extern, extern_kept, extern_found, extern_behind, extern_by, unmatched, extern_turn, extern_inside, and_parent, one_more, extern_block, depth_of, inside_unless, module_with, some_item, by_head, turn_with, inside, turn}
 use Rattle.rust_items.specs.LineEnds.{moved_range, moved_span, moved_problem}
-use Rattle.rust_items.proofs.Leads.{function_leaf, trait_leaf, union_leaf, enum_leaf, struct_leaf, impl_leaf, crate_leaf, use_leaf, const_leaf, static_leaf, type_alias_leaf, macro_def_leaf, macro_rules_leaf, call_end_leads, named_leads, behind_others_leads, front_takes, front_start}
+use Rattle.rust_items.proofs.Leads.{function_leaf, trait_leaf, union_leaf, enum_leaf, struct_leaf, impl_leaf, crate_leaf, use_leaf, const_leaf, static_leaf, type_alias_leaf, macro_def_leaf, macro_rules_leaf, call_end_leads, named_leads, named_or_leads, renamed_leads, behind_others_leads, front_takes, front_start}
 use Rattle.rust_items.proofs.NearFronts.{FrontNear, front_until, behind_others_near}
-use Rattle.rust_items.proofs.NearLeaves.{range_on, some_on, NameNear, LeafNear, named_until, Given, given_on, Ends, passes, before_end, at_end, SomeLeaf, no_leaf, one_leaf, leaf_ended, LeafEnds, leaf_ends}
+use Rattle.rust_items.proofs.NearLeaves.{range_on, some_on, NameNear, LeafNear, named_until, Given, given_on, Ends, passes, before_end, at_end, SomeLeaf, no_leaf, one_leaf, leaf_ended, LeafEnds, leaf_ends, item_end_fewer, impl_end_fewer, macro_end_fewer, value_end_fewer, call_end_fewer}
 use Rattle.rust_items.proofs.Places.{Finds, FindsIn, list_found, block_found, turn_with_found, inside_found, extern_turn_found, extern_inside_found}
 
 -- ---- what is found
@@ -63,7 +64,7 @@ join_near on f before m g m' e d =
 row_near : (f before g m : List Row) → f ≡ before ++ g → f ++ m ≡ before ++ (g ++ m)
 row_near f before g m e = ap (λ l. l ++ m) e ∙ append_assoc before g m
 
-problem_near : (b : Ending) (before f g : Found) (k : ProblemKind) (at at' : ℕ) → at ≡ at' + b.by → FoundNear b before f g → FoundNear b before (and_problem k at f) (and_problem k at' g)
+pub problem_near : (b : Ending) (before f g : Found) (k : ProblemKind) (at at' : ℕ) → at ≡ at' + b.by → FoundNear b before f g → FoundNear b before (and_problem k at f) (and_problem k at' g)
 problem_near b before f g k at at' e n = record {
   rows = n.rows;
   spans = n.spans;
@@ -80,7 +81,7 @@ none_same : (b : Ending) (o o' : Option TextRange) → o ≡ some_on b o' → is
 none_same b o None e = rw e refl
 none_same b o (Some r) e = rw e refl
 
-item_near : (b : Ending) (before f g : Found) (depth start start' end end' : ℕ) (body body' : Option TextRange) (k : AstIdKind) (name : List ℕ) (range range' : Option TextRange) (ended ended' : Bool) → start ≡ start' + b.by → end ≡ end' + b.by
+pub item_near : (b : Ending) (before f g : Found) (depth start start' end end' : ℕ) (body body' : Option TextRange) (k : AstIdKind) (name : List ℕ) (range range' : Option TextRange) (ended ended' : Bool) → start ≡ start' + b.by → end ≡ end' + b.by
     → body ≡ some_on b body' → range ≡ some_on b range' → ended' ≡ ended → FoundNear b before f g
     → FoundNear b before (and_item depth start end body k name range ended f) (and_item depth start' end' body' k name range' ended' g)
 item_near b before f g depth start start' end end' body body' k name range range' ended ended' s e o r d n =
@@ -112,7 +113,7 @@ leaf_near b before f g depth start start' end end' l m s e k n =
     }
 
 -- all of what is found in an item, behind its own
-all_near : (b : Ending) (before f g more more' : Found) → FoundNear b before f g → FoundNear b nothing_found more more' → FoundNear b before (and_all more f) (and_all more' g)
+pub all_near : (b : Ending) (before f g more more' : Found) → FoundNear b before f g → FoundNear b nothing_found more more' → FoundNear b before (and_all more f) (and_all more' g)
 all_near b before f g more more' n k = record {
   rows = ap (λ l. f.rows ++ l) k.rows ∙ row_near f.rows before.rows g.rows more'.rows n.rows;
   spans = join_near (moved_span (place_on b)) f.spans before.spans more.spans g.spans more'.spans n.spans k.spans;
@@ -154,7 +155,7 @@ unfolding is_list_end
 top_end is_top b ts us h = rw (empty_same b ts us h, symbol_same b ts us h) refl
 
 module _ (b : Ending) (turn : Finder (Option ItemView)) (t : TurnLong b turn) (finds : (end : ℕ) → Finds end turn) where
-  list_leads : (n k : ℕ) (done : List ItemView) (f : Found) (ts : Tokens) → IsLaid n ts → LeadsTo ts (finding_from (is_list_end false) turn k done f ts).1.1
+  pub list_leads : (n k : ℕ) (done : List ItemView) (f : Found) (ts : Tokens) → IsLaid n ts → LeadsTo ts (finding_from (is_list_end false) turn k done f ts).1.1
   list_leads n zero done f ts l = here
   list_leads n (suc k) done f ts l =
       let first = (finds n f ts l).leads in
@@ -207,7 +208,7 @@ closed_ends b before attrs attrs' is is' f g {p = p} {q = q} e d n (stays k) = b
 closed_ends b before attrs attrs' is is' f g {p = p} {q = q} e d n (comes c a) = at_end (record { value = read_same attrs attrs' is is' p.0 q.0 e d c; found = n }) a
 
 module _ (b : Ending) (turn : Finder (Option ItemView)) (t : TurnLong b turn) (finds : (end : ℕ) → Finds end turn) where
-  block_ends : (n m : ℕ) (before f g : Found) (ts us : Tokens) → Given n m ts us → Near b ts us → FoundNear b before f g → Ends (FoundAlike b before) block_ended b (flat (block_of turn f ts)) (flat (block_of turn g us))
+  pub block_ends : (n m : ℕ) (before f g : Found) (ts us : Tokens) → Given n m ts us → Near b ts us → FoundNear b before f g → Ends (FoundAlike b before) block_ended b (flat (block_of turn f ts)) (flat (block_of turn g us))
   unfolding finding
   block_ends n m before f g ts us given h a =
       let inner = inner_attributes (bumped ts) in
@@ -227,7 +228,7 @@ module _ (b : Ending) (turn : Finder (Option ItemView)) (t : TurnLong b turn) (f
 
 -- ---- items that hold none
 
-leaf_leads : (h : FrontRead) (ts : Tokens) → LeadsTo ts (leaf h ts).1
+pub leaf_leads : (h : FrontRead) (ts : Tokens) → LeadsTo ts (leaf h ts).1
 unfolding leaf invocation
 leaf_leads h ts = by h.head
   where
@@ -265,7 +266,7 @@ any_last test (q ∷ ps) qs p e = when (test q) (λ f. rw f refl) (λ f. rw f (a
 eqb_self : (n : ℕ) → (n == n) ≡ true
 eqb_self n = grind (arith, nat_tests)
 
-flawed : (ended nameless : Bool) (start : ℕ) (f : Found) → ended ≡ false → list_any (λ p. is_unfinished p.kind && p.at == start) (and_flaw ended nameless start f).problems ≡ true
+pub flawed : (ended nameless : Bool) (start : ℕ) (f : Found) → ended ≡ false → list_any (λ p. is_unfinished p.kind && p.at == start) (and_flaw ended nameless start f).problems ≡ true
 flawed true nameless start f e = absurd cc
 flawed false nameless start f e = any_last _ f.problems [] _ (eqb_self start)
 
@@ -278,7 +279,7 @@ still (Some at) test f e = on f.problems e
     on [] e = absurd cc
     on (p ∷ ps) e = when (test p) (λ g. rw g refl) (λ g. rw g (on ps (rw g at e)))
 
-sound_leaf : (depth start end : ℕ) (l : LeafRead) (f : Found) → is_sound start (Some l.item, and_leaf depth start end l f) ≡ true → l.is_ended ≡ true
+pub sound_leaf : (depth start end : ℕ) (l : LeafRead) (f : Found) → is_sound start (Some l.item, and_leaf depth start end l f) ≡ true → l.is_ended ≡ true
 sound_leaf depth start end l f e =
     when l.is_ended (λ g. g)
     (λ g. let found = still l.too_deep (λ p. is_unfinished p.kind && p.at == start) _ (flawed l.is_ended _ start (and_row _ _ f) g) in
@@ -312,7 +313,7 @@ leaf_found_ends b before f g depth start start' {p = p} {q = q} s n (passes few 
 leaf_found_ends b before f g depth start start' {p = p} {q = q} s n (before_end k) = kept_leaf b before f g depth start start' p.1 q.1 s n k.rest p.0 q.0 k.value
 leaf_found_ends b before f g depth start start' {p = p} {q = q} s n (at_end t a) = ended_leaf b before f g depth start start' p.1 q.1 s n a p.0 q.0 t
 
-leaf_turn_ends : (n m : ℕ) (b : Ending) (before f g : Found) (depth : ℕ) (h h' : FrontRead) → FrontNear b h h' → (ts us : Tokens) → Given n m ts us → Near b ts us → FoundNear b before f g
+pub leaf_turn_ends : (n m : ℕ) (b : Ending) (before f g : Found) (depth : ℕ) (h h' : FrontRead) → FrontNear b h h' → (ts us : Tokens) → Given n m ts us → Near b ts us → FoundNear b before f g
     → TurnEnds b before h.start (leaf_turn depth h f ts) (leaf_turn depth h' g us)
 unfolding leaf_turn
 leaf_turn_ends n m b before f g depth h h' k ts us given w a = leaf_found_ends b before f g depth h.start h'.start k.start a (leaf_ends b h h' k ts us given w)
@@ -340,7 +341,7 @@ extern_under b before f g depth start start' ts us s n h _ _ (one_leaf {l = l} {
     under (record { value = extern_kept_near b before f g depth start start' ts us l m (as_extern l.item) (as_extern m.item) s (past_same b ts us h) i (ap as_extern i.item) n; rest = h })
 
 -- tokens that close nothing
-unmatched_long : (b : Ending) (before f g : Found) (ts us : Tokens) → Near b ts us → FoundNear b before f g → Long (FoundAlike b before) b (flat (unmatched f ts)) (flat (unmatched g us))
+pub unmatched_long : (b : Ending) (before f g : Found) (ts us : Tokens) → Near b ts us → FoundNear b before f g → Long (FoundAlike b before) b (flat (unmatched f ts)) (flat (unmatched g us))
 unmatched_long b before f g ts us h a =
     by_next (bumped_onward b ts us h) (λ w. rest_over b (flat (unmatched f ts)) _ w.few)
     (λ w. under (record { value = record { value = refl; found = problem_near b before f g problem.Unmatched (at ts) (at us) (at_same b ts us h) a }; rest = w }))
@@ -349,10 +350,10 @@ extern_leads : (depth start : ℕ) (o : Option LeafRead) (f : Found) (ts : Token
 extern_leads depth start None f ts = behind_others_leads ts
 extern_leads depth start (Some l) f ts = here
 
-front_leads : (ts : Tokens) → LeadsTo ts (front ts).1
+pub front_leads : (ts : Tokens) → LeadsTo ts (front ts).1
 front_leads ts = (front_takes ts).leads
 
-extern_turn_long : (b : Ending) (depth : ℕ) → TurnLong b (extern_turn depth)
+pub extern_turn_long : (b : Ending) (depth : ℕ) → TurnLong b (extern_turn depth)
 unfolding extern_turn
 extern_turn_long b depth n m before f g ts us given h a =
     let fr = front ts in
@@ -372,9 +373,81 @@ extern_turn_long b depth n m before f g ts us given h a =
     by_ends (before_end k) far close = close k
     by_ends (at_end t a) far close = far (let same = ap length a.behind in omega arith)
 
-extern_inside_ends : (b : Ending) (depth : ℕ) → BlockEnds b (extern_inside depth)
+pub extern_inside_ends : (b : Ending) (depth : ℕ) → BlockEnds b (extern_inside depth)
 unfolding extern_inside
 extern_inside_ends b depth n m before f g ts us given h a =
     when (symbol ts == 123)
     (λ e. rw (symbol_same b ts us h, e) (block_ends b (extern_turn depth) (extern_turn_long b depth) (λ end. extern_turn_found end depth) n m before f g ts us given h a))
     (λ e. rw (symbol_same b ts us h, e) (before_end (record { value = record { value = refl; found = a }; rest = h })))
+
+-- ---- what is ended takes a token
+
+leaf_fewer : (h : FrontRead) (ts : Tokens) → leaf_ended (leaf h ts).0 ≡ true → length (leaf h ts).1.left < length ts.left
+unfolding leaf invocation function trait_item enumeration union_item macro_def type_alias static_value constant structure implementation crate_item use_declaration macro_definition
+leaf_fewer h ts = by h.head
+  where
+    named_first : length (named ts).1.left ≤ length ts.left
+    named_first = fewer (named_leads ts)
+
+    by : (w : Head) → leaf_ended (leaf_by w h.attrs h.visibility ts).0 ≡ true → length (leaf_by w h.attrs h.visibility ts).1.left < length ts.left
+    by heads.Use e = let first = fewer (use_tree_leads ts) in let strict = eat_fewer 59 (use_tree ts).1 (omega arith) e in omega arith
+    by heads.ExternCrate e =
+        let p = (named_or (codes "self") ts).1 in
+        let first = fewer (named_or_leads (codes "self") ts) in
+        let second = fewer (renamed_leads p) in
+        let strict = eat_fewer 59 (renamed p).1 (omega arith) e in omega arith
+    by heads.Fn e = let strict = item_end_fewer (named ts).1 e in omega (arith, named_first)
+    by heads.Impl e = impl_end_fewer ts e
+    by heads.Trait e = let strict = item_end_fewer (named ts).1 e in omega (arith, named_first)
+    by heads.Struct e = let strict = item_end_fewer (named ts).1 e in omega (arith, named_first)
+    by heads.Union e = let strict = item_end_fewer (named ts).1 e in omega (arith, named_first)
+    by heads.Enum e = let strict = item_end_fewer (named ts).1 e in omega (arith, named_first)
+    by heads.Const e =
+        let second = fewer (eat_word_leads (codes "_") (named ts).1) in let strict = value_end_fewer (eat_word (codes "_") (named ts).1).1 e in omega (arith, named_first)
+    by heads.Static e =
+        let p = (eat_word (codes "mut") ts).1 in
+        let first = fewer (eat_word_leads (codes "mut") ts) in
+        let second = fewer (named_leads p) in
+        let strict = value_end_fewer (named p).1 e in omega arith
+    by heads.TypeAlias e = let strict = value_end_fewer (named ts).1 e in omega (arith, named_first)
+    by heads.MacroDef e = let strict = macro_end_fewer (named ts).1 e in omega (arith, named_first)
+    by heads.MacroRules e =
+        let first = fewer (named_or_leads (codes "try") ts) in let strict = call_end_fewer (named_or (codes "try") ts).1 e in omega arith
+    by _ e =
+        when (is_some (path ts).0 && is_called (path ts).1)
+        (λ f. rw f
+        (let first = fewer (path_leads ts) in
+        let second = fewer (bumped_leads (path ts).1) in
+        let strict = call_end_fewer (bumped (path ts).1) (rw f at e) in omega arith))
+        (λ f. absurd (let no = rw f at e in cc))
+
+pub leaf_turn_fewer : (depth : ℕ) (h : FrontRead) (f : Found) (ts : Tokens) → is_sound h.start ((leaf_turn depth h f ts).0, (leaf_turn depth h f ts).1.0) ≡ true → length (leaf_turn depth h f ts).1.1.left < length ts.left
+unfolding leaf_turn
+leaf_turn_fewer depth h f ts e = by (leaf h ts).0 (leaf h ts).1 (leaf_fewer h ts) e
+  where
+    by : (o : Option LeafRead) (us : Tokens) → (leaf_ended o ≡ true → length us.left < length ts.left) → is_sound h.start ((leaf_found depth h.start o f us).0, (leaf_found depth h.start o f us).1.0) ≡ true
+        → length (leaf_found depth h.start o f us).1.1.left < length ts.left
+    by None us strict e = absurd cc
+    by (Some l) us strict e = strict (sound_leaf depth h.start us.past l f e)
+
+module _ (b : Ending) (turn : Finder (Option ItemView)) (t : TurnLong b turn) (finds : (end : ℕ) → Finds end turn) where
+  pub block_fewer : (n : ℕ) (f : Found) (ts : Tokens) → IsLaid n ts → (block_of turn f ts).0.is_ended ≡ true → length (block_of turn f ts).1.1.left < length ts.left
+  unfolding finding
+  block_fewer n f ts laid e =
+      let inner = inner_attributes (bumped ts) in
+      let to : LeadsTo ts inner.1 = further (inner_attributes_leads (bumped ts)) in
+      let list = finding_from (is_list_end false) turn most [] f inner.1 in
+      let first = fewer to in
+      let second = fewer (list_leads b turn t finds n most [] f inner.1 (behind n to laid).laid) in
+      let strict = eat_fewer 125 list.1.1 (omega arith) e in omega arith
+
+pub extern_inside_fewer : (b : Ending) (depth n : ℕ) (f : Found) (ts : Tokens) → IsLaid n ts → (extern_inside depth f ts).0.is_ended ≡ true → length (extern_inside depth f ts).1.1.left < length ts.left
+unfolding extern_inside
+extern_inside_fewer b depth n f ts laid e =
+    when (symbol ts == 123)
+    (λ g. rw g (block_fewer b (extern_turn depth) (extern_turn_long b depth) (λ end. extern_turn_found end depth) n f ts laid (rw g at e)))
+    (λ g. absurd (let no = rw g at e in cc))
+
+pub found_leads : (depth start : ℕ) (o : Option LeafRead) (f : Found) (ts : Tokens) → LeadsTo ts (leaf_found depth start o f ts).1.1
+found_leads depth start None f ts = behind_others_leads ts
+found_leads depth start (Some l) f ts = here

@@ -163,22 +163,22 @@ unfolding value_end
 value_end_outcome b ts us h = rest_outcome b (taken_outcome b _ _ ts us h)
 
 -- what is ended takes a token
-abbrev TakesEnded : Reader RestRead → Type 0
+abbrev pub TakesEnded : Reader RestRead → Type 0
 TakesEnded end = (ts : Tokens) → (end ts).0.is_ended ≡ true → length (end ts).1.left < length ts.left
 
-item_end_fewer : TakesEnded item_end
+pub item_end_fewer : TakesEnded item_end
 unfolding item_end
 item_end_fewer ts e = taken_fewer _ _ ts e
 
-impl_end_fewer : TakesEnded impl_end
+pub impl_end_fewer : TakesEnded impl_end
 unfolding impl_end
 impl_end_fewer ts e = taken_fewer _ _ ts e
 
-macro_end_fewer : TakesEnded macro_end
+pub macro_end_fewer : TakesEnded macro_end
 unfolding macro_end
 macro_end_fewer ts e = taken_fewer _ _ ts e
 
-value_end_fewer : TakesEnded value_end
+pub value_end_fewer : TakesEnded value_end
 unfolding value_end
 value_end_fewer ts e = taken_fewer _ _ ts e
 
@@ -207,7 +207,7 @@ call_end_outcome b ts us h =
     (then_outcome semicolon_end semicolon_end semicolon_leads semicolon_leads semicolon_fewer (semicolon_outcome b) (taken_until b _ _ ts us h))))
     (λ e. rw (open_same b ts us h, e) (stays (record { value = record { body = refl; ended = refl; block = no_block; braces = refl }; rest = h })))
 
-call_end_fewer : TakesEnded call_end
+pub call_end_fewer : TakesEnded call_end
 unfolding call_end
 call_end_fewer ts e =
     when (is_at_open ts)
