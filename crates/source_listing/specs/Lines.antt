@@ -14,9 +14,9 @@ use Rattle.item_tree.specs.UseText.{shown_prefix, shown_rename}
 use Rattle.item_rows.specs.Rows.{RowView, Subject, no_subject, used, called}
 use Rattle.line_index.specs.Positions.{position_of}
 use Rattle.rust_items.specs.declared.source_file.ItemPlace.{ItemPlace}
-use Rattle.rust_items.specs.declared.log.Problem.{Problem}
-use Rattle.rust_items.specs.declared.log.ProblemKind.{ProblemKind}
-use Rattle.rust_items.specs.declared.log.ProblemKind.TheVariants as problem
+use Rattle.source_problems.specs.declared.problem.SourceProblem.{SourceProblem}
+use Rattle.source_problems.specs.declared.problem.SourceProblemKind.{SourceProblemKind}
+use Rattle.source_problems.specs.declared.problem.SourceProblemKind.TheVariants as problem
 use Rattle.source_listing.specs.Places.{item_place, place_text, spot_of}
 
 -- the word of a kind
@@ -104,16 +104,23 @@ outline_text s reserved places c rs = flat_map (item_line s reserved places) (fi
 
 -- ---- problems
 
-abbrev pub message : ProblemKind → List ℕ
+abbrev pub message : SourceProblemKind → List ℕ
 message problem.NoItem = codes "expected an item"
 message problem.Unmatched = codes "this bracket closes nothing"
 message problem.Unfinished = codes "this item has no end"
 message problem.Nameless = codes "this item has no name"
 message problem.Unterminated = codes "this literal or comment has no end"
 message problem.TooDeep = codes "this stands in too many others to be read"
+message problem.Mismatched = codes "this bracket closes one of another kind"
+message problem.Unclosed = codes "nothing closes this bracket"
+message problem.AttributePath = codes "an attribute here has no path that can be read"
+message problem.DeepAttribute = codes "an attribute here is nested too deep to be read"
+message problem.VisibilityPath = codes "the path of a visibility here cannot be read"
+message problem.UsePath = codes "a path of this use cannot be read"
+message problem.MacroPath = codes "the path of this macro call cannot be read"
 
-abbrev pub problem_line : Source → Problem → List ℕ
+abbrev pub problem_line : Source → SourceProblem → List ℕ
 problem_line s p = place_at s p.at ++ message p.kind ++ codes "\n"
 
-abbrev pub problem_lines : Source → List Problem → List ℕ
+abbrev pub problem_lines : Source → List SourceProblem → List ℕ
 problem_lines s ps = flat_map (problem_line s) ps

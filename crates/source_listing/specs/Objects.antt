@@ -15,8 +15,9 @@ use Rattle.item_rows.specs.Rows.{Subject, no_subject, used, called, node_subject
 use Rattle.line_index.specs.declared.Position.{Position}
 use Rattle.line_index.specs.Positions.{position_of}
 use Rattle.rust_items.specs.declared.log.Problem.{Problem}
-use Rattle.rust_items.specs.declared.log.ProblemKind.{ProblemKind}
 use Rattle.rust_items.specs.declared.source_file.ItemPlace.{ItemPlace}
+use Rattle.source_problems.specs.declared.problem.SourceProblemKind.{SourceProblemKind}
+use Rattle.source_problems.specs.Problems.{told_kind}
 use Rattle.source_listing.specs.declared.finder.Spot.{Spot}
 use Rattle.source_listing.specs.Lines.{Choice, Source, is_chosen, message, short_tree, word}
 use Rattle.source_listing.specs.Places.{spot_of}
@@ -113,16 +114,16 @@ module _ (s : Source) (reserved : List (List ℕ)) (places : List ItemPlace) (c 
 -- ---- problems
 
 -- what is wrong at a line and a column
-abbrev pub problem_at : Position → ProblemKind → Data
+abbrev pub problem_at : Position → SourceProblemKind → Data
 problem_at at kind =
     object
     (member (codes "column") (count_form at.column)
     (member (codes "line") (count_form at.line)
     (member (codes "message") (string (message kind)) no_members)))
 
--- the object of a problem of a text
+-- the object of what the reader of items tells of a text
 abbrev pub problem_form : List ℕ → Problem → Data
-problem_form text p = problem_at (position_of text p.at) p.kind
+problem_form text p = problem_at (position_of text p.at) (told_kind p.kind)
 
 abbrev pub problem_objects : List ℕ → List Problem → List Data
 problem_objects text ps = map (problem_form text) ps

@@ -7,21 +7,29 @@ ghost use Rattle.source_listing.specs.Views.{source_view};
 
 use crate::lines::{Source, push_place};
 use line_index::{LineIndex, Position};
-use rust_items::{Problem, ProblemKind};
+use rust_items::Problem;
 use serde_json::{Value, json};
+use source_problems::{SourceProblem, SourceProblemKind};
 use std::alloc::{AllocError, Global};
 
 /// What is wrong, in words.
-fn message(kind: ProblemKind) -> &'static str
+fn message(kind: SourceProblemKind) -> &'static str
     ensures { result.now ≡ spec.message kind }
 {
     match kind {
-        ProblemKind::NoItem => "expected an item",
-        ProblemKind::Unmatched => "this bracket closes nothing",
-        ProblemKind::Unfinished => "this item has no end",
-        ProblemKind::Nameless => "this item has no name",
-        ProblemKind::Unterminated => "this literal or comment has no end",
-        ProblemKind::TooDeep => "this stands in too many others to be read",
+        SourceProblemKind::NoItem => "expected an item",
+        SourceProblemKind::Unmatched => "this bracket closes nothing",
+        SourceProblemKind::Unfinished => "this item has no end",
+        SourceProblemKind::Nameless => "this item has no name",
+        SourceProblemKind::Unterminated => "this literal or comment has no end",
+        SourceProblemKind::TooDeep => "this stands in too many others to be read",
+        SourceProblemKind::Mismatched => "this bracket closes one of another kind",
+        SourceProblemKind::Unclosed => "nothing closes this bracket",
+        SourceProblemKind::AttributePath => "an attribute here has no path that can be read",
+        SourceProblemKind::DeepAttribute => "an attribute here is nested too deep to be read",
+        SourceProblemKind::VisibilityPath => "the path of a visibility here cannot be read",
+        SourceProblemKind::UsePath => "a path of this use cannot be read",
+        SourceProblemKind::MacroPath => "the path of this macro call cannot be read",
     }
 }
 
@@ -31,7 +39,7 @@ fn message(kind: ProblemKind) -> &'static str
 pub fn problem_lines(
     alloc: Global,
     source: Source<'_>,
-    problems: &[Problem],
+    problems: &[SourceProblem],
 ) -> Result<String, AllocError>
     ensures { IfOk result (λ text. string_bytes text ≡ spec.problem_lines (source_view source.entry) problems.now) }
 {
@@ -46,7 +54,11 @@ pub fn problem_lines(
 }
 
 /// The object of a problem.
-fn problem_value(alloc: Global, position: Position, kind: ProblemKind) -> Result<Value, AllocError>
+fn problem_value(
+    alloc: Global,
+    position: Position,
+    kind: SourceProblemKind,
+) -> Result<Value, AllocError>
     ensures { IfOk result (λ value. view value ≡ problem_at position kind) }
 {
     let (column, line) = (position.column, position.line);
@@ -54,7 +66,7 @@ fn problem_value(alloc: Global, position: Position, kind: ProblemKind) -> Result
     json!(in alloc; {"column": column, "line": line, "message": message})
 }
 
-/// The problems of a text as values, each an object with the `line` and the `column` at which it stands, and a `message` that
+/// What the reader of items tells of a text as values, each an object with the `line` and the `column` at which it stands, and a `message` that
 /// says what is wrong.
 ///
 /// The only error is want of memory.
@@ -69,7 +81,8 @@ pub fn problem_items(
     let mut lines = LineIndex::new(text);
     for problem in problems {
         let position = lines.position(problem.at);
-        items.push(problem_value(alloc, position, problem.kind)?)?;
+        let kind = SourceProblemKind::from(problem.kind);
+        items.push(problem_value(alloc, position, kind)?)?;
     }
     Ok(items)
 }

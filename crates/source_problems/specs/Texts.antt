@@ -1,6 +1,7 @@
 -- All that is wrong with a text.
 use Rattle.std.specs.Prelude.{ℕ, List, [], ◌∷◌, ◌++◌, map}
 use Rattle.std.specs.BTreeSet.{insert_key}
+use Rattle.std.specs.List.Sorted.{IsStrictlySortedBy}
 use Rattle.hir_input.specs.Syntax.{SyntaxView, syntax_view}
 use Rattle.rust_lexer.specs.Tokens.{tokens}
 use Rattle.rust_items.specs.declared.log.Problem.{Problem}
@@ -36,3 +37,7 @@ in_order ps = put_all [] ps
 -- all that is wrong with a text of which this was read, in order
 abbrev pub source_problems : List ℕ → SourceFile → List SourceProblem
 source_problems text file = in_order (all_problems text file)
+
+-- each stands before those behind it, by its place, or at one place by its kind
+abbrev pub AreInOrder : List SourceProblem → Type 0
+AreInOrder ps = IsStrictlySortedBy ord.ghosts.cmp ps

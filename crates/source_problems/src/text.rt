@@ -1,6 +1,7 @@
 //! All that is wrong with a text.
 
-ghost use Rattle.std.specs.Prelude.{◌≡◌, ◌++◌, IfOk, OnOk, map};
+ghost use Rattle.std.specs.Prelude.{◌≡◌, ◌<◌, ◌++◌, IfOk, OnOk, map};
+ghost use Rattle.std.specs.declared.cmp.Ordering.TheVariants.{Less};
 ghost use Rattle.hir_input.specs.Syntax.{syntax_view};
 ghost use Rattle.rust_items.specs.LineEnds.{place_by};
 ghost use Rattle.rust_lexer.specs.Tokens.{tokens};
@@ -73,7 +74,8 @@ fn push_told(read: &[Problem], problems: &mut Vec<SourceProblem>) -> Result<(), 
 
 /// The problems that are known, in order.
 fn listed(alloc: Global, known: &BTreeSet<SourceProblem>) -> Result<Vec<SourceProblem>, AllocError>
-    ensures { IfOk result (λ v. v.items ≡ known.now.keys) }
+    ensures listed { IfOk result (λ v. v.items ≡ known.now.keys) }
+    ensures ordered { IfOk result (λ v. spec.AreInOrder v.items) }
 {
     let mut ordered = Vec::with_capacity(alloc, known.len())?;
     for problem in known {
@@ -84,7 +86,8 @@ fn listed(alloc: Global, known: &BTreeSet<SourceProblem>) -> Result<Vec<SourcePr
 
 /// The problems in order, each once.
 fn in_order(alloc: Global, problems: &[SourceProblem]) -> Result<Vec<SourceProblem>, AllocError>
-    ensures { IfOk result (λ v. v.items ≡ spec.in_order problems.now) }
+    ensures all { IfOk result (λ v. v.items ≡ spec.in_order problems.now) }
+    ensures ordered { IfOk result (λ v. spec.AreInOrder v.items) }
 {
     let mut known = BTreeSet::new(alloc);
     for problem in problems {
@@ -104,9 +107,15 @@ pub fn source_problems(
     file: &SourceFile,
 ) -> Result<Vec<SourceProblem>, AllocError>
     ensures all { IfOk result (λ v. v.items ≡ spec.source_problems text.now file.now) }
+    ensures ordered { IfOk result (λ v. spec.AreInOrder v.items) }
 {
     let mut problems = line_problems(alloc, text)?;
     push_told(&file.problems, &mut problems)?;
     push_syntax(&file.syntax, &file.places, &mut problems)?;
     in_order(alloc, &problems)
 }
+
+// The derived order is that of places first.
+fn laws()
+    ensures by_place { (p q : SourceProblem) → p.at < q.at → ⟦<SourceProblem as Ord>⟧.cmp p q ≡ Less }
+{}

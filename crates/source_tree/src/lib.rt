@@ -3,10 +3,11 @@
 
 mod laws;
 
-ghost use Rattle.std.specs.Prelude.{◌≡◌, ◌≤◌, ◌^◌, false, length, IfOk, IfErr, OnOk};
+ghost use Rattle.std.specs.Prelude.{◌≡◌, ◌≢◌, ◌≤◌, ◌^◌, false, length, AllPairs, IfOk, IfErr, OnOk};
 ghost use Rattle.hir_input.specs.Syntax.{syntax_view};
 ghost use Rattle.item_tree.specs.Lowered.{IsTooLargeIn, kept_in};
-ghost use Rattle.source_tree.specs.Trees.{HasOwnIds, IsRefused, IsTreeOf};
+ghost use Rattle.rust_items.specs.SourceFiles.{IsSourceFile};
+ghost use Rattle.source_tree.specs.Trees.{HasOwnIds, IsRefused, IsTreeOf, IsUnread};
 
 use hir_input::{EditionYear, Name};
 use item_tree::{CrateData, ItemTree, LowerError, lower_syntax};
@@ -82,6 +83,26 @@ fn tree_of(
     })
 }
 
+/// Reads a text of an edition.
+///
+/// Errors: `TooLong` exactly where the text has more than 2^32 bytes, and want of memory.
+pub fn source_file(
+    alloc: Global,
+    text: &str,
+    edition: EditionYear,
+) -> Result<SourceFile, SourceError>
+    ensures file { IfOk result (IsSourceFile edition text.now) }
+    ensures ids { IfOk result (λ file. AllPairs (λ p q. p.id ≢ q.id) file.places.items) }
+    ensures short { OnOk result (length text.now ≤ 2 ^ 32) }
+    ensures refused { IfErr result (IsUnread text.now) }
+{
+    if text.len() > MOST_BYTES {
+        return Err(SourceError::TooLong);
+    }
+    let file = read_source_file(alloc, text, edition)?;
+    Ok(file)
+}
+
 /// Reads a text of an edition and makes its tree in a crate: the items that are kept, with the attributes that their metas
 /// collect under the crate's options, without those of the skipped names.
 ///
@@ -98,10 +119,7 @@ pub fn source_tree(
     ensures short { OnOk result (length text.now ≤ 2 ^ 32) }
     ensures refused { IfErr result (IsRefused krate.now skipped.now edition text.now) }
 {
-    if text.len() > MOST_BYTES {
-        return Err(SourceError::TooLong);
-    }
-    let file = read_source_file(alloc, text, edition)?;
+    let file = source_file(alloc, text, edition)?;
     let tree = tree_of(alloc, file, krate, skipped)?;
     Ok(tree)
 }
