@@ -2,9 +2,8 @@
 use hir_input_json::Fault;
 use item_tree::{EditFault, LowerError};
 use item_tree_request::{RunError, run};
-use std::alloc::Global;
+use std::alloc::{AllocError, Global};
 use std::io::{Error, ErrorKind, Read, Write};
-use std::test::Fail;
 
 // Two shows after an edit, a removal of what was never set, and an edit of a body text.
 const SMALL: &str =
@@ -97,114 +96,127 @@ impl Write for Writer {
     }
 }
 
-// The line of an edit that is refused for this, and its status.
-fn refused(alloc: Global, cause: LowerError) -> Result<(String, u8), Fail> {
-    let error = RunError::Refused {
-        place: 3,
-        cause: EditFault::Lower(cause),
-    };
-    Ok((error.to_string(alloc)?, error.status()))
+// Whether an edit that is refused for this has this line, and its status.
+fn is_refusal_shown(alloc: Global, cause: LowerError, wanted: &str) -> Result<bool, AllocError> {
+    let cause = EditFault::Lower(cause);
+    let error = RunError::Refused { place: 3, cause };
+    Ok(error.to_string(alloc)?.as_str() == wanted && error.status() == 4)
 }
+
+fn is_error_shown(alloc: Global, error: RunError, wanted: &str) -> Result<bool, AllocError> {
+    Ok(error.to_string(alloc)?.as_str() == wanted && error.status() == 6)
+}
+
+const REFUSALS: &[(LowerError, &str)] = &[
+    (LowerError::TooManyItems, "edit 3 refused: too many items"),
+    (
+        LowerError::TooManyVisibilities,
+        "edit 3 refused: too many visibilities",
+    ),
+    (
+        LowerError::TooManyUseTrees,
+        "edit 3 refused: too many use trees",
+    ),
+    (
+        LowerError::TooManyAttributes,
+        "edit 3 refused: too many attributes",
+    ),
+];
 
 // No request shows these.
 #[test]
-fn prints_errors(rt: HostRuntime) -> Result<(), Fail> {
-    for (cause, want) in [
-        (LowerError::TooManyItems, "edit 3 refused: too many items"),
-        (
-            LowerError::TooManyVisibilities,
-            "edit 3 refused: too many visibilities",
-        ),
-        (
-            LowerError::TooManyUseTrees,
-            "edit 3 refused: too many use trees",
-        ),
-        (
-            LowerError::TooManyAttributes,
-            "edit 3 refused: too many attributes",
-        ),
-    ] {
-        let (text, status) = refused(rt.alloc(), cause)?;
-        assert_eq!(rt; text.as_str(), want);
-        assert_eq!(rt; status, 4);
+fn prints_errors(rt: HostRuntime) {
+    let alloc = rt.alloc();
+    for &(cause, wanted) in REFUSALS {
+        assert!(rt;
+            is_refusal_shown(alloc, cause, wanted).unwrap_or(false),
+            "{wanted}"
+        );
     }
-    assert_eq!(rt;
-        RunError::Read.to_string(rt.alloc())?.as_str(),
-        "reading failed"
-    );
-    assert_eq!(rt;
-        RunError::Write.to_string(rt.alloc())?.as_str(),
-        "writing failed"
-    );
-    assert_eq!(rt; RunError::Read.status(), 6);
-    assert_eq!(rt; RunError::Write.status(), 6);
-    Ok(())
+    assert!(rt; is_error_shown(alloc, RunError::Read, "reading failed").unwrap_or(false));
+    assert!(rt; is_error_shown(alloc, RunError::Write, "writing failed").unwrap_or(false));
+}
+
+fn is_fault_shown(alloc: Global, fault: Fault, wanted: &str) -> Result<bool, AllocError> {
+    Ok(fault.to_string(alloc)?.as_str() == wanted)
 }
 
 #[test]
-fn prints_faults(rt: HostRuntime) -> Result<(), Fail> {
-    let wrong = Fault::here(rt.alloc()).to_string(rt.alloc())?;
-    assert_eq!(rt; wrong.as_str(), "wrong form");
-    let wanting = Fault::OutOfMemory.to_string(rt.alloc())?;
-    assert_eq!(rt; wanting.as_str(), "out of memory");
-    Ok(())
+fn prints_faults(rt: HostRuntime) {
+    let alloc = rt.alloc();
+    assert!(rt; is_fault_shown(alloc, Fault::here(alloc), "wrong form").unwrap_or(false));
+    assert!(rt; is_fault_shown(alloc, Fault::OutOfMemory, "out of memory").unwrap_or(false));
+}
+
+// Whether a run ends at a read that fails behind so many, and nothing is written.
+fn ends_at_read(alloc: Global, before: usize, kind: ErrorKind) -> bool {
+    let mut input = Reader {
+        rest: SMALL.as_bytes(),
+        before,
+        failure: Some(kind),
+        reads: 0,
+        least_room: usize::MAX,
+    };
+    let mut output = Vec::new(alloc);
+    let outcome = run(alloc, &mut input, &mut output);
+    matches!(outcome, Err(RunError::Read))
+        && input.reads == before
+        && input.least_room >= ROOM
+        && output.is_empty()
 }
 
 #[test]
-fn no_read_is_tried_again(rt: HostRuntime) -> Result<(), Fail> {
+fn no_read_is_tried_again(rt: HostRuntime) {
     for kind in [ErrorKind::Other, ErrorKind::Interrupted] {
         for before in 0..SMALL.len() + 1 {
-            let mut input = Reader {
-                rest: SMALL.as_bytes(),
-                before,
-                failure: Some(kind),
-                reads: 0,
-                least_room: usize::MAX,
-            };
-            let mut output = Vec::new(rt.alloc());
-            let outcome = run(rt.alloc(), &mut input, &mut output);
-            assert_eq!(rt; outcome, Err(RunError::Read), "after {before}");
-            assert_eq!(rt; input.reads, before);
-            assert!(rt; output.is_empty());
-            assert!(rt; input.least_room >= ROOM);
+            assert!(rt; ends_at_read(rt.alloc(), before, kind), "after {before}");
         }
     }
-    Ok(())
+}
+
+// Whether a run ends at a write that fails behind so many bytes, or well where there is none.
+fn ends_at_write(alloc: Global, before: usize, failure: Option<ErrorKind>) -> bool {
+    let mut output = Writer {
+        taken: Vec::new(alloc),
+        before,
+        failure,
+    };
+    let is_right = match run(alloc, &mut SMALL.as_bytes(), &mut output) {
+        Ok(()) => before == TREES.len(),
+        Err(error) => before != TREES.len() && error == RunError::Write,
+    };
+    is_right
+        && output.taken.len() == before
+        && TREES.as_bytes().starts_with(output.taken.as_slice())
 }
 
 // A byte a write is enough, and a failure among them is the last write. Behind the last byte there is none.
 #[test]
-fn no_write_is_tried_again(rt: HostRuntime) -> Result<(), Fail> {
+fn no_write_is_tried_again(rt: HostRuntime) {
     for failure in [None, Some(ErrorKind::Other), Some(ErrorKind::Interrupted)] {
         for before in 0..TREES.len() + 1 {
-            let mut output = Writer {
-                taken: Vec::new(rt.alloc()),
-                before,
-                failure,
-            };
-            let outcome = run(rt.alloc(), &mut SMALL.as_bytes(), &mut output);
-            assert_eq!(rt; outcome.is_ok(), before == TREES.len());
-            assert!(rt; outcome.is_ok() || outcome == Err(RunError::Write));
-            assert_eq!(rt; output.taken.len(), before);
-            assert!(rt; TREES.as_bytes().starts_with(output.taken.as_slice()));
+            assert!(rt;
+                ends_at_write(rt.alloc(), before, failure),
+                "after {before}"
+            );
         }
     }
-    Ok(())
 }
 
-#[test]
-fn never_ends(rt: HostRuntime) -> Result<(), Fail> {
+fn ends_after_most_reads(alloc: Global) -> bool {
     let mut input = Endless {
         reads: 0,
         least_room: usize::MAX,
     };
-    let mut output = Vec::new(rt.alloc());
-    assert_eq!(rt;
-        run(rt.alloc(), &mut input, &mut output),
-        Err(RunError::Read)
-    );
-    assert_eq!(rt; input.reads, MOST_READS);
-    assert!(rt; output.is_empty());
-    assert!(rt; input.least_room >= ROOM);
-    Ok(())
+    let mut output = Vec::new(alloc);
+    let outcome = run(alloc, &mut input, &mut output);
+    matches!(outcome, Err(RunError::Read))
+        && input.reads == MOST_READS
+        && input.least_room >= ROOM
+        && output.is_empty()
+}
+
+#[test]
+fn never_ends(rt: HostRuntime) {
+    assert!(rt; ends_after_most_reads(rt.alloc()));
 }

@@ -3,7 +3,7 @@ use crate::lowered::{bare_crate, edition};
 use hir_input::EditionYear;
 use hir_input::ast::{BlockExpr, Stmt, Tail};
 use item_tree::{ItemTree, LowerError, lower_block};
-use rust_items::read_block;
+use rust_items::{ItemPlace, Problem, SourceBlock, read_block};
 use std::alloc::{AllocError, Global};
 
 /// A letter for each statement (`I`tem, `M`acro call or `O`ther) and, behind a line, for what stands last.
@@ -183,28 +183,44 @@ fn a_block_is_whole_or_refused_when_memory_is_refused(rt: HostRuntime) {
     assert!(rt; first.is_some() || second.is_some());
 }
 
-// The places with the braces in them, and the problems.
-fn told(alloc: Global, text: &str) -> Result<String, AllocError> {
-    let read = read_block(alloc, text, EditionYear::E2024)?;
-    let mut told = String::new(alloc);
-    for place in &read.places {
-        let (start, end) = (place.range.start, place.range.end);
-        write!(told, "{start}..{end}")?;
-        if let Some(body) = place.body {
-            let (start, end) = (body.start, body.end);
-            write!(told, " {start}..{end}")?;
-        }
-        told.push_str("; ")?;
+// Adds a place, with the braces in it.
+fn tell_place(text: &mut String, place: &ItemPlace) -> Result<(), AllocError> {
+    let (start, end) = (place.range.start, place.range.end);
+    write!(text, "{start}..{end}")?;
+    if let Some(body) = place.body {
+        let (start, end) = (body.start, body.end);
+        write!(text, " {start}..{end}")?;
     }
-    for problem in &read.problems {
+    text.push_str("; ")
+}
+
+fn tell_places(text: &mut String, places: &[ItemPlace]) -> Result<(), AllocError> {
+    for place in places {
+        tell_place(text, place)?;
+    }
+    Ok(())
+}
+
+fn tell_problems(text: &mut String, problems: &[Problem]) -> Result<(), AllocError> {
+    for problem in problems {
         let (kind, at) = (problem.kind, problem.at);
-        write!(told, "{kind:?} at {at}; ")?;
+        write!(text, "{kind:?} at {at}; ")?;
     }
-    Ok(told)
+    Ok(())
+}
+
+// The places and the problems of a block.
+fn told(alloc: Global, read: &SourceBlock) -> Result<String, AllocError> {
+    let mut text = String::new(alloc);
+    tell_places(&mut text, &read.places)?;
+    tell_problems(&mut text, &read.problems)?;
+    Ok(text)
 }
 
 fn are_told(alloc: Global) -> Result<bool, AllocError> {
-    let told = told(alloc, "{ fn f() { } m!{} ) const A: u8 = 1 }")?;
+    let text = "{ fn f() { } m!{} ) const A: u8 = 1 }";
+    let read = read_block(alloc, text, EditionYear::E2024)?;
+    let told = told(alloc, &read)?;
     Ok(told.as_str() == "2..12 9..12; 13..17 15..17; 20..35; Unmatched at 18; Unfinished at 20; ")
 }
 

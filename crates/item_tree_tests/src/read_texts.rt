@@ -1,6 +1,6 @@
 //! Reading is whole or refused when a request for memory is refused, and tells the braces that items end with.
 use hir_input::EditionYear;
-use rust_items::read_source_file;
+use rust_items::{ItemPlace, read_source_file};
 use std::alloc::{AllocError, Global};
 
 const TEXT: &str = "//! A file.
@@ -32,10 +32,9 @@ fn a_text_is_whole_or_refused_when_memory_is_refused(rt: HostRuntime) {
 }
 
 // The texts of the braces that items end with, and `-` for those that end with none.
-fn bodies(alloc: Global, text: &str) -> Result<String, AllocError> {
-    let file = read_source_file(alloc, text, EditionYear::E2024)?;
+fn bodies(alloc: Global, text: &str, places: &[ItemPlace]) -> Result<String, AllocError> {
     let mut shown = String::new(alloc);
-    for place in &file.places {
+    for place in places {
         let body = match place.body {
             Some(body) => text.get(body.start..body.end).unwrap_or("no text"),
             None => "-",
@@ -73,7 +72,9 @@ const BRACES: &[(&str, &str)] = &[
 ];
 
 fn has_bodies(alloc: Global, text: &str, wanted: &str) -> Result<bool, AllocError> {
-    Ok(bodies(alloc, text)?.as_str() == wanted)
+    let file = read_source_file(alloc, text, EditionYear::E2024)?;
+    let shown = bodies(alloc, text, &file.places)?;
+    Ok(shown.as_str() == wanted)
 }
 
 // The first text whose items have other braces.

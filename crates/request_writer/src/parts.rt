@@ -21,6 +21,7 @@ use hir_input_writer::name::name_value;
 use hir_input_writer::syntax::syntax_value;
 use item_tree_db::Place;
 use item_tree_request::request::show::{Show, ShowKind};
+use json_object::{of_text, with};
 use serde_json::{Value, json};
 use std::alloc::{AllocError, Global};
 
@@ -86,7 +87,9 @@ fn file_number(index: usize) -> Result<u32, WriteFault>
 fn edit_object(alloc: Global, file: u32, syntax: Value) -> Result<Value, AllocError>
     ensures { IfOk result (λ v. view v ≡ objects.edit_object (number (unsigned file)) (view syntax)) }
 {
-    json!(in alloc; {"edit": "set_file", "file": file, "syntax": syntax})
+    let members = of_text(alloc, "edit", "set_file")?;
+    let members = with(alloc, members, "file", Value::from(file))?;
+    Ok(Value::Object(with(alloc, members, "syntax", syntax)?))
 }
 
 // A file set to its syntax.
@@ -130,13 +133,17 @@ fn kind_word(kind: ShowKind) -> &'static str
 fn file_object(alloc: Global, word: &str, file: u32) -> Result<Value, AllocError>
     ensures { IfOk result (λ v. view v ≡ objects.file_object word.now (number (unsigned 0)) (number (unsigned file))) }
 {
-    json!(in alloc; {"crate": 0u32, "file": file, "show": word})
+    let members = of_text(alloc, "show", word)?;
+    let members = with(alloc, members, "crate", Value::from(0u32))?;
+    Ok(Value::Object(with(alloc, members, "file", Value::from(file))?))
 }
 
 fn block_object(alloc: Global, word: &str, block: u32) -> Result<Value, AllocError>
     ensures { IfOk result (λ v. view v ≡ objects.block_object word.now (number (unsigned 0)) (number (unsigned block))) }
 {
-    json!(in alloc; {"block": block, "crate": 0u32, "show": word})
+    let members = of_text(alloc, "show", word)?;
+    let members = with(alloc, members, "crate", Value::from(0u32))?;
+    Ok(Value::Object(with(alloc, members, "block", Value::from(block))?))
 }
 
 fn place_value(alloc: Global, word: &str, place: Place) -> Result<Value, WriteFault>
@@ -151,7 +158,8 @@ fn place_value(alloc: Global, word: &str, place: Place) -> Result<Value, WriteFa
 fn changed_object(alloc: Global, since: u64) -> Result<Value, AllocError>
     ensures { IfOk result (λ v. view v ≡ objects.changed_object (number (unsigned since))) }
 {
-    json!(in alloc; {"show": "changed", "since": since})
+    let members = of_text(alloc, "show", "changed")?;
+    Ok(Value::Object(with(alloc, members, "since", Value::from(since))?))
 }
 
 fn show_value(alloc: Global, show: &Show) -> Result<Value, WriteFault>

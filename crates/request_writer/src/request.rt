@@ -19,7 +19,8 @@ use hir_input::ast::Syntax;
 use hir_input::{CfgAtom, Edition, Name};
 use hir_input_writer::WriteFault;
 use item_tree_request::request::show::Show;
-use serde_json::{Value, json};
+use json_object::with;
+use serde_json::{Map, Value};
 use std::alloc::{AllocError, Global};
 use thiserror::Error;
 
@@ -83,7 +84,13 @@ fn request_object(
 ) -> Result<Value, AllocError>
     ensures { IfOk result (λ v. view v ≡ object_of (view krate) (view edition) (items_view edits.items) (items_view shows.items) (items_view skipped.items)) }
 {
-    json!(in alloc; {"crates": [krate], "edition": edition, "edits": edits, "shows": shows, "skipped": skipped})
+    let crates = vec![in alloc; krate]?;
+    let members = with(alloc, Map::new(alloc), "crates", Value::from(crates))?;
+    let members = with(alloc, members, "edition", edition)?;
+    let members = with(alloc, members, "edits", Value::from(edits))?;
+    let members = with(alloc, members, "shows", Value::from(shows))?;
+    let members = with(alloc, members, "skipped", Value::from(skipped))?;
+    Ok(Value::Object(members))
 }
 
 fn written(
