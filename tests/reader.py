@@ -76,15 +76,17 @@ def part(value, steps):
 
 def answer(word, text, options):
     """What is compared with the line of a case that begins with a word."""
-    if word in ('outline', 'check'):
+    if word == 'check':
         return lines([word], text, options)
+    if word == 'outline':
+        return lines([word, '--no-members'], text, options)
     if word == 'items':
         items = walked(syntax(text, options)['items'], 'items')
         return '; '.join(' '.join(filter(None, [item['is'], item.get('name')])) for item in items)
     if word == 'ids':
         return '; '.join(item['id'] for item in walked(outline(text, options), 'children'))
     if word == 'count':
-        return str(len(run(['outline'], text, options).splitlines()))
+        return str(len(run(['outline', '--no-members'], text, options).splitlines()))
     steps = word.split('.')
     if steps[0] == 'outline':
         return part(outline(text, options), steps[1:])

@@ -96,10 +96,16 @@ fn outline<'a>(alloc: Global) -> Result<Command<'a>, Error> {
         "json",
         "Write a JSON object for each file, on a line of its own",
     );
-    let command = on_files(alloc, "outline", "Lists the items of files")?
-        .arg(depth)?
-        .arg(json)?
-        .arg(files(alloc))?;
+    let no_members = flag(alloc, "no-members", "Leave out the members of items");
+    let command = on_files(
+        alloc,
+        "outline",
+        "Lists the items of files and their members",
+    )?
+    .arg(depth)?
+    .arg(json)?
+    .arg(no_members)?
+    .arg(files(alloc))?;
     Ok(command)
 }
 

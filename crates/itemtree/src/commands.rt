@@ -55,12 +55,23 @@ impl From<AllocError> for Failure {
 /// What is done with each file.
 #[derive(Drop)]
 enum Action {
-    Outline { depth: Option<usize>, is_json: bool },
-    Page { has_ids: bool },
+    Outline {
+        depth: Option<usize>,
+        has_members: bool,
+        is_json: bool,
+    },
+    Page {
+        has_ids: bool,
+    },
     Imports,
     Duplicates,
-    Find { path: String, is_anywhere: bool },
-    Tags { lines: Vec<String> },
+    Find {
+        path: String,
+        is_anywhere: bool,
+    },
+    Tags {
+        lines: Vec<String>,
+    },
     Check,
 }
 
@@ -73,11 +84,15 @@ impl Action {
         source: Source<'_>,
     ) -> Result<(String, bool), SourceError> {
         match self {
-            Action::Outline { depth, is_json } => {
+            Action::Outline {
+                depth,
+                has_members,
+                is_json,
+            } => {
                 let text = if *is_json {
                     outline_json(alloc, source, options, *depth)?
                 } else {
-                    outline(alloc, source, options, *depth)?
+                    outline(alloc, source, options, *depth, *has_members)?
                 };
                 Ok((text, true))
             }
@@ -212,7 +227,12 @@ fn action_of(alloc: Global, name: &str, matches: &ArgMatches<'_>) -> Result<Acti
         "outline" => {
             let depth = matches.get_one::<usize>("depth");
             let is_json = matches.get_flag("json");
-            Ok(Action::Outline { depth, is_json })
+            let has_members = !matches.get_flag("no-members");
+            Ok(Action::Outline {
+                depth,
+                has_members,
+                is_json,
+            })
         }
         "page" => {
             let has_ids = matches.get_str("ids") != Some("off");

@@ -1,11 +1,14 @@
 -- What the commands answer, from the text of a file on.
-use Rattle.std.specs.Prelude.{◌≡◌, ◌↔◌, ℕ, Bool, IsTrue, if◌then◌else◌, Option, None, List, ◌++◌, length, string_bytes}
+use Rattle.std.specs.Prelude.{◌≡◌, ◌↔◌, ℕ, Bool, IsTrue, if◌then◌else◌, Option, Some, None, List, ◌++◌, length, string_bytes}
+use Rattle.hir_input.specs.Cfg.{AtomView}
 use Rattle.item_tree.specs.Page.{page}
 use Rattle.item_rows.specs.Rows.{rows}
 use Rattle.item_changes.specs.Changes.{changes}
+use Rattle.listed_members.specs.Listed.{Reading}
 use Rattle.source_listing.specs.Changed.{Side, change_lines}
 use Rattle.source_listing.specs.Imports.{import_lines}
-use Rattle.source_listing.specs.Lines.{Choice, Source, outline_text, problem_lines}
+use Rattle.source_listing.specs.Lines.{Choice, Source, problem_lines}
+use Rattle.source_listing.specs.Outlines.{outline_text, reading}
 use Rattle.source_listing.specs.Objects.{json_line}
 use Rattle.source_listing.specs.Pages.{without_ids}
 use Rattle.source_listing.specs.Repeated.{repeated_lines}
@@ -29,10 +32,18 @@ HasTree o = IsTreeOf o.krate o.skipped.items o.edition.year
 abbrev pub choice : Options → Option ℕ → Choice
 choice o depth = record { depth = depth; only_active = o.only_active }
 
--- the lines of the listed items
-abbrev pub IsOutline : Options → Option ℕ → Source → List ℕ → Type 0
-IsOutline o depth s out =
-    (t : SourceTree) × HasTree o s.text t × (out ≡ outline_text s o.edition.reserved.items t.places.items (choice o depth) (rows t.tree))
+-- the cfgs under which members are listed, if they are
+abbrev pub if_members : Options → Bool → Option (List AtomView)
+if_members o has_members = if has_members then Some o.krate.cfg else None
+
+abbrev pub reading_in : Options → Bool → Source → Reading
+reading_in o has_members s = reading s o.edition.year (if_members o has_members)
+
+-- the lines of the listed items, with or without those of their listed members
+abbrev pub IsOutline : Options → Option ℕ → Bool → Source → List ℕ → Type 0
+IsOutline o depth has_members s out =
+    (t : SourceTree) × HasTree o s.text t
+    × (out ≡ outline_text s (reading_in o has_members s) o.edition.reserved.items t.places.items (choice o depth) (rows t.tree))
 
 -- their objects, on one line
 abbrev pub IsJson : Options → Option ℕ → Source → List ℕ → Type 0

@@ -1,14 +1,14 @@
 //! What the commands of `itemtree` answer for one file, from its text on.
 #![tactic(auto)]
 
-ghost use Rattle.std.specs.Prelude.{◌≡◌, ◌≤◌, ◌^◌, length, map, IfOk, IfErr, OnOk, string_bytes};
+ghost use Rattle.std.specs.Prelude.{◌≡◌, ◌≤◌, ◌^◌, length, map, IfOk, IfErr, OnOk, option_copied, string_bytes};
 ghost use Rattle.itemtree_commands.specs.Answers as spec;
 ghost use Rattle.itemtree_commands.specs.Typing.{IsSameWhereTyped};
 ghost use Rattle.source_listing.specs.Ends.{IsBeginOf};
 ghost use Rattle.source_listing.specs.Views.{choice_view, query_view, source_view};
 ghost use Rattle.source_tree.specs.Trees.{HasOwnIds};
 
-use hir_input::{Edition, Name};
+use hir_input::{CfgOptions, Edition, Name};
 use item_tree::CrateData;
 use source_listing::{Choice, Query, Side, Source, without_ids};
 use source_tree::{SourceError, SourceTree, source_tree};
@@ -32,6 +32,17 @@ impl Options {
         Choice {
             depth,
             only_active: self.only_active,
+        }
+    }
+
+    /// The cfgs that are set, if members are listed under them.
+    fn members(&self, has_members: bool) -> Option<&CfgOptions>
+        ensures { option_copied result ≡ spec.if_members self.now has_members }
+    {
+        if has_members {
+            Some(&self.krate.cfg)
+        } else {
+            None
         }
     }
 }
@@ -81,7 +92,8 @@ fn read(alloc: Global, text: &str, options: &Options) -> Result<SourceTree, Sour
     )
 }
 
-/// `itemtree outline`: a line for each item, or for those in fewer than so many others.
+/// `itemtree outline`: a line for each item and each member of one, or for those in fewer than so many items; with or
+/// without members.
 ///
 /// Its errors are those of `source_tree`.
 #[tactic(auto, using(source_tree::proofs::Refused::no_memory))]
@@ -90,14 +102,18 @@ pub fn outline(
     source: Source<'_>,
     options: &Options,
     depth: Option<usize>,
+    has_members: bool,
 ) -> Result<String, SourceError>
-    ensures text { IfOk result (λ out. spec.IsOutline options.now depth (source_view source.entry) (string_bytes out)) }
+    ensures text { let outline = spec.IsOutline options.now depth has_members (source_view source.entry) in
+        IfOk result (λ out. outline (string_bytes out)) }
     ensures refused { IfErr result (spec.HasNoTree options.now source.entry.text.now) }
 {
     let file = read(alloc, source.text, options)?;
     let choice = options.choice(depth);
+    let members = options.members(has_members);
     let edition = &options.edition;
-    let text = source_listing::outline(alloc, source, &file.places, &file.tree, edition, choice)?;
+    let (places, tree) = (&file.places, &file.tree);
+    let text = source_listing::outline(alloc, source, places, tree, edition, members, choice)?;
     Ok(text)
 }
 

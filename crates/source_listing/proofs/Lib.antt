@@ -3,6 +3,7 @@ pub mod Found
 pub mod Nested
 pub mod NoFloats
 pub mod Pushed
+pub mod Outlined
 pub mod Imported
 pub mod Repeats
 pub mod Printers

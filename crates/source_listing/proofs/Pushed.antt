@@ -6,7 +6,7 @@ use Rattle.std.proofs.lemmas.Grind.{flat_map-append}
 use Rattle.std.proofs.lemmas.List.Elements.{filter-append}
 use Rattle.item_rows.specs.Rows.{RowView}
 use Rattle.rust_items.specs.declared.source_file.ItemPlace.{ItemPlace}
-use Rattle.source_listing.specs.Lines.{Source, Choice, is_listed, item_line, outline_text}
+use Rattle.source_listing.specs.Lines.{Source, Choice, is_listed}
 use Rattle.std.proofs.lemmas.List.Folds.{flat_map-map}
 use Rattle.source_listing.specs.Tags.{if_any, scope_field, tag, tags_under}
 use Rattle.source_listing.specs.Search.{Query, segment, is_found, found_line, found_lines}
@@ -15,12 +15,7 @@ pub seven_pushed : (o p i v w n s e o1 o2 o3 o4 o5 o6 o7 : List ℕ) → o1 ≡ 
     → o7 ≡ o ++ (p ++ i ++ v ++ w ++ n ++ s ++ e)
 seven_pushed o p i v w n s e o1 o2 o3 o4 o5 o6 o7 a b c d f g h = rw (h, g, f, d, c, b, a) (simp append_assoc)
 
--- the lines of one more item
-pub one_more : (s : Source) (reserved : List (List ℕ)) (places : List ItemPlace) (c : Choice) (rs : List RowView) (r : RowView)
-    → outline_text s reserved places c (rs ++ r ∷ []) ≡ outline_text s reserved places c rs ++ outline_text s reserved places c (r ∷ [])
-one_more s reserved places c rs r = ap (flat_map (item_line s reserved places)) (filter-append (is_listed c) rs (r ∷ [])) ∙ flat_map-append (item_line s reserved places) (filter (is_listed c) rs) (filter (is_listed c) (r ∷ []))
-
--- the same of what is looked for
+-- the lines of one more item that is looked for
 pub one_more_found : (s : Source) (reserved : List (List ℕ)) (places : List ItemPlace) (q : Query) (rs : List RowView) (r : RowView)
     → found_lines s reserved places q (rs ++ r ∷ []) ≡ found_lines s reserved places q rs ++ found_lines s reserved places q (r ∷ [])
 one_more_found s reserved places q rs r = ap (flat_map (found_line s reserved places)) (filter-append (is_found q) rs (r ∷ [])) ∙ flat_map-append (found_line s reserved places) (filter (is_found q) rs) (filter (is_found q) (r ∷ []))

@@ -1,6 +1,7 @@
 pub mod Ends
 pub mod Places
 pub mod Lines
+pub mod Outlines
 pub mod Changed
 pub mod Objects
 pub mod Uses

@@ -1,5 +1,5 @@
--- The lines of an outline, and of problems.
-use Rattle.std.specs.Prelude.{ℕ, Bool, true, not, ◌&&◌, ◌||◌, ◌*◌, nat_lt, if◌then◌else◌, List, [], ◌++◌, codes, replicate, filter, Option, Some, None}
+-- What lines are made of, and those of problems.
+use Rattle.std.specs.Prelude.{ℕ, Bool, true, not, ◌&&◌, ◌||◌, ◌*◌, nat_lt, if◌then◌else◌, List, [], ◌++◌, codes, replicate, Option, Some, None}
 use Rattle.std.specs.List.{flat_map}
 use Rattle.hir_input.specs.declared.ids.AstIdKind.{AstIdKind}
 use Rattle.hir_input.specs.declared.ids.AstIdKind.TheVariants as kind
@@ -13,11 +13,10 @@ use Rattle.item_tree.specs.Tree.{Tree, single, glob, prefixed}
 use Rattle.item_tree.specs.UseText.{shown_prefix, shown_rename}
 use Rattle.item_rows.specs.Rows.{RowView, Subject, no_subject, used, called}
 use Rattle.line_index.specs.Positions.{position_of}
-use Rattle.rust_items.specs.declared.source_file.ItemPlace.{ItemPlace}
 use Rattle.source_problems.specs.declared.problem.SourceProblem.{SourceProblem}
 use Rattle.source_problems.specs.declared.problem.SourceProblemKind.{SourceProblemKind}
 use Rattle.source_problems.specs.declared.problem.SourceProblemKind.TheVariants as problem
-use Rattle.source_listing.specs.Places.{item_place, place_text, spot_of}
+use Rattle.source_listing.specs.Places.{place_text}
 
 -- the word of a kind
 abbrev pub word : AstIdKind → List ℕ
@@ -47,7 +46,7 @@ pub record Source : Type 0 where
 abbrev pub place_at : Source → ℕ → List ℕ
 place_at s at = place_text s.path (position_of s.text at)
 
--- ---- outlines
+-- ---- items
 
 -- which items are listed: those in fewer than so many others, and only those that no cfg disables where that is asked
 pub record Choice : Type 0 where
@@ -93,14 +92,6 @@ line_end is_active = if is_active then codes "\n" else codes " (inactive)\n"
 -- four blanks a level
 abbrev pub indent : ℕ → List ℕ
 indent level = replicate (4 * level) 32
-
--- the line of an item: its place, four blanks for each item that it stands in, its visibility, the word of its kind, its name or what else it is told by, and whether a cfg disables it
-abbrev pub item_line : Source → List (List ℕ) → List ItemPlace → RowView → List ℕ
-item_line s reserved places r =
-    item_place s.path (spot_of s.text places r.id) ++ indent r.level ++ visibility_text reserved r.visibility ++ word r.id.kind ++ name_text reserved r.name ++ subject_text reserved r.subject ++ line_end r.is_active
-
-abbrev pub outline_text : Source → List (List ℕ) → List ItemPlace → Choice → List RowView → List ℕ
-outline_text s reserved places c rs = flat_map (item_line s reserved places) (filter (is_listed c) rs)
 
 -- ---- problems
 

@@ -1,7 +1,6 @@
-//! Outlines as lines of text.
-ghost use Rattle.std.specs.Prelude.{◌≡◌, ◌++◌, ◌∷◌, [], IfOk, OnOk, option_copied, string_bytes, map};
+//! What lines of text are made of.
+ghost use Rattle.std.specs.Prelude.{◌≡◌, ◌+◌, ◌++◌, OnOk, option_copied, string_bytes};
 ghost use Rattle.item_rows.specs.Views.{row_view};
-ghost use Rattle.item_rows.specs.Rows as rows;
 ghost use Rattle.source_listing.specs.Inner.{IsPrinterOf, IsSameFile, file_of, places_of, reserved_of};
 ghost use Rattle.source_listing.specs.Lines as spec;
 ghost use Rattle.source_listing.specs.Places.{AreDistinct, item_place, place_text, spot_of};
@@ -11,11 +10,11 @@ ghost use Rattle.source_listing.specs.Views.{choice_view, source_view};
 use crate::finder::{Finder, Spot};
 use crate::subjects::push_subject;
 use hir_input::{AstIdKind, Edition, FileAstId, Name};
-use item_rows::{Row, item_rows};
-use item_tree::{ItemTree, RawVisibility, VisibilityExplicitness};
+use item_rows::Row;
+use item_tree::{RawVisibility, VisibilityExplicitness};
 use line_index::Position;
 use rust_items::ItemPlace;
-use std::alloc::{AllocError, Global};
+use std::alloc::AllocError;
 
 /// A file: its path as it is to be written, and its text.
 #[derive(Clone, Copy)]
@@ -49,6 +48,17 @@ impl Choice {
         ensures { result ≡ spec.is_listed (choice_view self) (row_view row.now) }
     {
         self.takes(row.level, row.is_active)
+    }
+
+    /// Whether a member of an item in so many others is listed.
+    pub(crate) fn takes_inside(self, level: usize, is_active: bool) -> bool
+        ensures { result ≡ spec.is_chosen (choice_view self) (level + 1) is_active }
+    {
+        let is_within = match self.depth {
+            Some(depth) => level < depth && level + 1 < depth,
+            None => true,
+        };
+        is_within && (!self.only_active || is_active)
     }
 }
 
@@ -97,7 +107,7 @@ pub(crate) fn word(kind: AstIdKind) -> &'static str
     }
 }
 
-fn push_indent(level: usize, out: &mut String) -> Result<(), AllocError>
+pub(crate) fn push_indent(level: usize, out: &mut String) -> Result<(), AllocError>
     ensures { OnOk result (string_bytes out.new ≡ string_bytes out.old ++ spec.indent level) }
 {
     for _level in 0..level {
@@ -107,7 +117,7 @@ fn push_indent(level: usize, out: &mut String) -> Result<(), AllocError>
 }
 
 /// A visibility as it was written, and a blank.
-fn push_visibility(
+pub(crate) fn push_visibility(
     edition: &Edition,
     visibility: Option<&RawVisibility>,
     out: &mut String,
@@ -147,7 +157,7 @@ pub(crate) fn push_name(
 }
 
 /// The end of an item's line, which tells whether a cfg disables it.
-fn push_end(is_active: bool, out: &mut String) -> Result<(), AllocError>
+pub(crate) fn push_end(is_active: bool, out: &mut String) -> Result<(), AllocError>
     ensures { OnOk result (string_bytes out.new ≡ string_bytes out.old ++ spec.line_end is_active) }
 {
     out.push_str(if is_active { "\n" } else { " (inactive)\n" })
@@ -189,22 +199,6 @@ impl Printer<'_> {
         push_spot(self.path, spot, out)
     }
 
-    /// The line of an item.
-    fn push_item(&mut self, row: &Row<'_>, out: &mut String) -> Result<(), AllocError>
-        requires { AreDistinct (places_of self.old) }
-        ensures text { let line = spec.item_line (file_of self.old) (reserved_of self.old) (places_of self.old) in
-            OnOk result (string_bytes out.new ≡ string_bytes out.old ++ line (row_view row.now)) }
-        ensures same { IsSameFile self.old self.new }
-    {
-        self.push_place_of(row.id, out)?;
-        push_indent(row.level, out)?;
-        push_visibility(self.edition, row.visibility, out)?;
-        out.push_str(word(row.id.kind))?;
-        push_name(self.edition, row.name, out)?;
-        push_subject(self.edition, row.subject, out)?;
-        push_end(row.is_active, out)
-    }
-
     /// The place, the kind and the name of an item.
     pub(crate) fn push_found(&mut self, row: &Row<'_>, out: &mut String) -> Result<(), AllocError>
         requires { AreDistinct (places_of self.old) }
@@ -217,49 +211,4 @@ impl Printer<'_> {
         push_name(self.edition, row.name, out)?;
         out.push_str("\n")
     }
-
-    /// The line of an item, if that is chosen.
-    fn push_chosen(
-        &mut self,
-        choice: Choice,
-        row: &Row<'_>,
-        out: &mut String,
-    ) -> Result<(), AllocError>
-        requires { AreDistinct (places_of self.old) }
-        ensures text { let lines = spec.outline_text (file_of self.old) (reserved_of self.old) (places_of self.old) in
-            OnOk result (string_bytes out.new ≡ string_bytes out.old ++ lines (choice_view choice) (row_view row.now ∷ [])) }
-        ensures same { IsSameFile self.old self.new }
-    {
-        if !choice.lists(row) {
-            return Ok(());
-        }
-        self.push_item(row, out)
-    }
-}
-
-/// A line for each chosen item of a file's tree, before those of the items in it: file, line and column, four blanks for
-/// each item that it stands in, its visibility as it was written, the word of its kind, its name, and whether a cfg
-/// disables it. A use has its tree in place of a name, where `{..}` stands for a list, and a macro call the macro's path.
-///
-/// The places are those that the reader gave with the syntax of the tree. The only error is want of memory.
-#[tactic(auto, using(crate::proofs::Pushed::one_more))]
-pub fn outline(
-    alloc: Global,
-    source: Source<'_>,
-    places: &[ItemPlace],
-    tree: &ItemTree,
-    edition: &Edition,
-    choice: Choice,
-) -> Result<String, AllocError>
-    requires { AreDistinct places.now }
-    ensures { let lines = spec.outline_text (source_view source.entry) edition.now.reserved.items places.now in
-        IfOk result (λ text. string_bytes text ≡ lines (choice_view choice) (rows.rows tree.now)) }
-{
-    let mut printer = Printer::new(source, places, edition);
-    let mut out = String::new(alloc);
-    let rows = item_rows(alloc, tree)?;
-    for row in &rows {
-        printer.push_chosen(choice, row, &mut out)?;
-    }
-    Ok(out)
 }

@@ -64,9 +64,10 @@ fn spaced(alloc: Global, cursor: &mut Cursor<'_>) -> Result<String, AllocError>
     Ok(out)
 }
 
-/// The header of an item, of which this is the text.
+/// The header of an item, of which this is the text: what stands behind the words that begin it and their generics, up to
+/// its braces, its `where` or its `=`, as `Display for Circle` of an impl. The only error is want of memory.
 #[tactic(auto, unfolding(crate::specs::Headers::header))]
-pub(crate) fn header(alloc: Global, item: &str, edition: EditionYear) -> Result<String, AllocError>
+pub fn header(alloc: Global, item: &str, edition: EditionYear) -> Result<String, AllocError>
     ensures { IfOk result (λ out. string_bytes out ≡ spec.header edition item.now) }
 {
     let mut cursor = Cursor::new(item, edition);

@@ -107,7 +107,9 @@ fn has_members(kind: AstIdKind) -> bool
     )
 }
 
-fn members_in(
+/// The members of an item of a text, which has these braces: none, where items of its kind have none. The only error is
+/// want of memory.
+pub fn members_in(
     alloc: Global,
     kind: AstIdKind,
     text: &str,

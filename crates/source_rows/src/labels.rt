@@ -32,7 +32,7 @@ pub(crate) fn item_word(kind: AstIdKind) -> &'static str
 }
 
 /// The word of a member's kind.
-pub(crate) fn member_word(kind: MemberKind) -> &'static str
+pub fn member_word(kind: MemberKind) -> &'static str
     ensures { result.now ≡ spec.member_word kind }
 {
     match kind {
@@ -46,7 +46,7 @@ pub(crate) fn member_word(kind: MemberKind) -> &'static str
 }
 
 /// What stands in a range of a text; nothing, where it cuts a character.
-pub(crate) fn text_at(text: &str, range: TextRange) -> &str
+pub fn text_at(text: &str, range: TextRange) -> &str
     ensures { result.now ≡ spec.text_at text.now range }
 {
     match cut_out(text, range) {

@@ -6,5 +6,7 @@ mod items;
 mod labels;
 mod tokens;
 
-pub use items::{Part, parts};
+pub use headers::header;
+pub use items::{Part, members_in, parts};
+pub use labels::{member_word, text_at};
 pub use tokens::{bodies, rows};

@@ -1,0 +1,3 @@
+pub mod Enabled
+pub mod Listed
+pub mod Views

@@ -1,0 +1,10 @@
+//! What lists tell of items beside their tree: the type and the trait of an impl, and members that have a name, with their
+//! visibility and whether a cfg disables them.
+#![tactic(auto)]
+
+mod enabled;
+mod listed;
+mod reading;
+
+pub use listed::ListedMember;
+pub use reading::Reading;

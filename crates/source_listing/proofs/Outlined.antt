@@ -1,0 +1,25 @@
+-- Lines of outlines that are pushed one after another.
+use Rattle.std.proofs.Common.{◌≡◌, ℕ, ◌+◌, List, [], ◌∷◌, ◌++◌, ap, ◌∙◌}
+use Rattle.std.specs.Prelude.{filter}
+use Rattle.std.specs.List.{flat_map}
+use Rattle.std.proofs.lemmas.Grind.{flat_map-append}
+use Rattle.std.proofs.lemmas.List.Elements.{filter-append}
+use Rattle.item_rows.specs.Rows.{RowView}
+use Rattle.rust_items.specs.declared.source_file.ItemPlace.{ItemPlace}
+use Rattle.listed_members.specs.Listed.{Listed, Reading}
+use Rattle.source_listing.specs.Lines.{Source, Choice, is_chosen, is_listed}
+use Rattle.source_listing.specs.Outlines.{member_line, member_lines, outline_text, whole_lines}
+
+-- the lines of one more item
+pub one_more : (s : Source) (x : Reading) (reserved : List (List ℕ)) (places : List ItemPlace) (c : Choice) (rs : List RowView) (r : RowView)
+    → outline_text s x reserved places c (rs ++ r ∷ []) ≡ outline_text s x reserved places c rs ++ outline_text s x reserved places c (r ∷ [])
+one_more s x reserved places c rs r =
+    ap (flat_map (whole_lines s x reserved places c)) (filter-append (is_listed c) rs (r ∷ []))
+    ∙ flat_map-append (whole_lines s x reserved places c) (filter (is_listed c) rs) (filter (is_listed c) (r ∷ []))
+
+-- the same of members
+pub one_more_member : (s : Source) (reserved : List (List ℕ)) (c : Choice) (level : ℕ) (ms : List Listed) (m : Listed)
+    → member_lines s reserved c level (ms ++ m ∷ []) ≡ member_lines s reserved c level ms ++ member_lines s reserved c level (m ∷ [])
+one_more_member s reserved c level ms m =
+    ap (flat_map (member_line s reserved level)) (filter-append (λ x. is_chosen c (level + 1) x.is_active) ms (m ∷ []))
+    ∙ flat_map-append (member_line s reserved level) (filter (λ x. is_chosen c (level + 1) x.is_active) ms) (filter (λ x. is_chosen c (level + 1) x.is_active) (m ∷ []))
