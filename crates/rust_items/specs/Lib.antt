@@ -6,3 +6,4 @@ pub mod Ids
 pub mod LineEnds
 pub mod SourceFiles
 pub mod Places
+pub mod Alone
