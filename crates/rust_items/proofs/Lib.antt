@@ -13,3 +13,4 @@ pub mod NearFronts
 pub mod NearLeaves
 pub mod NearItems
 pub mod NearTurns
+pub mod Alone

@@ -7,3 +7,4 @@ pub mod LineEnds
 pub mod SourceFiles
 pub mod Places
 pub mod Typed
+pub mod Alone

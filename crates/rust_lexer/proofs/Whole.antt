@@ -59,7 +59,7 @@ pub record OpensAt (q y : List ℕ) : Type 0 where
   pub bare : is_shebang (tokens_from 0 0 (q ++ 123 ∷ y)) ≡ false
   pub unfenced : is_fence (q ++ 123 ∷ y) ≡ false
 
-plain_is : (text : List ℕ) → has_mark text ≡ false → is_shebang (tokens_from 0 0 text) ≡ false → is_fence text ≡ false → tokens text ≡ tokens_from 0 0 text
+pub plain_is : (text : List ℕ) → has_mark text ≡ false → is_shebang (tokens_from 0 0 text) ≡ false → is_fence text ≡ false → tokens text ≡ tokens_from 0 0 text
 unfolding tokens
 plain_is text e f g = rw (e, f, no_matter 0 text g) refl
 
@@ -86,7 +86,7 @@ tokens_apart q m m' s o h h' =
 
 -- ---- those that count
 
-filter_moved : (d : ℕ) (ts : List Piece) → filter is_significant (map (moved d) ts) ≡ map (moved d) (filter is_significant ts)
+pub filter_moved : (d : ℕ) (ts : List Piece) → filter is_significant (map (moved d) ts) ≡ map (moved d) (filter is_significant ts)
 filter_moved d [] = refl
 filter_moved d (t ∷ ts) = when (is_significant_kind t.kind) (λ e. rw e (ap (λ l. moved d t ∷ l) (filter_moved d ts))) (λ e. rw e (filter_moved d ts))
 

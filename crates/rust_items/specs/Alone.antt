@@ -1,0 +1,29 @@
+-- An item of a text, and the text that it is read from, alone.
+use Rattle.std.specs.Prelude.{◌≡◌, ◌+◌, ℕ, zero, suc, false, List, [], ◌∷◌, ◌++◌, length, slice_index, Option}
+use Rattle.std.specs.List.{filter}
+use Rattle.hir_input.specs.declared.edition.EditionYear.{EditionYear}
+use Rattle.rust_lexer.specs.Alone.{Stop, stop, overhang, EndsAlone, is_fence}
+use Rattle.rust_lexer.specs.Bytes.{is_continuation}
+use Rattle.rust_lexer.specs.Tokens.{has_mark, is_shebang, is_significant, tokens_from}
+use Rattle.rust_cursor.specs.Tokens.{Tokens}
+
+-- a text that ends with such a byte
+abbrev pub ended : List ℕ → Stop → List ℕ
+ended w o = w ++ stop o ∷ []
+
+-- it begins with no byte order mark, no shebang line and no dashes of frontmatter
+pub record IsPlain (text : List ℕ) : Type 0 where
+  pub mark : has_mark text ≡ false
+  pub shebang : is_shebang (tokens_from 0 0 text) ≡ false
+  pub fence : is_fence text ≡ false
+
+-- A part of a text that begins where a token does and ends with a `;` or a brace that is one, and what is behind it.
+pub record IsPart (q w : List ℕ) (o : Stop) (y : List ℕ) : Type 0 where
+  pub begins : overhang 0 q (w ++ stop o ∷ y) ≡ 0
+  pub ends : EndsAlone w o
+  pub behind : is_continuation (slice_index y 0) ≡ false
+  pub plain : IsPlain (ended w o)
+
+-- the tokens that are left of a text from the end of q on
+abbrev pub tokens_behind : EditionYear → Option ℕ → List ℕ → List ℕ → Tokens
+tokens_behind edition unended q z = record { past = length q; left = filter is_significant (tokens_from 0 (length q) z); unended = unended; edition = edition }
