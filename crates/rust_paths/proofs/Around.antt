@@ -115,11 +115,11 @@ unfolding scope scope_of
 scope_word ts v e =
     when (symbol (bumped (bumped ts)) == 41)
     (λ f. let g = rw f at e in
-        when (bytes_eq (word (bumped ts)) (codes "crate")) (λ h. word_symbol (codes "crate") (bumped ts) refl h)
-        (λ h. let i = rw h at g in
-            when (bytes_eq (word (bumped ts)) (codes "super")) (λ j. word_symbol (codes "super") (bumped ts) refl j)
-            (λ j. let k = rw j at i in
-                when (bytes_eq (word (bumped ts)) (codes "self")) (λ l. word_symbol (codes "self") (bumped ts) refl l) (λ l. absurd (let no = rw l at k in cc)))))
+    when (bytes_eq (word (bumped ts)) (codes "crate")) (λ h. word_symbol (codes "crate") (bumped ts) refl h)
+    (λ h. let i = rw h at g in
+    when (bytes_eq (word (bumped ts)) (codes "super")) (λ j. word_symbol (codes "super") (bumped ts) refl j)
+    (λ j. let k = rw j at i in
+    when (bytes_eq (word (bumped ts)) (codes "self")) (λ l. word_symbol (codes "self") (bumped ts) refl l) (λ l. absurd (let no = rw l at k in cc)))))
     (λ f. absurd (let no = rw f at e in cc))
 
 scope_closed : (ts : Tokens) (v : Visibility) → scope ts ≡ Some v → (symbol (bumped (bumped ts)) == 41) ≡ true
