@@ -104,7 +104,7 @@ symbol_fits b =
     (λ h. by_test (b == 93) (λ i. same_fits 93 b i (record { opening = refl; closing = refl }))
     (λ i. by_test (b == 125) (λ j. same_fits 125 b j (record { opening = refl; closing = refl }))
     (λ j. by_test (is_punctuation b) (λ k. rw (e, f, g, h, i, j, k) (record { opening = rw (e, f, g) refl; closing = rw (h, i, j) refl }))
-        (λ k. rw (e, f, g, h, i, j, k) (record { opening = refl; closing = refl }))))))))
+    (λ k. rw (e, f, g, h, i, j, k) (record { opening = refl; closing = refl }))))))))
 
 first_fits : (b : ℕ) (z : List ℕ) → Fits (first_cut b z).kind b
 unfolding first_cut
