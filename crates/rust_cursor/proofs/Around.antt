@@ -1,5 +1,5 @@
 -- The `}` of the braces around: what reads in braces and stays in them leaves it where it is.
-use Rattle.std.proofs.Common.{◌≡◌, ◌≢◌, ◌≤◌, ◌<◌, ℕ, zero, suc, ◌+◌, ◌-◌, ◌==◌, ◌||◌, ◌&&◌, Bool, true, false, Option, Some, None, List, [], ◌∷◌, ◌++◌, length, refl, ap, ◌∙◌, sym, subst, arith}
+use Rattle.std.proofs.Common.{◌≡◌, ◌≢◌, ◌≤◌, ◌<◌, ℕ, zero, suc, ◌==◌, ◌||◌, ◌&&◌, Bool, true, false, Option, None, List, [], ◌∷◌, length, refl, ap, ◌∙◌, sym, subst, arith}
 use Rattle.std.specs.Prelude.{if◌then◌else◌, not}
 use Rattle.std.specs.Str.{bytes_eq}
 use Rattle.std.proofs.lemmas.Bool.{eqb-true}
@@ -21,19 +21,19 @@ use Rattle.rust_lexer.proofs.Braces.{is_open_kind, is_close_kind, IsBracket, Are
 use Rattle.rust_cursor.specs.Tokens.{Tokens, tokens_of}
 use Rattle.rust_cursor.specs.Reader.{Reader}
 use Rattle.rust_cursor.specs.Words.{opens, closes, is_open, is_close, word_by, by_first, rest, symbol, word, is_empty, is_at_open, is_at_end, bumped, is_glued, is_pair, eat, eat_pair}
-use Rattle.rust_cursor.specs.Nests.{opens_other, closes_other, braces_behind, others_behind, flat, is_flat, is_mark, nest_behind}
+use Rattle.rust_cursor.specs.Nests.{opens_other, closes_other, braces_behind, others_behind, is_flat, is_mark, nest_behind}
 use Rattle.rust_cursor.specs.Brackets.{behind_closing, is_closing, closing, to_closing, behind_closed, behind_tree}
 use Rattle.rust_cursor.specs.Elements.{beyond, turns_from, turns, elements}
 use Rattle.rust_cursor.specs.Extents.{stops, ends, opened_behind, more, taking, taken, tree_text}
-use Rattle.rust_cursor.specs.Angles.{behind_field, closes_around, is_barred, is_reached, is_closed, reaching, reached, behind_angles}
-use Rattle.rust_cursor.proofs.Leads.{behind_closing_leads, bumped_leads, end_some, closing_leads, LeadsTo, here, further, through, Forwards, when, from_last, to_closing_leads, symbol_some, beyond_leads}
+use Rattle.rust_cursor.specs.Angles.{behind_field, closes_around, is_reached, is_closed, reaching, reached, behind_angles}
+use Rattle.rust_cursor.proofs.Leads.{behind_closing_leads, bumped_leads, end_some, closing_leads, LeadsTo, here, further, through, Forwards, when, from_last, symbol_some, beyond_leads}
 use Rattle.rust_cursor.proofs.Steps.{closing_stop, closing_more}
 use Rattle.rust_cursor.proofs.Scans.{taking_stop, taking_end, taking_more}
 use Rattle.rust_cursor.proofs.Reaches.{reaching_stop, reaching_end, reaching_more}
 use Rattle.rust_cursor.proofs.Laid.{IsLaid, behind, taken_behind, at_behind, tokens_laid}
 use Rattle.rust_cursor.proofs.Local.{both_true}
 use Rattle.rust_cursor.proofs.Braced.{inside_is, outside_is}
-use Rattle.rust_cursor.proofs.Passing.{stops_none, stops_deep, ends_deep, reached_none, reached_deep, closed_deep, closing_none, closing_deep, to_closing_ends, braces_of, shuts_not}
+use Rattle.rust_cursor.proofs.Passing.{stops_none, reached_none, closing_none, braces_of}
 
 -- in so many braces, and in so many other brackets around them
 abbrev pub deep : ℕ → ℕ → Nest
@@ -70,9 +70,9 @@ closing_any c ts n =
     from_last (λ ts. (n : Nest) → closing c n ts ≡ upto c n.braces n.others ts)
     (λ ts e n. closing_stop c n ts (closing_none c n ts e) ∙ sym (closing_stop c (deep n.braces n.others) ts (closing_none c (deep n.braces n.others) ts e)))
     (λ ts e inner n. when (is_closing c n ts)
-        (λ s. closing_stop c n ts s ∙ sym (closing_stop c (deep n.braces n.others) ts (closing_by c n ts ∙ s)))
-        (λ s. closing_more c n ts s ∙ inner (nest_behind n ts) ∙ next_of c n ts ∙ sym (next_of c (deep n.braces n.others) ts)
-            ∙ sym (closing_more c (deep n.braces n.others) ts (closing_by c n ts ∙ s) ∙ inner (nest_behind (deep n.braces n.others) ts))))
+    (λ s. closing_stop c n ts s ∙ sym (closing_stop c (deep n.braces n.others) ts (closing_by c n ts ∙ s)))
+    (λ s. closing_more c n ts s ∙ inner (nest_behind n ts) ∙ next_of c n ts ∙ sym (next_of c (deep n.braces n.others) ts)
+    ∙ sym (closing_more c (deep n.braces n.others) ts (closing_by c n ts ∙ s) ∙ inner (nest_behind (deep n.braces n.others) ts))))
     ts n
 
 upto_none : (c k j : ℕ) (ts : Tokens) → is_empty ts ≡ true → upto c k j ts ≡ ts
@@ -106,8 +106,8 @@ shut_at c k j ts some s =
     let t = rw some at s in
     when (k == 0)
     (λ z. let u = rw z at t in
-        when (symbol ts == 125) (λ f. by_brace (eqb-true k 0 z) f)
-        (λ f. let v = rw f at u in let p = other_parts (c == 123) (j == 0) (closes_other (symbol ts)) v in by_other (eqb-true k 0 z) (eqb-true j 0 p.0.1) p.0.0 p.1 f))
+    when (symbol ts == 125) (λ f. by_brace (eqb-true k 0 z) f)
+    (λ f. let v = rw f at u in let p = other_parts (c == 123) (j == 0) (closes_other (symbol ts)) v in by_other (eqb-true k 0 z) (eqb-true j 0 p.0.1) p.0.0 p.1 f))
     (λ z. absurd (let no = rw z at t in cc))
 
 pub shut_not : (c k j : ℕ) (ts : Tokens) → is_empty ts ≡ false → (Shuts c k j ts → ⊥) → is_shut c k j ts ≡ false
@@ -142,7 +142,7 @@ others_le : (k j j' s : ℕ) → j ≤ j' → others_next k j s ≤ others_next 
 others_le k j j' s l =
     when (k == 0)
     (λ z. when (opens_other s) (λ e. rw (z, e) (omega arith))
-        (λ e. when (closes_other s) (λ f. rw (z, e, f) (omega arith)) (λ f. when (s == 125) (λ g. rw (z, e, f, g) (omega arith)) (λ g. rw (z, e, f, g) l))))
+    (λ e. when (closes_other s) (λ f. rw (z, e, f) (omega arith)) (λ f. when (s == 125) (λ g. rw (z, e, f, g) (omega arith)) (λ g. rw (z, e, f, g) l))))
     (λ z. rw z l)
 
 braces_lt : (k k' s : ℕ) → k < k' → (k ≡ 0 → (s == 125) ≡ false) → braces_behind k s < braces_behind k' s
@@ -160,9 +160,9 @@ under_leads c ts k j k' j' u =
     from_last (λ ts. (k j k' j' : ℕ) → Under k j k' j' → LeadsTo (upto c k j ts) (upto c k' j' ts))
     (λ ts e k j k' j' u. rw (upto_none c k j ts e) (closing_leads c (deep k' j') ts))
     (λ ts e inner k j k' j' u. when (is_shut c k j ts)
-        (λ s. rw (closing_stop c (deep k j) ts s) (closing_leads c (deep k' j') ts))
-        (λ s. let s' = shut_not c k' j' ts e (λ h. no_shut c k j ts s (shut_under c k j k' j' ts u h)) in
-            rw (upto_more c k j ts s, upto_more c k' j' ts s') (inner _ _ _ _ (under_next c k j k' j' ts s u))))
+    (λ s. rw (closing_stop c (deep k j) ts s) (closing_leads c (deep k' j') ts))
+    (λ s. let s' = shut_not c k' j' ts e (λ h. no_shut c k j ts s (shut_under c k j k' j' ts u h)) in
+    rw (upto_more c k j ts s, upto_more c k' j' ts s') (inner _ _ _ _ (under_next c k j k' j' ts s u))))
     ts k j k' j' u
 
 -- in no bracket
@@ -205,8 +205,8 @@ pub plain_upto : (c : ℕ) (ts : Tokens) → IsPlain (symbol ts) → around c (b
 plain_upto c ts p =
     when (is_empty ts) (λ e. ap (around c) (bumped_none ts e))
     (λ e. let k : braces_behind 0 (symbol ts) ≡ 0 = rw (p.opens_brace, p.closes_brace) refl in
-        let j : others_next 0 0 (symbol ts) ≡ 0 = rw (p.opens, p.closes, p.closes_brace) refl in
-        sym (upto_more c 0 0 ts (shut_not c 0 0 ts e (plain_shuts c 0 0 ts p)) ∙ ap (λ m. upto c m (others_next 0 0 (symbol ts)) (bumped ts)) k ∙ ap (λ m. upto c 0 m (bumped ts)) j))
+    let j : others_next 0 0 (symbol ts) ≡ 0 = rw (p.opens, p.closes, p.closes_brace) refl in
+    sym (upto_more c 0 0 ts (shut_not c 0 0 ts e (plain_shuts c 0 0 ts p)) ∙ ap (λ m. upto c m (others_next 0 0 (symbol ts)) (bumped ts)) k ∙ ap (λ m. upto c 0 m (bumped ts)) j))
 
 -- one that has no symbol
 pub plain_around : (c : ℕ) (ts : Tokens) → symbol ts ≡ 0 → around c (bumped ts) ≡ around c ts
@@ -221,9 +221,9 @@ round_at : (c k j s : ℕ) (ts : Tokens) → (k ≡ 0 → j ≡ 0 → closes_oth
 round_at c k j s ts h g =
     when (k == 0)
     (λ z. when (opens_other (symbol ts)) (λ e. rw (z, e) (omega arith))
-        (λ e. when (closes_other (symbol ts))
-            (λ f. let some : j ≢ 0 = λ y. let no = h (eqb-true k 0 z) y in cc in rw (z, e, f) (omega arith))
-            (λ f. let i = g (eqb-true k 0 z) in rw (z, e, f, i) refl)))
+    (λ e. when (closes_other (symbol ts))
+    (λ f. let some : j ≢ 0 = λ y. let no = h (eqb-true k 0 z) y in cc in rw (z, e, f) (omega arith))
+    (λ f. let i = g (eqb-true k 0 z) in rw (z, e, f, i) refl)))
     (λ z. rw z refl)
 
 -- where one more bracket that is no brace is open
@@ -236,16 +236,17 @@ out_round c b ts k j g =
     from_last (λ ts. (k j : ℕ) → upto c k (suc j) ts ≡ around c (behind_closing b (upto b k j ts)))
     (λ ts e k j. upto_none c k (suc j) ts e ∙ sym (ap (λ t. around c (behind_closing b t)) (upto_none b k j ts e) ∙ ap (around c) (none_behind ts e) ∙ upto_none c 0 0 ts e))
     (λ ts e inner k j. when (is_shut b k j ts)
-        (λ s. at_end ts k j s (shut_at b k j ts e s) e)
-        (λ s. let s' = shut_not c k (suc j) ts e (round_shut c b k j ts g s) in
-            let same = round_at c k j 0 ts (λ z y. when (closes_other (symbol ts)) (λ f. when (symbol ts == 125) (λ h. no_shut b k j ts s (by_brace z h)) (λ h. no_shut b k j ts s (by_other z y g f h))) (λ f. f))
-                (λ z. when (symbol ts == 125) (λ f. no_shut b k j ts s (by_brace z f)) (λ f. f)) in
-            upto_more c k (suc j) ts s' ∙ ap (λ m. upto c (braces_behind k (symbol ts)) m (bumped ts)) same ∙ inner (braces_behind k (symbol ts)) (others_next k j (symbol ts))
-            ∙ ap (λ t. around c (behind_closing b t)) (sym (upto_more b k j ts s))))
+    (λ s. at_end ts k j s (shut_at b k j ts e s) e)
+    (λ s. let s' = shut_not c k (suc j) ts e (round_shut c b k j ts g s) in
+    let same = round_at c k j 0 ts (λ z y. when (closes_other (symbol ts)) (λ f. when (symbol ts == 125) (λ h. no_shut b k j ts s (by_brace z h)) (λ h. no_shut b k j ts s (by_other z y g f h))) (λ f. f))
+    (λ z. when (symbol ts == 125) (λ f. no_shut b k j ts s (by_brace z f)) (λ f. f)) in
+    upto_more c k (suc j) ts s' ∙ ap (λ m. upto c (braces_behind k (symbol ts)) m (bumped ts)) same ∙ inner (braces_behind k (symbol ts)) (others_next k j (symbol ts))
+    ∙ ap (λ t. around c (behind_closing b t)) (sym (upto_more b k j ts s))))
     ts k j
   where
     none_behind : (ts : Tokens) → is_empty ts ≡ true → behind_closing b ts ≡ ts
     none_behind ts e = when (symbol ts == 125) (λ f. rw (g, f) refl) (λ f. rw (g, f) (bumped_none ts e))
+
     at_end : (ts : Tokens) (k j : ℕ) → is_shut b k j ts ≡ true → Shuts b k j ts → is_empty ts ≡ false → upto c k (suc j) ts ≡ around c (behind_closing b (upto b k j ts))
     at_end ts k j s (by_brace z f) e =
         let closed : is_shut c k (suc j) ts ≡ true = rw z (shut_by_brace c (suc j) ts f) in
@@ -262,8 +263,10 @@ out_round c b ts k j g =
         not_one : (ts : Tokens) (k j : ℕ) → (symbol ts == 125) ≡ false → Shuts c k (suc j) ts → ⊥
         not_one ts k j h (by_brace z f) = cc
         not_one ts k j h (by_other z y i f g) = omega arith
+
         other_side : (s : ℕ) → closes_other s ≡ true → opens_other s ≡ false
         other_side s f = when (s == 41) (λ e. rw (eqb-true s 41 e) refl) (λ e. let r = rw e at f in rw (eqb-true s 93 r) refl)
+
         other_curly : (s : ℕ) → closes_other s ≡ true → (s == 123) ≡ false
         other_curly s f = when (s == 41) (λ e. rw (eqb-true s 41 e) refl) (λ e. let r = rw e at f in rw (eqb-true s 93 r) refl)
 
@@ -285,10 +288,10 @@ out_curly c ts k i =
     from_last (λ ts. (k i : ℕ) → upto c (suc k) 0 ts ≡ around c (bumped (upto 123 k i ts)))
     (λ ts e k i. upto_none c (suc k) 0 ts e ∙ sym (ap (λ t. around c (bumped t)) (upto_none 123 k i ts e) ∙ ap (around c) (bumped_none ts e) ∙ upto_none c 0 0 ts e))
     (λ ts e inner k i. let next = upto_more c (suc k) 0 ts (shut_not c (suc k) 0 ts e (deep_shuts c k 0 ts)) ∙ ap (λ m. upto c (braces_behind (suc k) (symbol ts)) m (bumped ts)) (frozen k (symbol ts)) in
-        when (is_shut 123 k i ts)
-        (λ s. at_end ts k i s (shut_at 123 k i ts e s) next)
-        (λ s. next ∙ ap (λ m. upto c m 0 (bumped ts)) (one_deeper k (symbol ts) (λ z. when (symbol ts == 125) (λ f. no_shut 123 k i ts s (by_brace z f)) (λ f. f)))
-            ∙ inner (braces_behind k (symbol ts)) (others_next k i (symbol ts)) ∙ ap (λ t. around c (bumped t)) (sym (upto_more 123 k i ts s))))
+    when (is_shut 123 k i ts)
+    (λ s. at_end ts k i s (shut_at 123 k i ts e s) next)
+    (λ s. next ∙ ap (λ m. upto c m 0 (bumped ts)) (one_deeper k (symbol ts) (λ z. when (symbol ts == 125) (λ f. no_shut 123 k i ts s (by_brace z f)) (λ f. f)))
+    ∙ inner (braces_behind k (symbol ts)) (others_next k i (symbol ts)) ∙ ap (λ t. around c (bumped t)) (sym (upto_more 123 k i ts s))))
     ts k i
   where
     at_end : (ts : Tokens) (k i : ℕ) → is_shut 123 k i ts ≡ true → Shuts 123 k i ts → upto c (suc k) 0 ts ≡ upto c (braces_behind (suc k) (symbol ts)) 0 (bumped ts) → upto c (suc k) 0 ts ≡ around c (bumped (upto 123 k i ts))
@@ -305,14 +308,14 @@ still_there end here h e = refl
 still_there {ts} {us} end (further p) h e =
     when (is_empty ts)
     (λ n. let none = bumped_none ts n in
-        let past : (bumped ts).past ≡ ts.past = ap (λ (t : Tokens). t.past) none in
-        let laid : IsLaid end (bumped ts) = subst (λ (t : Tokens). IsLaid end t) (sym none) h in
-        still_there end p laid (e ∙ sym past) ∙ none)
+    let past : (bumped ts).past ≡ ts.past = ap (λ (t : Tokens). t.past) none in
+    let laid : IsLaid end (bumped ts) = subst (λ (t : Tokens). IsLaid end t) (sym none) h in
+    still_there end p laid (e ∙ sym past) ∙ none)
     (λ n. let laid : IsLaid end (bumped ts) = (behind end (further here) h).laid in
-        let strict = taken_behind end ts h n in
-        let first = at_behind end ts h in
-        let later = (behind end p laid).past in
-        absurd (omega (arith, e)))
+    let strict = taken_behind end ts h n in
+    let first = at_behind end ts h in
+    let later = (behind end p laid).past in
+    absurd (omega (arith, e)))
 
 -- both ways, nothing has moved
 same_there : {ts us : Tokens} (end : ℕ) → LeadsTo ts us → LeadsTo us ts → IsLaid end ts → us ≡ ts
@@ -334,11 +337,11 @@ seen_at end c here h k j q = record { braces = k; others = j; is = refl }
 seen_at {ts} {t} end c (further p) h k j q =
     when (is_shut c k j ts)
     (λ s. let stop = closing_stop c (deep k j) ts s in
-        let same : t ≡ ts = same_there end (further p) (subst (λ (u : Tokens). LeadsTo t u) stop q) h in
-        record { braces = k; others = j; is = ap (upto c k j) same })
+    let same : t ≡ ts = same_there end (further p) (subst (λ (u : Tokens). LeadsTo t u) stop q) h in
+    record { braces = k; others = j; is = ap (upto c k j) same })
     (λ s. let more = upto_more c k j ts s in
-        let r = seen_at end c p (behind end (further here) h).laid (braces_behind k (symbol ts)) (others_next k j (symbol ts)) (subst (λ (u : Tokens). LeadsTo t u) more q) in
-        record { braces = r.braces; others = r.others; is = r.is ∙ sym more })
+    let r = seen_at end c p (behind end (further here) h).laid (braces_behind k (symbol ts)) (others_next k j (symbol ts)) (subst (λ (u : Tokens). LeadsTo t u) more q) in
+    record { braces = r.braces; others = r.others; is = r.is ∙ sym more })
 
 -- before the end of a bracket another token may be taken
 seen_next : (end c : ℕ) (t all : Tokens) → IsLaid end t → Seen c t all → LeadsTo t all → (t ≡ all → ⊥) → LeadsTo (around c (bumped t)) all
@@ -486,11 +489,11 @@ inside_within end c ts us s o p w =
     let to_all : LeadsTo last (around c ts) = subst (λ (t : Tokens). LeadsTo last t) (sym out_last) (through (behind_closing_leads b last) (to_around c (behind_closing b last))) in
     when (first.past == last.past)
     (λ g. let same : last ≡ first = still_there end w first_laid (sym (eqb-true first.past last.past g)) in
-        subst (λ (t : Tokens). LeadsTo (around c (behind_closing b t)) (around c ts)) same (rw out_last here))
+    subst (λ (t : Tokens). LeadsTo (around c (behind_closing b t)) (around c ts)) same (rw out_last here))
     (λ g. let to_end : LeadsTo first (around c ts) = through w to_all in
-        let seen = seen_at end c reaches laid e.braces e.others (subst (λ (t : Tokens). LeadsTo first t) (sym e.is) to_end) in
-        let seen' : Seen c first (around c ts) = record { braces = seen.braces; others = seen.others; is = seen.is ∙ e.is } in
-        closing_within end c b first (around c ts) first_laid seen' to_end (λ h. not_back end first last (around c ts) w to_all first_laid g h))
+    let seen = seen_at end c reaches laid e.braces e.others (subst (λ (t : Tokens). LeadsTo first t) (sym e.is) to_end) in
+    let seen' : Seen c first (around c ts) = record { braces = seen.braces; others = seen.others; is = seen.is ∙ e.is } in
+    closing_within end c b first (around c ts) first_laid seen' to_end (λ h. not_back end first last (around c ts) w to_all first_laid g h))
   where
     not_back : (end : ℕ) (first last all : Tokens) → LeadsTo first last → LeadsTo last all → IsLaid end first → (first.past == last.past) ≡ false → first ≡ all → ⊥
     not_back end first last all p q h g e =
@@ -506,7 +509,7 @@ tree_within end c ts s n =
     when (is_at_open ts)
     (λ e. rw e (inside_within end c ts (bumped ts) s (opens_at end ts s e) here here))
     (λ e. let p = neither (symbol ts == 123) (opens_other (symbol ts)) (sym (open_is end ts s) ∙ e) in
-        rw e (same_within c (bumped ts) ts (plain_upto c ts (record { opens_brace = p.0; closes_brace = n.no_brace; opens = p.1; closes = n.no_other }))))
+    rw e (same_within c (bumped ts) ts (plain_upto c ts (record { opens_brace = p.0; closes_brace = n.no_brace; opens = p.1; closes = n.no_other }))))
 
 beyond_within : (end c : ℕ) (ts us : Tokens) → IsSound end ts → LeadsTo ts us → NoCloser (symbol ts) → Within c us ts → Within c (beyond ts.past us) ts
 unfolding beyond
@@ -527,7 +530,7 @@ turns_from_within end c ends reader leads each shuts zero done ts s = here
 turns_from_within end c ends reader leads each shuts (suc n) done ts s =
     when (ends ts) (λ e. rw e here)
     (λ e. rw e (through (turns_from_within end c ends reader leads each shuts n _ (beyond ts.past (reader ts).1) (sound_on end (through (leads ts) (beyond_leads ts.past (reader ts).1)) s))
-        (beyond_within end c ts (reader ts).1 s (leads ts) (shuts ts s e) (each ts s e))))
+    (beyond_within end c ts (reader ts).1 s (leads ts) (shuts ts s e) (each ts s e))))
 
 pub turns_within : {A : Type 0} (end c : ℕ) (ends : Tokens → Bool) (reader : Reader (List A)) → Forwards reader → ((ts : Tokens) → IsSound end ts → ends ts ≡ false → Within c (reader ts).1 ts)
     → ((ts : Tokens) → IsSound end ts → ends ts ≡ false → NoCloser (symbol ts)) → Remains end c (turns ends reader)
@@ -552,11 +555,11 @@ module _ {S : Type 0} (c : ℕ) (go : S → Nest → Tokens → Tokens) (step : 
       from_last (λ ts. (s : S) (n : Nest) → Open n ts → LeadsTo (around c (go s n ts)) (upto c n.braces n.others ts))
       (λ ts e s n o. rw (stop s n ts (none n ts e)) (from_flat c n.braces n.others ts))
       (λ ts e inner s n o. when (stops n ts)
-          (λ p. rw (stop s n ts p) (from_flat c n.braces n.others ts))
-          (λ p. let next : upto c n.braces n.others ts ≡ upto c (nest_behind n ts).braces (nest_behind n ts).others (bumped ts) = upto_more c n.braces n.others ts (shut_not c n.braces n.others ts e (shuts n ts o p)) ∙ sym (next_of c n ts) in
-              when (ends n ts)
-              (λ q. rw (end s n ts p q) (subst (λ (t : Tokens). LeadsTo (around c (bumped ts)) t) (sym next) (from_flat c (nest_behind n ts).braces (nest_behind n ts).others (bumped ts))))
-              (λ q. rw (more s n ts p q) (subst (λ (t : Tokens). LeadsTo (around c (go (step s n ts) (nest_behind n ts) (bumped ts))) t) (sym next) (inner (step s n ts) (nest_behind n ts) (on n ts o p q))))))
+      (λ p. rw (stop s n ts p) (from_flat c n.braces n.others ts))
+      (λ p. let next : upto c n.braces n.others ts ≡ upto c (nest_behind n ts).braces (nest_behind n ts).others (bumped ts) = upto_more c n.braces n.others ts (shut_not c n.braces n.others ts e (shuts n ts o p)) ∙ sym (next_of c n ts) in
+      when (ends n ts)
+      (λ q. rw (end s n ts p q) (subst (λ (t : Tokens). LeadsTo (around c (bumped ts)) t) (sym next) (from_flat c (nest_behind n ts).braces (nest_behind n ts).others (bumped ts))))
+      (λ q. rw (more s n ts p q) (subst (λ (t : Tokens). LeadsTo (around c (go (step s n ts) (nest_behind n ts) (bumped ts))) t) (sym next) (inner (step s n ts) (nest_behind n ts) (on n ts o p q))))))
       ts s n o
 
 -- the end of what is around
@@ -671,6 +674,7 @@ counted_braces (t ∷ ts) h =
     by_opens : (k : TokenKind) (s : ℕ) → is_open_kind k ≡ (s == 123 || opens_other s) → opens k ≡ (s == 123 || opens_other s)
     by_opens kinds.OpenDelim s e = e
     by_opens _ s e = e
+
     by_closes : (k : TokenKind) (s : ℕ) → is_close_kind k ≡ (s == 125 || closes_other s) → closes k ≡ (s == 125 || closes_other s)
     by_closes kinds.CloseDelim s e = e
     by_closes _ s e = e
