@@ -1,5 +1,5 @@
 -- Attributes stay in the brackets that they stand in.
-use Rattle.std.proofs.Common.{◌≡◌, ◌≤◌, ◌<◌, ◌==◌, ◌||◌, ◌&&◌, ℕ, zero, suc, Bool, true, false, Option, Some, None, List, [], ◌∷◌, refl, ap, ◌∙◌, subst, sym, arith, codes}
+use Rattle.std.proofs.Common.{◌≡◌, ◌==◌, ◌||◌, ◌&&◌, ℕ, zero, suc, Bool, true, false, Option, Some, None, List, [], ◌∷◌, refl, ◌∙◌, subst, codes}
 use Rattle.std.specs.Prelude.{if◌then◌else◌, not, slice_index}
 use Rattle.std.specs.Str.{bytes_eq}
 use Rattle.std.proofs.lemmas.Bool.{eqb-true}
@@ -22,15 +22,14 @@ use Rattle.rust_cursor.proofs.Leads.{LeadsTo, here, further, through, Forwards, 
 use Rattle.rust_cursor.proofs.Local.{both_true}
 use Rattle.rust_cursor.proofs.Around.{around, Within, same_within, is_plain, IsSound, sound_on, Remains, NoCloser, OpensAt, round, opens_at, opens_no_closer, not_end, plain_of, plain_upto, plain_around, other_around, word_symbol, entered_within, inside_within, tree_within, turns_within, elements_within, tree_text_within, to_around}
 use Rattle.rust_cursor.proofs.Enclosed.{AreEnclosed}
-use Rattle.rust_paths.specs.Names.{name}
 use Rattle.rust_paths.specs.Paths.{path}
 use Rattle.rust_paths.proofs.Leads.{path_leads}
 use Rattle.rust_paths.proofs.Around.{name_around, path_within}
 use Rattle.rust_metas.specs.Literals.{is_literal_kind, is_truth, is_literal, is_ended, style_by, value, documentation}
 use Rattle.rust_metas.specs.Conditions.{comma_from, behind_comma, is_word_kind, is_option_word, option_name, pair, named, if_named, ended, condition_with, conditions, condition}
-use Rattle.rust_metas.specs.Metas.{input, plain, is_call, unsafe_with, cfg_with, member, cfg_attr_with, meta_with, meta, doc}
-use Rattle.rust_metas.specs.Attributes.{behind_docs_from, behind_docs, behind_attribute, outer_attributes, deepest, is_style, is_doc, is_attribute, is_behind, behind_bracket, bracketed, opened, one_attribute, attribute, attributes, inner_attributes}
-use Rattle.rust_metas.proofs.Leads.{option_name_leads, if_named_leads, condition_with_leads, conditions_leads, condition_leads, member_leads, meta_leads, bracketed_leads, one_attribute_leads, attribute_leads}
+use Rattle.rust_metas.specs.Metas.{input, plain, is_call, member, meta_with, meta, doc}
+use Rattle.rust_metas.specs.Attributes.{behind_docs_from, behind_docs, behind_attribute, outer_attributes, deepest, is_style, is_doc, is_attribute, is_behind, bracketed, opened, one_attribute, attribute, attributes, inner_attributes}
+use Rattle.rust_metas.proofs.Leads.{option_name_leads, if_named_leads, condition_with_leads, conditions_leads, condition_leads, member_leads, meta_leads, attribute_leads}
 
 -- ---- literals
 
@@ -52,8 +51,8 @@ unfolding is_literal is_truth
 literal_symbol ts e =
     when (is_literal_kind (kind ts)) (λ f. kind_symbol ts f)
     (λ f. let g = rw f at e in
-        when (bytes_eq (word ts) (codes "true")) (λ i. word_symbol (codes "true") ts refl i)
-        (λ i. let j = rw i at g in word_symbol (codes "false") ts refl j))
+    when (bytes_eq (word ts) (codes "true")) (λ i. word_symbol (codes "true") ts refl i)
+    (λ i. let j = rw i at g in word_symbol (codes "false") ts refl j))
 
 value_around : (c anchor : ℕ) (ts : Tokens) → around c (value anchor ts).1 ≡ around c ts
 unfolding value
@@ -68,7 +67,7 @@ comma_within end c zero ts s = here
 comma_within end c (suc n) ts s =
     when (is_at_end ts) (λ e. rw e here)
     (λ e. rw e (when (symbol ts == 44) (λ f. rw f (same_within c (bumped ts) ts (other_around c 44 ts refl f)))
-        (λ f. rw f (through (comma_within end c n (behind_tree ts) (sound_on end (behind_tree_leads ts) s)) (tree_within end c ts s (not_end end ts s e))))))
+    (λ f. rw f (through (comma_within end c n (behind_tree ts) (sound_on end (behind_tree_leads ts) s)) (tree_within end c ts s (not_end end ts s e))))))
 
 behind_comma_within : (end c : ℕ) (ts : Tokens) → IsSound end ts → Within c (behind_comma ts) ts
 unfolding behind_comma
@@ -175,9 +174,9 @@ module _ (end : ℕ) (inner : Reader MetaView) (condition : Reader CfgView) (i :
       when (is_call (codes "unsafe") ts) (λ e. rw e (call_within end c (codes "unsafe") ts (inner twice).1 refl s e (f twice) (i b twice s2)))
       (λ e. rw e (when (is_call (codes "cfg") ts) (λ g. rw g (call_within end c (codes "cfg") ts (condition twice).1 refl s g (d twice) (j b twice s2)))
       (λ g. rw g (when (is_call (codes "cfg_attr") ts)
-          (λ h. rw h (call_within end c (codes "cfg_attr") ts (elements (one (member inner)) (condition twice).1).1 refl s h (through (d twice) (members_leads (condition twice).1))
-              (through (elements_within end b (one (member inner)) (member_leads inner condition f d) (member_within b) (condition twice).1 (sound_on end (d twice) s2)) (j b twice s2))))
-          (λ h. rw h (plain_within end c anchor ts s))))))
+      (λ h. rw h (call_within end c (codes "cfg_attr") ts (elements (one (member inner)) (condition twice).1).1 refl s h (through (d twice) (members_leads (condition twice).1))
+      (through (elements_within end b (one (member inner)) (member_leads inner condition f d) (member_within b) (condition twice).1 (sound_on end (d twice) s2)) (j b twice s2))))
+      (λ h. rw h (plain_within end c anchor ts s))))))
 
 meta_within : (end anchor depth c : ℕ) → Remains end c (meta anchor depth)
 unfolding meta
