@@ -166,7 +166,7 @@ under_leads c ts k j k' j' u =
     ts k j k' j' u
 
 -- in no bracket
-pub from_flat : (c k j : ℕ) (ts : Tokens) → LeadsTo (around c ts) (upto c k j ts)
+from_flat : (c k j : ℕ) (ts : Tokens) → LeadsTo (around c ts) (upto c k j ts)
 from_flat c k j ts = under_leads c ts 0 0 k j (when (k == 0) (λ z. level (sym (eqb-true k 0 z)) (omega arith)) (λ z. deeper (grind (arith, nat_tests))))
 
 -- it is left of them

@@ -48,6 +48,7 @@ use Rattle.rust_leaves.specs.Leaves.{RestRead, LeafRead, named, impl_end, item_e
 use Rattle.rust_cursor.specs.Angles.{behind_angles}
 use Rattle.rust_leaves.specs.Kinds.{node, named_node, function, union_item, enumeration, trait_item, structure, implementation, use_read, use_declaration, is_called, called, call_behind, some_read, invocation, leaf_by, leaf}
 use Rattle.rust_leaves.specs.Texts.{bare, last_text}
+use Rattle.rust_leaves.proofs.Fields.{field_leads}
 use Rattle.rust_leaves.proofs.Fronts.{modifiers_beside, head_local}
 use Rattle.rust_leaves.proofs.Beside.{named_local, item_end_local, impl_end_local, call_end_local, NameAlike, RestAlike, LeafAlike, function_local, block_item_local, macro_def_local, type_alias_local, static_local, constant_local, structure_local, implementation_local, macro_definition_local}
 use Rattle.rust_leaves.proofs.Crates.{crate_item_local, is_called_same, called_next, SameLast, beyond_braces, same_text, last_same}
@@ -132,10 +133,6 @@ block_attributes_until b plain end {v = v} l (block t before some close) (passin
         (λ k. both_same k.value)
 
 -- ---- fields
-
-field_leads : Forwards field
-unfolding field
-field_leads ts = through (outer_attributes_leads ts) (through (visibility_leads _) (through (reached_leads _ _) (eat_leads _ _)))
 
 field_until : (b : Bodies) → UpTo b field
 unfolding field
