@@ -12,7 +12,8 @@ use Rattle.item_tree.proofs.BodyTexts.{kept_without_bodies}
 use Rattle.rust_written.proofs.Outlines.{typing_inside}
 use Rattle.source_tree.specs.declared.SourceTree.{SourceTree}
 use Rattle.source_tree.specs.Trees.{IsTreeOf}
-use Rattle.itemtree_commands.specs.Typing.{IsSameWhereTyped}
+use Rattle.rust_typing.proofs.Typing as bodies
+use Rattle.itemtree_commands.specs.Typing.{IsSameWhereTyped, IsSameInBody}
 
 kept_alike : (krate : CrateData) (skipped : List (List ℕ)) (s t : SyntaxView) → without_bodies s ≡ without_bodies t → kept_in krate false skipped s ≡ kept_in krate false skipped t
 kept_alike krate skipped s t e =
@@ -22,3 +23,8 @@ pub same_tree : (krate : CrateData) (skipped : List (List ℕ)) (edition : Editi
     → IsSameWhereTyped old new same
 same_tree krate skipped edition old new t u same l r d before after w x e =
     d.1 (l.tree ∙ kept_alike krate skipped (syntax_view l.file.syntax) (syntax_view r.file.syntax) (typing_inside edition before after old new l.file r.file w x e l.is_read r.is_read) ∙ sym r.tree)
+
+pub same_in_body : (krate : CrateData) (skipped : List (List ℕ)) (edition : EditionYear) (old new : List ℕ) (t u : SourceTree) (same : Bool) → IsTreeOf krate skipped edition old t → IsTreeOf krate skipped edition new u → (IsTrue same ↔ (t.tree ≡ u.tree))
+    → IsSameInBody edition old new same
+same_in_body krate skipped edition old new t u same l r d q m m' s e e' h =
+    d.1 (l.tree ∙ kept_alike krate skipped (syntax_view l.file.syntax) (syntax_view r.file.syntax) (bodies.typing_inside edition q m m' s old new l.file r.file e e' h l.is_read r.is_read) ∙ sym r.tree)

@@ -1,8 +1,15 @@
 -- Texts that differ in what is typed inside items.
 use Rattle.std.specs.Prelude.{◌≡◌, ℕ, Bool, List, IsTrue}
+use Rattle.hir_input.specs.declared.edition.EditionYear.{EditionYear}
+use Rattle.rust_items.specs.LineEnds.{with_feeds}
+use Rattle.rust_typing.specs.Laws.{with_body, IsTyped}
 use Rattle.rust_written.specs.Written.{Items, outline}
 use Rattle.rust_written.specs.Laws.{Writes}
 
 -- the answer is yes, where the texts write items that have the same outline
 abbrev pub IsSameWhereTyped : List ℕ → List ℕ → Bool → Type 0
 IsSameWhereTyped old new same = (before after : Items) → Writes before old → Writes after new → outline before ≡ outline after → IsTrue same
+
+-- the answer is yes, where what stands in a body was typed anew
+abbrev pub IsSameInBody : EditionYear → List ℕ → List ℕ → Bool → Type 0
+IsSameInBody edition old new same = (q m m' s : List ℕ) → with_feeds old ≡ with_body q m s → with_feeds new ≡ with_body q m' s → IsTyped edition q m m' s → IsTrue same

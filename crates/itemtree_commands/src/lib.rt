@@ -3,7 +3,7 @@
 
 ghost use Rattle.std.specs.Prelude.{◌≡◌, ◌≤◌, ◌^◌, length, map, IfOk, IfErr, OnOk, string_bytes};
 ghost use Rattle.itemtree_commands.specs.Answers as spec;
-ghost use Rattle.itemtree_commands.specs.Typing.{IsSameWhereTyped};
+ghost use Rattle.itemtree_commands.specs.Typing.{IsSameInBody, IsSameWhereTyped};
 ghost use Rattle.source_listing.specs.Ends.{IsBeginOf};
 ghost use Rattle.source_listing.specs.Views.{choice_view, query_view, source_view};
 ghost use Rattle.source_tree.specs.Trees.{HasOwnIds};
@@ -260,6 +260,8 @@ pub fn changed(
     ensures compared { let compared = spec.AreCompared options.now (source_view old.entry) (source_view new.entry) in
         IfOk result compared }
     ensures typing { IfOk result (λ c. IsSameWhereTyped old.entry.text.now new.entry.text.now c.is_same) }
+    ensures typed { let same = IsSameInBody options.now.edition.year old.entry.text.now new.entry.text.now in
+        IfOk result (λ c. same c.is_same) }
     ensures refused { IfErr result (spec.IsUncompared options.now old.entry.text.now new.entry.text.now) }
 {
     let before = match read(alloc, old.text, options) {

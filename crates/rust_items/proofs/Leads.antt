@@ -155,7 +155,7 @@ named_or_leads : (keyword : List ℕ) → Forwards (named_or keyword)
 unfolding named_or
 named_or_leads keyword ts = when (bytes_eq (word ts) keyword) (λ e. rw e (bumped_leads ts)) (λ e. rw e (named_leads ts))
 
-word_some : (keyword : List ℕ) → bytes_eq [] keyword ≡ false → (ts : Tokens) → bytes_eq (word ts) keyword ≡ true → is_empty ts ≡ false
+pub word_some : (keyword : List ℕ) → bytes_eq [] keyword ≡ false → (ts : Tokens) → bytes_eq (word ts) keyword ≡ true → is_empty ts ≡ false
 word_some keyword some ts e = when (is_empty ts) (λ h. let none = word_none ts h in let wrong : bytes_eq [] keyword ≡ true = rw none at e in absurd cc) (λ h. h)
 
 named_or_named : (keyword : List ℕ) → bytes_eq [] keyword ≡ false → (ts : Tokens) → IsNamed ts (named_or keyword ts).1 (named_or keyword ts).0.range

@@ -9,7 +9,7 @@ use Rattle.hir_input.specs.declared.ids.AstIdKind.{AstIdKind}
 use Rattle.hir_input.specs.declared.ids.AstIdKind.TheVariants as kind
 use Rattle.hir_input.specs.Attr.{MetaView}
 use Rattle.hir_input.specs.Bodies.{node_without_body, named_without_body, item_without_bodies, items_without_bodies}
-use Rattle.hir_input.specs.Syntax.{NodeView, NamedView, ItemView, ItemViews, fn_kind, static_kind, type_alias_kind, plain_item, const_item, struct_item, bare_module, listed_module, use_item, extern_crate, bare_extern_block, listed_extern_block, impl_item, macro_call, macro_rules, asm_item, tuple_fields, no_items, item_and, items_from, module_from, extern_block_from}
+use Rattle.hir_input.specs.Syntax.{NodeView, NamedView, ItemView, ItemViews, fn_kind, static_kind, type_alias_kind, plain_item, const_item, struct_item, bare_module, listed_module, use_item, extern_crate, bare_extern_block, listed_extern_block, impl_item, macro_call, macro_rules, asm_item, no_items, item_and, items_from, module_from, extern_block_from}
 use Rattle.rust_cursor.specs.Tokens.{Tokens, end_of}
 use Rattle.rust_cursor.specs.Words.{symbol, at, eat, is_empty, is_at_end, bumped}
 use Rattle.rust_cursor.specs.Brackets.{behind_tree}
@@ -23,7 +23,6 @@ use Rattle.rust_cursor.proofs.Passing.{beyond_beside, behind_tree_beside}
 use Rattle.rust_cursor.proofs.Local.{eat_local, symbol_test}
 use Rattle.rust_cursor.proofs.Until.{Gone, gone_on, by_kept, by_next, bumped_onward}
 use Rattle.rust_cursor.proofs.Alike.{by_stayed}
-use Rattle.rust_cursor.proofs.Around.{IsSound, sound_on}
 use Rattle.rust_cursor.proofs.Places as places
 use Rattle.rust_ids.specs.Row.{Row}
 use Rattle.rust_paths.specs.declared.names.TextRange.{TextRange}
@@ -44,12 +43,12 @@ use Rattle.rust_items.specs.declared.log.ProblemKind.TheVariants as problem
 use Rattle.rust_items.specs.declared.source_file.ItemPlace.{ItemPlace}
 use Rattle.rust_items.specs.Found.{Found, Finder, nothing_found, and_problem, and_problem_if, and_problem_at, and_row, and_use_trees, and_all}
 use Rattle.rust_items.specs.Items.{BlockRead, empty_block, no_block, deep_block, and_flaw, and_item, and_leaf, and_parent, leaf_found, leaf_turn, finding_from, finding, is_list_end, block_of, as_extern, extern_kept, extern_found, extern_turn, extern_inside, extern_block, one_more, unmatched, inside_unless, module_with, some_item, by_head, turn_with, inside, turn, depth_of, items}
-use Rattle.rust_items.specs.Typed.{begins_at, has_body, has_tuple_struct, have_tuple_struct}
+use Rattle.rust_items.specs.Typed.{begins_at, has_body, has_bare_fields}
 use Rattle.rust_items.specs.SourceFiles.{found_in, read_of}
 use Rattle.rust_items.specs.Places.{Telling, IsBodyIn, ArePlaces, nothing, placed}
 use Rattle.rust_items.proofs.Leads.{named_leads, behind_others_leads, front_start, front_takes}
 use Rattle.rust_items.proofs.Places.{Adds, adds_item, adds_problem_at, adds_use_trees, AreFound, Finds, FindsIn, IsListed, list_from, list_found, listed, place_span, inside_found, turn_found, turn_with_found, extern_turn_found, extern_inside_found, unless_found, items_found}
-use Rattle.rust_items.proofs.UntilLeaves.{FrontAlike, front_until, BeginPlain, is_tuple_struct, LeafUntil, leaf_lost, leaf_loose, leaf_same, leaf_until, LeafLost, leaf_gone}
+use Rattle.rust_items.proofs.UntilLeaves.{FrontAlike, front_until, BeginPlain, LeafUntil, leaf_lost, leaf_same, leaf_until, LeafLost, leaf_gone, IsFit, fit_on, front_bare}
 
 -- ---- whose braces they are
 
@@ -120,27 +119,20 @@ pub record FoundKept {A : Type 0} (alike : A → A → Type 0) (b : Bodies) (p q
   pub rows : q.1.0.rows ≡ p.1.0.rows
   pub rest : Beside b p.1.1 q.1.1
 
--- or the one went into the braces, and they are of no item that was found; or a struct with fields in parentheses was
-pub data FoundUntil {A : Type 0} (alike : A → A → Type 0) (loose : A → Type 0) (b : Bodies) (f : Found) (p q : A × (Found × Tokens)) : Type 0 where
-  lost : Gone b p.1.1 → Misses b.opening.at f p.1.0 → FoundUntil alike loose b f p q
-  slack : loose p.0 → FoundUntil alike loose b f p q
-  same : FoundKept alike b p q → FoundUntil alike loose b f p q
+-- or the one went into the braces, and they are of no item that was found;
+pub data FoundUntil {A : Type 0} (alike : A → A → Type 0) (b : Bodies) (f : Found) (p q : A × (Found × Tokens)) : Type 0 where
+  lost : Gone b p.1.1 → Misses b.opening.at f p.1.0 → FoundUntil alike b f p q
+  same : FoundKept alike b p q → FoundUntil alike b f p q
 
 -- the same but for body texts
 abbrev pub ItemAlike : Option ItemView → Option ItemView → Type 0
 ItemAlike o o' = option_map item_without_bodies o' ≡ option_map item_without_bodies o
 
-abbrev pub ItemLoose : Option ItemView → Type 0
-ItemLoose o = have_tuple_struct (items_from (option_to_list o)) ≡ true
-
 abbrev pub ListAlike : List ItemView → List ItemView → Type 0
 ListAlike is is' = map item_without_bodies is' ≡ map item_without_bodies is
 
-abbrev pub ListLoose : List ItemView → Type 0
-ListLoose is = have_tuple_struct (items_from is) ≡ true
-
 abbrev UpToFound : ℕ → Bodies → Finder (Option ItemView) → Type 0
-UpToFound end b turn = (f f' : Found) (ts us : Tokens) → IsSound end ts → f'.rows ≡ f.rows → Beside b ts us → FoundUntil ItemAlike ItemLoose b f (turn f ts) (turn f' us)
+UpToFound end b turn = (f f' : Found) (ts us : Tokens) → IsFit end ts → f'.rows ≡ f.rows → Beside b ts us → FoundUntil ItemAlike b f (turn f ts) (turn f' us)
 
 -- ---- rows
 
@@ -201,14 +193,6 @@ parent_misses at depth start end k n is_ended g f m = record {
 
 -- ---- items that hold none
 
-tuple_item : (i : ItemView) → is_tuple_struct i ≡ true → has_tuple_struct i ≡ true
-tuple_item (struct_item n (tuple_fields fs)) e = refl
-tuple_item _ e = absurd cc
-
-or_false : (t : Bool) → t ≡ true → (t || false) ≡ true
-or_false true e = refl
-or_false false e = absurd cc
-
 -- the one went into the braces, and they are of no item that was found
 record Lost {A : Type 0} (b : Bodies) (f : Found) (p : A × (Found × Tokens)) : Type 0 where
   gone : Gone b p.1.1
@@ -222,13 +206,11 @@ leaf_found_lost b depth start f p h = by p.0 h.free
     by (Some l) k = record { gone = h.gone; misses = leaf_misses b.opening.at depth start p.1.past l f (elsewhere_by b.opening.at l.body (λ r d s. k l r refl d s)) }
 
 module _ (b : Bodies) (depth start start' : ℕ) (f f' : Found) (e : f'.rows ≡ f.rows) where
-  leaf_found_until : (p q : Option LeafRead × Tokens) → LeafUntil b p q → FoundUntil ItemAlike ItemLoose b f (leaf_found depth start p.0 f p.1) (leaf_found depth start' q.0 f' q.1)
+  leaf_found_until : (p q : Option LeafRead × Tokens) → LeafUntil b p q → FoundUntil ItemAlike b f (leaf_found depth start p.0 f p.1) (leaf_found depth start' q.0 f' q.1)
   leaf_found_until p q (leaf_lost g h) = let l = leaf_found_lost b depth start f p (record { gone = g; free = h }) in lost l.gone l.misses
-  leaf_found_until p q (leaf_loose l m d d' t x y h) =
-      slack (subst (λ (o : Option LeafRead). ItemLoose (leaf_found depth start o f p.1).0) (sym d) (or_false (has_tuple_struct l.item) (tuple_item l.item t)))
   leaf_found_until p q (leaf_same a h) = by p.0 q.0 a
     where
-      by : (o o' : Option LeafRead) → places.IsAlike LeafAlike o o' → FoundUntil ItemAlike ItemLoose b f (leaf_found depth start o f p.1) (leaf_found depth start' o' f' q.1)
+      by : (o o' : Option LeafRead) → places.IsAlike LeafAlike o o' → FoundUntil ItemAlike b f (leaf_found depth start o f p.1) (leaf_found depth start' o' f' q.1)
       by o o' places.neither = same (record { value = refl; rows = e; rest = behind_others_beside b p.1 q.1 h })
       by o o' (places.both {x = l} {y = m} k) = same (record { value = ap Some k.item; rows = leaf_rows_same depth start p.1.past start' q.1.past l m f f' k e; rest = h })
 
@@ -241,13 +223,9 @@ extern_alike (plain_item type_alias_kind n) = refl
 extern_alike (macro_call c) = refl
 extern_alike _ = refl
 
-extern_tuple : (i : ItemView) → is_tuple_struct i ≡ true → as_extern i ≡ None
-extern_tuple (struct_item n (tuple_fields fs)) e = refl
-extern_tuple _ e = absurd cc
-
 module _ (b : Bodies) (depth start start' : ℕ) (f f' : Found) (e : f'.rows ≡ f.rows) where
   kept_until : (end end' : ℕ) (ts us : Tokens) (l m : LeafRead) (o o' : Option ItemView) → LeafAlike l m → option_map item_without_bodies o' ≡ option_map item_without_bodies o → Beside b ts us
-      → FoundUntil ItemAlike ItemLoose b f ((extern_kept depth start end l o f).0, ((extern_kept depth start end l o f).1, ts)) ((extern_kept depth start' end' m o' f').0, ((extern_kept depth start' end' m o' f').1, us))
+      → FoundUntil ItemAlike b f ((extern_kept depth start end l o f).0, ((extern_kept depth start end l o f).1, ts)) ((extern_kept depth start' end' m o' f').0, ((extern_kept depth start' end' m o' f').1, us))
   kept_until end end' ts us l m None None a d h = same (record { value = refl; rows = e; rest = h })
   kept_until end end' ts us l m (Some i) (Some j) a d h = same (record { value = d; rows = leaf_rows_same depth start end start' end' l m f f' a e; rest = h })
   kept_until end end' ts us l m None (Some j) a d h = absurd cc
@@ -257,28 +235,27 @@ module _ (b : Bodies) (depth start start' : ℕ) (f f' : Found) (e : f'.rows ≡
   kept_misses end l None h = misses_none b.opening.at f _ refl
   kept_misses end l (Some i) h = leaf_misses b.opening.at depth start end l f h
 
-  extern_found_until : (p q : Option LeafRead × Tokens) → LeafUntil b p q → FoundUntil ItemAlike ItemLoose b f (extern_found depth start p.0 f p.1) (extern_found depth start' q.0 f' q.1)
+  extern_found_until : (p q : Option LeafRead × Tokens) → LeafUntil b p q → FoundUntil ItemAlike b f (extern_found depth start p.0 f p.1) (extern_found depth start' q.0 f' q.1)
   extern_found_until p q (leaf_lost g h) = by p.0 (λ l r d. h l r d)
     where
       by : (o : Option LeafRead) → ((l : LeafRead) (r : TextRange) → o ≡ Some l → l.body ≡ Some r → r.start ≡ b.opening.at → ⊥)
-          → FoundUntil ItemAlike ItemLoose b f (extern_found depth start o f p.1) (extern_found depth start' q.0 f' q.1)
+          → FoundUntil ItemAlike b f (extern_found depth start o f p.1) (extern_found depth start' q.0 f' q.1)
       by None h = lost (gone_on g (behind_others_leads p.1)) (misses_none b.opening.at f _ refl)
       by (Some l) h = lost g (kept_misses p.1.past l (as_extern l.item) (elsewhere_by b.opening.at l.body (λ r d s. h l r refl d s)))
-  extern_found_until p q (leaf_loose l m d d' t x y h) = rw (d, d', x, y) (same (record { value = refl; rows = e; rest = h }))
   extern_found_until p q (leaf_same a h) = by p.0 q.0 a
     where
-      by : (o o' : Option LeafRead) → places.IsAlike LeafAlike o o' → FoundUntil ItemAlike ItemLoose b f (extern_found depth start o f p.1) (extern_found depth start' o' f' q.1)
+      by : (o o' : Option LeafRead) → places.IsAlike LeafAlike o o' → FoundUntil ItemAlike b f (extern_found depth start o f p.1) (extern_found depth start' o' f' q.1)
       by o o' places.neither = same (record { value = refl; rows = e; rest = behind_others_beside b p.1 q.1 h })
       by o o' (places.both {x = l} {y = m} k) =
           kept_until p.1.past q.1.past p.1 q.1 l m (as_extern l.item) (as_extern m.item) k (extern_alike m.item ∙ ap as_extern k.item ∙ sym (extern_alike l.item)) h
 
 -- ---- turns
 
-front_laid : (end : ℕ) (ts : Tokens) → IsSound end ts → IsSound end (front ts).1
-front_laid end ts l = sound_on end (front_takes ts).leads l
+front_laid : (end : ℕ) (ts : Tokens) → IsFit end ts → IsFit end (front ts).1
+front_laid end ts l = fit_on end (front_takes ts).leads l
 
 -- nothing is found where a bracket closes nothing
-unmatched_until : (b : Bodies) (f f' : Found) (ts us : Tokens) → f'.rows ≡ f.rows → Beside b ts us → FoundUntil ItemAlike ItemLoose b f (unmatched f ts) (unmatched f' us)
+unmatched_until : (b : Bodies) (f f' : Found) (ts us : Tokens) → f'.rows ≡ f.rows → Beside b ts us → FoundUntil ItemAlike b f (unmatched f ts) (unmatched f' us)
 unmatched_until b f f' ts us e h =
     by_next (bumped_onward b ts us h) (λ g. lost g (misses_none b.opening.at f _ refl)) (λ n. same (record { value = refl; rows = e; rest = n }))
 
@@ -288,25 +265,24 @@ extern_turn_until end depth b plain f f' ts us l e h =
     when (is_at_end ts)
     (λ t. rw (end_same b ts us h, t) (unmatched_until b f f' ts us e h))
     (λ t. rw (end_same b ts us h, t) (by_stayed (front_until b ts us h)
-    (λ g. extern_found_until b depth (front ts).0.start (front us).0.start f f' e (leaf (front ts).0 (front ts).1) (leaf (front us).0 (front us).1) (let x = leaf_gone b end (front ts).0 (front ts).1 (front_laid end ts l) g in leaf_lost x.gone x.free))
-    (λ k. extern_found_until b depth (front ts).0.start (front us).0.start f f' e (leaf (front ts).0 (front ts).1) (leaf (front us).0 (front us).1) (leaf_until b plain end (front ts).0 (front us).0 (front ts).1 (front us).1 k.value (front_laid end ts l) k.rest))))
+    (λ g. extern_found_until b depth (front ts).0.start (front us).0.start f f' e (leaf (front ts).0 (front ts).1) (leaf (front us).0 (front us).1) (let x = leaf_gone b end (front ts).0 (front ts).1 (front_laid end ts l).sound g in leaf_lost x.gone x.free))
+    (λ k. extern_found_until b depth (front ts).0.start (front us).0.start f f' e (leaf (front ts).0 (front ts).1) (leaf (front us).0 (front us).1) (leaf_until b plain end (front ts).0 (front us).0 (front ts).1 (front us).1 k.value (front_laid end ts l).sound k.rest (front_bare end ts l)))))
 
-leaf_turn_until : (end depth : ℕ) (b : Bodies) → BeginPlain b → (h h' : FrontRead) (f f' : Found) (ts us : Tokens) → IsSound end ts → f'.rows ≡ f.rows → FrontAlike h h' → Beside b ts us
-    → FoundUntil ItemAlike ItemLoose b f (leaf_turn depth h f ts) (leaf_turn depth h' f' us)
+leaf_turn_until : (end depth : ℕ) (b : Bodies) → BeginPlain b → (h h' : FrontRead) (f f' : Found) (ts us : Tokens) → IsFit end ts → f'.rows ≡ f.rows → FrontAlike h h' → Beside b ts us
+    → (h.head ≡ heads.Struct → has_bare_fields ts ≡ true) → FoundUntil ItemAlike b f (leaf_turn depth h f ts) (leaf_turn depth h' f' us)
 unfolding leaf_turn
-leaf_turn_until end depth b plain h h' f f' ts us l e a k = leaf_found_until b depth h.start h'.start f f' e (leaf h ts) (leaf h' us) (leaf_until b plain end h h' ts us a l k)
+leaf_turn_until end depth b plain h h' f f' ts us l e a k bare = leaf_found_until b depth h.start h'.start f f' e (leaf h ts) (leaf h' us) (leaf_until b plain end h h' ts us a l.sound k bare)
 
-leaf_turn_lost : (end depth : ℕ) (b : Bodies) (h : FrontRead) (f : Found) (ts : Tokens) → IsSound end ts → Gone b ts → Lost b f (leaf_turn depth h f ts)
+leaf_turn_lost : (end depth : ℕ) (b : Bodies) (h : FrontRead) (f : Found) (ts : Tokens) → IsFit end ts → Gone b ts → Lost b f (leaf_turn depth h f ts)
 unfolding leaf_turn
-leaf_turn_lost end depth b h f ts l g = leaf_found_lost b depth h.start f (leaf h ts) (leaf_gone b end h ts l g)
+leaf_turn_lost end depth b h f ts l g = leaf_found_lost b depth h.start f (leaf h ts) (leaf_gone b end h ts l.sound g)
 
 -- ---- lists
 
-by_found : {A P : Type 0} {alike : A → A → Type 0} {loose : A → Type 0} {b : Bodies} {f : Found} {p q : A × (Found × Tokens)} → FoundUntil alike loose b f p q
-    → (Gone b p.1.1 → Misses b.opening.at f p.1.0 → P) → (loose p.0 → P) → (FoundKept alike b p q → P) → P
-by_found (lost g m) x y z = x g m
-by_found (slack l) x y z = y l
-by_found (same k) x y z = z k
+by_found : {A P : Type 0} {alike : A → A → Type 0} {b : Bodies} {f : Found} {p q : A × (Found × Tokens)} → FoundUntil alike b f p q
+    → (Gone b p.1.1 → Misses b.opening.at f p.1.0 → P) → (FoundKept alike b p q → P) → P
+by_found (lost g m) x y = x g m
+by_found (same k) x y = y k
 
 -- the braces are passed
 passed : Bodies → Bodies
@@ -343,26 +319,10 @@ unfolding passed
 unpassed_beside b ts us (ahead past x r u u' i j) = absurd (let no : true ≡ false = j.unpassed in cc)
 unpassed_beside b ts us (behind past r u u' i) = behind past r u u' i
 
-unpassed : {A : Type 0} {alike : A → A → Type 0} {loose : A → Type 0} (b : Bodies) {f g : Found} {p q : A × (Found × Tokens)} → FoundUntil alike loose (passed b) f p q → FoundUntil alike loose b g p q
+unpassed : {A : Type 0} {alike : A → A → Type 0} (b : Bodies) {f g : Found} {p q : A × (Found × Tokens)} → FoundUntil alike (passed b) f p q → FoundUntil alike b g p q
 unfolding passed
 unpassed b (lost g m) = absurd (let no : true ≡ false = g.unpassed in cc)
-unpassed b (slack l) = slack l
 unpassed b (same k) = same (record { value = k.value; rows = k.rows; rest = unpassed_beside b _ _ k.rest })
-
-tuple_either : (xs ys : List ItemView) → have_tuple_struct (items_from (xs ++ ys)) ≡ (have_tuple_struct (items_from xs) || have_tuple_struct (items_from ys))
-tuple_either [] ys = refl
-tuple_either (x ∷ xs) ys = ap (λ t. has_tuple_struct x || t) (tuple_either xs ys) ∙ or_or (has_tuple_struct x) _ _
-  where
-    or_or : (s t u : Bool) → (s || (t || u)) ≡ ((s || t) || u)
-    or_or true t u = refl
-    or_or false t u = refl
-
-tuple_among : (xs ys zs : List ItemView) → ListLoose ys → ListLoose ((xs ++ ys) ++ zs)
-tuple_among xs ys zs e = tuple_either (xs ++ ys) zs ∙ ap (λ t. t || have_tuple_struct (items_from zs)) (tuple_either xs ys ∙ ap (λ t. have_tuple_struct (items_from xs) || t) e) ∙ among (have_tuple_struct (items_from xs)) _
-  where
-    among : (s t : Bool) → ((s || true) || t) ≡ true
-    among true t = refl
-    among false t = refl
 
 list_of : (o : Option ItemView) → map item_without_bodies (option_to_list o) ≡ option_to_list (option_map item_without_bodies o)
 list_of None = refl
@@ -375,8 +335,8 @@ more_alike done done' o o' a e =
 
 module _ (end : ℕ) (ends : Tokens → Bool) (ends_same : (b : Bodies) (ts us : Tokens) → Beside b ts us → ends us ≡ ends ts) (turn : Finder (Option ItemView)) (finds : Finds end turn)
     (each : (b : Bodies) → BeginPlain b → UpToFound end b turn) where
-  list_until : (n : ℕ) (b : Bodies) → BeginPlain b → (done done' : List ItemView) (f f' : Found) (ts us : Tokens) → IsSound end ts → ListAlike done done' → f'.rows ≡ f.rows → Beside b ts us
-      → FoundUntil ListAlike ListLoose b f (finding_from ends turn n done f ts) (finding_from ends turn n done' f' us)
+  list_until : (n : ℕ) (b : Bodies) → BeginPlain b → (done done' : List ItemView) (f f' : Found) (ts us : Tokens) → IsFit end ts → ListAlike done done' → f'.rows ≡ f.rows → Beside b ts us
+      → FoundUntil ListAlike b f (finding_from ends turn n done f ts) (finding_from ends turn n done' f' us)
   list_until zero b plain done done' f f' ts us l a e h = same (record { value = a; rows = e; rest = h })
   list_until (suc n) b plain done done' f f' ts us l a e h =
       let o = (turn f ts).0 in
@@ -385,22 +345,21 @@ module _ (end : ℕ) (ends : Tokens → Bool) (ends_same : (b : Bodies) (ts us :
       let g' = (turn f' us).1.0 in
       let next = beyond ts.past (turn f ts).1.1 in
       let next' = beyond us.past (turn f' us).1.1 in
-      let one = finds f ts l.laid in
+      let one = finds f ts l.sound.laid in
       let leads : LeadsTo (turn f ts).1.1 next = beyond_leads ts.past (turn f ts).1.1 in
-      let first = laid.behind end one.leads l.laid in
+      let first = laid.behind end one.leads l.sound.laid in
       let then_laid = laid.behind end leads first.laid in
       let rest = list_from end ends turn finds n (done ++ option_to_list o) g next then_laid.laid in
       when (ends ts)
       (λ z. rw (ends_same b ts us h, z) (same (record { value = a; rows = e; rest = h })))
       (λ z. rw (ends_same b ts us h, z) (by_found (each b plain f f' ts us l e h)
       (λ k m. let k' = gone_on k leads in lost (gone_on k' rest.found.leads) (misses_both m (found_gone rest.found k')))
-      (λ t. slack (subst ListLoose (sym rest.list) (tuple_among done (option_to_list o) rest.new t)))
       (λ k. let both = beyond_beside b ts us _ _ h k.rest in
       let alike = more_alike done done' o o' a k.value in
       side b next next' both
-      (λ low. by_found (list_until n b plain (done ++ option_to_list o) (done' ++ option_to_list o') g g' next next' (sound_on end (through one.leads leads) l) alike k.rows both)
-      (λ x m. lost x (misses_both (found_before b one (let past = then_laid.past in omega arith)) m)) (λ t. slack t) (λ j. same j))
-      (λ far. unpassed b (list_until n (passed b) (plain_passed b plain) (done ++ option_to_list o) (done' ++ option_to_list o') g g' next next' (sound_on end (through one.leads leads) l) alike k.rows far)))))
+      (λ low. by_found (list_until n b plain (done ++ option_to_list o) (done' ++ option_to_list o') g g' next next' (fit_on end (through one.leads leads) l) alike k.rows both)
+      (λ x m. lost x (misses_both (found_before b one (let past = then_laid.past in omega arith)) m)) (λ j. same j))
+      (λ far. unpassed b (list_until n (passed b) (plain_passed b plain) (done ++ option_to_list o) (done' ++ option_to_list o') g g' next next' (fit_on end (through one.leads leads) l) alike k.rows far)))))
 
 -- ---- blocks
 
@@ -408,15 +367,8 @@ pub record BlockAlike (r s : BlockRead) : Type 0 where
   pub attrs : s.attrs ≡ r.attrs
   pub items : option_map (map item_without_bodies) s.items ≡ option_map (map item_without_bodies) r.items
 
-abbrev pub SomeLoose : Option (List ItemView) → Type 0
-SomeLoose None = ⊥
-SomeLoose (Some is) = ListLoose is
-
-abbrev pub BlockLoose : BlockRead → Type 0
-BlockLoose r = SomeLoose r.items
-
 abbrev UpToBlock : ℕ → Bodies → Finder BlockRead → Type 0
-UpToBlock end b inside = (f f' : Found) (ts us : Tokens) → IsSound end ts → f'.rows ≡ f.rows → Beside b ts us → FoundUntil BlockAlike BlockLoose b f (inside f ts) (inside f' us)
+UpToBlock end b inside = (f f' : Found) (ts us : Tokens) → IsFit end ts → f'.rows ≡ f.rows → Beside b ts us → FoundUntil BlockAlike b f (inside f ts) (inside f' us)
 
 list_end_same : (is_top : Bool) (b : Bodies) (ts us : Tokens) → Beside b ts us → is_list_end is_top us ≡ is_list_end is_top ts
 unfolding is_list_end
@@ -429,15 +381,14 @@ module _ (end : ℕ) (turn : Finder (Option ItemView)) (finds : Finds end turn) 
       let inner = inner_attributes (bumped ts) in
       let inner' = inner_attributes (bumped us) in
       let open_leads : LeadsTo ts inner.1 = further (inner_attributes_leads (bumped ts)) in
-      let first = laid.behind end open_leads l.laid in
+      let first = laid.behind end open_leads l.sound.laid in
       let list = list_found end (is_list_end false) turn finds f inner.1 first.laid in
       by_next (bumped_onward b ts us h)
       (λ g. let k = gone_on g (inner_attributes_leads (bumped ts)) in lost (gone_on (gone_on k list.leads) (eat_leads 125 _)) (found_gone list k))
       (λ n. by_kept (inner_attributes_until b (bumped ts) (bumped us) n)
       (λ k. lost (gone_on (gone_on k list.leads) (eat_leads 125 _)) (found_gone list k))
-      (λ k. by_found (list_until end (is_list_end false) (list_end_same false) turn finds each most b plain [] [] f f' inner.1 inner'.1 (sound_on end open_leads l) refl e k.rest)
+      (λ k. by_found (list_until end (is_list_end false) (list_end_same false) turn finds each most b plain [] [] f f' inner.1 inner'.1 (fit_on end open_leads l) refl e k.rest)
       (λ g m. lost (gone_on g (eat_leads 125 _)) m)
-      (λ t. slack t)
       (λ j. same (record { value = record { attrs = k.value; items = ap Some j.value }; rows = j.rows; rest = (eat_local b 125 refl _ _ j.rest).rest }))))
 
 -- ---- items that hold others
@@ -458,10 +409,6 @@ module_same attrs attrs' n n' v v' s s' is is' a b c d e =
     ∙ ap (λ (t : Option (List ℕ)). module_from (named_node attrs' t v []) s (option_map (map item_without_bodies) is)) b
     ∙ ap (λ (t : List MetaView). module_from (named_node t n v []) s (option_map (map item_without_bodies) is)) a ∙ sym (module_alike (named_node attrs n v []) s is)
 
-module_loose : (n : NamedView) (semicolon : Bool) (is : Option (List ItemView)) → SomeLoose is → has_tuple_struct (module_from n semicolon is) ≡ true
-module_loose n semicolon None l = absurd l
-module_loose n semicolon (Some is) l = l
-
 extern_block_alike : (n : NodeView) (is : Option (List ItemView)) → item_without_bodies (extern_block_from n is) ≡ extern_block_from (node_without_body n) (option_map (map item_without_bodies) is)
 extern_block_alike n None = refl
 extern_block_alike n (Some is) = ap (listed_extern_block (node_without_body n)) (from_list is)
@@ -472,10 +419,6 @@ extern_block_same attrs attrs' is is' a e =
     extern_block_alike (node attrs' []) is' ∙ ap (extern_block_from (node attrs' [])) e ∙ ap (λ (t : List MetaView). extern_block_from (node t []) (option_map (map item_without_bodies) is)) a
     ∙ sym (extern_block_alike (node attrs []) is)
 
-extern_block_loose : (n : NodeView) (is : Option (List ItemView)) → SomeLoose is → has_tuple_struct (extern_block_from n is) ≡ true
-extern_block_loose n None l = absurd l
-extern_block_loose n (Some is) l = l
-
 -- extern blocks
 extern_inside_until : (end depth : ℕ) (b : Bodies) → BeginPlain b → UpToBlock end b (extern_inside depth)
 unfolding extern_inside
@@ -484,37 +427,36 @@ extern_inside_until end depth b plain f f' ts us l e h =
     (λ z. rw (symbol_same b ts us h, z) (block_until end (extern_turn depth) (extern_turn_found end depth) (extern_turn_until end depth) b plain f f' ts us l e h))
     (λ z. rw (symbol_same b ts us h, z) (same (record { value = record { attrs = refl; items = refl }; rows = e; rest = h })))
 
-extern_block_until : (end depth start start' : ℕ) (attrs attrs' : List MetaView) (b : Bodies) → BeginPlain b → attrs' ≡ attrs → (f f' : Found) (ts us : Tokens) → IsSound end ts → f'.rows ≡ f.rows → Beside b ts us
-    → FoundUntil ItemAlike ItemLoose b f (some_item (extern_block depth start attrs f ts)) (some_item (extern_block depth start' attrs' f' us))
+extern_block_until : (end depth start start' : ℕ) (attrs attrs' : List MetaView) (b : Bodies) → BeginPlain b → attrs' ≡ attrs → (f f' : Found) (ts us : Tokens) → IsFit end ts → f'.rows ≡ f.rows → Beside b ts us
+    → FoundUntil ItemAlike b f (some_item (extern_block depth start attrs f ts)) (some_item (extern_block depth start' attrs' f' us))
 unfolding extern_block
 extern_block_until end depth start start' attrs attrs' b plain a f f' ts us l e h =
     let x = extern_inside (one_more depth) nothing_found ts in
     let y = extern_inside (one_more depth) nothing_found us in
     by_found (extern_inside_until end (one_more depth) b plain nothing_found nothing_found ts us l refl h)
     (λ g m. lost g (parent_misses b.opening.at depth start x.1.1.past kind.ExternBlock no_name x.0.is_ended x.1.0 f m))
-    (λ t. slack (or_false _ (extern_block_loose (node (attrs ++ x.0.attrs) []) x.0.items t)))
     (λ k. same (record {
       value = ap Some (extern_block_same (attrs ++ x.0.attrs) (attrs' ++ y.0.attrs) x.0.items y.0.items (ap (λ l. l ++ y.0.attrs) a ∙ ap (λ l. attrs ++ l) k.value.attrs) k.value.items);
       rows = parent_same depth start x.1.1.past start' y.1.1.past kind.ExternBlock no_name no_name x.0.is_ended y.0.is_ended x.1.0 y.1.0 f f' refl k.rows e;
       rest = k.rest;
     }))
 
-extern_block_lost : (end depth start : ℕ) (attrs : List MetaView) (b : Bodies) (f : Found) (ts : Tokens) → IsSound end ts → Gone b ts → Lost b f (some_item (extern_block depth start attrs f ts))
+extern_block_lost : (end depth start : ℕ) (attrs : List MetaView) (b : Bodies) (f : Found) (ts : Tokens) → IsFit end ts → Gone b ts → Lost b f (some_item (extern_block depth start attrs f ts))
 unfolding extern_block
 extern_block_lost end depth start attrs b f ts l g =
     let x = extern_inside (one_more depth) nothing_found ts in
-    let found = extern_inside_found end (one_more depth) nothing_found ts l.laid in
+    let found = extern_inside_found end (one_more depth) nothing_found ts l.sound.laid in
     record { gone = gone_on g found.leads; misses = parent_misses b.opening.at depth start x.1.1.past kind.ExternBlock no_name x.0.is_ended x.1.0 f (found_gone found g) }
 
 -- modules
 module _ (end : ℕ) (inside : Finder BlockRead) (finds : FindsIn end inside) (each : (b : Bodies) → BeginPlain b → UpToBlock end b inside) (depth : ℕ) where
-  unless_until : (b : Bodies) → BeginPlain b → (s s' : Bool) → s' ≡ s → (f f' : Found) (ts us : Tokens) → IsSound end ts → f'.rows ≡ f.rows → Beside b ts us
-      → FoundUntil BlockAlike BlockLoose b f (inside_unless s inside f ts) (inside_unless s' inside f' us)
+  unless_until : (b : Bodies) → BeginPlain b → (s s' : Bool) → s' ≡ s → (f f' : Found) (ts us : Tokens) → IsFit end ts → f'.rows ≡ f.rows → Beside b ts us
+      → FoundUntil BlockAlike b f (inside_unless s inside f ts) (inside_unless s' inside f' us)
   unless_until b plain true s' d f f' ts us l e h = rw d (same (record { value = record { attrs = refl; items = refl }; rows = e; rest = h }))
   unless_until b plain false s' d f f' ts us l e h = rw d (each b plain f f' ts us l e h)
 
-  module_until : (b : Bodies) → BeginPlain b → (h h' : FrontRead) → FrontAlike h h' → (f f' : Found) (ts us : Tokens) → IsSound end ts → f'.rows ≡ f.rows → Beside b ts us
-      → FoundUntil ItemAlike ItemLoose b f (some_item (module_with inside depth h f ts)) (some_item (module_with inside depth h' f' us))
+  module_until : (b : Bodies) → BeginPlain b → (h h' : FrontRead) → FrontAlike h h' → (f f' : Found) (ts us : Tokens) → IsFit end ts → f'.rows ≡ f.rows → Beside b ts us
+      → FoundUntil ItemAlike b f (some_item (module_with inside depth h f ts)) (some_item (module_with inside depth h' f' us))
   module_until b plain h h' a f f' ts us l e k =
       let n = named_local b ts us k in
       let s = eat_local b 59 refl (named ts).1 (named us).1 n.rest in
@@ -522,10 +464,9 @@ module _ (end : ℕ) (inside : Finder BlockRead) (finds : FindsIn end inside) (e
       let c' = eat 59 (named us).1 in
       let x = inside_unless c.0 inside nothing_found c.1 in
       let y = inside_unless c'.0 inside nothing_found c'.1 in
-      let sound = sound_on end (through (named_leads ts) (eat_leads 59 (named ts).1)) l in
+      let sound = fit_on end (through (named_leads ts) (eat_leads 59 (named ts).1)) l in
       by_found (unless_until b plain c.0 c'.0 s.value nothing_found nothing_found c.1 c'.1 sound refl s.rest)
       (λ g m. lost g (parent_misses b.opening.at depth h.start x.1.1.past kind.Module (named ts).0 (c.0 || x.0.is_ended) x.1.0 f m))
-      (λ t. slack (or_false _ (module_loose (named_node (h.attrs ++ x.0.attrs) (named ts).0.name h.visibility []) c.0 x.0.items t)))
       (λ j. same (record {
         value = ap Some (module_same (h.attrs ++ x.0.attrs) (h'.attrs ++ y.0.attrs) (named ts).0.name (named us).0.name h.visibility h'.visibility c.0 c'.0 x.0.items y.0.items
             (ap (λ l. l ++ y.0.attrs) a.attrs ∙ ap (λ l. h.attrs ++ l) j.value.attrs) n.value.name a.visibility s.value j.value.items);
@@ -533,25 +474,25 @@ module _ (end : ℕ) (inside : Finder BlockRead) (finds : FindsIn end inside) (e
         rest = j.rest;
       }))
 
-  module_lost : (b : Bodies) (h : FrontRead) (f : Found) (ts : Tokens) → IsSound end ts → Gone b ts → Lost b f (some_item (module_with inside depth h f ts))
+  module_lost : (b : Bodies) (h : FrontRead) (f : Found) (ts : Tokens) → IsFit end ts → Gone b ts → Lost b f (some_item (module_with inside depth h f ts))
   module_lost b h f ts l g =
       let c = eat 59 (named ts).1 in
       let x = inside_unless c.0 inside nothing_found c.1 in
       let leads = through (named_leads ts) (eat_leads 59 (named ts).1) in
-      let sound = sound_on end leads l in
-      let found = unless_found end inside finds depth c.0 nothing_found c.1 sound.laid in
+      let sound = fit_on end leads l in
+      let found = unless_found end inside finds depth c.0 nothing_found c.1 sound.sound.laid in
       record { gone = gone_on (gone_on g leads) found.leads; misses = parent_misses b.opening.at depth h.start x.1.1.past kind.Module (named ts).0 (c.0 || x.0.is_ended) x.1.0 f (found_gone found (gone_on g leads)) }
 
-  head_lost : (b : Bodies) (k : Head) (h : FrontRead) (f : Found) (ts : Tokens) → IsSound end ts → Gone b ts → Lost b f (by_head inside depth k h f ts)
+  head_lost : (b : Bodies) (k : Head) (h : FrontRead) (f : Found) (ts : Tokens) → IsFit end ts → Gone b ts → Lost b f (by_head inside depth k h f ts)
   head_lost b heads.Module h f ts l g = module_lost b h f ts l g
   head_lost b heads.ExternBlock h f ts l g = extern_block_lost end depth h.start h.attrs b f ts l g
   head_lost b _ h f ts l g = leaf_turn_lost end depth b h f ts l g
 
-  head_until : (b : Bodies) → BeginPlain b → (k : Head) (h h' : FrontRead) → FrontAlike h h' → (f f' : Found) (ts us : Tokens) → IsSound end ts → f'.rows ≡ f.rows → Beside b ts us
-      → FoundUntil ItemAlike ItemLoose b f (by_head inside depth k h f ts) (by_head inside depth k h' f' us)
-  head_until b plain heads.Module h h' a f f' ts us l e k = module_until b plain h h' a f f' ts us l e k
-  head_until b plain heads.ExternBlock h h' a f f' ts us l e k = extern_block_until end depth h.start h'.start h.attrs h'.attrs b plain a.attrs f f' ts us l e k
-  head_until b plain _ h h' a f f' ts us l e k = leaf_turn_until end depth b plain h h' f f' ts us l e a k
+  head_until : (b : Bodies) → BeginPlain b → (k : Head) (h h' : FrontRead) → FrontAlike h h' → (f f' : Found) (ts us : Tokens) → IsFit end ts → f'.rows ≡ f.rows → Beside b ts us → (h.head ≡ heads.Struct → has_bare_fields ts ≡ true)
+      → FoundUntil ItemAlike b f (by_head inside depth k h f ts) (by_head inside depth k h' f' us)
+  head_until b plain heads.Module h h' a f f' ts us l e k bare = module_until b plain h h' a f f' ts us l e k
+  head_until b plain heads.ExternBlock h h' a f f' ts us l e k bare = extern_block_until end depth h.start h'.start h.attrs h'.attrs b plain a.attrs f f' ts us l e k
+  head_until b plain _ h h' a f f' ts us l e k bare = leaf_turn_until end depth b plain h h' f f' ts us l e a k bare
 
   turn_with_until : (b : Bodies) → BeginPlain b → UpToFound end b (turn_with inside depth)
   turn_with_until b plain f f' ts us l e h =
@@ -559,7 +500,7 @@ module _ (end : ℕ) (inside : Finder BlockRead) (finds : FindsIn end inside) (e
       (λ t. rw (end_same b ts us h, t) (unmatched_until b f f' ts us e h))
       (λ t. rw (end_same b ts us h, t) (by_stayed (front_until b ts us h)
       (λ g. let x = head_lost b (front ts).0.head (front ts).0 f (front ts).1 (front_laid end ts l) g in lost x.gone x.misses)
-      (λ k. rw k.value.head (head_until b plain (front ts).0.head (front ts).0 (front us).0 k.value f f' (front ts).1 (front us).1 (front_laid end ts l) e k.rest))))
+      (λ k. rw k.value.head (head_until b plain (front ts).0.head (front ts).0 (front us).0 k.value f f' (front ts).1 (front us).1 (front_laid end ts l) e k.rest (front_bare end ts l)))))
 
 inside_until : (end left : ℕ) (b : Bodies) → BeginPlain b → UpToBlock end b (inside left)
 unfolding inside
@@ -579,8 +520,8 @@ unfolding turn
 turn_until end left b plain f f' ts us l e h = turn_with_until end (inside left) (inside_found end left) (inside_until end left) (depth_of left) b plain f f' ts us l e h
 
 -- the items of a file
-pub items_until : (end : ℕ) (is_top : Bool) (left : ℕ) (b : Bodies) → BeginPlain b → (f f' : Found) (ts us : Tokens) → IsSound end ts → f'.rows ≡ f.rows → Beside b ts us
-    → FoundUntil ListAlike ListLoose b f (items is_top left f ts) (items is_top left f' us)
+pub items_until : (end : ℕ) (is_top : Bool) (left : ℕ) (b : Bodies) → BeginPlain b → (f f' : Found) (ts us : Tokens) → IsFit end ts → f'.rows ≡ f.rows → Beside b ts us
+    → FoundUntil ListAlike b f (items is_top left f ts) (items is_top left f' us)
 unfolding finding
 items_until end is_top left b plain f f' ts us l e h =
     list_until end (is_list_end is_top) (list_end_same is_top) (turn left) (turn_found end left) (turn_until end left) most b plain [] [] f f' ts us l refl e h
@@ -601,20 +542,19 @@ none_has at (s ∷ ss) h = rw (none_begins at s.body h.0) (none_has at ss h.1)
 misses_all : {at : ℕ} {g : Found} → Misses at nothing_found g → has_body at g.spans ≡ false
 misses_all {at} m = ap (has_body at) m.is ∙ none_has at m.more m.free
 
--- the braces are of no item of the file, or a struct has its fields in parentheses, or the same is read but for body texts
+-- the braces are of no item of the file, or the same is read but for body texts
 pub data FileUntil (b : Bodies) (ts us : Tokens) : Type 0 where
   of_none : has_body b.opening.at (items_behind ts).1.0.spans ≡ false → FileUntil b ts us
-  tuples : ListLoose (items_behind ts).0 → FileUntil b ts us
   alike : (inner_attributes us).0 ≡ (inner_attributes ts).0 → ListAlike (items_behind ts).0 (items_behind us).0 → (items_behind us).1.0.rows ≡ (items_behind ts).1.0.rows → FileUntil b ts us
 
-pub file_until : (end : ℕ) (b : Bodies) → BeginPlain b → (ts us : Tokens) → IsSound end ts → Beside b ts us → FileUntil b ts us
+pub file_until : (end : ℕ) (b : Bodies) → BeginPlain b → (ts us : Tokens) → IsFit end ts → Beside b ts us → FileUntil b ts us
 file_until end b plain ts us l h =
     let inner = inner_attributes ts in
-    let sound = sound_on end (inner_attributes_leads ts) l in
+    let sound = fit_on end (inner_attributes_leads ts) l in
     by_kept (inner_attributes_until b ts us h)
-    (λ g. let m = found_gone (items_found end true 128 nothing_found inner.1 sound.laid) g in of_none (misses_all m))
+    (λ g. let m = found_gone (items_found end true 128 nothing_found inner.1 sound.sound.laid) g in of_none (misses_all m))
     (λ k. by_found (items_until end true 128 b plain nothing_found nothing_found inner.1 (inner_attributes us).1 sound refl k.rest)
-    (λ g m. of_none (misses_all m)) (λ t. tuples t) (λ j. alike k.value j.value j.rows))
+    (λ g m. of_none (misses_all m)) (λ j. alike k.value j.value j.rows))
 
 problem_at_spans : (k : ProblemKind) (o : Option ℕ) (f : Found) → (and_problem_at k o f).spans ≡ f.spans
 problem_at_spans k None f = refl

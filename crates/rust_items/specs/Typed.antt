@@ -1,8 +1,19 @@
 -- What is asked of a text in whose body something is typed.
-use Rattle.std.specs.Prelude.{ℕ, ◌==◌, Bool, true, false, ◌||◌, Option, Some, None, List, [], ◌∷◌}
-use Rattle.hir_input.specs.Syntax.{ItemView, ItemViews, struct_item, tuple_fields, listed_module, listed_extern_block, no_items, item_and}
+use Rattle.std.specs.Prelude.{ℕ, ◌==◌, ◌&&◌, ◌||◌, Bool, true, false, if◌then◌else◌, Option, Some, None, List, [], ◌∷◌, codes}
+use Rattle.std.specs.Str.{bytes_eq}
+use Rattle.rust_lexer.specs.declared.kind.DocStyle.TheVariants.{Outer}
+use Rattle.rust_lexer.specs.Piece.{Piece}
+use Rattle.rust_cursor.specs.Tokens.{Tokens}
+use Rattle.rust_cursor.specs.Reader.{Reader}
+use Rattle.rust_cursor.specs.Words.{symbol, word, bumped}
+use Rattle.rust_cursor.specs.Angles.{behind_angles}
+use Rattle.rust_cursor.specs.Elements.{elements, one}
 use Rattle.rust_paths.specs.declared.names.TextRange.{TextRange}
+use Rattle.rust_metas.specs.Attributes.{is_behind}
+use Rattle.rust_leaves.specs.Leaves.{named, field}
 use Rattle.rust_items.specs.declared.log.ItemSpan.{ItemSpan}
+
+-- ---- whose braces they are
 
 -- braces begin there
 abbrev pub begins_at : ℕ → Option TextRange → Bool
@@ -14,14 +25,27 @@ abbrev pub has_body : ℕ → List ItemSpan → Bool
 has_body at [] = false
 has_body at (s ∷ ss) = begins_at at s.body || has_body at ss
 
-abbrev mutual
-  -- a struct with fields in parentheses stands in it
-  pub has_tuple_struct : ItemView → Bool
-  has_tuple_struct (struct_item n (tuple_fields fs)) = true
-  has_tuple_struct (listed_module n semicolon is) = have_tuple_struct is
-  has_tuple_struct (listed_extern_block n is) = have_tuple_struct is
-  has_tuple_struct _ = false
+-- ---- fields in parentheses
 
-  pub have_tuple_struct : ItemViews → Bool
-  have_tuple_struct no_items = false
-  have_tuple_struct (item_and i is) = has_tuple_struct i || have_tuple_struct is
+-- a field, and whether neither an attribute nor documentation stands in front of it
+abbrev pub bare_field : Reader Bool
+bare_field ts = (is_behind Outer ts, (field ts).1)
+
+abbrev pub all_true : List Bool → Bool
+all_true [] = true
+all_true (t ∷ ts) = t && all_true ts
+
+abbrev pub are_bare_fields : Tokens → Bool
+are_bare_fields ts = if symbol ts == 40 then all_true (elements (one bare_field) (bumped ts)).0 else true
+
+-- the fields in parentheses of a struct whose name comes next
+unfoldable pub has_bare_fields : Tokens → Bool
+has_bare_fields ts = are_bare_fields (behind_angles (named ts).1)
+
+-- those of all structs among the tokens, at most as many as this list has
+abbrev pub have_bare_from : Tokens → List Piece → Bool
+have_bare_from ts [] = true
+have_bare_from ts (_ ∷ more) = (if bytes_eq (word ts) (codes "struct") then has_bare_fields (bumped ts) else true) && have_bare_from (bumped ts) more
+
+unfoldable pub have_bare_fields : Tokens → Bool
+have_bare_fields ts = have_bare_from ts ts.left

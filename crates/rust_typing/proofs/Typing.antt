@@ -18,7 +18,8 @@ use Rattle.rust_items.specs.LineEnds.{with_feeds, place_in}
 use Rattle.rust_items.specs.Typed.{has_body}
 use Rattle.rust_items.specs.SourceFiles.{found_in, items_in, read_of, IsFile, IsSourceFile}
 use Rattle.rust_items.proofs.Bodiless.{with_bodiless}
-use Rattle.rust_items.proofs.UntilItems.{FileUntil, of_none, tuples, alike, file_until, found_rows, found_spans}
+use Rattle.rust_items.proofs.UntilLeaves.{all_bare}
+use Rattle.rust_items.proofs.UntilItems.{FileUntil, of_none, alike, file_until, found_rows, found_spans}
 use Rattle.rust_typing.specs.Laws.{with_body, IsTyped, TypingInside}
 use Rattle.rust_typing.proofs.Texts.{bodies, bodies_at, tokens_beside, begin_plain}
 
@@ -59,7 +60,7 @@ same_ids edition x x' place place' file file' f g e =
 read_alike : (edition : EditionYear) (q m m' s : List ℕ) (place place' : ℕ → ℕ) (file file' : SourceFile) → IsTyped edition q m m' s → IsFile edition (with_body q m s) place file → IsFile edition (with_body q m' s) place' file'
     → without_bodies (syntax_view file.syntax) ≡ without_bodies (syntax_view file'.syntax)
 read_alike edition q m m' s place place' file file' t f g =
-    by (file_until (length x) b (begin_plain edition q m m' s t.alone t.alone_new t.begins t.begins_new) (tokens_of edition x) (tokens_of edition x') (tokens_sound edition x)
+    by (file_until (length x) b (begin_plain edition q m m' s t.alone t.alone_new t.begins t.begins_new) (tokens_of edition x) (tokens_of edition x') (all_bare (length x) (tokens_of edition x) (tokens_sound edition x) t.fields)
     (tokens_beside edition q m m' s t.opens t.alone t.alone_new))
   where
     x : List ℕ
@@ -77,7 +78,6 @@ read_alike edition q m m' s place place' file file' t f g =
         let same : has_body (length q) (found_in edition x).spans ≡ has_body (length q) (read_of edition x).1.0.spans = ap (has_body (length q)) (found_spans edition x) in
         let some = t.body in
         absurd cc
-    by (tuples l) = absurd (let none = rw (items_are edition x) at t.fields in cc)
     by (alike a v r) =
         let ids = same_ids edition x x' place place' file file' f g r in
         read_bare edition x place file f ∙ sym (ap (λ (l : List MetaView). source_file l (bare (read_of edition x).0 f.ids)) a)
