@@ -32,10 +32,6 @@ cond_by {t = false} e when_so otherwise = rw e (otherwise refl)
 abbrev pub Same : {A : Type 0} → A → A → Type 0
 Same a a' = a' ≡ a
 
-pub same_by : {A : Type 0} {b : Bodies} {p q : A × Tokens} → Until b p q → UntilBy Same b p q
-same_by (gone g) = went g
-same_by (kept k) = stayed (record { value = k.value; rest = k.rest })
-
 pub by_same : {A : Type 0} {b : Bodies} {p q : A × Tokens} → UntilBy Same b p q → Until b p q
 by_same (went g) = gone g
 by_same (stayed k) = kept (record { value = k.value; rest = k.rest })

@@ -1,5 +1,5 @@
 -- The `}` of the braces around: what reads in braces and stays in them leaves it where it is.
-use Rattle.std.proofs.Common.{◌≡◌, ◌≢◌, ◌≤◌, ◌<◌, ℕ, zero, suc, ◌+◌, ◌-◌, ◌==◌, ◌||◌, ◌&&◌, Bool, true, false, Option, Some, None, List, [], ◌∷◌, ◌++◌, length, refl, ap, ◌∙◌, sym, subst, arith}
+use Rattle.std.proofs.Common.{◌≡◌, ◌≢◌, ◌≤◌, ◌<◌, ℕ, zero, suc, ◌==◌, ◌||◌, ◌&&◌, Bool, true, false, Option, None, List, [], ◌∷◌, length, refl, ap, ◌∙◌, sym, subst, arith}
 use Rattle.std.specs.Prelude.{if◌then◌else◌, not}
 use Rattle.std.specs.Str.{bytes_eq}
 use Rattle.std.proofs.lemmas.Bool.{eqb-true}
@@ -21,19 +21,19 @@ use Rattle.rust_lexer.proofs.Braces.{is_open_kind, is_close_kind, IsBracket, Are
 use Rattle.rust_cursor.specs.Tokens.{Tokens, tokens_of}
 use Rattle.rust_cursor.specs.Reader.{Reader}
 use Rattle.rust_cursor.specs.Words.{opens, closes, is_open, is_close, word_by, by_first, rest, symbol, word, is_empty, is_at_open, is_at_end, bumped, is_glued, is_pair, eat, eat_pair}
-use Rattle.rust_cursor.specs.Nests.{opens_other, closes_other, braces_behind, others_behind, flat, is_flat, is_mark, nest_behind}
+use Rattle.rust_cursor.specs.Nests.{opens_other, closes_other, braces_behind, others_behind, is_flat, is_mark, nest_behind}
 use Rattle.rust_cursor.specs.Brackets.{behind_closing, is_closing, closing, to_closing, behind_closed, behind_tree}
 use Rattle.rust_cursor.specs.Elements.{beyond, turns_from, turns, elements}
 use Rattle.rust_cursor.specs.Extents.{stops, ends, opened_behind, more, taking, taken, tree_text}
-use Rattle.rust_cursor.specs.Angles.{behind_field, closes_around, is_barred, is_reached, is_closed, reaching, reached, behind_angles}
-use Rattle.rust_cursor.proofs.Leads.{behind_closing_leads, bumped_leads, end_some, closing_leads, LeadsTo, here, further, through, Forwards, when, from_last, to_closing_leads, symbol_some, beyond_leads}
+use Rattle.rust_cursor.specs.Angles.{behind_field, closes_around, is_reached, is_closed, reaching, reached, behind_angles}
+use Rattle.rust_cursor.proofs.Leads.{behind_closing_leads, bumped_leads, end_some, closing_leads, LeadsTo, here, further, through, Forwards, when, from_last, symbol_some, beyond_leads}
 use Rattle.rust_cursor.proofs.Steps.{closing_stop, closing_more}
 use Rattle.rust_cursor.proofs.Scans.{taking_stop, taking_end, taking_more}
 use Rattle.rust_cursor.proofs.Reaches.{reaching_stop, reaching_end, reaching_more}
 use Rattle.rust_cursor.proofs.Laid.{IsLaid, behind, taken_behind, at_behind, tokens_laid}
 use Rattle.rust_cursor.proofs.Local.{both_true}
 use Rattle.rust_cursor.proofs.Braced.{inside_is, outside_is}
-use Rattle.rust_cursor.proofs.Passing.{stops_none, stops_deep, ends_deep, reached_none, reached_deep, closed_deep, closing_none, closing_deep, to_closing_ends, braces_of, shuts_not}
+use Rattle.rust_cursor.proofs.Passing.{stops_none, reached_none, closing_none, braces_of}
 
 -- in so many braces, and in so many other brackets around them
 abbrev pub deep : ℕ → ℕ → Nest
@@ -166,7 +166,7 @@ under_leads c ts k j k' j' u =
     ts k j k' j' u
 
 -- in no bracket
-pub from_flat : (c k j : ℕ) (ts : Tokens) → LeadsTo (around c ts) (upto c k j ts)
+from_flat : (c k j : ℕ) (ts : Tokens) → LeadsTo (around c ts) (upto c k j ts)
 from_flat c k j ts = under_leads c ts 0 0 k j (when (k == 0) (λ z. level (sym (eqb-true k 0 z)) (omega arith)) (λ z. deeper (grind (arith, nat_tests))))
 
 -- it is left of them

@@ -1,5 +1,5 @@
 -- What is left of an item stands behind the `}` of the braces that it ends with.
-use Rattle.std.proofs.Common.{◌≡◌, ◌≢◌, ℕ, zero, suc, ◌+◌, ◌-◌, ◌==◌, ◌||◌, ◌&&◌, Bool, true, false, Option, Some, None, List, [], refl, ap, ◌∙◌, sym, subst, arith}
+use Rattle.std.proofs.Common.{◌≡◌, ℕ, suc, ◌+◌, ◌-◌, ◌==◌, Bool, true, false, Option, Some, None, List, [], ap, ◌∙◌, sym, subst, arith}
 use Rattle.std.specs.Prelude.{if◌then◌else◌}
 use Rattle.std.proofs.lemmas.Bool.{eqb-true}
 use Rattle.std.proofs.lemmas.Bool.Decides.{nat_tests}
@@ -10,12 +10,11 @@ use Rattle.rust_cursor.specs.declared.cursor.texts.Extent.TheVariants as extents
 use Rattle.rust_cursor.specs.Tokens.{Tokens}
 use Rattle.rust_cursor.specs.Words.{symbol, is_empty, bumped}
 use Rattle.rust_cursor.specs.Nests.{braces_behind, is_mark, nest_behind}
-use Rattle.rust_cursor.specs.Brackets.{is_closing}
 use Rattle.rust_cursor.specs.Extents.{ExcerptRead, stops, ends, opened_behind, block_at, taking, taken, item_rest, impl_rest}
 use Rattle.rust_cursor.proofs.Leads.{LeadsTo, here, further, when, from_last, HasBlock, no_block, block, taken_block}
 use Rattle.rust_cursor.proofs.Steps.{closing_stop}
 use Rattle.rust_cursor.proofs.Scans.{taking_stop, taking_end, taking_more}
-use Rattle.rust_cursor.proofs.Passing.{stops_none, braces_of, shuts_not}
+use Rattle.rust_cursor.proofs.Passing.{stops_none, braces_of}
 use Rattle.rust_cursor.proofs.Around.{deep, upto, around, others_next, Shuts, by_brace, by_other, shut_by_brace, shut_not, upto_more, one_deeper}
 
 -- what is left of braces that were opened last stands in them

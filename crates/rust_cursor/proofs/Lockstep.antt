@@ -1,8 +1,6 @@
 -- Round brackets behind generics are closed in an item that ends with a semicolon.
-use Rattle.std.proofs.Common.{◌≡◌, ◌≢◌, ◌≤◌, ◌<◌, ℕ, zero, suc, ◌+◌, ◌-◌, ◌==◌, ◌||◌, ◌&&◌, Bool, true, false, Option, Some, None, List, [], ◌∷◌, refl, ap, ◌∙◌, sym, subst, arith}
-use Rattle.std.specs.Prelude.{if◌then◌else◌, not}
+use Rattle.std.proofs.Common.{◌≡◌, ◌≢◌, ◌<◌, ℕ, ◌+◌, ◌==◌, ◌||◌, Bool, true, false, Option, None, List, [], ◌∷◌, refl, ap, ◌∙◌, sym, subst, arith}
 use Rattle.std.proofs.lemmas.Bool.{eqb-true}
-use Rattle.std.proofs.lemmas.Bool.Decides.{nat_tests}
 use Rattle.rust_lexer.specs.declared.kind.TokenKind.{TokenKind}
 use Rattle.rust_lexer.specs.declared.kind.TokenKind.TheVariants as kinds
 use Rattle.rust_lexer.specs.Piece.{Piece}
@@ -12,16 +10,16 @@ use Rattle.rust_cursor.specs.declared.cursor.generics.Reach.TheVariants as reach
 use Rattle.rust_cursor.specs.declared.cursor.texts.Extent.TheVariants as extents
 use Rattle.rust_cursor.specs.Tokens.{Tokens}
 use Rattle.rust_cursor.specs.Words.{documents, by_first, symbol, is_empty, is_at_doc, bumped}
-use Rattle.rust_cursor.specs.Nests.{opens_other, closes_other, braces_behind, others_behind, begun, flat, is_flat, is_mark, nest_behind}
+use Rattle.rust_cursor.specs.Nests.{opens_other, closes_other, braces_behind, begun, flat, is_flat, is_mark, nest_behind}
 use Rattle.rust_cursor.specs.Extents.{ExcerptRead, begins, stops, ends, opened_behind, block_at, more, taking, taken, item_rest}
 use Rattle.rust_cursor.specs.Angles.{closes_around, is_reached, is_closed, reaching, reached, behind_angles}
-use Rattle.rust_cursor.proofs.Leads.{LeadsTo, here, further, through, when, from_last, taking_leads, symbol_some}
+use Rattle.rust_cursor.proofs.Leads.{LeadsTo, here, further, when, from_last, taking_leads}
 use Rattle.rust_cursor.proofs.Steps.{closing_stop}
 use Rattle.rust_cursor.proofs.Scans.{taking_stop, taking_end, taking_more}
 use Rattle.rust_cursor.proofs.Reaches.{reaching_stop, reaching_end, reaching_more}
 use Rattle.rust_cursor.proofs.Passing.{stops_none, braces_of, reached_deep}
 use Rattle.rust_cursor.proofs.Enclosed.{item_open}
-use Rattle.rust_cursor.proofs.Around.{deep, upto, around, is_shut, others_next, others_of, Shuts, by_brace, by_other, no_shut, upto_more, from_flat}
+use Rattle.rust_cursor.proofs.Around.{deep, upto, around, is_shut, others_next, others_of, by_brace, by_other, no_shut, upto_more}
 
 -- ---- to the end of an item
 
@@ -112,10 +110,10 @@ round_closes ts done last o n z e h =
     (closes_in (bumped ts) _ _ _ (nest_behind n ts) 0 (omega arith) h'.ended))))
 
 -- the braces that are open were seen
-abbrev Seen : Option Tokens → Nest → Type 0
-Seen o n = o ≡ None → n.braces ≡ 0
+abbrev WasSeen : Option Tokens → Nest → Type 0
+WasSeen o n = o ≡ None → n.braces ≡ 0
 
-seen_next : (o : Option Tokens) (n : Nest) (ts : Tokens) → Seen o n → Seen (opened_behind o n ts) (nest_behind n ts)
+seen_next : (o : Option Tokens) (n : Nest) (ts : Tokens) → WasSeen o n → WasSeen (opened_behind o n ts) (nest_behind n ts)
 seen_next o n ts h e =
     braces_of n ts ∙ when (n.braces == 0)
     (λ z. when (symbol ts == 123) (λ f. absurd (let no = rw (z, f) at e in cc))
@@ -138,7 +136,7 @@ semicolon_reached n ts e z y =
     last_or false false = refl
 
 -- where the item goes on, it ends in no brackets that generics stand in
-not_ended : {A : Type 0} (ts : Tokens) (done : List ℕ) (last : ℕ) (o : Option Tokens) (n : Nest) → Seen o n → stops extents.Item n ts ≡ false → ends extents.Item (is_mark n.before) (nest_behind n ts) ts ≡ true
+not_ended : {A : Type 0} (ts : Tokens) (done : List ℕ) (last : ℕ) (o : Option Tokens) (n : Nest) → WasSeen o n → stops extents.Item n ts ≡ false → ends extents.Item (is_mark n.before) (nest_behind n ts) ts ≡ true
     → is_reached reaches.Angles n ts ≡ false → EndsPlain (taking extents.Item done last o n ts) → A
 not_ended ts done last o n seen p q r h =
     let f = flat_parts (nest_behind n ts) (item_flat (is_mark n.before) (nest_behind n ts) ts q) in
@@ -166,9 +164,9 @@ closed_flat n e = when (n.braces == 0) (λ z. eqb-true n.braces 0 z) (λ z. absu
 abbrev Closes : Tokens → ExcerptRead × Tokens → Type 0
 Closes p r = (symbol p == 40) ≡ true → EndsPlain r → LeadsTo (around 40 (bumped p)) r.1
 
-generics_close : (ts : Tokens) (done : List ℕ) (last : ℕ) (o : Option Tokens) (n : Nest) → Seen o n → Closes (reaching reaches.Angles n ts) (taking extents.Item done last o n ts)
+generics_close : (ts : Tokens) (done : List ℕ) (last : ℕ) (o : Option Tokens) (n : Nest) → WasSeen o n → Closes (reaching reaches.Angles n ts) (taking extents.Item done last o n ts)
 generics_close ts done last o n seen =
-    from_last (λ ts. (done : List ℕ) (last : ℕ) (o : Option Tokens) (n : Nest) → Seen o n → Closes (reaching reaches.Angles n ts) (taking extents.Item done last o n ts))
+    from_last (λ ts. (done : List ℕ) (last : ℕ) (o : Option Tokens) (n : Nest) → WasSeen o n → Closes (reaching reaches.Angles n ts) (taking extents.Item done last o n ts))
     (λ ts e done last o n seen f h. never_plain ts done last o n (stops_none extents.Item n ts e) h)
     (λ ts e inner done last o n seen. when (is_reached reaches.Angles n ts)
     (λ r. rw (reaching_stop reaches.Angles n ts r) (λ f h. round_closes ts done last o n (deep_reached n ts r e) f h))
@@ -198,7 +196,7 @@ begun_same : (ts : Tokens) → (symbol ts == 60) ≡ true → nest_behind begun 
 unfolding nest_behind
 begun_same ts e = let is = eqb-true (symbol ts) 60 e in rw (is, no_doc ts e) refl
 
-nothing_open : Seen None flat
+nothing_open : WasSeen None flat
 nothing_open e = refl
 
 behind_less : (ts : Tokens) → (symbol ts == 60) ≡ true → Closes (reaching reaches.Angles begun ts) (taking extents.Item [] 0 None flat ts)

@@ -87,11 +87,11 @@ pub stops_none : (e : Extent) (n : Nest) (ts : Tokens) → is_empty ts ≡ true 
 unfolding stops
 stops_none e n ts h = rw h refl
 
-pub stops_deep : (e : Extent) (n : Nest) (ts : Tokens) → is_empty ts ≡ false → (n.braces == 0) ≡ false → stops e n ts ≡ false
+stops_deep : (e : Extent) (n : Nest) (ts : Tokens) → is_empty ts ≡ false → (n.braces == 0) ≡ false → stops e n ts ≡ false
 unfolding stops
 stops_deep e n ts h d = rw (h, d) refl
 
-pub ends_deep : (e : Extent) (w : Before) (n : Nest) (ts : Tokens) → (n.braces == 0) ≡ false → taking_ends e w n ts ≡ false
+ends_deep : (e : Extent) (w : Before) (n : Nest) (ts : Tokens) → (n.braces == 0) ≡ false → taking_ends e w n ts ≡ false
 unfolding ends
 ends_deep e w n ts d = rw d refl
 
@@ -167,7 +167,7 @@ pub reached_deep : (r : Reach) (n : Nest) (ts : Tokens) → is_empty ts ≡ fals
 unfolding is_reached
 reached_deep r n ts h d = rw (h, d) refl
 
-pub closed_deep : (r : Reach) (n : Nest) → (n.braces == 0) ≡ false → is_closed r n ≡ false
+closed_deep : (r : Reach) (n : Nest) → (n.braces == 0) ≡ false → is_closed r n ≡ false
 unfolding is_closed
 closed_deep reaches.Angles n d = rw d refl
 closed_deep reaches.Field n d = refl
@@ -252,7 +252,7 @@ pub closing_none : (bracket : ℕ) (n : Nest) (ts : Tokens) → is_empty ts ≡ 
 unfolding is_closing
 closing_none bracket n ts h = rw h refl
 
-pub closing_deep : (bracket : ℕ) (n : Nest) (ts : Tokens) → is_empty ts ≡ false → (n.braces == 0) ≡ false → is_closing bracket n ts ≡ false
+closing_deep : (bracket : ℕ) (n : Nest) (ts : Tokens) → is_empty ts ≡ false → (n.braces == 0) ≡ false → is_closing bracket n ts ≡ false
 unfolding is_closing
 closing_deep bracket n ts h d = rw (h, d) refl
 
@@ -311,7 +311,7 @@ closing_ends bracket (suc fuel) ts n h =
     (λ p. rw (closing_stop bracket n ts p) (not_open bracket n ts p))
     (λ p. let less = shorter ts (closing_some bracket n ts p) in rw (closing_more bracket n ts p) (closing_ends bracket fuel (bumped ts) (nest_behind n ts) (omega arith)))
 
-pub to_closing_ends : (bracket : ℕ) (ts : Tokens) → (symbol (to_closing bracket ts) == 123) ≡ false
+to_closing_ends : (bracket : ℕ) (ts : Tokens) → (symbol (to_closing bracket ts) == 123) ≡ false
 unfolding to_closing
 to_closing_ends bracket ts = closing_ends bracket (suc (length ts.left)) ts flat (omega arith)
 
@@ -338,7 +338,7 @@ record Out (n : Nest) (ts : Tokens) (y : EditionYear) (left : List Piece) (u : O
   past : ℕ
   is : closing 123 n ts ≡ tokens_at y past left u
 
-pub shuts_not : (n : Nest) (ts : Tokens) → is_empty ts ≡ false → (n.braces ≡ 0 → (symbol ts == 125) ≡ false) → is_closing 123 n ts ≡ false
+shuts_not : (n : Nest) (ts : Tokens) → is_empty ts ≡ false → (n.braces ≡ 0 → (symbol ts == 125) ≡ false) → is_closing 123 n ts ≡ false
 unfolding is_closing
 shuts_not n ts some f =
     when (n.braces == 0) (λ e. let flat : n.braces ≡ 0 = grind (arith, nat_tests) in rw (some, e, f flat) refl) (λ e. rw (some, e) refl)

@@ -34,7 +34,3 @@ at_place b ts us (ahead past [] r u u' i j) = unmoved refl
 at_place b ts us (ahead past (t ∷ x) r u u' i j) = unmoved refl
 at_place b ts us (behind past [] u u' i) = moves past refl refl
 at_place b ts us (behind past (t ∷ r) u u' i) = moves t.at refl refl
-
-pub past_place : (b : Bodies) (ts us : Tokens) → Beside b ts us → SamePlace b ts.past us.past
-past_place b ts us (ahead past x r u u' i j) = unmoved refl
-past_place b ts us (behind past r u u' i) = moves past refl refl

@@ -17,10 +17,9 @@ use Rattle.rust_cursor.proofs.Walk.{nest_same}
 use Rattle.rust_cursor.proofs.Until.{gone_on, gone, kept, UpTo, Onward, into, on, bumped_onward}
 use Rattle.rust_cursor.proofs.Alike.{UntilBy, went, stayed, by_stayed}
 
--- the same text, which ends alike
-pub record SameText (r s : ExcerptRead) : Type 0 where
-  pub text : s.text ≡ r.text
-  pub ended : s.is_ended ≡ r.is_ended
+-- the same text
+abbrev SameText : ExcerptRead → ExcerptRead → Type 0
+SameText r s = s.text ≡ r.text
 
 joined_same : (b : Bodies) (last : ℕ) (ts us : Tokens) → Beside b ts us → is_joined last us ≡ is_joined last ts
 unfolding is_joined
@@ -53,7 +52,7 @@ text_next b e done last o o' n ts us h p (on next) rest =
     let ends' : ends e call (nest_behind n us) us ≡ ends e call (nest_behind n ts) ts = ap (λ (k : Nest). ends e call k us) same ∙ ends_same b e call (nest_behind n ts) ts us (symbol_same b ts us h) next in
     when (ends e call (nest_behind n ts) ts)
     (λ q. rw (taking_end e done last o n ts p q, taking_end e done last o' n us p' (ends' ∙ q), same, more_same b e last done ts us h)
-    (stayed (record { value = record { text = refl; ended = refl }; rest = next })))
+    (stayed (record { value = refl; rest = next })))
     (λ q. rw (taking_more e done last o n ts p q, taking_more e done last o' n us p' (ends' ∙ q), same, more_same b e last done ts us h, symbol_same b ts us h)
     (rest (more e last done ts) (symbol ts) _ _ (nest_behind n ts) next))
 
@@ -63,11 +62,11 @@ text_until b e zero ts us below done last o o' n h = absurd (omega arith)
 text_until b e (suc fuel) ts us below done last o o' n h =
     when (stops e n ts)
     (λ p. let p' : stops e n us ≡ true = stops_same b e n ts us h ∙ p in
-    rw (taking_stop e done last o n ts p, taking_stop e done last o' n us p') (stayed (record { value = record { text = refl; ended = refl }; rest = h })))
+    rw (taking_stop e done last o n ts p, taking_stop e done last o' n us p') (stayed (record { value = refl; rest = h })))
     (λ p. let less = shorter ts (taking_some e n ts p) in
     text_next b e done last o o' n ts us h p (bumped_onward b ts us h) (text_until b e fuel (bumped ts) (bumped us) (omega arith)))
 
 pub tree_text_until : (b : Bodies) → UpTo b tree_text
 unfolding taken
 tree_text_until b ts us h =
-    by_stayed (text_until b extents.Tree (suc (length ts.left)) ts us (omega arith) [] 0 None None _ h) (λ g. gone g) (λ k. kept (record { value = k.value.text; rest = k.rest }))
+    by_stayed (text_until b extents.Tree (suc (length ts.left)) ts us (omega arith) [] 0 None None _ h) (λ g. gone g) (λ k. kept (record { value = k.value; rest = k.rest }))

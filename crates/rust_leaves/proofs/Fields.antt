@@ -1,6 +1,5 @@
 -- The fields of a struct that ends with a semicolon stand in it.
-use Rattle.std.proofs.Common.{◌≡◌, ◌==◌, ℕ, Bool, true, Option, None, List, refl}
-use Rattle.hir_input.specs.declared.ast.Visibility.{Visibility}
+use Rattle.std.proofs.Common.{◌≡◌, ◌==◌, ℕ, true, None, refl}
 use Rattle.rust_cursor.specs.Tokens.{Tokens}
 use Rattle.rust_cursor.specs.Words.{symbol, bumped}
 use Rattle.rust_cursor.specs.Elements.{one}

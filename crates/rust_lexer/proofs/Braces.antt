@@ -1,6 +1,6 @@
 -- Brackets of each kind are tokens that open or close, and no others are.
-use Rattle.std.proofs.Common.{◌||◌, ◌&&◌, Bool, ◌≡◌, ℕ, zero, suc, ◌+◌, ◌-◌, ◌==◌, true, false, Option, Some, None, List, [], ◌∷◌, take, drop, refl, sym, subst, length, All}
-use Rattle.std.proofs.lemmas.Bool.{cond_both, eqb-true}
+use Rattle.std.proofs.Common.{◌||◌, ◌&&◌, Bool, ◌≡◌, ℕ, ◌==◌, true, false, Option, Some, None, List, drop, refl, sym, subst, All}
+use Rattle.std.proofs.lemmas.Bool.{eqb-true}
 use Rattle.std.proofs.lemmas.List.Elements.{All-cons, All-nil}
 use Rattle.rust_lexer.specs.declared.bytes.Class.TheVariants as class
 use Rattle.rust_lexer.specs.declared.cut.Cut.{Cut}
@@ -10,13 +10,13 @@ use Rattle.rust_lexer.specs.Bytes.{run, is_start, is_white, is_word, is_word_sta
 use Rattle.rust_lexer.specs.Cut.{cut, first_cut, quoted, plain, raw_or, raw_identifier, prefixed_raw, b_word, c_word, word, slash, is_raw_lifetime, lifetime, apostrophe, is_punctuation, symbol_kind}
 use Rattle.rust_lexer.specs.Quoted.{is_one_char, raw_string}
 use Rattle.std.specs.Char.{is_ascii_digit}
-use Rattle.std.specs.Prelude.{if◌then◌else◌, not, slice_index}
+use Rattle.std.specs.Prelude.{not, slice_index}
 use Rattle.rust_lexer.specs.declared.kind.LiteralKind.{LiteralKind}
 use Rattle.rust_lexer.specs.declared.quoted.Extent.{Extent}
-use Rattle.rust_lexer.specs.Frontmatter.{frontmatter}
 use Rattle.rust_lexer.specs.Piece.{Piece}
 use Rattle.rust_lexer.specs.Symbol.{symbol_from, symbol_of}
-use Rattle.rust_lexer.specs.Tokens.{has_mark, is_shebang, lines_from, mark_from, matter_by, matter_from, piece, shebang_from, tokens, tokens_from, whole}
+use Rattle.rust_lexer.specs.Tokens.{piece, tokens}
+use Rattle.rust_lexer.proofs.Each.{is_front, each_token}
 
 abbrev pub is_open_kind : TokenKind → Bool
 is_open_kind kind.OpenDelim = true
@@ -122,35 +122,16 @@ first_bracket at b z = let f = first_fits b z in record { opening = f.opening; c
 abbrev pub AreBrackets : List Piece → Type 0
 AreBrackets ts = All IsBracket ts
 
-brackets_from : (left at : ℕ) (z : List ℕ) → AreBrackets (tokens_from left at z)
-brackets_from zero at [] = All-nil IsBracket
-brackets_from (suc left) at [] = All-nil IsBracket
-brackets_from (suc left) at (b ∷ z) = brackets_from left (suc at) z
-brackets_from zero at (b ∷ z) = All-cons IsBracket (piece (first_cut b z) at b z) _ (first_bracket at b z) (brackets_from (whole (first_cut b z) z) (suc at) z)
+front_other : (k : TokenKind) → is_front k ≡ true → is_other k ≡ true
+front_other kind.ByteOrderMark e = refl
+front_other kind.Shebang e = refl
+front_other kind.Frontmatter e = refl
+front_other _ e = absurd cc
 
-brackets_matter : (found : Option ℕ) (at : ℕ) (z : List ℕ) → AreBrackets (matter_by found at z)
-brackets_matter None at z = brackets_from 0 at z
-brackets_matter (Some n) at [] = All-nil IsBracket
-brackets_matter (Some n) at (b ∷ z) =
-    let c = cut kind.Frontmatter (n - 1) in All-cons IsBracket (piece c at b z) _ (record { opening = refl; closing = refl }) (brackets_from (whole c z) (suc at) z)
-
-brackets_shebang : (at : ℕ) (z : List ℕ) → AreBrackets (shebang_from at z)
-brackets_shebang at [] = All-nil IsBracket
-brackets_shebang at (b ∷ z) =
-    let c = cut kind.Shebang (run class.Line z) in
-    let rest = drop (whole c z) z in
-    All-cons IsBracket (piece c at b z) _ (record { opening = refl; closing = refl }) (brackets_matter (frontmatter 0 rest) (at + suc (length (take (whole c z) z))) rest)
-
-brackets_lines : (at : ℕ) (z : List ℕ) → AreBrackets (lines_from at z)
-brackets_lines at z =
-    cond_both (is_shebang (tokens_from 0 at z)) (shebang_from at z) (matter_from at z) AreBrackets (λ _. brackets_shebang at z) (λ _. brackets_matter (frontmatter 0 z) at z)
-
-brackets_mark : (at : ℕ) (z : List ℕ) → AreBrackets (mark_from at z)
-brackets_mark at [] = All-nil IsBracket
-brackets_mark at (b ∷ z) =
-    let c = cut kind.ByteOrderMark 2 in
-    All-cons IsBracket (piece c at b z) _ (record { opening = refl; closing = refl }) (brackets_lines (at + suc (length (take (whole c z) z))) (drop (whole c z) z))
+front_bracket : (k : TokenKind) (n at b : ℕ) (z : List ℕ) → is_front k ≡ true → IsBracket (piece (cut k n) at b z)
+front_bracket k n at b z e = let f = other_fits k b (front_other k e) in record { opening = f.opening; closing = f.closing }
 
 pub tokens_brackets : (z : List ℕ) → AreBrackets (tokens z)
-unfolding tokens
-tokens_brackets z = cond_both (has_mark z) (mark_from 0 z) (lines_from 0 z) AreBrackets (λ _. brackets_mark 0 z) (λ _. brackets_lines 0 z)
+tokens_brackets z =
+    each_token AreBrackets (All-nil IsBracket) (λ at b z ts h. All-cons IsBracket (piece (first_cut b z) at b z) ts (first_bracket at b z) h)
+    (λ k n at b z ts e h. All-cons IsBracket (piece (cut k n) at b z) ts (front_bracket k n at b z e) h) z

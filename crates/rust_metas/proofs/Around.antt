@@ -1,5 +1,5 @@
 -- Attributes stay in the brackets that they stand in.
-use Rattle.std.proofs.Common.{◌≡◌, ◌≤◌, ◌<◌, ◌==◌, ◌||◌, ◌&&◌, ℕ, zero, suc, Bool, true, false, Option, Some, None, List, [], ◌∷◌, refl, ap, ◌∙◌, subst, sym, arith, codes}
+use Rattle.std.proofs.Common.{◌≡◌, ◌==◌, ◌||◌, ◌&&◌, ℕ, zero, suc, Bool, true, false, Option, Some, None, List, [], ◌∷◌, refl, ◌∙◌, subst, codes}
 use Rattle.std.specs.Prelude.{if◌then◌else◌, not, slice_index}
 use Rattle.std.specs.Str.{bytes_eq}
 use Rattle.std.proofs.lemmas.Bool.{eqb-true}
@@ -22,15 +22,14 @@ use Rattle.rust_cursor.proofs.Leads.{LeadsTo, here, further, through, Forwards, 
 use Rattle.rust_cursor.proofs.Local.{both_true}
 use Rattle.rust_cursor.proofs.Around.{around, Within, same_within, is_plain, IsSound, sound_on, Remains, NoCloser, OpensAt, round, opens_at, opens_no_closer, not_end, plain_of, plain_upto, plain_around, other_around, word_symbol, entered_within, inside_within, tree_within, turns_within, elements_within, tree_text_within, to_around}
 use Rattle.rust_cursor.proofs.Enclosed.{AreEnclosed}
-use Rattle.rust_paths.specs.Names.{name}
 use Rattle.rust_paths.specs.Paths.{path}
 use Rattle.rust_paths.proofs.Leads.{path_leads}
 use Rattle.rust_paths.proofs.Around.{name_around, path_within}
 use Rattle.rust_metas.specs.Literals.{is_literal_kind, is_truth, is_literal, is_ended, style_by, value, documentation}
 use Rattle.rust_metas.specs.Conditions.{comma_from, behind_comma, is_word_kind, is_option_word, option_name, pair, named, if_named, ended, condition_with, conditions, condition}
-use Rattle.rust_metas.specs.Metas.{input, plain, is_call, unsafe_with, cfg_with, member, cfg_attr_with, meta_with, meta, doc}
-use Rattle.rust_metas.specs.Attributes.{behind_docs_from, behind_docs, behind_attribute, outer_attributes, deepest, is_style, is_doc, is_attribute, is_behind, behind_bracket, bracketed, opened, one_attribute, attribute, attributes, inner_attributes}
-use Rattle.rust_metas.proofs.Leads.{option_name_leads, if_named_leads, condition_with_leads, conditions_leads, condition_leads, member_leads, meta_leads, bracketed_leads, one_attribute_leads, attribute_leads}
+use Rattle.rust_metas.specs.Metas.{input, plain, is_call, member, meta_with, meta, doc}
+use Rattle.rust_metas.specs.Attributes.{behind_docs_from, behind_docs, behind_attribute, outer_attributes, deepest, is_style, is_doc, is_attribute, is_behind, bracketed, opened, one_attribute, attribute, attributes, inner_attributes}
+use Rattle.rust_metas.proofs.Leads.{option_name_leads, if_named_leads, condition_with_leads, conditions_leads, condition_leads, member_leads, meta_leads, attribute_leads}
 
 -- ---- literals
 

@@ -1,6 +1,5 @@
 -- Paths and visibilities stay in the brackets that they stand in.
-use Rattle.std.proofs.Common.{◌≡◌, ◌==◌, ◌&&◌, ℕ, zero, suc, Bool, true, false, Option, Some, None, List, [], ◌∷◌, refl, ap, ◌∙◌, sym, subst, codes}
-use Rattle.std.specs.Prelude.{if◌then◌else◌}
+use Rattle.std.proofs.Common.{◌≡◌, ◌==◌, ℕ, zero, suc, true, false, Option, Some, None, List, [], ◌∷◌, refl, ◌∙◌, sym, subst, codes}
 use Rattle.std.specs.Str.{bytes_eq}
 use Rattle.std.proofs.lemmas.Bool.{eqb-true}
 use Rattle.hir_input.specs.declared.edition.EditionYear.{EditionYear}
@@ -18,7 +17,7 @@ use Rattle.hir_input.specs.declared.ast.Visibility.{Visibility}
 use Rattle.rust_paths.specs.Visibilities.{path_scope, plain_scope, scope_of, scope, is_in, scoped, visibility}
 use Rattle.rust_paths.proofs.Leads.{segment_leads, path_leads}
 use Rattle.rust_paths.specs.Names.{name_text, as_name, next_name, taken_with, name}
-use Rattle.rust_paths.specs.Paths.{is_raw, is_dollar_crate, named_word, other_segment, segment, is_colons, is_path_colons, more_from, more_segments, written_path, is_path_start, path_in, path}
+use Rattle.rust_paths.specs.Paths.{is_raw, is_dollar_crate, named_word, other_segment, segment, is_colons, is_path_colons, more_from, more_segments, written_path, is_path_start, path}
 
 name_first : (y : EditionYear) (n : List ℕ) (left : List Piece) → as_name (name_text y (by_first None (λ t. Some t.kind) left) (by_first [] (λ t. t.text) left)) ≡ Some n → by_first 0 symbol_of left ≡ 0
 name_first y n [] e = refl
