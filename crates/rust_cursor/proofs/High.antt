@@ -1,6 +1,6 @@
 -- How many of the `}` behind close what was opened before. A reader that takes only what it opens leaves no fewer.
-use Rattle.std.proofs.Common.{◌≡◌, ◌≤◌, ◌<◌, ℕ, zero, suc, ◌+◌, ◌-◌, ◌==◌, ◌||◌, ◌&&◌, Bool, true, false, Option, Some, None, List, [], ◌∷◌, length, refl, ap, ◌∙◌, sym, subst, arith}
-use Rattle.std.specs.Prelude.{if◌then◌else◌, not}
+use Rattle.std.proofs.Common.{◌≡◌, ◌≤◌, ◌<◌, ℕ, zero, suc, ◌+◌, ◌-◌, ◌==◌, ◌&&◌, Bool, true, false, Option, Some, None, List, [], ◌∷◌, refl, ap, ◌∙◌, sym, subst, arith}
+use Rattle.std.specs.Prelude.{if◌then◌else◌}
 use Rattle.std.specs.List.{filter}
 use Rattle.std.proofs.lemmas.Bool.{eqb-true}
 use Rattle.std.proofs.lemmas.Bool.Decides.{nat_tests}
@@ -20,15 +20,15 @@ use Rattle.rust_cursor.specs.declared.cursor.nest.Nest.{Nest}
 use Rattle.rust_cursor.specs.declared.cursor.texts.Extent.{Extent}
 use Rattle.rust_cursor.specs.declared.cursor.texts.Extent.TheVariants as extents
 use Rattle.rust_cursor.specs.Angles.{is_barred, is_reached, is_closed, reaching, reached, behind_angles}
-use Rattle.rust_cursor.specs.Brackets.{is_closing, shuts, closing, to_closing, behind_closing, behind_closed, behind_tree}
+use Rattle.rust_cursor.specs.Brackets.{is_closing, closing, to_closing, behind_closed, behind_tree}
 use Rattle.rust_cursor.specs.Elements.{beyond, turns_from, turns, elements}
-use Rattle.rust_cursor.specs.Extents.{stops, ends, taking, taken, tree_text, opened_behind, block_at}
+use Rattle.rust_cursor.specs.Extents.{stops, ends, taking, taken, tree_text, opened_behind}
 use Rattle.rust_cursor.specs.Nests.{braces_behind, flat, begun, is_flat, is_mark, nest_behind}
 use Rattle.rust_cursor.specs.Reader.{Reader}
 use Rattle.rust_cursor.specs.Tokens.{Tokens, tokens_of}
 use Rattle.rust_cursor.specs.Words.{by_first, rest, opens, closes, is_open, is_close, symbol, is_empty, is_at_open, is_at_end, bumped}
-use Rattle.rust_cursor.proofs.Laid.{IsLaid, behind, at_behind, taken_behind, past_within}
-use Rattle.rust_cursor.proofs.Leads.{LeadsTo, here, further, Forwards, when, from_last, bumped_leads, beyond_leads, closing_empty, reached_empty, closing_leads, behind_closing_leads, reaching_leads, turns_from_leads, stops_empty, taking_leads}
+use Rattle.rust_cursor.proofs.Laid.{IsLaid, behind, at_behind, taken_behind}
+use Rattle.rust_cursor.proofs.Leads.{LeadsTo, here, further, Forwards, when, from_last, bumped_leads, stops_empty}
 use Rattle.rust_cursor.proofs.Reaches.{reaching_stop, reaching_end, reaching_more}
 use Rattle.rust_cursor.proofs.Scans.{taking_stop, taking_end, taking_more}
 use Rattle.rust_cursor.proofs.Steps.{closing_stop, closing_more}

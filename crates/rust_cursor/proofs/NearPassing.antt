@@ -1,5 +1,5 @@
 -- Walks over the tokens of a text that ends with a `;` or a `}`, and over those of a longer one: they come to the same place, or the one over the longer text passes the end.
-use Rattle.std.proofs.Common.{◌≡◌, ◌<◌, ℕ, zero, suc, ◌+◌, ◌==◌, Bool, true, false, Option, None, List, [], ◌∷◌, ◌++◌, length, refl, ap, ◌∙◌, sym, subst, arith}
+use Rattle.std.proofs.Common.{◌≡◌, ℕ, ◌==◌, Bool, true, false, refl, ap, ◌∙◌, sym}
 use Rattle.std.specs.Prelude.{if◌then◌else◌}
 use Rattle.rust_cursor.specs.declared.cursor.generics.Reach.{Reach}
 use Rattle.rust_cursor.specs.declared.cursor.generics.Reach.TheVariants as reaches
@@ -9,11 +9,11 @@ use Rattle.rust_cursor.specs.Brackets.{is_closing, closing, to_closing, behind_c
 use Rattle.rust_cursor.specs.Elements.{beyond}
 use Rattle.rust_cursor.specs.Nests.{flat, begun, nest_behind}
 use Rattle.rust_cursor.specs.Tokens.{Tokens}
-use Rattle.rust_cursor.specs.Words.{symbol, is_at_open, bumped}
-use Rattle.rust_cursor.proofs.Leads.{LeadsTo, here, further, through, when, bumped_leads, closing_leads, reaching_leads, behind_closing_leads, behind_closed_leads, from_last, closing_empty, reached_empty}
+use Rattle.rust_cursor.specs.Words.{symbol, bumped}
+use Rattle.rust_cursor.proofs.Leads.{when, closing_leads, reaching_leads, behind_closing_leads, behind_closed_leads, from_last, closing_empty, reached_empty}
 use Rattle.rust_cursor.proofs.Reaches.{reaching_stop, reaching_end, reaching_more}
 use Rattle.rust_cursor.proofs.Steps.{closing_stop, closing_more}
-use Rattle.rust_cursor.proofs.Near.{Ending, Near, Gone, gone_on, Onward, into, on, by_next, onward_leads, bumped_onward, symbol_same, symbol_test, open_same, taken_same}
+use Rattle.rust_cursor.proofs.Near.{Ending, Near, Onward, on, onward_leads, bumped_onward, symbol_same, symbol_test, open_same, taken_same}
 use Rattle.rust_cursor.proofs.NearTests.{nest_same, closing_same, reached_same}
 
 pub cond_onward : {b : Ending} {t' t : Bool} {ts us ts' us' : Tokens} → t' ≡ t → (t ≡ true → Onward b ts us) → (t ≡ false → Onward b ts' us') → Onward b (if t then ts else ts') (if t' then us else us')

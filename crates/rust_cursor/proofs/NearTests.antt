@@ -1,6 +1,5 @@
 -- What is asked of the tokens of a text that ends with a `;` or a `}`, and of a longer one.
-use Rattle.std.proofs.Common.{◌≡◌, ◌≢◌, ℕ, zero, suc, ◌+◌, ◌-◌, ◌==◌, ◌||◌, ◌&&◌, Bool, true, false, Option, Some, None, List, [], ◌∷◌, length, refl, ap, ◌∙◌, sym, arith, codes}
-use Rattle.std.specs.Prelude.{if◌then◌else◌, not, nat_lt}
+use Rattle.std.proofs.Common.{◌≡◌, ◌≢◌, ℕ, ◌==◌, Bool, true, false, List, [], length, refl, ◌∙◌, sym, arith, codes}
 use Rattle.std.specs.Str.{bytes_eq}
 use Rattle.std.proofs.lemmas.Bool.Decides.{nat_tests}
 use Rattle.rust_cursor.specs.declared.cursor.generics.Reach.{Reach}
@@ -10,12 +9,12 @@ use Rattle.rust_cursor.specs.declared.cursor.nest.Before.TheVariants as befores
 use Rattle.rust_cursor.specs.declared.cursor.nest.Nest.{Nest}
 use Rattle.rust_cursor.specs.declared.cursor.texts.Extent.{Extent}
 use Rattle.rust_cursor.specs.declared.cursor.texts.Extent.TheVariants as extents
-use Rattle.rust_cursor.specs.Angles.{is_lifetime, begins_binder, is_lone_for, closes_around, is_block, is_header_end, is_barred, is_reached}
+use Rattle.rust_cursor.specs.Angles.{begins_binder, is_lone_for, is_header_end, is_barred, is_reached}
 use Rattle.rust_cursor.specs.Brackets.{is_closing}
 use Rattle.rust_cursor.specs.Extents.{begins, begins_item, follows_const, begins_impl_or_const, begins_behind, begins_within, stops, ends, goes_on, more, has_blank, is_joined}
 use Rattle.rust_cursor.specs.Nests.{nest_behind}
 use Rattle.rust_cursor.specs.Tokens.{Tokens}
-use Rattle.rust_cursor.specs.Words.{symbol, word, kind, is_at_identifier, bumped, is_pair}
+use Rattle.rust_cursor.specs.Words.{symbol, word, bumped}
 use Rattle.rust_cursor.proofs.Begins.{none_begins}
 use Rattle.rust_cursor.proofs.Leads.{when}
 use Rattle.rust_cursor.proofs.Near.{Ending, Near, is_last, symbol_same, word_same, kind_same, text_same, empty_same, end_same, identifier_same, doc_same, glued_same, not_last, last_word, last_identifier, last_test, after_word, after_symbol, pair_same}

@@ -1,22 +1,20 @@
 -- The text of what is left of an item is the same in a text that ends with it, and in a longer one where it ends there too.
-use Rattle.std.proofs.Common.{◌≡◌, ◌≤◌, ◌<◌, ℕ, zero, suc, ◌+◌, ◌==◌, ◌||◌, ◌&&◌, Bool, true, false, Option, Some, None, List, [], ◌∷◌, ◌++◌, length, refl, ap, ◌∙◌, sym, subst, arith, map, length-append}
-use Rattle.std.specs.Prelude.{if◌then◌else◌, not}
-use Rattle.rust_lexer.specs.Alone.{moved}
-use Rattle.rust_lexer.specs.Piece.{Piece}
+use Rattle.std.proofs.Common.{◌≡◌, ◌<◌, ℕ, ◌==◌, ◌||◌, ◌&&◌, Bool, true, false, Option, Some, None, List, [], length, refl, ap, ◌∙◌, sym, arith}
+use Rattle.std.specs.Prelude.{not}
 use Rattle.rust_cursor.specs.declared.cursor.nest.Before.{Before}
 use Rattle.rust_cursor.specs.declared.cursor.nest.Nest.{Nest}
 use Rattle.rust_cursor.specs.declared.cursor.texts.Extent.{Extent}
 use Rattle.rust_cursor.specs.declared.cursor.texts.Extent.TheVariants as extents
-use Rattle.rust_cursor.specs.Extents.{ExcerptRead, excerpt, stops, ends, goes_on, opened_behind, block_at, more, taking, taken, tree_text}
-use Rattle.rust_cursor.specs.Nests.{is_flat, is_mark, is_whole, nest_behind}
-use Rattle.rust_cursor.specs.Tokens.{Tokens, end_of}
-use Rattle.rust_cursor.specs.Words.{by_first, symbol, bumped}
-use Rattle.rust_cursor.proofs.Leads.{LeadsTo, when, from_last, stops_empty, taking_leads}
+use Rattle.rust_cursor.specs.Extents.{ExcerptRead, stops, ends, goes_on, opened_behind, block_at, more, taking, taken, tree_text}
+use Rattle.rust_cursor.specs.Nests.{is_flat, is_mark, nest_behind}
+use Rattle.rust_cursor.specs.Tokens.{Tokens}
+use Rattle.rust_cursor.specs.Words.{symbol, bumped}
+use Rattle.rust_cursor.proofs.Leads.{when, from_last, stops_empty, taking_leads}
 use Rattle.rust_cursor.proofs.Nesting.{shorter}
 use Rattle.rust_cursor.proofs.Scans.{taking_stop, taking_end, taking_more, taking_some}
-use Rattle.rust_cursor.proofs.Near.{Ending, Near, near, is_last, Gone, gone_on, symbol_same, next_near, fewer, nothing}
+use Rattle.rust_cursor.proofs.Near.{Ending, Near, symbol_same, fewer, nothing}
 use Rattle.rust_cursor.proofs.NearTests.{nest_same, stops_same, ends_same, more_same}
-use Rattle.rust_cursor.proofs.NearUntil.{UntilBy, gone, kept, UpTo, AtEnd, Step, at_last, next, step, Outcome, lost, stays, comes, outcome_until}
+use Rattle.rust_cursor.proofs.NearUntil.{UntilBy, gone, kept, UpTo, Step, at_last, next, step, Outcome, lost, stays, comes, outcome_until}
 
 -- braces that were opened in both
 pub data BlockNear (b : Ending) : Option Tokens → Option Tokens → Type 0 where

@@ -1,12 +1,12 @@
 -- Readers of a text that ends with a `;` or a `}`, and of a longer one: they read alike, until the one of the longer text passes the end.
-use Rattle.std.proofs.Common.{◌≡◌, ◌≤◌, ◌<◌, ◌+◌, ℕ, zero, suc, ◌==◌, Bool, true, false, List, [], ◌∷◌, ◌++◌, length, refl, ap, ◌∙◌, sym, subst, arith, map, length-append}
+use Rattle.std.proofs.Common.{◌≡◌, ◌<◌, ◌+◌, ℕ, zero, suc, ◌==◌, Bool, true, false, List, [], ◌∷◌, ◌++◌, length, refl, ap, ◌∙◌, sym, subst, arith, map, length-append}
 use Rattle.std.specs.Prelude.{if◌then◌else◌}
 use Rattle.std.specs.Str.{bytes_eq}
 use Rattle.rust_lexer.specs.Alone.{moved}
 use Rattle.rust_cursor.specs.Elements.{beyond, turns_from, turns, elements, one}
-use Rattle.rust_cursor.specs.Reader.{Reader, ◌>>=◌, pure, look, pass}
+use Rattle.rust_cursor.specs.Reader.{Reader, ◌>>=◌, pure}
 use Rattle.rust_cursor.specs.Tokens.{Tokens}
-use Rattle.rust_cursor.specs.Words.{symbol, word, bumped, taken_if, eat, eat_word, is_pair, eat_pair, is_at_end}
+use Rattle.rust_cursor.specs.Words.{symbol, bumped, taken_if, eat, eat_word, is_pair, eat_pair, is_at_end}
 use Rattle.rust_cursor.proofs.Leads.{LeadsTo, through, Forwards, when, symbol_some, beyond_leads, turns_from_leads}
 use Rattle.rust_cursor.proofs.Near.{Ending, Near, near, next_near, Gone, is_last, gone_on, Onward, into, on, by_next, word_test, symbol_test, end_same, after_word, after_symbol, pair_same, after_pair}
 use Rattle.rust_cursor.proofs.Nesting.{shorter}

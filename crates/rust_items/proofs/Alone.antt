@@ -5,7 +5,10 @@ use Rattle.std.specs.List.{filter}
 use Rattle.std.proofs.lemmas.List.Elements.{filter-append}
 use Rattle.std.proofs.lemmas.Bool.Decides.{nat_tests}
 use Rattle.hir_input.specs.declared.edition.EditionYear.{EditionYear}
+use Rattle.hir_input.specs.Attr.{MetaView}
 use Rattle.hir_input.specs.Syntax.{ItemView}
+use Rattle.rust_lexer.specs.declared.kind.DocStyle.TheVariants.{Inner}
+use Rattle.rust_metas.specs.Attributes.{inner_attributes, is_behind}
 use Rattle.rust_lexer.specs.declared.kind.TokenKind.{TokenKind}
 use Rattle.rust_lexer.specs.Alone.{Stop, opening, closing, semicolon, stop, front, moved}
 use Rattle.rust_lexer.specs.Piece.{Piece}
@@ -23,6 +26,8 @@ use Rattle.rust_cursor.proofs.Near.{Ending, Near, near, is_last, are_ended}
 use Rattle.rust_cursor.proofs.NearUntil.{AtEnd, more_left}
 use Rattle.rust_items.specs.Alone.{ended, IsPlain, IsPart, tokens_behind}
 use Rattle.rust_items.specs.Found.{Found, nothing_found}
+use Rattle.rust_items.specs.SourceFiles.{read_of}
+use Rattle.rust_items.proofs.Inner.{no_inner, turn_none}
 use Rattle.rust_items.specs.Items.{finding_from, finding, is_list_end, turn, items}
 use Rattle.rust_items.proofs.NearItems.{FoundNear, FoundAlike, flat, is_sound}
 use Rattle.rust_items.proofs.NearLeaves.{IsWhole, Given, Ends, passes, before_end, at_end}
@@ -62,7 +67,7 @@ part_near edition u q w o y p e =
 pub record StandsAlone (edition : EditionYear) (b : Ending) (text : List ℕ) (before : Found) (r : Option ItemView × (Found × Tokens)) : Type 0 where
   pub found : Found
   pub left : Tokens
-  pub read : items true 128 nothing_found (tokens_of edition text) ≡ (option_to_list r.0, (found, left))
+  pub read : read_of edition text ≡ (option_to_list r.0, (found, left))
   pub same : FoundNear b before r.1.0 found
   pub none : left.left ≡ []
 
@@ -135,6 +140,14 @@ ended_some : (us : Tokens) → are_ended us.left ≡ true → is_empty us ≡ fa
 unfolding is_empty
 ended_some us e = some_first us.left e
 
+none_some : (i : Option ItemView) → i ≡ None → is_some i ≡ true → ⊥
+none_some None e f = absurd cc
+none_some (Some i) e f = absurd cc
+
+sound_some : (start : ℕ) (i : Option ItemView) (f : Found) → is_sound start (i, f) ≡ true → is_some i ≡ true
+sound_some start None f e = absurd cc
+sound_some start (Some i) f e = refl
+
 alone : {m : ℕ} (edition : EditionYear) (b : Ending) (text : List ℕ) (f : Found) (ts us : Tokens) → us ≡ tokens_of edition text → is_empty us ≡ false → Near b ts us → IsLaid m us
     → Ends (FoundAlike b f) (is_sound (at ts)) b (flat (turn 128 f ts)) (flat (turn 128 nothing_found us)) → is_sound (at ts) ((turn 128 f ts).0, (turn 128 f ts).1.0) ≡ true → length (turn 128 f ts).1.1.left ≡ length b.behind
     → StandsAlone edition b text f (turn 128 f ts)
@@ -142,11 +155,14 @@ alone edition b text f ts us is some h laid (passes few strict) sound ends = let
 alone edition b text f ts us is some h laid (before_end k) sound ends = let more = more_left b _ _ k.rest in absurd (omega arith)
 alone {m = m} edition b text f ts us is some h laid (at_end t a) sound ends =
     let r' = turn 128 nothing_found us in
+    let some_here : is_some r'.0 ≡ true = ap is_some t.value ∙ (sound_some (at ts) (turn 128 f ts).0 (turn 128 f ts).1.0 sound) in
+    let begins : is_behind Inner us ≡ true =
+    when (is_behind Inner us) (λ e. e) (λ e. absurd (none_some r'.0 (turn_none 128 nothing_found us e) some_here)) in
     let far = taken_far m us r'.1.1 laid some (turn_found m 128 nothing_found us laid).leads a.none in
     record {
       found = r'.1.0;
       left = r'.1.1;
-      read = ap (items true 128 nothing_found) (sym is) ∙ one_item nothing_found us some a.none far ∙ ap (λ i. (option_to_list i, (r'.1.0, r'.1.1))) t.value;
+      read = ap (λ (t : Tokens). items true 128 nothing_found (inner_attributes t).1) (sym is) ∙ ap (λ (p : List MetaView × Tokens). items true 128 nothing_found p.1) (no_inner us begins) ∙ one_item nothing_found us some a.none far ∙ ap (λ i. (option_to_list i, (r'.1.0, r'.1.1))) t.value;
       same = t.found;
       none = a.none;
     }

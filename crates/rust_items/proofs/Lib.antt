@@ -13,4 +13,5 @@ pub mod NearFronts
 pub mod NearLeaves
 pub mod NearItems
 pub mod NearTurns
+pub mod Inner
 pub mod Alone

@@ -55,7 +55,7 @@ unfolding is_modifier_before
 before_same b w ts us h =
     rw (auto_same b ts us h, word_same b (behind_abi ts) (behind_abi us) (abi_near b ts us h), word_same b ts us h) refl
 
-nothing_before : (ts : Tokens) → is_modifier_before [] ts ≡ false
+pub nothing_before : (ts : Tokens) → is_modifier_before [] ts ≡ false
 unfolding is_modifier_before
 nothing_before ts = refl
 
@@ -148,7 +148,7 @@ no_head : (behind : Tokens) → head_by [] behind ≡ heads.Other
 unfolding head_by
 no_head behind = refl
 
-no_word_head : (ts : Tokens) → word ts ≡ [] → head ts ≡ (heads.Other, ts)
+pub no_word_head : (ts : Tokens) → word ts ≡ [] → head ts ≡ (heads.Other, ts)
 unfolding head
 no_word_head ts e = ap (λ k. (k, behind_head k ts)) (ap (λ w. head_by w (bumped ts)) e ∙ no_head (bumped ts))
 

@@ -1,6 +1,5 @@
 -- Paths take no `}` of a brace that they do not open.
-use Rattle.std.proofs.Common.{◌≡◌, ◌==◌, ◌&&◌, ◌||◌, ℕ, zero, suc, Bool, true, false, Option, Some, None, List, [], refl, arith, codes}
-use Rattle.std.specs.Prelude.{if◌then◌else◌, not}
+use Rattle.std.proofs.Common.{◌≡◌, ◌==◌, ◌&&◌, ℕ, zero, suc, Bool, true, false, Option, Some, None, List, [], refl, arith, codes}
 use Rattle.std.specs.Str.{bytes_eq}
 use Rattle.std.proofs.lemmas.Bool.Decides.{nat_tests}
 use Rattle.rust_cursor.specs.Tokens.{Tokens}
@@ -9,7 +8,7 @@ use Rattle.rust_cursor.proofs.High.{Held, Up, bump_up, behind_angles_up}
 use Rattle.rust_cursor.proofs.Leads.{when}
 use Rattle.rust_cursor.proofs.Near.{is_last, last_word, both_true}
 use Rattle.rust_paths.specs.Names.{next_name, taken_with, name}
-use Rattle.rust_paths.specs.Paths.{is_raw, is_dollar_crate, named_word, other_segment, segment, is_colons, is_joint, is_path_colons, more_from, more_segments, written_path, is_path_start, path_in, path}
+use Rattle.rust_paths.specs.Paths.{is_raw, is_dollar_crate, named_word, other_segment, segment, is_colons, is_path_colons, more_from, more_segments, written_path, is_path_start, path}
 use Rattle.rust_paths.proofs.Near.{last_name, last_raw, are_colons}
 
 pub not_close : (ts : Tokens) → is_last (symbol ts) ≡ false → (symbol ts == 125) ≡ false

@@ -1,6 +1,6 @@
 -- Names, paths and visibilities are the same in a text that ends with a `;` or a `}` and in a longer one, until these pass the end.
-use Rattle.std.proofs.Common.{◌≡◌, ◌==◌, ◌||◌, ◌&&◌, ◌+◌, ℕ, zero, suc, Bool, true, false, Option, Some, None, List, [], ◌∷◌, refl, sym, ap, ◌∙◌, codes}
-use Rattle.std.specs.Prelude.{if◌then◌else◌, option_map, is_some, not}
+use Rattle.std.proofs.Common.{◌≡◌, ◌==◌, ◌+◌, ℕ, zero, suc, Bool, true, false, Option, Some, None, List, [], ◌∷◌, refl, ap, ◌∙◌, codes}
+use Rattle.std.specs.Prelude.{option_map, is_some, not}
 use Rattle.std.specs.Str.{bytes_eq}
 use Rattle.hir_input.specs.declared.ast.PathNode.{PathNode}
 use Rattle.hir_input.specs.declared.ast.Visibility.{Visibility}
