@@ -17,7 +17,8 @@ FOLDER = os.path.join(os.path.dirname(os.path.realpath(__file__)), 'reader')
 DAMAGE = ['"', "'", '{', '}', '(', ')', '[', ']', ';', '#', '!', '/', '*', '\\', 'r', '0', ' ', '\n', ':', '=']
 LINE = r'^([\w.]+):(?: (.*))?$'
 # The lines that are compared as they stand; others hold JSON.
-TEXTS = ['outline', 'check', 'ids', 'count', 'items']
+TEXTS = ['outline', 'check', 'checked', 'ids', 'count', 'items']
+COUNTED = {'count': ['outline', '--no-members'], 'checked': ['check']}
 passed = failed = 0
 
 
@@ -85,8 +86,8 @@ def answer(word, text, options):
         return '; '.join(' '.join(filter(None, [item['is'], item.get('name')])) for item in items)
     if word == 'ids':
         return '; '.join(item['id'] for item in walked(outline(text, options), 'children'))
-    if word == 'count':
-        return str(len(run(['outline', '--no-members'], text, options).splitlines()))
+    if word in COUNTED:
+        return str(len(run(COUNTED[word], text, options).splitlines()))
     steps = word.split('.')
     if steps[0] == 'outline':
         return part(outline(text, options), steps[1:])
@@ -106,7 +107,8 @@ def text_of(case):
 def check_case(name, case):
     text = text_of(case)
     wanted = dict(re.findall(LINE, case, re.M))
-    wanted.setdefault('check', '')
+    if 'checked' not in wanted:
+        wanted.setdefault('check', '')
     edition = wanted.pop('edition', None)
     options = ['--edition', edition] if edition else []
     if not all(re.match(r'[>=]', line) or re.match(LINE, line) for line in case.splitlines()):

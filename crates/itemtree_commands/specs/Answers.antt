@@ -15,6 +15,9 @@ use Rattle.source_listing.specs.Repeated.{repeated_lines}
 use Rattle.source_listing.specs.Uses.{FilePlaces, placed}
 use Rattle.source_listing.specs.Search.{Query, found_lines}
 use Rattle.source_listing.specs.Tags.{tags}
+use Rattle.source_problems.specs.Texts.{source_problems}
+use Rattle.rust_items.specs.declared.source_file.SourceFile.{SourceFile}
+use Rattle.rust_items.specs.SourceFiles.{IsSourceFile}
 use Rattle.source_tree.specs.declared.SourceTree.{SourceTree}
 use Rattle.source_tree.specs.declared.SourceError.{SourceError}
 use Rattle.source_tree.specs.Trees.{IsRefused, IsTreeOf}
@@ -79,10 +82,11 @@ if_ids has_ids page = if has_ids then page else without_ids page
 abbrev pub IsPage : Options → Bool → List ℕ → List ℕ → Type 0
 IsPage o has_ids text out = (t : SourceTree) × HasTree o text t × (out ≡ if_ids has_ids (page o.edition.reserved.items t.tree))
 
--- the lines of what could not be read, and whether there are any
+-- the lines of what is wrong with what is read of the text, and whether there are any
 abbrev pub IsCheck : Options → Source → Checked → Type 0
 IsCheck o s c =
-    (t : SourceTree) × HasTree o s.text t × (string_bytes c.text ≡ problem_lines s t.problems.items) × (IsTrue c.is_clean ↔ (length t.problems.items ≡ 0))
+    (file : SourceFile) × IsSourceFile o.edition.year s.text file × (string_bytes c.text ≡ problem_lines s (source_problems s.text file))
+    × (IsTrue c.is_clean ↔ (length (source_problems s.text file) ≡ 0))
 
 -- the command has no answer: the text has no tree, or memory is wanting
 abbrev pub HasNoTree : Options → List ℕ → SourceError → Type 0

@@ -6,12 +6,13 @@ ghost use Rattle.itemtree_commands.specs.Answers as spec;
 ghost use Rattle.itemtree_commands.specs.Typing.{IsSameInBody, IsSameWhereTyped};
 ghost use Rattle.source_listing.specs.Ends.{IsBeginOf};
 ghost use Rattle.source_listing.specs.Views.{choice_view, query_view, source_view};
-ghost use Rattle.source_tree.specs.Trees.{HasOwnIds};
+ghost use Rattle.source_tree.specs.Trees.{HasOwnIds, IsUnread};
 
 use hir_input::{CfgOptions, Edition, Name};
 use item_tree::CrateData;
 use source_listing::{Choice, Query, Side, Source, without_ids};
-use source_tree::{SourceError, SourceTree, source_tree};
+use source_problems::source_problems;
+use source_tree::{SourceError, SourceTree, source_file, source_tree};
 use std::alloc::{AllocError, Global};
 
 /// What trees are made and written under.
@@ -47,7 +48,7 @@ impl Options {
     }
 }
 
-/// What could not be read of a file.
+/// What is wrong with a file.
 #[derive(Debug, Drop)]
 pub struct Checked {
     /// A line for each problem.
@@ -307,17 +308,18 @@ pub fn changed(
     })
 }
 
-/// `itemtree check`: a line for each problem.
+/// `itemtree check`: a line for each thing that is wrong, in the order of their places.
 ///
-/// Its errors are those of `source_tree`.
-#[tactic(auto, using(source_tree::proofs::Refused::no_memory))]
+/// Its errors are those of `source_file`: it needs no tree.
+#[tactic(auto, using(source_tree::proofs::Refused::no_memory_to_read))]
 pub fn check(alloc: Global, source: Source<'_>, options: &Options) -> Result<Checked, SourceError>
     ensures checked { IfOk result (spec.IsCheck options.now (source_view source.entry)) }
-    ensures refused { IfErr result (spec.HasNoTree options.now source.entry.text.now) }
+    ensures refused { IfErr result (IsUnread source.entry.text.now) }
 {
-    let file = read(alloc, source.text, options)?;
+    let file = source_file(alloc, source.text, options.edition.year)?;
+    let problems = source_problems(alloc, source.text, &file)?;
     Ok(Checked {
-        text: source_listing::problem_lines(alloc, source, &file.problems)?,
-        is_clean: file.problems.is_empty(),
+        text: source_listing::problem_lines(alloc, source, &problems)?,
+        is_clean: problems.is_empty(),
     })
 }
