@@ -1,6 +1,6 @@
 -- The text of an item, from the end of what stands before it on, read alone is exactly that item.
-use Rattle.std.proofs.Common.{◌≡◌, ◌≢◌, ◌≤◌, ◌<◌, ◌+◌, ◌==◌, ◌||◌, ◌&&◌, ℕ, zero, suc, Bool, true, false, Option, Some, None, List, [], ◌∷◌, ◌++◌, length, refl, sym, ap, ◌∙◌, subst, arith, map, append-nil}
-use Rattle.std.specs.Prelude.{if◌then◌else◌, option_to_list, is_some, not, slice_index}
+use Rattle.std.proofs.Common.{◌≡◌, ◌<◌, ◌+◌, ◌==◌, ℕ, suc, true, false, Option, Some, None, List, [], ◌∷◌, ◌++◌, length, refl, sym, ap, ◌∙◌, subst, arith, map, append-nil}
+use Rattle.std.specs.Prelude.{option_to_list, is_some}
 use Rattle.std.specs.List.{filter}
 use Rattle.std.proofs.lemmas.List.Elements.{filter-append}
 use Rattle.std.proofs.lemmas.Bool.Decides.{nat_tests}
@@ -9,7 +9,6 @@ use Rattle.hir_input.specs.Attr.{MetaView}
 use Rattle.hir_input.specs.Syntax.{ItemView}
 use Rattle.rust_lexer.specs.declared.kind.DocStyle.TheVariants.{Inner}
 use Rattle.rust_metas.specs.Attributes.{inner_attributes, is_behind}
-use Rattle.rust_lexer.specs.declared.kind.TokenKind.{TokenKind}
 use Rattle.rust_lexer.specs.Alone.{Stop, opening, closing, semicolon, stop, front, moved}
 use Rattle.rust_lexer.specs.Piece.{Piece}
 use Rattle.rust_lexer.specs.Symbol.{symbol_of}
@@ -23,8 +22,8 @@ use Rattle.rust_cursor.proofs.High.{tokens_proper}
 use Rattle.rust_cursor.proofs.Laid.{IsLaid, behind, at_behind, taken_behind, tokens_laid}
 use Rattle.rust_cursor.proofs.Leads.{LeadsTo, here, further, when, bumped_leads}
 use Rattle.rust_cursor.proofs.Near.{Ending, Near, near, is_last, are_ended}
-use Rattle.rust_cursor.proofs.NearUntil.{AtEnd, more_left}
-use Rattle.rust_items.specs.Alone.{ended, IsPlain, IsPart, tokens_behind}
+use Rattle.rust_cursor.proofs.NearUntil.{more_left}
+use Rattle.rust_items.specs.Alone.{ended, IsPart, tokens_behind}
 use Rattle.rust_items.specs.Found.{Found, nothing_found}
 use Rattle.rust_items.specs.SourceFiles.{read_of}
 use Rattle.rust_items.proofs.Inner.{no_inner, turn_none}

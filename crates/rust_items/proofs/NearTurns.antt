@@ -1,22 +1,19 @@
 -- An item that ends with the last token of a text is the same in a longer text.
-use Rattle.std.proofs.Common.{◌≡◌, ◌≤◌, ◌<◌, ◌+◌, ◌==◌, ◌||◌, ◌&&◌, ℕ, zero, suc, Bool, true, false, Option, Some, None, List, [], ◌∷◌, ◌++◌, length, refl, sym, ap, ◌∙◌, subst, arith, map}
-use Rattle.std.specs.Prelude.{if◌then◌else◌, option_to_list, is_none, is_some, not}
+use Rattle.std.proofs.Common.{◌≡◌, ◌<◌, ◌+◌, ◌==◌, ◌||◌, ◌&&◌, ℕ, zero, suc, Bool, true, false, Option, Some, None, List, [], ◌∷◌, ◌++◌, length, refl, sym, ap, ◌∙◌, subst, arith}
+use Rattle.std.specs.Prelude.{is_none, not}
 use Rattle.std.specs.List.{list_any}
 use Rattle.hir_input.specs.declared.ids.AstIdKind.{AstIdKind}
 use Rattle.hir_input.specs.declared.ids.AstIdKind.TheVariants as ast
 use Rattle.hir_input.specs.Attr.{MetaView}
 use Rattle.hir_input.specs.Syntax.{ItemView, extern_block_from, module_from}
-use Rattle.rust_cursor.specs.Brackets.{behind_closed, behind_tree}
-use Rattle.rust_cursor.specs.Elements.{most}
+use Rattle.rust_cursor.specs.Brackets.{behind_tree}
 use Rattle.rust_cursor.specs.Tokens.{Tokens}
 use Rattle.rust_cursor.specs.Words.{symbol, at, eat, bumped, is_at_end}
 use Rattle.rust_cursor.proofs.Laid.{IsLaid, behind}
-use Rattle.rust_cursor.proofs.Leads.{LeadsTo, here, further, through, when, bumped_leads, eat_leads}
-use Rattle.rust_cursor.proofs.Near.{Ending, Near, fewer, by_next, bumped_onward, symbol_same, end_same, at_same, past_same, symbol_test}
+use Rattle.rust_cursor.proofs.Leads.{LeadsTo, through, when, eat_leads}
+use Rattle.rust_cursor.proofs.Near.{Ending, Near, fewer, by_next, bumped_onward, symbol_same, end_same, at_same, past_same}
 use Rattle.rust_cursor.proofs.NearPassing.{behind_tree_near}
-use Rattle.rust_cursor.proofs.NearUntil.{Kept, by_kept, AtEnd, Step, at_last, next, step, eat_fewer}
-use Rattle.rust_metas.specs.Attributes.{inner_attributes}
-use Rattle.rust_metas.proofs.Leads.{inner_attributes_leads}
+use Rattle.rust_cursor.proofs.NearUntil.{by_kept, Step, at_last, next, step, eat_fewer}
 use Rattle.rust_leaves.specs.declared.head.Head.{Head}
 use Rattle.rust_leaves.specs.declared.head.Head.TheVariants as heads
 use Rattle.rust_leaves.specs.Fronts.{FrontRead, front}
@@ -24,12 +21,12 @@ use Rattle.rust_leaves.specs.Kinds.{named_node, node, leaf}
 use Rattle.rust_leaves.specs.Leaves.{NameRead, named, no_name}
 use Rattle.rust_items.specs.declared.log.Problem.{Problem}
 use Rattle.rust_items.specs.declared.log.ProblemKind.TheVariants as problem
-use Rattle.rust_items.specs.Found.{Found, Finder, nothing_found, and_problem, and_row, and_all}
-use Rattle.rust_items.specs.Items.{span_of, needs_name, and_flaw, and_item, leaf_found, leaf_turn, finding_from, finding, is_list_end, BlockRead, no_block, deep_block, block_of, unmatched, extern_inside, and_parent, one_more, extern_block, depth_of, inside_unless, module_with, some_item, by_head, turn_with, inside, turn}
-use Rattle.rust_items.proofs.Leads.{named_leads, front_takes, front_start}
+use Rattle.rust_items.specs.Found.{Found, Finder, nothing_found, and_problem, and_row}
+use Rattle.rust_items.specs.Items.{span_of, needs_name, and_item, leaf_turn, BlockRead, no_block, deep_block, unmatched, extern_inside, and_parent, one_more, extern_block, depth_of, inside_unless, module_with, some_item, by_head, turn_with, inside, turn}
+use Rattle.rust_items.proofs.Leads.{named_leads, front_start}
 use Rattle.rust_items.proofs.NearFronts.{FrontNear, front_until}
-use Rattle.rust_items.proofs.NearLeaves.{some_on, NameNear, named_until, Given, given_on, Ends, passes, before_end, at_end}
-use Rattle.rust_items.proofs.NearItems.{FoundNear, problem_near, item_near, all_near, flat, FoundAlike, ends_long, TurnLong, BlockEnds, block_ended, block_ends, list_leads, leaf_leads, is_unfinished, is_sound, flawed, found_leads, leaf_turn_ends, leaf_turn_fewer, extern_inside_fewer, block_fewer, extern_inside_ends, unmatched_long, by_long, front_leads}
+use Rattle.rust_items.proofs.NearLeaves.{NameNear, named_until, Given, given_on, Ends, passes, before_end, at_end}
+use Rattle.rust_items.proofs.NearItems.{FoundNear, problem_near, item_near, all_near, flat, FoundAlike, ends_long, TurnLong, block_ends, leaf_leads, is_unfinished, is_sound, flawed, found_leads, leaf_turn_ends, leaf_turn_fewer, extern_inside_fewer, block_fewer, extern_inside_ends, front_leads}
 use Rattle.rust_items.proofs.Places.{Finds, FindsIn, turn_with_found, inside_found, extern_inside_found, unless_found}
 
 -- ---- items that hold others
