@@ -21,7 +21,7 @@ use Rattle.rust_lexer.specs.Piece.{Piece}
 use Rattle.rust_cursor.proofs.Nesting.{shorter}
 use Rattle.rust_cursor.proofs.Laid.{IsLaid, behind}
 use Rattle.rust_cursor.proofs.Leads.{LeadsTo, here, further, through, Forwards, when, HasBlock, no_block as no_block_at, block as block_at, taken_block, bumped_leads, eat_leads, eat_word_leads, reached_leads, behind_angles_leads, taken_leads_on, turns_leads}
-use Rattle.rust_cursor.proofs.Near.{Ending, Near, Gone, Onward, into, on, gone_on, by_next, onward_leads, bumped_onward, fewer, symbol_same, word_same, text_same, open_same, at_same, past_same, taken_same, word_test, after_word, after_symbol}
+use Rattle.rust_cursor.proofs.Near.{both_true, Ending, Near, Gone, Onward, into, on, gone_on, by_next, onward_leads, bumped_onward, fewer, symbol_same, word_same, text_same, open_same, at_same, past_same, taken_same, word_test, after_word, after_symbol}
 use Rattle.rust_cursor.proofs.NearPassing.{behind_angles_near, reached_near}
 use Rattle.rust_cursor.proofs.NearTexts.{BlockNear, no_block, block, SameText, taken_outcome, taken_until, taken_fewer}
 use Rattle.rust_cursor.proofs.NearUntil.{UntilBy, UpTo, Kept, gone, kept, by_kept, cond_until, pass_until, then_until, elements_until, eat_until, eat_word_until, AtEnd, Outcome, lost, stays, comes, more_left, map_outcome, then_outcome, eat_outcome, eat_fewer}
@@ -181,20 +181,16 @@ pub value_end_fewer : TakesEnded value_end
 unfolding value_end
 value_end_fewer ts e = taken_fewer _ _ ts e
 
-both_parts : (s t : Bool) → (s && t) ≡ true → (s ≡ true) × (t ≡ true)
-both_parts true t e = (refl, e)
-both_parts false t e = absurd cc
-
 semicolon_leads : (read : ExcerptRead) → Forwards (semicolon_end read)
 semicolon_leads read ts = eat_leads 59 ts
 
 semicolon_fewer : (read : ExcerptRead) → TakesEnded (semicolon_end read)
-semicolon_fewer read ts e = eat_fewer 59 ts (omega arith) (both_parts read.is_ended (eat 59 ts).0 e).1
+semicolon_fewer read ts e = eat_fewer 59 ts (omega arith) (both_true read.is_ended (eat 59 ts).0 e).1
 
 semicolon_outcome : (b : Ending) (r s : ExcerptRead) → SameText b r s → (ts us : Tokens) → Near b ts us → RestOutcome b (semicolon_end r ts) (semicolon_end s us)
 semicolon_outcome b r s k ts us h =
     map_outcome (λ c. record { body = r.text; is_ended = r.is_ended && c; block = None; braces = None }) (λ c. record { body = s.text; is_ended = s.is_ended && c; block = None; braces = None })
-    (λ e. rw (k.text, k.ended) (record { body = refl; ended = ap (λ c. r.is_ended && c) e; block = no_block; braces = refl })) (λ e. (both_parts r.is_ended (eat 59 ts).0 e).1) (eat_outcome b 59 ts us h)
+    (λ e. rw (k.text, k.ended) (record { body = refl; ended = ap (λ c. r.is_ended && c) e; block = no_block; braces = refl })) (λ e. (both_true r.is_ended (eat 59 ts).0 e).1) (eat_outcome b 59 ts us h)
 
 call_end_outcome : (b : Ending) (ts us : Tokens) → Near b ts us → RestOutcome b (call_end ts) (call_end us)
 unfolding call_end
@@ -590,7 +586,7 @@ called_same b ts us h =
 
 called_next : (b : Ending) (ts us : Tokens) → Near b ts us → is_called ts ≡ true → Near b (bumped ts) (bumped us)
 unfolding is_called
-called_next b ts us h e = after_symbol b 33 ts us refl h (both_parts (symbol ts == 33) (is_at_open (bumped ts)) e).0
+called_next b ts us h e = after_symbol b 33 ts us refl h (both_true (symbol ts == 33) (is_at_open (bumped ts)) e).0
 
 call_near : (b : Ending) (attrs : List MetaView) (p p' : Option _) (z z' : List ℕ) (r s : RestRead) → p' ≡ p → z' ≡ z → RestNear b r s → LeafNear b (called attrs p z r) (called attrs p' z' s)
 call_near b attrs p p' z z' r s e f k =
@@ -625,7 +621,7 @@ invocation_ends b attrs ts us h =
     (λ k. let test : (is_some (path us).0 && is_called (path us).1) ≡ (is_some (path ts).0 && is_called (path ts).1) =
     ap (λ q. is_some q && is_called (path us).1) k.value ∙ ap (λ t. is_some (path ts).0 && t) (called_same b (path ts).1 (path us).1 k.rest) in
     when (is_some (path ts).0 && is_called (path ts).1)
-    (λ e. let next = called_next b (path ts).1 (path us).1 k.rest (both_parts (is_some (path ts).0) (is_called (path ts).1) e).1 in
+    (λ e. let next = called_next b (path ts).1 (path us).1 k.rest (both_true (is_some (path ts).0) (is_called (path ts).1) e).1 in
     rw (test, e)
     (outcome_ends2 (called attrs (path ts).0 (bare (last_text_from most (path ts).1.past [] ts))) (called attrs (path us).0 (bare (last_text_from most (path us).1.past [] us)))
     (λ r. one_leaf (call_near b attrs _ _ _ _ _ _ k.value (ap bare (last_text_near b (path ts).1 (path us).1 k.rest _ [] ts us h (path_leads ts))) r)) (λ e. e) (call_end_outcome b _ _ next)))
