@@ -23,6 +23,8 @@ use Rattle.rust_cursor.proofs.Laid.{IsLaid, behind, at_behind, taken_behind, tok
 use Rattle.rust_cursor.proofs.Leads.{LeadsTo, here, further, when, bumped_leads}
 use Rattle.rust_cursor.proofs.Near.{Ending, Near, near, is_last, are_ended}
 use Rattle.rust_cursor.proofs.NearUntil.{more_left}
+use Rattle.rust_leaves.specs.declared.head.Head.TheVariants as heads
+use Rattle.rust_leaves.specs.Fronts as fronts
 use Rattle.rust_items.specs.Alone.{ended, IsPart, tokens_behind}
 use Rattle.rust_items.specs.Found.{Found, nothing_found}
 use Rattle.rust_items.specs.SourceFiles.{read_of}
@@ -170,7 +172,7 @@ alone {m = m} edition b text f ts us is some h laid (at_end t a) sound ends =
 pub item_alone : (n : ℕ) (edition : EditionYear) (u : Option ℕ) (q w : List ℕ) (o : Stop) (y : List ℕ) (f : Found) → IsPart q w o y → is_last (stop o) ≡ true
     → (let ts = tokens_behind edition u q (w ++ stop o ∷ y) in
     let r = turn 128 f ts in
-    IsLaid n ts → ((vs : Tokens) → LeadsTo ts vs → IsWhole vs) → is_sound (at ts) (r.0, r.1.0) ≡ true → length r.1.1.left ≡ length (part_in edition u q w o y).behind
+    IsLaid n ts → ((vs : Tokens) → LeadsTo ts vs → (fronts.front vs).0.head ≡ heads.Struct → IsWhole (fronts.front vs).1) → is_sound (at ts) (r.0, r.1.0) ≡ true → length r.1.1.left ≡ length (part_in edition u q w o y).behind
     → StandsAlone edition (part_in edition u q w o y) (ended w o) f r)
 item_alone n edition u q w o y f p e laid whole sound ends =
     let b = part_in edition u q w o y in

@@ -41,7 +41,7 @@ use Rattle.rust_leaves.specs.Leaves.{NameRead, RestRead, LeafRead, no_name, name
 use Rattle.rust_leaves.specs.Kinds.{node, named_node, leaf_read, plain_read, function, block_item, macro_def, type_alias, static_value, constant, structure, implementation, told_at, crate_item, use_read, use_declaration, macro_definition, union_item, enumeration, trait_item, is_called, called, call_behind, some_read, invocation, leaf_by, leaf}
 use Rattle.rust_leaves.specs.declared.head.Head.{Head}
 use Rattle.rust_leaves.specs.declared.head.Head.TheVariants as heads
-use Rattle.rust_leaves.specs.Fronts.{FrontRead}
+use Rattle.rust_leaves.specs.Fronts.{FrontRead, front}
 use Rattle.rust_leaves.specs.Texts.{bare, last_text_from, last_text}
 use Rattle.rust_items.proofs.NearFronts.{FrontNear}
 use Rattle.rust_items.proofs.Leads.{named_leads, alias_if_leads, renamed_leads, item_end_leads, impl_end_leads, macro_end_leads, value_end_leads, call_end_leads}
@@ -234,7 +234,7 @@ pub record IsWhole (ts : Tokens) : Type 0 where
 
 pub record Given (n m : ℕ) (ts us : Tokens) : Type 0 where
   pub laid : IsLaid n ts
-  pub whole : (vs : Tokens) → LeadsTo ts vs → IsWhole vs
+  pub whole : (vs : Tokens) → LeadsTo ts vs → (front vs).0.head ≡ heads.Struct → IsWhole (front vs).1
   pub short : IsLaid m us
   pub proper : are_proper us.left ≡ true
 
@@ -497,11 +497,10 @@ some_same : (b : Ending) (o o' : Option Tokens) → BlockNear b o o' → is_some
 some_same b _ _ no_block = refl
 some_same b _ _ (block h) = refl
 
-struct_near : {n m : ℕ} (b : Ending) (attrs : List MetaView) (v : Option Visibility) (ts us : Tokens) → Given n m ts us → NameNear b (named ts).0 (named us).0 → Near b (named ts).1 (named us).1
+struct_near : {n m : ℕ} (b : Ending) (attrs : List MetaView) (v : Option Visibility) (ts us : Tokens) → Given n m ts us → IsWhole ts → NameNear b (named ts).0 (named us).0 → Near b (named ts).1 (named us).1
     → RestNear b (item_end (named ts).1).0 (item_end (named us).1).0 → length b.behind ≤ length (item_end (named ts).1).1.left → LeafNear b (structure attrs v ts).0 (structure attrs v us).0
 unfolding structure
-struct_near b attrs v ts us g nn h r le =
-    let whole = g.whole ts here in
+struct_near b attrs v ts us g whole nn h r le =
     let laid = (behind _ (named_leads ts) g.laid).laid in
     let some = some_same b _ _ r.block in
     read_near b _ _ kind.Struct _ _ _ _
@@ -512,15 +511,15 @@ struct_near b attrs v ts us g nn h r le =
     (fields_same b (named ts).1 (named us).1 (item_end (named ts).1).1 (is_some (item_end (named ts).1).0.block) laid h (item_end_leads _) le whole.generics whole.fields))
     nn r
 
-structure_outcome : {n m : ℕ} (b : Ending) (attrs : List MetaView) (v : Option Visibility) (ts us : Tokens) → Given n m ts us → Near b ts us → LeafOutcome b (structure attrs v ts) (structure attrs v us)
+structure_outcome : {n m : ℕ} (b : Ending) (attrs : List MetaView) (v : Option Visibility) (ts us : Tokens) → Given n m ts us → IsWhole ts → Near b ts us → LeafOutcome b (structure attrs v ts) (structure attrs v us)
 unfolding structure
-structure_outcome b attrs v ts us g h =
+structure_outcome b attrs v ts us g whole h =
     by_kept (named_until b ts us h) (λ o. lost_by o (item_end_leads _) (item_end_leads _) (item_end_fewer _)) (λ l. by l.value l.rest (item_end_outcome b _ _ l.rest))
   where
     by : NameNear b (named ts).0 (named us).0 → Near b (named ts).1 (named us).1 → RestOutcome b (item_end (named ts).1) (item_end (named us).1) → LeafOutcome b (structure attrs v ts) (structure attrs v us)
     by nn l (lost o f) = lost o f
-    by nn l (stays k) = stays (record { value = struct_near b attrs v ts us g nn l k.value (let more = more_left b _ _ k.rest in omega arith); rest = k.rest })
-    by nn l (comes r a) = comes (struct_near b attrs v ts us g nn l r (let same = ap length a.behind in omega arith)) a
+    by nn l (stays k) = stays (record { value = struct_near b attrs v ts us g whole nn l k.value (let more = more_left b _ _ k.rest in omega arith); rest = k.rest })
+    by nn l (comes r a) = comes (struct_near b attrs v ts us g whole nn l r (let same = ap length a.behind in omega arith)) a
 
 -- ---- macro calls
 
@@ -629,22 +628,22 @@ invocation_ends b attrs ts us h =
 
 -- ---- by the word
 
-pub leaf_ends : {n m : ℕ} (b : Ending) (f g : FrontRead) → FrontNear b f g → (ts us : Tokens) → Given n m ts us → Near b ts us → LeafEnds b (leaf f ts) (leaf g us)
+pub leaf_ends : {n m : ℕ} (b : Ending) (f g : FrontRead) → FrontNear b f g → (ts us : Tokens) → Given n m ts us → (f.head ≡ heads.Struct → IsWhole ts) → Near b ts us → LeafEnds b (leaf f ts) (leaf g us)
 unfolding leaf
-leaf_ends b f g k ts us given h = rw (k.head, k.attrs, k.visibility) (by f.head)
+leaf_ends b f g k ts us given whole h = rw (k.head, k.attrs, k.visibility) (by f.head refl)
   where
-    by : (w : Head) → LeafEnds b (leaf_by w f.attrs f.visibility ts) (leaf_by w f.attrs f.visibility us)
-    by heads.Use = some_ends (use_outcome b f.attrs f.visibility ts us h)
-    by heads.ExternCrate = some_ends (crate_item_outcome b f.attrs f.visibility ts us h)
-    by heads.Fn = some_ends (function_outcome b f.attrs f.visibility ts us given h)
-    by heads.Impl = some_ends (implementation_outcome b f.attrs ts us given h)
-    by heads.Trait = some_ends (trait_outcome b f.attrs f.visibility ts us h)
-    by heads.Struct = some_ends (structure_outcome b f.attrs f.visibility ts us given h)
-    by heads.Union = some_ends (union_outcome b f.attrs f.visibility ts us h)
-    by heads.Enum = some_ends (enum_outcome b f.attrs f.visibility ts us h)
-    by heads.Const = some_ends (constant_outcome b f.attrs f.visibility ts us h)
-    by heads.Static = some_ends (static_outcome b f.attrs f.visibility ts us h)
-    by heads.TypeAlias = some_ends (type_alias_outcome b f.attrs f.visibility ts us h)
-    by heads.MacroDef = some_ends (macro_def_outcome b f.attrs f.visibility ts us h)
-    by heads.MacroRules = some_ends (macro_definition_outcome b f.attrs f.visibility ts us h)
-    by _ = invocation_ends b f.attrs ts us h
+    by : (w : Head) → f.head ≡ w → LeafEnds b (leaf_by w f.attrs f.visibility ts) (leaf_by w f.attrs f.visibility us)
+    by heads.Use is = some_ends (use_outcome b f.attrs f.visibility ts us h)
+    by heads.ExternCrate is = some_ends (crate_item_outcome b f.attrs f.visibility ts us h)
+    by heads.Fn is = some_ends (function_outcome b f.attrs f.visibility ts us given h)
+    by heads.Impl is = some_ends (implementation_outcome b f.attrs ts us given h)
+    by heads.Trait is = some_ends (trait_outcome b f.attrs f.visibility ts us h)
+    by heads.Struct is = some_ends (structure_outcome b f.attrs f.visibility ts us given (whole is) h)
+    by heads.Union is = some_ends (union_outcome b f.attrs f.visibility ts us h)
+    by heads.Enum is = some_ends (enum_outcome b f.attrs f.visibility ts us h)
+    by heads.Const is = some_ends (constant_outcome b f.attrs f.visibility ts us h)
+    by heads.Static is = some_ends (static_outcome b f.attrs f.visibility ts us h)
+    by heads.TypeAlias is = some_ends (type_alias_outcome b f.attrs f.visibility ts us h)
+    by heads.MacroDef is = some_ends (macro_def_outcome b f.attrs f.visibility ts us h)
+    by heads.MacroRules is = some_ends (macro_definition_outcome b f.attrs f.visibility ts us h)
+    by _ is = invocation_ends b f.attrs ts us h
