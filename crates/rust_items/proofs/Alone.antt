@@ -1,6 +1,6 @@
 -- The text of an item, from the end of what stands before it on, read alone is exactly that item.
-use Rattle.std.proofs.Common.{◌≡◌, ◌≢◌, ◌≤◌, ◌<◌, ◌+◌, ◌==◌, ◌||◌, ◌&&◌, ℕ, zero, suc, Bool, true, false, Option, Some, None, List, [], ◌∷◌, ◌++◌, length, refl, sym, ap, ◌∙◌, subst, arith, map, append-nil}
-use Rattle.std.specs.Prelude.{if◌then◌else◌, option_to_list, is_some, not, slice_index}
+use Rattle.std.proofs.Common.{◌≡◌, ◌<◌, ◌+◌, ◌==◌, ℕ, suc, true, false, Option, Some, None, List, [], ◌∷◌, ◌++◌, length, refl, sym, ap, ◌∙◌, subst, arith, map, append-nil}
+use Rattle.std.specs.Prelude.{option_to_list, is_some}
 use Rattle.std.specs.List.{filter}
 use Rattle.std.proofs.lemmas.List.Elements.{filter-append}
 use Rattle.std.proofs.lemmas.Bool.Decides.{nat_tests}
@@ -9,7 +9,6 @@ use Rattle.hir_input.specs.Attr.{MetaView}
 use Rattle.hir_input.specs.Syntax.{ItemView}
 use Rattle.rust_lexer.specs.declared.kind.DocStyle.TheVariants.{Inner}
 use Rattle.rust_metas.specs.Attributes.{inner_attributes, is_behind}
-use Rattle.rust_lexer.specs.declared.kind.TokenKind.{TokenKind}
 use Rattle.rust_lexer.specs.Alone.{Stop, opening, closing, semicolon, stop, front, moved}
 use Rattle.rust_lexer.specs.Piece.{Piece}
 use Rattle.rust_lexer.specs.Symbol.{symbol_of}
@@ -23,8 +22,10 @@ use Rattle.rust_cursor.proofs.High.{tokens_proper}
 use Rattle.rust_cursor.proofs.Laid.{IsLaid, behind, at_behind, taken_behind, tokens_laid}
 use Rattle.rust_cursor.proofs.Leads.{LeadsTo, here, further, when, bumped_leads}
 use Rattle.rust_cursor.proofs.Near.{Ending, Near, near, is_last, are_ended}
-use Rattle.rust_cursor.proofs.NearUntil.{AtEnd, more_left}
-use Rattle.rust_items.specs.Alone.{ended, IsPlain, IsPart, tokens_behind}
+use Rattle.rust_cursor.proofs.NearUntil.{more_left}
+use Rattle.rust_leaves.specs.declared.head.Head.TheVariants as heads
+use Rattle.rust_leaves.specs.Fronts as fronts
+use Rattle.rust_items.specs.Alone.{ended, IsPart, tokens_behind}
 use Rattle.rust_items.specs.Found.{Found, nothing_found}
 use Rattle.rust_items.specs.SourceFiles.{read_of}
 use Rattle.rust_items.proofs.Inner.{no_inner, turn_none}
@@ -171,7 +172,7 @@ alone {m = m} edition b text f ts us is some h laid (at_end t a) sound ends =
 pub item_alone : (n : ℕ) (edition : EditionYear) (u : Option ℕ) (q w : List ℕ) (o : Stop) (y : List ℕ) (f : Found) → IsPart q w o y → is_last (stop o) ≡ true
     → (let ts = tokens_behind edition u q (w ++ stop o ∷ y) in
     let r = turn 128 f ts in
-    IsLaid n ts → ((vs : Tokens) → LeadsTo ts vs → IsWhole vs) → is_sound (at ts) (r.0, r.1.0) ≡ true → length r.1.1.left ≡ length (part_in edition u q w o y).behind
+    IsLaid n ts → ((vs : Tokens) → LeadsTo ts vs → (fronts.front vs).0.head ≡ heads.Struct → IsWhole (fronts.front vs).1) → is_sound (at ts) (r.0, r.1.0) ≡ true → length r.1.1.left ≡ length (part_in edition u q w o y).behind
     → StandsAlone edition (part_in edition u q w o y) (ended w o) f r)
 item_alone n edition u q w o y f p e laid whole sound ends =
     let b = part_in edition u q w o y in

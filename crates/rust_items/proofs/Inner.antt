@@ -1,10 +1,8 @@
 -- No item begins at an inner attribute or at inner documentation.
-use Rattle.std.proofs.Common.{◌≡◌, ◌==◌, ◌||◌, ◌&&◌, ℕ, zero, suc, Bool, true, false, Option, Some, None, List, [], ◌∷◌, refl, sym, ap, ◌∙◌, subst, arith, codes}
-use Rattle.std.specs.Prelude.{if◌then◌else◌, is_some, not}
+use Rattle.std.proofs.Common.{◌≡◌, ◌==◌, ◌&&◌, ℕ, Bool, true, false, Option, Some, None, List, [], ◌∷◌, refl, sym, ap, ◌∙◌, subst}
+use Rattle.std.specs.Prelude.{is_some}
 use Rattle.std.proofs.lemmas.Bool.{eqb-true}
 use Rattle.hir_input.specs.declared.edition.EditionYear.{EditionYear}
-use Rattle.hir_input.specs.Attr.{MetaView}
-use Rattle.hir_input.specs.Syntax.{ItemView}
 use Rattle.rust_lexer.specs.declared.kind.DocStyle.{DocStyle}
 use Rattle.rust_lexer.specs.declared.kind.DocStyle.TheVariants.{Outer, Inner}
 use Rattle.rust_lexer.specs.declared.kind.TokenKind.{TokenKind}
@@ -19,17 +17,17 @@ use Rattle.rust_cursor.proofs.Near.{both_true}
 use Rattle.rust_cursor.proofs.Turns.{turns_stop}
 use Rattle.rust_paths.specs.Names.{is_path_keyword, name_text, has_name}
 use Rattle.rust_items.proofs.NearFronts.{no_word_head, nothing_before}
-use Rattle.rust_paths.specs.Paths.{is_raw, is_dollar_crate, is_segment, is_colons, is_joint, is_path_colons, is_path_start, path}
+use Rattle.rust_paths.specs.Paths.{is_raw, is_dollar_crate, is_segment, is_colons, is_path_colons, is_path_start, path}
 use Rattle.rust_paths.specs.Visibilities.{visibility}
 use Rattle.rust_metas.specs.Attributes.{is_doc, is_style, is_attribute, is_behind, attribute, attributes, outer_attributes, inner_attributes}
 use Rattle.rust_metas.specs.Literals.{style_by}
 use Rattle.rust_leaves.specs.declared.head.Head.TheVariants as heads
 use Rattle.rust_leaves.specs.Fronts.{FrontRead, front, front_behind}
-use Rattle.rust_leaves.specs.Heads.{is_modifier, is_modifier_before, behind_modifiers, behind_modifiers_from, head, head_by}
+use Rattle.rust_leaves.specs.Heads.{is_modifier, is_modifier_before, behind_modifiers, behind_modifiers_from}
 use Rattle.rust_leaves.specs.Kinds.{invocation, leaf}
 use Rattle.rust_leaves.proofs.Steps.{modifiers_stop}
 use Rattle.rust_items.specs.Found.{Found}
-use Rattle.rust_items.specs.Items.{leaf_found, leaf_turn, by_head, turn_with, inside, turn, unmatched}
+use Rattle.rust_items.specs.Items.{leaf_turn, turn}
 
 -- brackets, punctuation and documentation
 abbrev is_wordless : TokenKind → Bool

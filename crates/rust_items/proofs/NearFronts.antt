@@ -1,5 +1,5 @@
 -- What stands before an item's own parts is the same in a text that ends with a `;` or a `}` and in a longer one, until these pass the end.
-use Rattle.std.proofs.Common.{◌≡◌, ◌==◌, ◌||◌, ◌&&◌, ◌+◌, ℕ, zero, suc, Bool, true, false, Option, Some, None, List, [], ◌∷◌, refl, sym, ap, subst, ◌∙◌, codes}
+use Rattle.std.proofs.Common.{◌≡◌, ◌==◌, ◌+◌, ℕ, zero, suc, Bool, true, false, Option, Some, None, List, [], ◌∷◌, refl, sym, ap, subst, ◌∙◌, codes}
 use Rattle.std.specs.Prelude.{if◌then◌else◌}
 use Rattle.std.specs.Str.{bytes_eq}
 use Rattle.hir_input.specs.declared.ast.Visibility.{Visibility}
@@ -11,7 +11,7 @@ use Rattle.rust_lexer.specs.Symbol.{symbol_of}
 use Rattle.rust_cursor.specs.Brackets.{behind_tree}
 use Rattle.rust_cursor.specs.Reader.{Reader, ◌>>=◌, pure, pass}
 use Rattle.rust_cursor.specs.Tokens.{Tokens}
-use Rattle.rust_cursor.specs.Words.{by_first, symbol, word, kind, at, is_at_identifier, is_at_doc, is_at_end, is_pair, bumped}
+use Rattle.rust_cursor.specs.Words.{by_first, symbol, word, kind, at, is_at_identifier, is_pair, bumped}
 use Rattle.rust_cursor.proofs.Leads.{Forwards, through, when}
 use Rattle.rust_cursor.proofs.Near.{Ending, Near, Onward, on, onward_leads, is_last, symbol_same, word_same, kind_same, identifier_same, end_same, doc_same, at_same, pair_same, not_last, last_word, last_identifier, last_test, both_true, after_word, after_symbol, after_pair}
 use Rattle.rust_cursor.proofs.NearPassing.{cond_onward, behind_tree_near}
@@ -23,7 +23,7 @@ use Rattle.rust_metas.proofs.Near.{outer_attributes_until}
 use Rattle.rust_leaves.specs.declared.head.Head.{Head}
 use Rattle.rust_leaves.specs.declared.head.Head.TheVariants as heads
 use Rattle.rust_leaves.specs.Fronts.{FrontRead, front_behind, front}
-use Rattle.rust_leaves.specs.Heads.{is_literal_kind, behind_abi, word_behind_abi, is_auto_trait, is_modifier_before, is_modifier, behind_modifier, behind_modifiers_from, behind_modifiers, extern_head, macro_rules_head, union_head, head_by, behind_head, head, is_first_word, is_union, is_segment, behind_segments_from, behind_segments, is_called_here, may_begin, is_behind_others, behind_others_from, behind_others}
+use Rattle.rust_leaves.specs.Heads.{is_literal_kind, behind_abi, is_auto_trait, is_modifier_before, is_modifier, behind_modifier, behind_modifiers_from, behind_modifiers, extern_head, macro_rules_head, union_head, head_by, behind_head, head, is_union, is_segment, behind_segments_from, behind_segments, is_called_here, may_begin, is_behind_others, behind_others_from, behind_others}
 use Rattle.rust_items.proofs.Leads.{behind_modifiers_leads, others_leads, head_takes}
 
 -- a literal is neither a `;` nor a `}`

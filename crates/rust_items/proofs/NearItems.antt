@@ -1,23 +1,20 @@
 -- Items are the same in a text that ends with a `;` or a `}` and in a longer one, where they end there or before.
-use Rattle.std.proofs.Common.{◌≡◌, ◌≤◌, ◌<◌, ◌+◌, ◌==◌, ◌||◌, ◌&&◌, ℕ, zero, suc, Bool, true, false, Option, Some, None, List, [], ◌∷◌, ◌++◌, length, refl, sym, ap, ◌∙◌, subst, arith, map, append_assoc, codes}
-use Rattle.std.specs.Prelude.{if◌then◌else◌, option_map, option_to_list, is_some, is_none, not}
+use Rattle.std.proofs.Common.{◌≡◌, ◌≤◌, ◌<◌, ◌+◌, ◌==◌, ◌&&◌, ℕ, zero, suc, Bool, true, false, Option, Some, None, List, [], ◌∷◌, ◌++◌, length, refl, sym, ap, ◌∙◌, subst, arith, map, append_assoc, codes}
+use Rattle.std.specs.Prelude.{option_map, option_to_list, is_some, is_none, not}
 use Rattle.std.specs.List.{list_any}
 use Rattle.hir_input.specs.declared.ids.AstIdKind.{AstIdKind}
-use Rattle.hir_input.specs.declared.ids.AstIdKind.TheVariants as ast
 use Rattle.hir_input.specs.Attr.{MetaView}
-use Rattle.hir_input.specs.Syntax.{ItemView, extern_block_from, module_from}
+use Rattle.hir_input.specs.Syntax.{ItemView}
 use Rattle.std.proofs.lemmas.List.{map-append}
 use Rattle.std.proofs.lemmas.Bool.Decides.{nat_tests}
-use Rattle.rust_cursor.specs.Brackets.{behind_tree}
 use Rattle.rust_cursor.specs.Elements.{most, beyond}
 use Rattle.rust_cursor.specs.Tokens.{Tokens}
-use Rattle.rust_cursor.specs.Words.{symbol, at, eat, eat_word, bumped, is_empty, is_at_end}
+use Rattle.rust_cursor.specs.Words.{symbol, at, eat_word, bumped, is_at_end}
 use Rattle.rust_cursor.proofs.Laid.{IsLaid, behind}
-use Rattle.rust_cursor.proofs.Leads.{LeadsTo, here, further, through, when, bumped_leads, beyond_leads, behind_tree_leads, eat_leads, eat_word_leads, symbol_some}
-use Rattle.rust_cursor.proofs.Near.{Ending, Near, fewer, by_next, bumped_onward, symbol_same, empty_same, end_same, at_same, past_same, symbol_test, not_last}
-use Rattle.rust_cursor.proofs.NearPassing.{behind_tree_near, beyond_near}
-use Rattle.rust_cursor.proofs.NearUntil.{Same, Kept, by_kept, AtEnd, Outcome, lost, stays, comes, Step, at_last, next, step, eat_outcome, eat_fewer}
-use Rattle.rust_cursor.proofs.Nesting.{shorter}
+use Rattle.rust_cursor.proofs.Leads.{LeadsTo, here, further, through, when, bumped_leads, beyond_leads, eat_leads, eat_word_leads}
+use Rattle.rust_cursor.proofs.Near.{Ending, Near, fewer, by_next, bumped_onward, symbol_same, empty_same, end_same, at_same, past_same}
+use Rattle.rust_cursor.proofs.NearPassing.{beyond_near}
+use Rattle.rust_cursor.proofs.NearUntil.{Same, Kept, by_kept, AtEnd, Outcome, lost, stays, comes, eat_outcome, eat_fewer}
 use Rattle.rust_paths.specs.declared.names.TextRange.{TextRange}
 use Rattle.rust_paths.proofs.NearTrees.{further_on}
 use Rattle.rust_metas.specs.Attributes.{inner_attributes}
@@ -27,23 +24,21 @@ use Rattle.rust_ids.specs.Row.{Row}
 use Rattle.rust_leaves.specs.declared.head.Head.{Head}
 use Rattle.rust_leaves.specs.declared.head.Head.TheVariants as heads
 use Rattle.rust_leaves.specs.Fronts.{FrontRead, front}
-use Rattle.rust_leaves.specs.Heads.{behind_others}
 use Rattle.rust_paths.specs.Paths.{path}
 use Rattle.rust_paths.specs.UseTrees.{use_tree}
 use Rattle.rust_paths.proofs.Leads.{path_leads, use_tree_leads}
-use Rattle.rust_leaves.specs.Kinds.{named_node, node, function, trait_item, enumeration, union_item, macro_def, type_alias, static_value, constant, structure, implementation, crate_item, use_declaration, macro_definition, is_called, invocation, leaf_by, leaf}
-use Rattle.rust_leaves.specs.Leaves.{LeafRead, NameRead, named, named_or, renamed, no_name}
-use Rattle.rust_items.specs.declared.log.ItemSpan.{ItemSpan}
+use Rattle.rust_leaves.specs.Kinds.{function, trait_item, enumeration, union_item, macro_def, type_alias, static_value, constant, structure, implementation, crate_item, use_declaration, macro_definition, is_called, invocation, leaf_by, leaf}
+use Rattle.rust_leaves.specs.Leaves.{LeafRead, named, named_or, renamed}
 use Rattle.rust_items.specs.declared.log.Problem.{Problem}
 use Rattle.rust_items.specs.declared.log.ProblemKind.{ProblemKind}
 use Rattle.rust_items.specs.declared.log.ProblemKind.TheVariants as problem
-use Rattle.rust_items.specs.Found.{Found, Finder, nothing_found, and_problem, and_problem_if, and_problem_at, and_row, and_use_trees, and_all}
-use Rattle.rust_items.specs.Items.{span_of, needs_name, and_flaw, and_item, and_leaf, leaf_found, leaf_turn, finding_from, finding, is_list_end, BlockRead, no_block, deep_block, block_of, as_extern, extern_kept, extern_found, extern_behind, extern_by, unmatched, extern_turn, extern_inside, and_parent, one_more, extern_block, depth_of, inside_unless, module_with, some_item, by_head, turn_with, inside, turn}
-use Rattle.rust_items.specs.LineEnds.{moved_range, moved_span, moved_problem}
-use Rattle.rust_items.proofs.Leads.{function_leaf, trait_leaf, union_leaf, enum_leaf, struct_leaf, impl_leaf, crate_leaf, use_leaf, const_leaf, static_leaf, type_alias_leaf, macro_def_leaf, macro_rules_leaf, call_end_leads, named_leads, named_or_leads, renamed_leads, behind_others_leads, front_takes, front_start}
+use Rattle.rust_items.specs.Found.{Found, Finder, nothing_found, and_problem, and_problem_at, and_row, and_all}
+use Rattle.rust_items.specs.Items.{span_of, and_flaw, and_item, and_leaf, leaf_found, leaf_turn, finding_from, finding, is_list_end, BlockRead, block_of, as_extern, extern_kept, extern_found, unmatched, extern_turn, extern_inside, inside, turn}
+use Rattle.rust_items.specs.LineEnds.{moved_span, moved_problem}
+use Rattle.rust_items.proofs.Leads.{function_leaf, trait_leaf, union_leaf, enum_leaf, struct_leaf, impl_leaf, crate_leaf, use_leaf, const_leaf, static_leaf, type_alias_leaf, macro_def_leaf, macro_rules_leaf, call_end_leads, named_leads, named_or_leads, renamed_leads, behind_others_leads, front_takes}
 use Rattle.rust_items.proofs.NearFronts.{FrontNear, front_until, behind_others_near}
-use Rattle.rust_items.proofs.NearLeaves.{range_on, some_on, NameNear, LeafNear, named_until, Given, given_on, Ends, passes, before_end, at_end, SomeLeaf, no_leaf, one_leaf, leaf_ended, LeafEnds, leaf_ends, item_end_fewer, impl_end_fewer, macro_end_fewer, value_end_fewer, call_end_fewer}
-use Rattle.rust_items.proofs.Places.{Finds, FindsIn, list_found, block_found, turn_with_found, inside_found, extern_turn_found, extern_inside_found}
+use Rattle.rust_items.proofs.NearLeaves.{IsWhole, some_on, LeafNear, Given, given_on, Ends, passes, before_end, at_end, SomeLeaf, no_leaf, one_leaf, leaf_ended, LeafEnds, leaf_ends, item_end_fewer, impl_end_fewer, macro_end_fewer, value_end_fewer, call_end_fewer}
+use Rattle.rust_items.proofs.Places.{Finds, extern_turn_found}
 
 -- ---- what is found
 
@@ -313,10 +308,10 @@ leaf_found_ends b before f g depth start start' {p = p} {q = q} s n (passes few 
 leaf_found_ends b before f g depth start start' {p = p} {q = q} s n (before_end k) = kept_leaf b before f g depth start start' p.1 q.1 s n k.rest p.0 q.0 k.value
 leaf_found_ends b before f g depth start start' {p = p} {q = q} s n (at_end t a) = ended_leaf b before f g depth start start' p.1 q.1 s n a p.0 q.0 t
 
-pub leaf_turn_ends : (n m : ℕ) (b : Ending) (before f g : Found) (depth : ℕ) (h h' : FrontRead) → FrontNear b h h' → (ts us : Tokens) → Given n m ts us → Near b ts us → FoundNear b before f g
+pub leaf_turn_ends : (n m : ℕ) (b : Ending) (before f g : Found) (depth : ℕ) (h h' : FrontRead) → FrontNear b h h' → (ts us : Tokens) → Given n m ts us → (h.head ≡ heads.Struct → IsWhole ts) → Near b ts us → FoundNear b before f g
     → TurnEnds b before h.start (leaf_turn depth h f ts) (leaf_turn depth h' g us)
 unfolding leaf_turn
-leaf_turn_ends n m b before f g depth h h' k ts us given w a = leaf_found_ends b before f g depth h.start h'.start k.start a (leaf_ends b h h' k ts us given w)
+leaf_turn_ends n m b before f g depth h h' k ts us given whole w a = leaf_found_ends b before f g depth h.start h'.start k.start a (leaf_ends b h h' k ts us given whole w)
 
 -- ---- extern blocks
 
@@ -364,7 +359,7 @@ extern_turn_long b depth n m before f g ts us given h a =
     (by_kept (front_until b ts us h)
     (λ o. extern_over b before f depth fr.0.start (leaf fr.0 fr.1).0 (leaf fr.0 fr.1).1 _ (let few = o.few in let less = fewer (leaf_leads fr.0 fr.1) in omega arith))
     (λ k. let given' = given_on given (front_leads ts) (front_leads us) in
-    by_ends (leaf_ends b fr.0 fr'.0 k.value fr.1 fr'.1 given' k.rest)
+    by_ends (leaf_ends b fr.0 fr'.0 k.value fr.1 fr'.1 given' (given.whole ts here) k.rest)
     (λ few. extern_over b before f depth fr.0.start (leaf fr.0 fr.1).0 (leaf fr.0 fr.1).1 _ few)
     (λ l. extern_under b before f g depth fr.0.start fr'.0.start (leaf fr.0 fr.1).1 (leaf fr'.0 fr'.1).1 k.value.start a l.rest (leaf fr.0 fr.1).0 (leaf fr'.0 fr'.1).0 l.value))))
   where

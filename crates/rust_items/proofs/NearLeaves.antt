@@ -1,51 +1,50 @@
 -- Items that hold none are the same in a text that ends with a `;` or a `}` and in a longer one, where they end there or before.
-use Rattle.std.proofs.Common.{◌≡◌, ◌≤◌, ◌<◌, ◌+◌, ◌==◌, ◌||◌, ◌&&◌, ℕ, zero, suc, Bool, true, false, Option, Some, None, List, [], ◌∷◌, ◌++◌, length, refl, sym, ap, ◌∙◌, subst, arith, codes, map}
-use Rattle.std.specs.Prelude.{if◌then◌else◌, option_map, is_some, nat_lt, not}
+use Rattle.std.proofs.Common.{◌≡◌, ◌≤◌, ◌<◌, ◌+◌, ◌==◌, ◌&&◌, ℕ, zero, suc, Bool, true, false, Option, Some, None, List, [], ◌∷◌, ◌++◌, length, refl, sym, ap, ◌∙◌, subst, arith, codes}
+use Rattle.std.specs.Prelude.{option_map, is_some, nat_lt}
 use Rattle.std.specs.Option.{option_or}
 use Rattle.std.specs.Str.{bytes_eq}
 use Rattle.std.proofs.lemmas.Bool.Decides.{nat_tests}
-use Rattle.hir_input.specs.declared.ast.Rename.{Rename}
 use Rattle.hir_input.specs.declared.ast.Visibility.{Visibility}
 use Rattle.hir_input.specs.declared.ids.AstIdKind.{AstIdKind}
 use Rattle.hir_input.specs.declared.ids.AstIdKind.TheVariants as kind
 use Rattle.hir_input.specs.Attr.{MetaView}
-use Rattle.hir_input.specs.Syntax.{PlainKind, ItemView, FieldsView, fn_kind, union_kind, enum_kind, trait_kind, macro_def_kind, type_alias_kind, static_kind, ast_kind, plain_item, const_item, struct_item, impl_item, extern_crate, use_item, macro_rules, tuple_fields, record_fields, no_fields}
+use Rattle.hir_input.specs.Syntax.{PlainKind, ItemView, FieldsView, fn_kind, union_kind, enum_kind, trait_kind, macro_def_kind, type_alias_kind, static_kind, ast_kind, plain_item, const_item, struct_item, impl_item, extern_crate, use_item, macro_rules, tuple_fields}
 use Rattle.rust_cursor.specs.declared.cursor.generics.Reach.TheVariants as reaches
 use Rattle.rust_cursor.specs.Angles.{behind_angles, behind_field, behind_header, is_trait_impl}
-use Rattle.rust_cursor.specs.Elements.{most, elements, one}
+use Rattle.rust_cursor.specs.Elements.{most, one}
 use Rattle.rust_cursor.specs.Extents.{ExcerptRead, tree_body}
 use Rattle.rust_cursor.specs.Reader.{Reader}
 use Rattle.rust_cursor.specs.Tokens.{Tokens, end_of}
-use Rattle.rust_cursor.specs.Words.{by_first, rest, symbol, word, text, at, bumped, is_empty, eat, eat_word, is_at_open}
+use Rattle.rust_cursor.specs.Words.{by_first, rest, symbol, word, text, bumped, is_empty, eat, eat_word, is_at_open}
 use Rattle.rust_cursor.proofs.High.{height, Held, are_proper, proper_on, taken_high}
 use Rattle.rust_lexer.specs.Piece.{Piece}
 use Rattle.rust_cursor.proofs.Nesting.{shorter}
 use Rattle.rust_cursor.proofs.Laid.{IsLaid, behind}
 use Rattle.rust_cursor.proofs.Leads.{LeadsTo, here, further, through, Forwards, when, HasBlock, no_block as no_block_at, block as block_at, taken_block, bumped_leads, eat_leads, eat_word_leads, reached_leads, behind_angles_leads, taken_leads_on, turns_leads}
-use Rattle.rust_cursor.proofs.Near.{Ending, Near, Gone, Onward, into, on, gone_on, by_next, onward_leads, bumped_onward, fewer, symbol_same, word_same, text_same, open_same, at_same, past_same, taken_same, symbol_test, word_test, last_word, after_word, after_symbol}
+use Rattle.rust_cursor.proofs.Near.{both_true, Ending, Near, Gone, Onward, into, on, gone_on, by_next, onward_leads, bumped_onward, fewer, symbol_same, word_same, text_same, open_same, at_same, past_same, taken_same, word_test, after_word, after_symbol}
 use Rattle.rust_cursor.proofs.NearPassing.{behind_angles_near, reached_near}
 use Rattle.rust_cursor.proofs.NearTexts.{BlockNear, no_block, block, SameText, taken_outcome, taken_until, taken_fewer}
-use Rattle.rust_cursor.proofs.NearUntil.{UntilBy, Until, UpTo, Same, Kept, gone, kept, by_kept, cond_until, map_until, pass_until, then_until, elements_until, eat_until, eat_word_until, AtEnd, Outcome, lost, stays, comes, outcome_until, more_left, map_outcome, then_outcome, eat_outcome, eat_fewer}
+use Rattle.rust_cursor.proofs.NearUntil.{UntilBy, UpTo, Kept, gone, kept, by_kept, cond_until, pass_until, then_until, elements_until, eat_until, eat_word_until, AtEnd, Outcome, lost, stays, comes, more_left, map_outcome, then_outcome, eat_outcome, eat_fewer}
 use Rattle.rust_paths.specs.declared.names.TextRange.{TextRange}
-use Rattle.rust_paths.specs.Names.{Placed, as_name, placed_name}
+use Rattle.rust_paths.specs.Names.{Placed, as_name}
 use Rattle.rust_paths.specs.Paths.{path}
 use Rattle.rust_paths.specs.UseTrees.{use_tree}
 use Rattle.rust_paths.specs.Visibilities.{visibility}
-use Rattle.rust_paths.proofs.Leads.{path_leads, visibility_leads, use_tree_leads}
+use Rattle.rust_paths.proofs.Leads.{path_leads, visibility_leads}
 use Rattle.rust_paths.proofs.Near.{PlacedNear, no_place, placed_near, placed_name_until, path_until, visibility_until}
-use Rattle.rust_paths.proofs.NearTrees.{SameFound, further_on, use_tree_until}
-use Rattle.rust_metas.specs.Attributes.{inner_attributes, outer_attributes}
+use Rattle.rust_paths.proofs.NearTrees.{further_on, use_tree_until}
+use Rattle.rust_metas.specs.Attributes.{inner_attributes}
 use Rattle.rust_metas.proofs.High.{inner_attributes_up}
-use Rattle.rust_metas.proofs.Leads.{outer_attributes_leads, inner_attributes_leads}
+use Rattle.rust_metas.proofs.Leads.{outer_attributes_leads}
 use Rattle.rust_metas.proofs.Near.{inner_attributes_until, outer_attributes_until, next_past}
-use Rattle.rust_leaves.specs.Leaves.{NameRead, RestRead, LeafRead, no_name, name_read, named, next_range, named_or, alias, alias_if, renamed, rename_of, range_to, rest_read, bare_end, item_end, impl_end, macro_end, value_end, semicolon_end, call_end, block_attributes, field, fields, fields_at, struct_fields, has_trait}
+use Rattle.rust_leaves.specs.Leaves.{NameRead, RestRead, LeafRead, no_name, name_read, named, next_range, named_or, alias, alias_if, renamed, rename_of, range_to, rest_read, bare_end, item_end, impl_end, macro_end, value_end, semicolon_end, call_end, block_attributes, field, fields, struct_fields, has_trait}
 use Rattle.rust_leaves.specs.Kinds.{node, named_node, leaf_read, plain_read, function, block_item, macro_def, type_alias, static_value, constant, structure, implementation, told_at, crate_item, use_read, use_declaration, macro_definition, union_item, enumeration, trait_item, is_called, called, call_behind, some_read, invocation, leaf_by, leaf}
 use Rattle.rust_leaves.specs.declared.head.Head.{Head}
 use Rattle.rust_leaves.specs.declared.head.Head.TheVariants as heads
-use Rattle.rust_leaves.specs.Fronts.{FrontRead}
+use Rattle.rust_leaves.specs.Fronts.{FrontRead, front}
 use Rattle.rust_leaves.specs.Texts.{bare, last_text_from, last_text}
 use Rattle.rust_items.proofs.NearFronts.{FrontNear}
-use Rattle.rust_items.proofs.Leads.{named_leads, named_or_leads, alias_leads, alias_if_leads, renamed_leads, item_end_leads, impl_end_leads, macro_end_leads, value_end_leads, call_end_leads}
+use Rattle.rust_items.proofs.Leads.{named_leads, alias_if_leads, renamed_leads, item_end_leads, impl_end_leads, macro_end_leads, value_end_leads, call_end_leads}
 
 -- ---- places
 
@@ -182,20 +181,16 @@ pub value_end_fewer : TakesEnded value_end
 unfolding value_end
 value_end_fewer ts e = taken_fewer _ _ ts e
 
-both_parts : (s t : Bool) → (s && t) ≡ true → (s ≡ true) × (t ≡ true)
-both_parts true t e = (refl, e)
-both_parts false t e = absurd cc
-
 semicolon_leads : (read : ExcerptRead) → Forwards (semicolon_end read)
 semicolon_leads read ts = eat_leads 59 ts
 
 semicolon_fewer : (read : ExcerptRead) → TakesEnded (semicolon_end read)
-semicolon_fewer read ts e = eat_fewer 59 ts (omega arith) (both_parts read.is_ended (eat 59 ts).0 e).1
+semicolon_fewer read ts e = eat_fewer 59 ts (omega arith) (both_true read.is_ended (eat 59 ts).0 e).1
 
 semicolon_outcome : (b : Ending) (r s : ExcerptRead) → SameText b r s → (ts us : Tokens) → Near b ts us → RestOutcome b (semicolon_end r ts) (semicolon_end s us)
 semicolon_outcome b r s k ts us h =
     map_outcome (λ c. record { body = r.text; is_ended = r.is_ended && c; block = None; braces = None }) (λ c. record { body = s.text; is_ended = s.is_ended && c; block = None; braces = None })
-    (λ e. rw (k.text, k.ended) (record { body = refl; ended = ap (λ c. r.is_ended && c) e; block = no_block; braces = refl })) (λ e. (both_parts r.is_ended (eat 59 ts).0 e).1) (eat_outcome b 59 ts us h)
+    (λ e. rw (k.text, k.ended) (record { body = refl; ended = ap (λ c. r.is_ended && c) e; block = no_block; braces = refl })) (λ e. (both_true r.is_ended (eat 59 ts).0 e).1) (eat_outcome b 59 ts us h)
 
 call_end_outcome : (b : Ending) (ts us : Tokens) → Near b ts us → RestOutcome b (call_end ts) (call_end us)
 unfolding call_end
@@ -239,7 +234,7 @@ pub record IsWhole (ts : Tokens) : Type 0 where
 
 pub record Given (n m : ℕ) (ts us : Tokens) : Type 0 where
   pub laid : IsLaid n ts
-  pub whole : (vs : Tokens) → LeadsTo ts vs → IsWhole vs
+  pub whole : (vs : Tokens) → LeadsTo ts vs → (front vs).0.head ≡ heads.Struct → IsWhole (front vs).1
   pub short : IsLaid m us
   pub proper : are_proper us.left ≡ true
 
@@ -502,11 +497,10 @@ some_same : (b : Ending) (o o' : Option Tokens) → BlockNear b o o' → is_some
 some_same b _ _ no_block = refl
 some_same b _ _ (block h) = refl
 
-struct_near : {n m : ℕ} (b : Ending) (attrs : List MetaView) (v : Option Visibility) (ts us : Tokens) → Given n m ts us → NameNear b (named ts).0 (named us).0 → Near b (named ts).1 (named us).1
+struct_near : {n m : ℕ} (b : Ending) (attrs : List MetaView) (v : Option Visibility) (ts us : Tokens) → Given n m ts us → IsWhole ts → NameNear b (named ts).0 (named us).0 → Near b (named ts).1 (named us).1
     → RestNear b (item_end (named ts).1).0 (item_end (named us).1).0 → length b.behind ≤ length (item_end (named ts).1).1.left → LeafNear b (structure attrs v ts).0 (structure attrs v us).0
 unfolding structure
-struct_near b attrs v ts us g nn h r le =
-    let whole = g.whole ts here in
+struct_near b attrs v ts us g whole nn h r le =
     let laid = (behind _ (named_leads ts) g.laid).laid in
     let some = some_same b _ _ r.block in
     read_near b _ _ kind.Struct _ _ _ _
@@ -517,15 +511,15 @@ struct_near b attrs v ts us g nn h r le =
     (fields_same b (named ts).1 (named us).1 (item_end (named ts).1).1 (is_some (item_end (named ts).1).0.block) laid h (item_end_leads _) le whole.generics whole.fields))
     nn r
 
-structure_outcome : {n m : ℕ} (b : Ending) (attrs : List MetaView) (v : Option Visibility) (ts us : Tokens) → Given n m ts us → Near b ts us → LeafOutcome b (structure attrs v ts) (structure attrs v us)
+structure_outcome : {n m : ℕ} (b : Ending) (attrs : List MetaView) (v : Option Visibility) (ts us : Tokens) → Given n m ts us → IsWhole ts → Near b ts us → LeafOutcome b (structure attrs v ts) (structure attrs v us)
 unfolding structure
-structure_outcome b attrs v ts us g h =
+structure_outcome b attrs v ts us g whole h =
     by_kept (named_until b ts us h) (λ o. lost_by o (item_end_leads _) (item_end_leads _) (item_end_fewer _)) (λ l. by l.value l.rest (item_end_outcome b _ _ l.rest))
   where
     by : NameNear b (named ts).0 (named us).0 → Near b (named ts).1 (named us).1 → RestOutcome b (item_end (named ts).1) (item_end (named us).1) → LeafOutcome b (structure attrs v ts) (structure attrs v us)
     by nn l (lost o f) = lost o f
-    by nn l (stays k) = stays (record { value = struct_near b attrs v ts us g nn l k.value (let more = more_left b _ _ k.rest in omega arith); rest = k.rest })
-    by nn l (comes r a) = comes (struct_near b attrs v ts us g nn l r (let same = ap length a.behind in omega arith)) a
+    by nn l (stays k) = stays (record { value = struct_near b attrs v ts us g whole nn l k.value (let more = more_left b _ _ k.rest in omega arith); rest = k.rest })
+    by nn l (comes r a) = comes (struct_near b attrs v ts us g whole nn l r (let same = ap length a.behind in omega arith)) a
 
 -- ---- macro calls
 
@@ -591,7 +585,7 @@ called_same b ts us h =
 
 called_next : (b : Ending) (ts us : Tokens) → Near b ts us → is_called ts ≡ true → Near b (bumped ts) (bumped us)
 unfolding is_called
-called_next b ts us h e = after_symbol b 33 ts us refl h (both_parts (symbol ts == 33) (is_at_open (bumped ts)) e).0
+called_next b ts us h e = after_symbol b 33 ts us refl h (both_true (symbol ts == 33) (is_at_open (bumped ts)) e).0
 
 call_near : (b : Ending) (attrs : List MetaView) (p p' : Option _) (z z' : List ℕ) (r s : RestRead) → p' ≡ p → z' ≡ z → RestNear b r s → LeafNear b (called attrs p z r) (called attrs p' z' s)
 call_near b attrs p p' z z' r s e f k =
@@ -626,7 +620,7 @@ invocation_ends b attrs ts us h =
     (λ k. let test : (is_some (path us).0 && is_called (path us).1) ≡ (is_some (path ts).0 && is_called (path ts).1) =
     ap (λ q. is_some q && is_called (path us).1) k.value ∙ ap (λ t. is_some (path ts).0 && t) (called_same b (path ts).1 (path us).1 k.rest) in
     when (is_some (path ts).0 && is_called (path ts).1)
-    (λ e. let next = called_next b (path ts).1 (path us).1 k.rest (both_parts (is_some (path ts).0) (is_called (path ts).1) e).1 in
+    (λ e. let next = called_next b (path ts).1 (path us).1 k.rest (both_true (is_some (path ts).0) (is_called (path ts).1) e).1 in
     rw (test, e)
     (outcome_ends2 (called attrs (path ts).0 (bare (last_text_from most (path ts).1.past [] ts))) (called attrs (path us).0 (bare (last_text_from most (path us).1.past [] us)))
     (λ r. one_leaf (call_near b attrs _ _ _ _ _ _ k.value (ap bare (last_text_near b (path ts).1 (path us).1 k.rest _ [] ts us h (path_leads ts))) r)) (λ e. e) (call_end_outcome b _ _ next)))
@@ -634,22 +628,22 @@ invocation_ends b attrs ts us h =
 
 -- ---- by the word
 
-pub leaf_ends : {n m : ℕ} (b : Ending) (f g : FrontRead) → FrontNear b f g → (ts us : Tokens) → Given n m ts us → Near b ts us → LeafEnds b (leaf f ts) (leaf g us)
+pub leaf_ends : {n m : ℕ} (b : Ending) (f g : FrontRead) → FrontNear b f g → (ts us : Tokens) → Given n m ts us → (f.head ≡ heads.Struct → IsWhole ts) → Near b ts us → LeafEnds b (leaf f ts) (leaf g us)
 unfolding leaf
-leaf_ends b f g k ts us given h = rw (k.head, k.attrs, k.visibility) (by f.head)
+leaf_ends b f g k ts us given whole h = rw (k.head, k.attrs, k.visibility) (by f.head refl)
   where
-    by : (w : Head) → LeafEnds b (leaf_by w f.attrs f.visibility ts) (leaf_by w f.attrs f.visibility us)
-    by heads.Use = some_ends (use_outcome b f.attrs f.visibility ts us h)
-    by heads.ExternCrate = some_ends (crate_item_outcome b f.attrs f.visibility ts us h)
-    by heads.Fn = some_ends (function_outcome b f.attrs f.visibility ts us given h)
-    by heads.Impl = some_ends (implementation_outcome b f.attrs ts us given h)
-    by heads.Trait = some_ends (trait_outcome b f.attrs f.visibility ts us h)
-    by heads.Struct = some_ends (structure_outcome b f.attrs f.visibility ts us given h)
-    by heads.Union = some_ends (union_outcome b f.attrs f.visibility ts us h)
-    by heads.Enum = some_ends (enum_outcome b f.attrs f.visibility ts us h)
-    by heads.Const = some_ends (constant_outcome b f.attrs f.visibility ts us h)
-    by heads.Static = some_ends (static_outcome b f.attrs f.visibility ts us h)
-    by heads.TypeAlias = some_ends (type_alias_outcome b f.attrs f.visibility ts us h)
-    by heads.MacroDef = some_ends (macro_def_outcome b f.attrs f.visibility ts us h)
-    by heads.MacroRules = some_ends (macro_definition_outcome b f.attrs f.visibility ts us h)
-    by _ = invocation_ends b f.attrs ts us h
+    by : (w : Head) → f.head ≡ w → LeafEnds b (leaf_by w f.attrs f.visibility ts) (leaf_by w f.attrs f.visibility us)
+    by heads.Use is = some_ends (use_outcome b f.attrs f.visibility ts us h)
+    by heads.ExternCrate is = some_ends (crate_item_outcome b f.attrs f.visibility ts us h)
+    by heads.Fn is = some_ends (function_outcome b f.attrs f.visibility ts us given h)
+    by heads.Impl is = some_ends (implementation_outcome b f.attrs ts us given h)
+    by heads.Trait is = some_ends (trait_outcome b f.attrs f.visibility ts us h)
+    by heads.Struct is = some_ends (structure_outcome b f.attrs f.visibility ts us given (whole is) h)
+    by heads.Union is = some_ends (union_outcome b f.attrs f.visibility ts us h)
+    by heads.Enum is = some_ends (enum_outcome b f.attrs f.visibility ts us h)
+    by heads.Const is = some_ends (constant_outcome b f.attrs f.visibility ts us h)
+    by heads.Static is = some_ends (static_outcome b f.attrs f.visibility ts us h)
+    by heads.TypeAlias is = some_ends (type_alias_outcome b f.attrs f.visibility ts us h)
+    by heads.MacroDef is = some_ends (macro_def_outcome b f.attrs f.visibility ts us h)
+    by heads.MacroRules is = some_ends (macro_definition_outcome b f.attrs f.visibility ts us h)
+    by _ is = invocation_ends b f.attrs ts us h

@@ -1,5 +1,5 @@
 -- An item of a text, and the text that it is read from, alone.
-use Rattle.std.specs.Prelude.{◌≡◌, ◌+◌, ℕ, zero, suc, false, List, [], ◌∷◌, ◌++◌, length, slice_index, Option}
+use Rattle.std.specs.Prelude.{◌≡◌, ℕ, false, List, [], ◌∷◌, ◌++◌, length, slice_index, Option}
 use Rattle.std.specs.List.{filter}
 use Rattle.hir_input.specs.declared.edition.EditionYear.{EditionYear}
 use Rattle.rust_lexer.specs.Alone.{Stop, stop, overhang, EndsAlone, is_fence}

@@ -1,7 +1,7 @@
 -- Conditions, metas and attributes are the same in a text that ends with a `;` or a `}` and in a longer one, until these pass the end. The second of two
 -- anchors is that of the short text.
-use Rattle.std.proofs.Common.{◌≡◌, ◌==◌, ◌||◌, ◌&&◌, ◌+◌, ◌-◌, ℕ, zero, suc, Bool, true, false, Option, Some, None, List, [], ◌∷◌, refl, sym, ap, ◌∙◌, subst, arith, codes}
-use Rattle.std.specs.Prelude.{if◌then◌else◌, slice_index, not}
+use Rattle.std.proofs.Common.{◌≡◌, ◌==◌, ◌||◌, ◌&&◌, ◌+◌, ◌-◌, ℕ, zero, suc, true, false, Option, Some, None, List, [], ◌∷◌, refl, sym, ap, ◌∙◌, arith, codes}
+use Rattle.std.specs.Prelude.{if◌then◌else◌, slice_index}
 use Rattle.std.specs.Str.{bytes_eq}
 use Rattle.std.proofs.lemmas.Bool.{eqb-true}
 use Rattle.hir_input.specs.declared.ast.PathNode.{PathNode}
@@ -15,24 +15,23 @@ use Rattle.rust_lexer.specs.Piece.{Piece}
 use Rattle.rust_lexer.specs.Symbol.{symbol_of}
 use Rattle.rust_cursor.specs.Brackets.{behind_closed, behind_tree}
 use Rattle.rust_cursor.specs.Elements.{elements, one}
-use Rattle.rust_cursor.specs.Extents.{begins_item, tree_text}
 use Rattle.rust_cursor.specs.Reader.{Reader, ◌>>=◌, pure}
-use Rattle.rust_cursor.specs.Tokens.{Tokens, end_of}
-use Rattle.rust_cursor.specs.Words.{by_first, symbol, word, kind, text, at, bumped, is_at_end, is_at_open}
-use Rattle.rust_cursor.proofs.Leads.{LeadsTo, here, through, Forwards, when, bumped_leads, behind_closed_leads, behind_tree_leads, turns_leads}
-use Rattle.rust_cursor.proofs.Near.{Ending, Near, near, Onward, into, on, is_last, gone_on, by_next, onward_leads, bumped_onward, symbol_same, word_same, kind_same, text_same, open_same, end_same, at_same, past_same, not_last, last_word, last_test, symbol_test, after_word, after_symbol, both_true, none_last}
+use Rattle.rust_cursor.specs.Tokens.{Tokens}
+use Rattle.rust_cursor.specs.Words.{by_first, symbol, word, kind, text, at, bumped, is_at_open}
+use Rattle.rust_cursor.proofs.Leads.{through, Forwards, when, bumped_leads, behind_closed_leads, turns_leads}
+use Rattle.rust_cursor.proofs.Near.{Ending, Near, near, Onward, on, is_last, gone_on, by_next, onward_leads, bumped_onward, symbol_same, word_same, kind_same, text_same, open_same, end_same, at_same, not_last, last_word, last_test, symbol_test, after_word, after_symbol, both_true}
 use Rattle.rust_cursor.proofs.NearPassing.{cond_onward, behind_tree_near, behind_closed_near}
 use Rattle.rust_cursor.proofs.NearTests.{begins_item_same}
 use Rattle.rust_cursor.proofs.NearTexts.{tree_text_until}
-use Rattle.rust_cursor.proofs.NearUntil.{UntilBy, Until, UpTo, gone, kept, by_kept, cond_until, with_rest, map_until, pass_until, then_until, bind_until, turns_until, one_until, elements_until}
+use Rattle.rust_cursor.proofs.NearUntil.{Until, UpTo, gone, kept, cond_until, map_until, pass_until, bind_until, turns_until, one_until, elements_until}
 use Rattle.rust_paths.specs.Names.{as_name}
 use Rattle.rust_paths.specs.Paths.{path}
 use Rattle.rust_paths.proofs.Near.{name_until, path_until}
 use Rattle.rust_metas.specs.Attributes.{deepest, is_style, is_doc, is_attribute, is_behind, behind_bracket, bracketed, opened, one_attribute, behind_docs_from, behind_docs, behind_attribute, attribute, attributes, outer_attributes, inner_attributes}
-use Rattle.rust_metas.specs.Conditions.{comma_from, behind_comma, is_word_kind, is_option_word, option_name, composed, pair_from, pair, group, named, if_named, ended, condition_with, conditions, condition}
+use Rattle.rust_metas.specs.Conditions.{comma_from, behind_comma, is_word_kind, is_option_word, option_name, composed, pair, named, if_named, ended, condition_with, conditions, condition}
 use Rattle.rust_metas.specs.Literals.{is_literal_kind, is_truth, is_literal, is_ended, root, next_literal, value, style_by, documentation}
-use Rattle.rust_metas.specs.Metas.{assigned, called, input, plain, is_call, unsafe_with, cfg_with, member, cfg_attr_with, meta_with, meta, doc}
-use Rattle.rust_metas.proofs.Leads.{value_leads, comma_from_leads, behind_comma_leads, if_named_leads, ended_leads, condition_with_leads, conditions_leads, condition_leads, input_leads, member_leads, meta_leads, behind_bracket_leads, bracketed_leads, behind_attribute_leads, attribute_leads}
+use Rattle.rust_metas.specs.Metas.{assigned, input, plain, is_call, member, meta_with, meta, doc}
+use Rattle.rust_metas.proofs.Leads.{comma_from_leads, behind_comma_leads, if_named_leads, ended_leads, condition_with_leads, conditions_leads, condition_leads, input_leads, member_leads, meta_leads, behind_bracket_leads, bracketed_leads, behind_attribute_leads, attribute_leads}
 
 -- ---- what stands between commas
 
