@@ -1,7 +1,7 @@
 -- The items of two texts that differ between the braces of one item are the same but for body texts.
-use Rattle.std.proofs.Common.{◌≡◌, ◌≢◌, ◌≤◌, ◌<◌, ◌+◌, ◌==◌, ◌||◌, ◌&&◌, ℕ, zero, suc, Bool, true, false, Option, Some, None, List, [], ◌∷◌, ◌++◌, map, refl, ap, sym, subst, ◌∙◌, arith, append_assoc, append-nil}
+use Rattle.std.proofs.Common.{◌≡◌, ◌≤◌, ◌<◌, ◌+◌, ◌==◌, ◌||◌, ℕ, zero, suc, Bool, true, false, Option, Some, None, List, [], ◌∷◌, ◌++◌, map, refl, ap, sym, ◌∙◌, arith, append_assoc, append-nil}
 use Rattle.hir_input.specs.declared.ast.Visibility.{Visibility}
-use Rattle.std.specs.Prelude.{option_map, option_to_list, is_none}
+use Rattle.std.specs.Prelude.{option_map, option_to_list}
 use Rattle.std.proofs.lemmas.Bool.{eqb-true}
 use Rattle.std.proofs.lemmas.List.{map-append}
 use Rattle.hir_input.specs.declared.edition.EditionYear.{EditionYear}
@@ -9,18 +9,17 @@ use Rattle.hir_input.specs.declared.ids.AstIdKind.{AstIdKind}
 use Rattle.hir_input.specs.declared.ids.AstIdKind.TheVariants as kind
 use Rattle.hir_input.specs.Attr.{MetaView}
 use Rattle.hir_input.specs.Bodies.{node_without_body, named_without_body, item_without_bodies, items_without_bodies}
-use Rattle.hir_input.specs.Syntax.{NodeView, NamedView, ItemView, ItemViews, fn_kind, static_kind, type_alias_kind, plain_item, const_item, struct_item, bare_module, listed_module, use_item, extern_crate, bare_extern_block, listed_extern_block, impl_item, macro_call, macro_rules, asm_item, no_items, item_and, items_from, module_from, extern_block_from}
-use Rattle.rust_cursor.specs.Tokens.{Tokens, end_of}
-use Rattle.rust_cursor.specs.Words.{symbol, at, eat, is_empty, is_at_end, bumped}
-use Rattle.rust_cursor.specs.Brackets.{behind_tree}
+use Rattle.hir_input.specs.Syntax.{NodeView, NamedView, ItemView, ItemViews, fn_kind, static_kind, type_alias_kind, plain_item, listed_module, listed_extern_block, macro_call, item_and, items_from, module_from, extern_block_from}
+use Rattle.rust_cursor.specs.Tokens.{Tokens}
+use Rattle.rust_cursor.specs.Words.{symbol, at, eat, is_at_end, bumped}
 use Rattle.rust_cursor.specs.Elements.{most, beyond}
 use Rattle.rust_cursor.specs.Beside.{Bodies, Beside, ahead, behind}
-use Rattle.rust_cursor.proofs.Leads.{LeadsTo, here, further, through, when, bumped_leads, eat_leads, beyond_leads, behind_tree_leads}
+use Rattle.rust_cursor.proofs.Leads.{LeadsTo, further, through, when, eat_leads, beyond_leads}
 use Rattle.rust_cursor.proofs.Laid.{IsLaid, past_within}
 use Rattle.rust_cursor.proofs.Laid as laid
 use Rattle.rust_cursor.proofs.Views.{before_at, behind_at, symbol_same, empty_same, end_same}
 use Rattle.rust_cursor.proofs.Passing.{beyond_beside, behind_tree_beside}
-use Rattle.rust_cursor.proofs.Local.{eat_local, symbol_test}
+use Rattle.rust_cursor.proofs.Local.{eat_local}
 use Rattle.rust_cursor.proofs.Until.{Gone, gone_on, by_kept, by_next, bumped_onward}
 use Rattle.rust_cursor.proofs.Alike.{by_stayed}
 use Rattle.rust_cursor.proofs.Places as places
@@ -31,23 +30,22 @@ use Rattle.rust_metas.proofs.Leads.{inner_attributes_leads}
 use Rattle.rust_metas.proofs.UntilAttributes.{inner_attributes_until}
 use Rattle.rust_leaves.specs.declared.head.Head.{Head}
 use Rattle.rust_leaves.specs.declared.head.Head.TheVariants as heads
-use Rattle.rust_leaves.specs.Heads.{behind_others}
 use Rattle.rust_leaves.specs.Fronts.{FrontRead, front}
 use Rattle.rust_leaves.specs.Leaves.{NameRead, LeafRead, no_name, named}
 use Rattle.rust_leaves.specs.Kinds.{node, named_node, leaf}
 use Rattle.rust_leaves.proofs.Fronts.{behind_others_beside}
-use Rattle.rust_leaves.proofs.Beside.{LeafAlike, NameAlike, named_local}
+use Rattle.rust_leaves.proofs.Beside.{LeafAlike, named_local}
 use Rattle.rust_items.specs.declared.log.ItemSpan.{ItemSpan}
 use Rattle.rust_items.specs.declared.log.ProblemKind.{ProblemKind}
 use Rattle.rust_items.specs.declared.log.ProblemKind.TheVariants as problem
 use Rattle.rust_items.specs.declared.source_file.ItemPlace.{ItemPlace}
-use Rattle.rust_items.specs.Found.{Found, Finder, nothing_found, and_problem, and_problem_if, and_problem_at, and_row, and_use_trees, and_all}
-use Rattle.rust_items.specs.Items.{BlockRead, empty_block, no_block, deep_block, and_flaw, and_item, and_leaf, and_parent, leaf_found, leaf_turn, finding_from, finding, is_list_end, block_of, as_extern, extern_kept, extern_found, extern_turn, extern_inside, extern_block, one_more, unmatched, inside_unless, module_with, some_item, by_head, turn_with, inside, turn, depth_of, items}
+use Rattle.rust_items.specs.Found.{Found, Finder, nothing_found, and_problem_if, and_problem_at}
+use Rattle.rust_items.specs.Items.{BlockRead, and_flaw, and_item, and_leaf, and_parent, leaf_found, leaf_turn, finding_from, finding, is_list_end, block_of, as_extern, extern_kept, extern_found, extern_turn, extern_inside, extern_block, one_more, unmatched, inside_unless, module_with, some_item, by_head, turn_with, inside, turn, depth_of, items}
 use Rattle.rust_items.specs.Typed.{begins_at, has_body, has_bare_fields}
 use Rattle.rust_items.specs.SourceFiles.{found_in, read_of}
 use Rattle.rust_items.specs.Places.{Telling, IsBodyIn, ArePlaces, nothing, placed}
-use Rattle.rust_items.proofs.Leads.{named_leads, behind_others_leads, front_start, front_takes}
-use Rattle.rust_items.proofs.Places.{Adds, adds_item, adds_problem_at, adds_use_trees, AreFound, Finds, FindsIn, IsListed, list_from, list_found, listed, place_span, inside_found, turn_found, turn_with_found, extern_turn_found, extern_inside_found, unless_found, items_found}
+use Rattle.rust_items.proofs.Leads.{named_leads, behind_others_leads, front_takes}
+use Rattle.rust_items.proofs.Places.{adds_item, adds_problem_at, adds_use_trees, AreFound, Finds, FindsIn, list_from, list_found, place_span, inside_found, turn_found, turn_with_found, extern_turn_found, extern_inside_found, unless_found, items_found}
 use Rattle.rust_items.proofs.UntilLeaves.{FrontAlike, front_until, BeginPlain, LeafUntil, leaf_lost, leaf_same, leaf_until, LeafLost, leaf_gone, IsFit, fit_on, front_bare}
 
 -- ---- whose braces they are

@@ -1,5 +1,5 @@
 -- Two small bodies, by computing.
-use Rattle.std.proofs.Common.{◌≡◌, ℕ, List, [], ◌∷◌, ◌++◌, refl}
+use Rattle.std.proofs.Common.{ℕ, List, [], ◌∷◌, ◌++◌, refl}
 use Rattle.rust_lexer.specs.Bytes.{is_wide_start, is_wide_continue}
 use Rattle.rust_lexer.specs.Number.{past_digits}
 use Rattle.rust_lexer.specs.Cut.{first_cut}

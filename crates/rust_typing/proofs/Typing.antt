@@ -1,5 +1,5 @@
 -- Typing inside a body changes no syntax but for its body texts.
-use Rattle.std.proofs.Common.{◌≡◌, ℕ, Bool, true, false, ◌==◌, ◌||◌, Option, Some, None, List, [], ◌∷◌, ◌++◌, length, refl, ap, sym, subst, ◌∙◌, map}
+use Rattle.std.proofs.Common.{◌≡◌, ℕ, false, List, [], ◌∷◌, length, refl, ap, sym, subst, ◌∙◌, map}
 use Rattle.hir_input.specs.declared.edition.EditionYear.{EditionYear}
 use Rattle.hir_input.specs.declared.ids.FileAstId.{FileAstId}
 use Rattle.hir_input.specs.Attr.{MetaView}
@@ -14,9 +14,9 @@ use Rattle.rust_ids.proofs.Consequences.{determined}
 use Rattle.rust_metas.specs.Attributes.{inner_attributes}
 use Rattle.rust_items.specs.declared.source_file.SourceFile.{SourceFile}
 use Rattle.rust_items.specs.Ids.{with_ids}
-use Rattle.rust_items.specs.LineEnds.{with_feeds, place_in}
+use Rattle.rust_items.specs.LineEnds.{place_in}
 use Rattle.rust_items.specs.Typed.{has_body}
-use Rattle.rust_items.specs.SourceFiles.{found_in, items_in, read_of, IsFile, IsSourceFile}
+use Rattle.rust_items.specs.SourceFiles.{found_in, items_in, read_of, IsFile}
 use Rattle.rust_items.proofs.Bodiless.{with_bodiless}
 use Rattle.rust_items.proofs.UntilLeaves.{all_bare}
 use Rattle.rust_items.proofs.UntilItems.{FileUntil, of_none, alike, file_until, found_rows, found_spans}
