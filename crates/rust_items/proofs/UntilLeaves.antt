@@ -1,12 +1,12 @@
 -- Items that hold none, of tokens beside, are the same but for body texts, until one goes into the braces.
-use Rattle.std.proofs.Common.{◌≡◌, ◌≤◌, ◌+◌, ◌==◌, ◌&&◌, ℕ, zero, suc, Bool, true, false, Option, Some, None, List, [], ◌∷◌, ◌++◌, codes, map, refl, ap, sym, subst, ◌∙◌, arith}
-use Rattle.std.specs.Prelude.{is_some, if◌then◌else◌}
+use Rattle.std.proofs.Common.{◌≡◌, ◌≤◌, ◌<◌, ◌+◌, ◌==◌, ◌&&◌, ℕ, zero, suc, Bool, true, false, Option, Some, None, List, [], ◌∷◌, ◌++◌, codes, map, refl, ap, sym, subst, ◌∙◌, arith}
+use Rattle.std.specs.Prelude.{is_none, is_some, if◌then◌else◌}
 use Rattle.std.proofs.lemmas.Bool.{and_parts}
 use Rattle.hir_input.specs.declared.ast.PathNode.{PathNode}
 use Rattle.hir_input.specs.declared.ast.Visibility.{Visibility}
 use Rattle.hir_input.specs.Attr.{MetaView}
 use Rattle.hir_input.specs.Bodies.{item_without_bodies}
-use Rattle.hir_input.specs.Syntax.{tuple_fields, use_item, union_kind, enum_kind, trait_kind}
+use Rattle.hir_input.specs.Syntax.{FieldsView, NamedView, ItemView, tuple_fields, record_fields, no_fields, struct_item, use_item, union_kind, enum_kind, trait_kind}
 use Rattle.hir_input.specs.UseTreeView.{UseTreeView}
 use Rattle.rust_lexer.specs.declared.kind.DocStyle.TheVariants.{Outer}
 use Rattle.std.specs.Str.{bytes_eq}
@@ -16,47 +16,49 @@ use Rattle.rust_cursor.specs.Tokens.{Tokens, end_of}
 use Rattle.rust_cursor.specs.Reader.{Reader}
 use Rattle.rust_cursor.specs.Words.{by_first, rest, symbol, word, at, is_empty, is_at_end, is_at_identifier, bumped, eat}
 use Rattle.rust_cursor.specs.Elements.{beyond, turns_from, turns, elements, one}
-use Rattle.rust_cursor.specs.Beside.{Bodies, Beside, ahead, behind}
-use Rattle.rust_cursor.proofs.Leads.{LeadsTo, here, further, through, Forwards, when, bumped_leads, eat_leads, HasBlock, no_block, block, taken_block}
+use Rattle.rust_cursor.specs.Beside.{Bodies, AreBehind, Beside, ahead, behind}
+use Rattle.rust_cursor.proofs.Leads.{LeadsTo, here, further, through, Forwards, when, bumped_leads, eat_leads, reached_leads, Takes, HasBlock, no_block, block, taken_block}
 use Rattle.rust_cursor.proofs.Laid.{IsLaid, at_behind, taken_behind}
 use Rattle.rust_cursor.proofs.Laid as laid
-use Rattle.rust_cursor.proofs.Views.{before_at, behind_at, symbol_same, kind_same, end_same, next_ahead, next_behind}
+use Rattle.rust_cursor.proofs.Views.{before_at, behind_at, symbol_same, kind_same, end_same, next_ahead, next_behind, next_none}
 use Rattle.rust_cursor.proofs.Braced.{tokens_at}
 use Rattle.rust_cursor.proofs.Passing.{BothBeside, behind_angles_beside, behind_field_beside, beyond_beside}
 use Rattle.rust_cursor.proofs.Passing as passing
-use Rattle.rust_cursor.proofs.Local.{Kept, eat_local, after_symbol}
-use Rattle.rust_cursor.proofs.Until.{Gone, gone_on, by_kept}
+use Rattle.rust_cursor.proofs.Local.{Kept, Local, eat_local, after_symbol}
+use Rattle.rust_cursor.proofs.Until.{Gone, gone_on, Until, gone, kept, UpTo, by_kept, elements_until, one_until}
 use Rattle.rust_cursor.proofs.Alike.{KeptBy, UntilBy, went, stayed, by_stayed}
 use Rattle.rust_cursor.proofs.Places.{IsAlike}
 use Rattle.rust_cursor.proofs.Places as places
 use Rattle.rust_paths.specs.declared.names.TextRange.{TextRange}
 use Rattle.rust_paths.specs.Paths.{path}
 use Rattle.rust_paths.specs.UseTrees.{use_tree}
+use Rattle.rust_paths.specs.UseTrees as trees
 use Rattle.rust_paths.specs.Visibilities.{visibility}
 use Rattle.rust_paths.proofs.Beside.{path_local, visibility_local}
-use Rattle.rust_paths.proofs.Leads.{path_leads, visibility_leads}
-use Rattle.rust_paths.proofs.UntilTrees.{use_tree_until}
+use Rattle.rust_paths.proofs.Leads.{path_leads, visibility_leads, use_tree_leads}
+use Rattle.rust_paths.proofs.UntilTrees.{SameFound, use_tree_until}
 use Rattle.rust_metas.specs.Attributes.{is_behind, is_doc, is_attribute, attributes, outer_attributes, inner_attributes}
-use Rattle.rust_metas.proofs.Leads.{outer_attributes_leads}
+use Rattle.rust_metas.proofs.Leads.{outer_attributes_leads, inner_attributes_leads}
 use Rattle.rust_cursor.proofs.Around.{IsSound, sound_on}
 use Rattle.rust_cursor.proofs.Enclosed.{item_enclosed, impl_enclosed}
 use Rattle.rust_metas.proofs.Around.{inner_within}
 use Rattle.rust_cursor.proofs.Turns.{turns_stop}
-use Rattle.rust_items.specs.Typed.{bare_field, all_true, are_bare_fields, has_bare_fields, have_bare_from, have_bare_fields}
+use Rattle.rust_items.specs.Typed.{ends_plain, bare_field, all_true, are_bare_fields, has_bare_fields, have_bare_from, have_bare_fields}
 use Rattle.rust_metas.proofs.UntilAttributes.{outer_attributes_until, inner_attributes_until}
 use Rattle.rust_leaves.specs.declared.head.Head.{Head}
 use Rattle.rust_leaves.specs.declared.head.Head.TheVariants as heads
 use Rattle.rust_leaves.specs.Heads.{behind_abi, behind_modifiers, extern_head, macro_rules_head, union_head, head_by, behind_head, head}
 use Rattle.rust_paths.specs.Names.{has_name}
 use Rattle.rust_leaves.specs.Fronts.{FrontRead, front_behind, front}
-use Rattle.rust_leaves.specs.Leaves.{LeafRead, named, impl_end, item_end, call_end, block_attributes, range_to, field, fields, fields_at, struct_fields}
+use Rattle.rust_leaves.specs.Leaves.{RestRead, LeafRead, named, impl_end, item_end, call_end, block_attributes, range_to, field, fields, fields_at, struct_fields}
 use Rattle.rust_cursor.specs.Angles.{behind_angles}
-use Rattle.rust_leaves.specs.Kinds.{node, function, union_item, enumeration, trait_item, structure, implementation, use_read, use_declaration, is_called, called, call_behind, some_read, invocation, leaf_by, leaf}
+use Rattle.rust_leaves.specs.Kinds.{node, named_node, function, union_item, enumeration, trait_item, structure, implementation, use_read, use_declaration, is_called, called, call_behind, some_read, invocation, leaf_by, leaf}
 use Rattle.rust_leaves.specs.Texts.{bare, last_text}
+use Rattle.rust_leaves.proofs.Fields.{field_leads, fields_within}
 use Rattle.rust_leaves.proofs.Fronts.{modifiers_beside, head_local}
 use Rattle.rust_leaves.proofs.Beside.{named_local, item_end_local, impl_end_local, call_end_local, NameAlike, RestAlike, LeafAlike, function_local, block_item_local, macro_def_local, type_alias_local, static_local, constant_local, structure_local, implementation_local, macro_definition_local}
 use Rattle.rust_leaves.proofs.Crates.{crate_item_local, is_called_same, called_next, SameLast, beyond_braces, same_text, last_same}
-use Rattle.rust_items.proofs.Leads.{word_some, LeafAt, leaf_at, named_leads, behind_modifiers_leads, head_takes, call_end_leads, call_end_braced, IsBraced, braced}
+use Rattle.rust_items.proofs.Leads.{word_some, LeafAt, leaf_at, named_leads, behind_modifiers_leads, head_takes, call_end_leads, call_end_braced, IsBraced, unbraced, braced, braces_behind, IsTaken, LeafFound, TakesBy, leaf_found, front_takes}
 
 -- ---- what stands in front
 
@@ -208,6 +210,21 @@ fields_at_same b has ts us h e =
     (λ f. let g = rw f at e in rw (symbol_same b ts us h, f) (ap tuple_fields (fields_kept b (bumped ts) (bumped us) (after_symbol b 40 ts us refl h f) g).value))
     (λ f. rw (symbol_same b ts us h, f) refl)
 
+-- ---- fields that anything may stand at
+
+field_until : (b : Bodies) → UpTo b field
+unfolding field
+field_until b ts us h =
+    by_kept (outer_attributes_until b ts us h) (λ g. gone (gone_on g (through (visibility_leads _) (through (reached_leads _ _) (eat_leads _ _)))))
+    (λ k. let v = visibility_local b (outer_attributes ts).1 (outer_attributes us).1 k.rest in
+        let f = behind_field_beside b (visibility (outer_attributes ts).1).1 (visibility (outer_attributes us).1).1 v.rest in
+        let e = eat_local b 44 refl _ _ f in
+        kept (record { value = v.value; rest = e.rest }))
+
+fields_until : (b : Bodies) → UpTo b fields
+unfolding fields
+fields_until b = elements_until b (one field) (one_until b field (field_until b)) field_leads
+
 both_some : {b : Bodies} {o o' : Option Tokens} → BothBeside b o o' → is_some o' ≡ is_some o
 both_some passing.neither = refl
 both_some (passing.both t u h) = refl
@@ -293,13 +310,44 @@ module _ (b : Bodies) (plain : BeginPlain b) (end : ℕ) (attrs : List MetaView)
       by (not_same g f) = lost_block (implementation attrs ts) (impl_end ts).0.block (impl_end ts).1.past (impl_end_braces ts) g f
       by (both_same e) = some_alike (implementation_local b attrs ts us h e)
 
+  -- where it ends with a semicolon, they stand in it
+  ended_structure : ends_plain (named ts).1 ≡ true → LeafUntil b (some_read (structure attrs v ts)) (some_read (structure attrs v us))
+  unfolding structure struct_fields
+  ended_structure plain_end =
+      when (symbol (behind_angles x) == 40)
+      (λ f. by_kept (fields_until b (bumped (behind_angles x)) (bumped (behind_angles (named us).1)) (after_symbol b 40 (behind_angles x) (behind_angles (named us).1) refl angles f))
+          (λ g. lost_block (structure attrs v ts) (item_end x).0.block (item_end x).1.past (item_end_braces x) (gone_on g (fields_within end x sound f parts.0 none))
+              (λ t o z. let no : None ≡ Some t = sym none ∙ o in absurd cc))
+          (λ k. some_alike (structure_local b attrs v ts us h (rw (both_some r.value, symbol_same b (behind_angles x) (behind_angles (named us).1) angles, f) (ap tuple_fields k.value)))))
+      (λ f. some_alike (structure_local b attrs v ts us h (rw (both_some r.value, symbol_same b (behind_angles x) (behind_angles (named us).1) angles, f) refl)))
+    where
+      x : Tokens
+      x = (named ts).1
+      n : KeptBy NameAlike b (named ts) (named us)
+      n = named_local b ts us h
+      r : KeptBy (RestAlike b) b (item_end (named ts).1) (item_end (named us).1)
+      r = item_end_local b (named ts).1 (named us).1 n.rest
+      sound : IsSound end x
+      sound = sound_on end (named_leads ts) l
+      angles : Beside b (behind_angles x) (behind_angles (named us).1)
+      angles = behind_angles_beside b x (named us).1 n.rest
+      parts : ((item_end x).0.is_ended ≡ true) × (is_none (item_end x).0.block ≡ true)
+      parts = and_parts (item_end x).0.is_ended (is_none (item_end x).0.block) plain_end
+      by_none : (o : Option Tokens) → is_none o ≡ true → o ≡ None
+      by_none None e = refl
+      by_none (Some t) e = absurd cc
+      none : (item_end x).0.block ≡ None
+      none = by_none (item_end x).0.block parts.1
+
   structure_until : has_bare_fields ts ≡ true → LeafUntil b (some_read (structure attrs v ts)) (some_read (structure attrs v us))
   unfolding has_bare_fields
-  structure_until bare =
+  structure_until told =
       let n = named_local b ts us h in
       let r = item_end_local b (named ts).1 (named us).1 n.rest in
-      some_alike (structure_local b attrs v ts us h
-      (struct_fields_same b (is_some (item_end (named ts).1).0.block) (is_some (item_end (named us).1).0.block) (named ts).1 (named us).1 (both_some r.value) n.rest bare))
+      when (ends_plain (named ts).1) (λ e. ended_structure e)
+      (λ e. let bare = rw e at told in
+          some_alike (structure_local b attrs v ts us h
+          (struct_fields_same b (is_some (item_end (named ts).1).0.block) (is_some (item_end (named us).1).0.block) (named ts).1 (named us).1 (both_some r.value) n.rest bare)))
 
   use_until : LeafUntil b (some_read (use_declaration attrs v ts)) (some_read (use_declaration attrs v us))
   unfolding use_declaration

@@ -1,5 +1,5 @@
 -- What is asked of a text in whose body something is typed.
-use Rattle.std.specs.Prelude.{ℕ, ◌==◌, ◌&&◌, ◌||◌, Bool, true, false, if◌then◌else◌, Option, Some, None, List, [], ◌∷◌, codes}
+use Rattle.std.specs.Prelude.{ℕ, ◌==◌, ◌&&◌, ◌||◌, Bool, true, false, if◌then◌else◌, Option, Some, None, is_none, List, [], ◌∷◌, codes}
 use Rattle.std.specs.Str.{bytes_eq}
 use Rattle.rust_lexer.specs.declared.kind.DocStyle.TheVariants.{Outer}
 use Rattle.rust_lexer.specs.Piece.{Piece}
@@ -10,7 +10,7 @@ use Rattle.rust_cursor.specs.Angles.{behind_angles}
 use Rattle.rust_cursor.specs.Elements.{elements, one}
 use Rattle.rust_paths.specs.declared.names.TextRange.{TextRange}
 use Rattle.rust_metas.specs.Attributes.{is_behind}
-use Rattle.rust_leaves.specs.Leaves.{named, field}
+use Rattle.rust_leaves.specs.Leaves.{named, item_end, field}
 use Rattle.rust_items.specs.declared.log.ItemSpan.{ItemSpan}
 
 -- ---- whose braces they are
@@ -38,9 +38,13 @@ all_true (t ∷ ts) = t && all_true ts
 abbrev pub are_bare_fields : Tokens → Bool
 are_bare_fields ts = if symbol ts == 40 then all_true (elements (one bare_field) (bumped ts)).0 else true
 
--- the fields in parentheses of a struct whose name comes next
+-- the item ends with a semicolon
+abbrev pub ends_plain : Tokens → Bool
+ends_plain ts = (item_end ts).0.is_ended && is_none (item_end ts).0.block
+
+-- The fields in parentheses of a struct whose name comes next; where it ends with a semicolon, anything may stand at them.
 unfoldable pub has_bare_fields : Tokens → Bool
-has_bare_fields ts = are_bare_fields (behind_angles (named ts).1)
+has_bare_fields ts = ends_plain (named ts).1 || are_bare_fields (behind_angles (named ts).1)
 
 -- those of all structs among the tokens, at most as many as this list has
 abbrev pub have_bare_from : Tokens → List Piece → Bool

@@ -47,7 +47,7 @@ abbrev pub BeginsPlain : List ℕ → Type 0
 BeginsPlain m = first_plain (front 0 0 m (125 ∷ [])) ≡ true
 
 -- A text of which what stands in a body was typed anew. Neither attributes nor documentation stand at the fields in parentheses of a
--- struct in it.
+-- struct in it that does not end with a semicolon.
 pub record IsTyped (edition : EditionYear) (q m m' s : List ℕ) : Type 0 where
   pub opens : OpensAt q (m ++ 125 ∷ s)
   pub body : IsBody edition q m s
