@@ -217,9 +217,9 @@ unfolding field
 field_until b ts us h =
     by_kept (outer_attributes_until b ts us h) (λ g. gone (gone_on g (through (visibility_leads _) (through (reached_leads _ _) (eat_leads _ _)))))
     (λ k. let v = visibility_local b (outer_attributes ts).1 (outer_attributes us).1 k.rest in
-        let f = behind_field_beside b (visibility (outer_attributes ts).1).1 (visibility (outer_attributes us).1).1 v.rest in
-        let e = eat_local b 44 refl _ _ f in
-        kept (record { value = v.value; rest = e.rest }))
+    let f = behind_field_beside b (visibility (outer_attributes ts).1).1 (visibility (outer_attributes us).1).1 v.rest in
+    let e = eat_local b 44 refl _ _ f in
+    kept (record { value = v.value; rest = e.rest }))
 
 fields_until : (b : Bodies) → UpTo b fields
 unfolding fields
@@ -316,26 +316,33 @@ module _ (b : Bodies) (plain : BeginPlain b) (end : ℕ) (attrs : List MetaView)
   ended_structure plain_end =
       when (symbol (behind_angles x) == 40)
       (λ f. by_kept (fields_until b (bumped (behind_angles x)) (bumped (behind_angles (named us).1)) (after_symbol b 40 (behind_angles x) (behind_angles (named us).1) refl angles f))
-          (λ g. lost_block (structure attrs v ts) (item_end x).0.block (item_end x).1.past (item_end_braces x) (gone_on g (fields_within end x sound f parts.0 none))
-              (λ t o z. let no : None ≡ Some t = sym none ∙ o in absurd cc))
-          (λ k. some_alike (structure_local b attrs v ts us h (rw (both_some r.value, symbol_same b (behind_angles x) (behind_angles (named us).1) angles, f) (ap tuple_fields k.value)))))
+      (λ g. lost_block (structure attrs v ts) (item_end x).0.block (item_end x).1.past (item_end_braces x) (gone_on g (fields_within end x sound f parts.0 none))
+      (λ t o z. let no : None ≡ Some t = sym none ∙ o in absurd cc))
+      (λ k. some_alike (structure_local b attrs v ts us h (rw (both_some r.value, symbol_same b (behind_angles x) (behind_angles (named us).1) angles, f) (ap tuple_fields k.value)))))
       (λ f. some_alike (structure_local b attrs v ts us h (rw (both_some r.value, symbol_same b (behind_angles x) (behind_angles (named us).1) angles, f) refl)))
     where
       x : Tokens
       x = (named ts).1
+
       n : KeptBy NameAlike b (named ts) (named us)
       n = named_local b ts us h
+
       r : KeptBy (RestAlike b) b (item_end (named ts).1) (item_end (named us).1)
       r = item_end_local b (named ts).1 (named us).1 n.rest
+
       sound : IsSound end x
       sound = sound_on end (named_leads ts) l
+
       angles : Beside b (behind_angles x) (behind_angles (named us).1)
       angles = behind_angles_beside b x (named us).1 n.rest
+
       parts : ((item_end x).0.is_ended ≡ true) × (is_none (item_end x).0.block ≡ true)
       parts = and_parts (item_end x).0.is_ended (is_none (item_end x).0.block) plain_end
+
       by_none : (o : Option Tokens) → is_none o ≡ true → o ≡ None
       by_none None e = refl
       by_none (Some t) e = absurd cc
+
       none : (item_end x).0.block ≡ None
       none = by_none (item_end x).0.block parts.1
 
@@ -346,8 +353,8 @@ module _ (b : Bodies) (plain : BeginPlain b) (end : ℕ) (attrs : List MetaView)
       let r = item_end_local b (named ts).1 (named us).1 n.rest in
       when (ends_plain (named ts).1) (λ e. ended_structure e)
       (λ e. let bare = rw e at told in
-          some_alike (structure_local b attrs v ts us h
-          (struct_fields_same b (is_some (item_end (named ts).1).0.block) (is_some (item_end (named us).1).0.block) (named ts).1 (named us).1 (both_some r.value) n.rest bare)))
+      some_alike (structure_local b attrs v ts us h
+      (struct_fields_same b (is_some (item_end (named ts).1).0.block) (is_some (item_end (named us).1).0.block) (named ts).1 (named us).1 (both_some r.value) n.rest bare)))
 
   use_until : LeafUntil b (some_read (use_declaration attrs v ts)) (some_read (use_declaration attrs v us))
   unfolding use_declaration
