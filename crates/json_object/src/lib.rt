@@ -15,7 +15,8 @@ pub type Members = Map<String, Value>;
 
 /// These members and one more, which takes the place of one under the same key.
 pub fn with(alloc: Global, members: Members, key: &str, value: Value) -> Result<Members, AllocError>
-    ensures { IfOk result (λ ms. members_view ms.entries ≡ put_member key.now (view value) (members_view members.entries)) }
+    ensures { let old = members_view members.entries in
+        IfOk result (λ ms. members_view ms.entries ≡ put_member key.now (view value) old) }
 {
     let mut members = members;
     put(&mut members, alloc, key, value)?;
@@ -29,7 +30,8 @@ pub fn with_text(
     key: &str,
     text: &str,
 ) -> Result<Members, AllocError>
-    ensures { IfOk result (λ ms. members_view ms.entries ≡ put_member key.now (string text.now) (members_view members.entries)) }
+    ensures { let old = members_view members.entries in
+        IfOk result (λ ms. members_view ms.entries ≡ put_member key.now (string text.now) old) }
 {
     let text = Value::try_from_str(alloc, text)?;
     with(alloc, members, key, text)

@@ -1,7 +1,6 @@
 -- What passes over tokens comes to tokens beside: up to brackets, behind angle brackets, and to the end of an item.
-use Rattle.std.proofs.Common.{◌≡◌, ◌≢◌, ◌≤◌, ◌<◌, ℕ, zero, suc, ◌+◌, ◌-◌, ◌==◌, ◌||◌, ◌&&◌, Bool, true, false, Option, Some, None, List, [], ◌∷◌, ◌++◌, length, refl, ap, ◌∙◌, sym, subst, arith, map, codes}
-use Rattle.std.specs.Prelude.{if◌then◌else◌, not}
-use Rattle.std.specs.Str.{bytes_eq}
+use Rattle.std.proofs.Common.{◌≡◌, ◌≢◌, ◌<◌, ℕ, zero, suc, ◌+◌, ◌-◌, ◌==◌, ◌&&◌, Bool, true, false, Option, Some, None, List, [], ◌∷◌, ◌++◌, length, refl, ap, ◌∙◌, sym, arith, map}
+use Rattle.std.specs.Prelude.{not}
 use Rattle.std.proofs.lemmas.Bool.Decides.{nat_tests}
 use Rattle.hir_input.specs.declared.edition.EditionYear.{EditionYear}
 use Rattle.rust_lexer.specs.Piece.{Piece}
@@ -15,11 +14,11 @@ use Rattle.rust_cursor.specs.declared.cursor.generics.Reach.TheVariants as reach
 use Rattle.rust_cursor.specs.declared.cursor.texts.Extent.{Extent}
 use Rattle.rust_cursor.specs.declared.cursor.texts.Extent.TheVariants as extents
 use Rattle.rust_cursor.specs.Tokens.{Tokens, end_of}
-use Rattle.rust_cursor.specs.Words.{is_open, symbol, word, kind, is_empty, is_at_end, is_at_open, bumped}
+use Rattle.rust_cursor.specs.Words.{is_open, symbol, is_empty, is_at_open, bumped}
 use Rattle.rust_cursor.specs.Nests.{braces_behind, begun, flat, flat_behind, is_mark, is_whole, nest_behind}
 use Rattle.rust_cursor.specs.Extents.{ExcerptRead, excerpt, stops, ends, opened_behind, block_at, taking, taken, more, item_rest}
-use Rattle.rust_cursor.specs.Angles.{begins_binder, is_lone_for, is_barred, is_reached, is_closed, reaching, reached, behind_angles, behind_field, behind_header, is_trait_impl, is_lifetime}
-use Rattle.rust_cursor.specs.Brackets.{shuts, is_closing, closing, to_closing, behind_closing, behind_closed, behind_tree}
+use Rattle.rust_cursor.specs.Angles.{begins_binder, is_lone_for, is_reached, is_closed, reaching, reached, behind_angles, behind_field, behind_header, is_trait_impl}
+use Rattle.rust_cursor.specs.Brackets.{is_closing, closing, to_closing, behind_closing, behind_closed, behind_tree}
 use Rattle.rust_cursor.specs.Elements.{beyond}
 use Rattle.rust_cursor.specs.Beside.{Bodies, AreOpen, Beside, ahead, behind}
 use Rattle.rust_cursor.proofs.Leads.{when, symbol_some}

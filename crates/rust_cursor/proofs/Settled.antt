@@ -1,5 +1,5 @@
 -- What is left of tokens before the braces is before them too, or went into them.
-use Rattle.std.proofs.Common.{◌≡◌, ◌≤◌, ◌<◌, ℕ, zero, suc, ◌+◌, Option, List, [], ◌∷◌, ◌++◌, refl, ap, ◌∙◌, sym, subst, arith, map}
+use Rattle.std.proofs.Common.{◌≡◌, ℕ, Option, List, [], ◌∷◌, ◌++◌, refl, subst, map}
 use Rattle.rust_lexer.specs.Piece.{Piece}
 use Rattle.rust_lexer.specs.Alone.{moved}
 use Rattle.rust_cursor.specs.Tokens.{Tokens, end_of}

@@ -1,7 +1,5 @@
 -- What is asked of tokens beside: where an item begins, and where a bracket or an item ends.
-use Rattle.std.proofs.Common.{◌≡◌, ◌≢◌, ◌≤◌, ◌<◌, ℕ, zero, suc, ◌+◌, ◌-◌, ◌==◌, ◌||◌, ◌&&◌, Bool, true, false, Option, Some, None, List, [], ◌∷◌, ◌++◌, length, refl, ap, ◌∙◌, sym, subst, arith, map, codes}
-use Rattle.std.specs.Prelude.{if◌then◌else◌, not}
-use Rattle.std.specs.Str.{bytes_eq}
+use Rattle.std.proofs.Common.{◌≡◌, ◌≢◌, ◌==◌, Bool, true, false, length, refl, ◌∙◌, sym, arith}
 use Rattle.std.proofs.lemmas.Bool.Decides.{nat_tests}
 use Rattle.rust_cursor.specs.declared.cursor.nest.Before.{Before}
 use Rattle.rust_cursor.specs.declared.cursor.nest.Before.TheVariants as befores
@@ -9,13 +7,12 @@ use Rattle.rust_cursor.specs.declared.cursor.nest.Nest.{Nest}
 use Rattle.rust_cursor.specs.declared.cursor.texts.Extent.{Extent}
 use Rattle.rust_cursor.specs.declared.cursor.texts.Extent.TheVariants as extents
 use Rattle.rust_cursor.specs.Tokens.{Tokens}
-use Rattle.rust_cursor.specs.Words.{symbol, word, is_empty, is_at_identifier, bumped, is_pair}
-use Rattle.rust_cursor.specs.Nests.{is_flat}
+use Rattle.rust_cursor.specs.Words.{symbol, word, bumped}
 use Rattle.rust_cursor.specs.Extents.{begins, begins_item, follows_const, begins_impl_or_const, begins_behind, begins_within, stops, ends, goes_on}
 use Rattle.rust_cursor.proofs.Begins.{none_begins}
 use Rattle.rust_cursor.proofs.Leads.{when}
 use Rattle.rust_cursor.specs.Beside.{Bodies, Beside}
-use Rattle.rust_cursor.proofs.Views.{symbol_same, word_same, empty_same, identifier_same, not_brace, other_symbol, pair_same, brace_word, brace_identifier}
+use Rattle.rust_cursor.proofs.Views.{symbol_same, word_same, empty_same, identifier_same, not_brace, pair_same, brace_word, brace_identifier}
 
 -- ---- where an item begins
 

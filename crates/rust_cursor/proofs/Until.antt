@@ -1,16 +1,16 @@
 -- Readers that may go into the braces: they see tokens beside alike until one does.
-use Rattle.std.proofs.Common.{◌≡◌, ◌≤◌, ◌<◌, ℕ, zero, suc, ◌+◌, length, ◌==◌, ◌&&◌, Bool, true, false, Option, Some, None, List, [], ◌∷◌, ◌++◌, refl, ap, ◌∙◌, sym, subst, arith, map}
+use Rattle.std.proofs.Common.{◌≡◌, ◌≤◌, ℕ, zero, suc, ◌+◌, length, Bool, true, false, Option, List, [], ◌∷◌, ◌++◌, refl, ap, ◌∙◌, sym, subst, arith, map}
 use Rattle.std.specs.Prelude.{if◌then◌else◌}
 use Rattle.rust_lexer.specs.Piece.{Piece}
 use Rattle.rust_lexer.specs.Alone.{moved}
 use Rattle.rust_cursor.specs.Tokens.{Tokens, end_of}
-use Rattle.rust_cursor.specs.Reader.{Reader, ◌>>=◌, pure}
+use Rattle.rust_cursor.specs.Reader.{Reader, ◌>>=◌}
 use Rattle.rust_cursor.specs.Words.{by_first, rest, bumped, is_at_end}
 use Rattle.rust_cursor.specs.Elements.{beyond, turns_from, turns, elements, one}
 use Rattle.rust_cursor.specs.Beside.{Bodies, AreBehind, AreOpen, Beside, ahead, behind}
-use Rattle.rust_cursor.proofs.Leads.{LeadsTo, here, further, through, Forwards, when, beyond_leads, turns_from_leads}
+use Rattle.rust_cursor.proofs.Leads.{LeadsTo, here, further, through, Forwards, beyond_leads, turns_from_leads}
 use Rattle.rust_cursor.proofs.Views.{next_ahead, next_behind, next_none, end_same}
-use Rattle.rust_cursor.proofs.Braced.{tokens_at, bumped_at}
+use Rattle.rust_cursor.proofs.Braced.{tokens_at}
 use Rattle.rust_cursor.proofs.Passing.{beyond_beside}
 use Rattle.rust_cursor.proofs.Local.{Kept, Local}
 

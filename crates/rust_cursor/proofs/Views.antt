@@ -1,12 +1,11 @@
 -- What is seen of tokens beside.
-use Rattle.std.proofs.Common.{◌≡◌, ◌≤◌, ◌<◌, ℕ, zero, suc, ◌+◌, ◌-◌, ◌==◌, ◌||◌, ◌&&◌, Bool, true, false, Option, Some, None, List, [], ◌∷◌, ◌++◌, length, refl, ap, ◌∙◌, sym, subst, arith, map, codes}
-use Rattle.std.specs.Prelude.{if◌then◌else◌, not, nat_lt}
-use Rattle.std.specs.Str.{bytes_eq}
+use Rattle.std.proofs.Common.{◌≡◌, ◌≤◌, ◌<◌, ℕ, ◌+◌, ◌==◌, true, false, Option, Some, None, List, [], ◌∷◌, ◌++◌, length, refl, ◌∙◌, sym, subst, arith, map}
+use Rattle.std.specs.Prelude.{nat_lt}
 use Rattle.std.proofs.lemmas.Bool.Decides.{nat_tests}
 use Rattle.rust_lexer.specs.declared.kind.TokenKind.{TokenKind}
 use Rattle.rust_lexer.specs.declared.kind.TokenKind.TheVariants as kinds
 use Rattle.rust_lexer.specs.Piece.{Piece}
-use Rattle.rust_lexer.specs.Symbol.{symbol_of, symbol_from}
+use Rattle.rust_lexer.specs.Symbol.{symbol_of}
 use Rattle.rust_lexer.specs.Alone.{moved}
 use Rattle.rust_cursor.specs.Tokens.{Tokens, end_of}
 use Rattle.rust_cursor.specs.Words.{is_open, is_close, word_by, identifies, documents, by_first, symbol, word, kind, text, at, is_empty, is_at_open, is_at_end, is_at_identifier, is_at_doc, bumped, is_glued, is_pair}

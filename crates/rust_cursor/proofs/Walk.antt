@@ -1,13 +1,12 @@
 -- Walks over tokens beside: what passes over tokens and whole braces comes to tokens beside.
-use Rattle.std.proofs.Common.{◌≡◌, ◌≢◌, ◌≤◌, ◌<◌, ℕ, zero, suc, ◌+◌, ◌-◌, ◌==◌, ◌||◌, ◌&&◌, Bool, true, false, Option, Some, None, List, [], ◌∷◌, ◌++◌, length, refl, ap, ◌∙◌, sym, subst, arith, map, length-append}
-use Rattle.std.specs.Prelude.{if◌then◌else◌, not}
+use Rattle.std.proofs.Common.{◌≡◌, ◌≢◌, ◌≤◌, ◌<◌, ℕ, zero, suc, ◌+◌, ◌-◌, ◌==◌, Bool, true, false, Option, Some, List, [], ◌∷◌, ◌++◌, length, refl, ap, ◌∙◌, sym, subst, arith, map, length-append}
+use Rattle.std.specs.Prelude.{if◌then◌else◌}
 use Rattle.std.proofs.lemmas.Bool.Decides.{nat_tests}
 use Rattle.hir_input.specs.declared.edition.EditionYear.{EditionYear}
 use Rattle.rust_lexer.specs.Piece.{Piece}
 use Rattle.rust_lexer.specs.Symbol.{symbol_of}
 use Rattle.rust_lexer.specs.Alone.{moved, braces_from}
 use Rattle.rust_cursor.specs.declared.cursor.nest.Before.{Before}
-use Rattle.rust_cursor.specs.declared.cursor.nest.Before.TheVariants as befores
 use Rattle.rust_cursor.specs.declared.cursor.nest.Nest.{Nest}
 use Rattle.rust_cursor.specs.Tokens.{Tokens, end_of}
 use Rattle.rust_cursor.specs.Words.{symbol, is_empty, bumped}
@@ -15,7 +14,7 @@ use Rattle.rust_cursor.specs.Nests.{behind_braces, nest_inside, nest_behind}
 use Rattle.rust_cursor.specs.Beside.{Bodies, AreOpen, Beside, ahead, behind}
 use Rattle.rust_cursor.proofs.Leads.{when}
 use Rattle.rust_cursor.proofs.Nesting.{shorter}
-use Rattle.rust_cursor.proofs.Views.{symbol_same, word_same, kind_same, empty_same, end_same, identifier_same, doc_same, glued_same, next_ahead, next_behind}
+use Rattle.rust_cursor.proofs.Views.{symbol_same, word_same, kind_same, end_same, identifier_same, doc_same, glued_same, next_ahead, next_behind}
 use Rattle.rust_cursor.proofs.Braced.{tokens_at, symbol_at, some_at, bumped_at, inside_is, Deeper, enters, deeper_on, Walks, Stays, through}
 
 -- ---- nests that differ in what is counted for problems alone

@@ -116,7 +116,8 @@ pub fn members_in(
     body: Option<TextRange>,
     edition: EditionYear,
 ) -> Result<Vec<Member>, AllocError>
-    ensures { IfOk result (λ v. map member_view v.items ≡ spec.members_in edition kind text.now (spec.has_members kind) body) }
+    ensures { let read = spec.members_in edition kind text.now (spec.has_members kind) body in
+        IfOk result (λ v. map member_view v.items ≡ read) }
 {
     if !has_members(kind) {
         return Ok(Vec::new(alloc));
