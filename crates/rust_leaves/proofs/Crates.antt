@@ -1,16 +1,15 @@
 -- Extern crates, and what a macro is called by, of tokens beside are the same.
-use Rattle.std.proofs.Common.{arith, ◌≡◌, ◌==◌, ℕ, zero, suc, Bool, true, false, Option, Some, None, List, [], ◌∷◌, refl, sym, ap, ◌∙◌, codes}
-use Rattle.std.specs.Prelude.{if◌then◌else◌, is_none}
+use Rattle.std.proofs.Common.{arith, ◌≡◌, ◌==◌, ℕ, zero, suc, Bool, true, false, Option, Some, None, List, [], refl, ap, ◌∙◌, codes}
+use Rattle.std.specs.Prelude.{is_none}
 use Rattle.std.specs.Option.{option_or}
 use Rattle.std.specs.Str.{bytes_eq}
 use Rattle.std.proofs.lemmas.Bool.Decides.{nat_tests}
-use Rattle.hir_input.specs.declared.ast.Rename.{Rename}
 use Rattle.hir_input.specs.declared.ast.Visibility.{Visibility}
 use Rattle.hir_input.specs.Attr.{MetaView}
 use Rattle.hir_input.specs.Bodies.{item_without_bodies}
 use Rattle.hir_input.specs.Syntax.{extern_crate}
 use Rattle.rust_cursor.specs.Tokens.{Tokens}
-use Rattle.rust_cursor.specs.Words.{symbol, word, text, is_at_open, bumped, eat, eat_word}
+use Rattle.rust_cursor.specs.Words.{symbol, word, text, is_at_open, bumped, eat_word}
 use Rattle.rust_cursor.specs.Beside.{Bodies, Beside}
 use Rattle.rust_cursor.proofs.Leads.{LeadsTo, here, further, when}
 use Rattle.rust_cursor.proofs.Views.{symbol_same, text_same, open_same, taken_same}
