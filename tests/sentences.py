@@ -17,13 +17,12 @@ MOST_LONG = 0
 LONGEST = 40
 PLACES = ("*.md", "docs/*.md", "bench/*.md", "crates/*/README.md")
 # What ends a sentence, before what may begin one.
-END = re.compile(r"(?<=[.?!])[)\"]?\s+(?=[A-Z`\[*\"(])")
+END = re.compile(r"(?<=[.?!])[)\"]?\s+(?=[A-Z0-9`\[*\"(])")
 
 
 def parts(text):
     """The paragraphs, list items, cells and headings of a document, each on one line."""
     text = re.sub(r"^ *```.*?^ *```", "\n", text, flags=re.M | re.S)
-    text = re.sub(r"^    +\S+/.*$", "\n", text, flags=re.M)
     text = re.sub(r"`[^`]*`", lambda found: "`x`", text)
     text = re.sub(r"^\s*(?:[-*]|\d+\.|#+)\s", "\n\n", text, flags=re.M)
     for part in re.split(r"\n\s*\n|(?<=\|)\s*\n|(?:^|\s)\|(?:\s|$)", text):
