@@ -12,8 +12,8 @@ import re
 import sys
 
 # How many there were when these were last lowered.
-MOST_WORDS = 0
-MOST_LONG = 0
+MOST_WORDS = 30_000
+MOST_LONG = 10
 LONGEST = 40
 PLACES = ("*.md", "docs/*.md", "bench/*.md", "crates/*/README.md")
 # What ends a sentence, before what may begin one.
