@@ -11,9 +11,9 @@ use Rattle.rust_cursor.specs.Tokens.{Tokens}
 use Rattle.rust_cursor.specs.Words.{symbol, at, eat, bumped, is_at_end}
 use Rattle.rust_cursor.proofs.Laid.{IsLaid, behind}
 use Rattle.rust_cursor.proofs.Leads.{LeadsTo, here, through, when, eat_leads}
-use Rattle.rust_cursor.proofs.Near.{both_true, Ending, Near, fewer, by_next, bumped_onward, symbol_same, end_same, at_same, past_same}
-use Rattle.rust_cursor.proofs.NearPassing.{behind_tree_near}
-use Rattle.rust_cursor.proofs.NearUntil.{by_kept, Step, at_last, next, step, eat_fewer}
+use Rattle.rust_ranges.proofs.Near.{both_true, Ending, Near, fewer, by_next, bumped_onward, symbol_same, end_same, at_same, past_same}
+use Rattle.rust_ranges.proofs.NearPassing.{behind_tree_near}
+use Rattle.rust_ranges.proofs.NearUntil.{by_kept, Step, at_last, next, step, eat_fewer}
 use Rattle.rust_leaves.specs.declared.head.Head.{Head}
 use Rattle.rust_leaves.specs.declared.head.Head.TheVariants as heads
 use Rattle.rust_leaves.specs.Fronts.{FrontRead, front}
@@ -24,9 +24,9 @@ use Rattle.rust_items.specs.declared.log.ProblemKind.TheVariants as problem
 use Rattle.rust_items.specs.Found.{Found, Finder, nothing_found, and_problem, and_row}
 use Rattle.rust_items.specs.Items.{span_of, needs_name, and_item, leaf_turn, BlockRead, no_block, deep_block, unmatched, extern_inside, and_parent, one_more, extern_block, depth_of, inside_unless, module_with, some_item, by_head, turn_with, inside, turn}
 use Rattle.rust_items.proofs.Leads.{named_leads, front_start}
-use Rattle.rust_items.proofs.NearFronts.{FrontNear, front_until}
-use Rattle.rust_items.proofs.NearLeaves.{IsWhole, NameNear, named_until, Given, given_on, Ends, passes, before_end, at_end}
-use Rattle.rust_items.proofs.NearItems.{FoundNear, problem_near, item_near, all_near, flat, FoundAlike, ends_long, TurnLong, block_ends, leaf_leads, is_unfinished, is_sound, flawed, found_leads, leaf_turn_ends, leaf_turn_fewer, extern_inside_fewer, block_fewer, extern_inside_ends, front_leads}
+use Rattle.rust_ranges.proofs.NearFronts.{FrontNear, front_until}
+use Rattle.rust_ranges.proofs.NearLeaves.{IsWhole, NameNear, named_until, Given, given_on, Ends, passes, before_end, at_end}
+use Rattle.rust_ranges.proofs.NearItems.{FoundNear, problem_near, item_near, all_near, flat, FoundAlike, ends_long, TurnLong, block_ends, leaf_leads, is_unfinished, is_sound, flawed, found_leads, leaf_turn_ends, leaf_turn_fewer, extern_inside_fewer, block_fewer, extern_inside_ends, front_leads}
 use Rattle.rust_items.proofs.Places.{Finds, FindsIn, turn_with_found, inside_found, extern_inside_found, unless_found}
 
 -- ---- items that hold others

@@ -16,34 +16,34 @@ use Rattle.rust_cursor.specs.Extents.{ExcerptRead, tree_body}
 use Rattle.rust_cursor.specs.Reader.{Reader}
 use Rattle.rust_cursor.specs.Tokens.{Tokens, end_of}
 use Rattle.rust_cursor.specs.Words.{by_first, rest, symbol, word, text, bumped, is_empty, eat, eat_word, is_at_open}
-use Rattle.rust_cursor.proofs.High.{height, Held, are_proper, proper_on, taken_high}
+use Rattle.rust_ranges.proofs.High.{height, Held, are_proper, proper_on, taken_high}
 use Rattle.rust_lexer.specs.Piece.{Piece}
 use Rattle.rust_cursor.proofs.Nesting.{shorter}
 use Rattle.rust_cursor.proofs.Laid.{IsLaid, behind}
 use Rattle.rust_cursor.proofs.Leads.{LeadsTo, here, further, through, Forwards, when, HasBlock, no_block as no_block_at, block as block_at, taken_block, bumped_leads, eat_leads, eat_word_leads, reached_leads, behind_angles_leads, taken_leads_on, turns_leads}
-use Rattle.rust_cursor.proofs.Near.{both_true, Ending, Near, Gone, Onward, into, on, gone_on, by_next, onward_leads, bumped_onward, fewer, symbol_same, word_same, text_same, open_same, at_same, past_same, taken_same, word_test, after_word, after_symbol}
-use Rattle.rust_cursor.proofs.NearPassing.{behind_angles_near, reached_near}
-use Rattle.rust_cursor.proofs.NearTexts.{BlockNear, no_block, block, SameText, taken_outcome, taken_until, taken_fewer}
-use Rattle.rust_cursor.proofs.NearUntil.{UntilBy, UpTo, Kept, gone, kept, by_kept, cond_until, pass_until, then_until, elements_until, eat_until, eat_word_until, AtEnd, Outcome, lost, stays, comes, more_left, map_outcome, then_outcome, eat_outcome, eat_fewer}
+use Rattle.rust_ranges.proofs.Near.{both_true, Ending, Near, Gone, Onward, into, on, gone_on, by_next, onward_leads, bumped_onward, fewer, symbol_same, word_same, text_same, open_same, at_same, past_same, taken_same, word_test, after_word, after_symbol}
+use Rattle.rust_ranges.proofs.NearPassing.{behind_angles_near, reached_near}
+use Rattle.rust_ranges.proofs.NearTexts.{BlockNear, no_block, block, SameText, taken_outcome, taken_until, taken_fewer}
+use Rattle.rust_ranges.proofs.NearUntil.{UntilBy, UpTo, Kept, gone, kept, by_kept, cond_until, pass_until, then_until, elements_until, eat_until, eat_word_until, AtEnd, Outcome, lost, stays, comes, more_left, map_outcome, then_outcome, eat_outcome, eat_fewer}
 use Rattle.rust_paths.specs.declared.names.TextRange.{TextRange}
 use Rattle.rust_paths.specs.Names.{Placed, as_name}
 use Rattle.rust_paths.specs.Paths.{path}
 use Rattle.rust_paths.specs.UseTrees.{use_tree}
 use Rattle.rust_paths.specs.Visibilities.{visibility}
 use Rattle.rust_paths.proofs.Leads.{path_leads, visibility_leads}
-use Rattle.rust_paths.proofs.Near.{PlacedNear, no_place, placed_near, placed_name_until, path_until, visibility_until}
-use Rattle.rust_paths.proofs.NearTrees.{further_on, use_tree_until}
+use Rattle.rust_ranges.proofs.NearPaths.{PlacedNear, no_place, placed_near, placed_name_until, path_until, visibility_until}
+use Rattle.rust_ranges.proofs.NearTrees.{further_on, use_tree_until}
 use Rattle.rust_metas.specs.Attributes.{inner_attributes}
-use Rattle.rust_metas.proofs.High.{inner_attributes_up}
+use Rattle.rust_ranges.proofs.HighMetas.{inner_attributes_up}
 use Rattle.rust_metas.proofs.Leads.{outer_attributes_leads}
-use Rattle.rust_metas.proofs.Near.{inner_attributes_until, outer_attributes_until, next_past}
+use Rattle.rust_ranges.proofs.NearMetas.{inner_attributes_until, outer_attributes_until, next_past}
 use Rattle.rust_leaves.specs.Leaves.{NameRead, RestRead, LeafRead, no_name, name_read, named, next_range, named_or, alias, alias_if, renamed, rename_of, range_to, rest_read, bare_end, item_end, impl_end, macro_end, value_end, semicolon_end, call_end, block_attributes, field, fields, struct_fields, has_trait}
 use Rattle.rust_leaves.specs.Kinds.{node, named_node, leaf_read, plain_read, function, block_item, macro_def, type_alias, static_value, constant, structure, implementation, told_at, crate_item, use_read, use_declaration, macro_definition, union_item, enumeration, trait_item, is_called, called, call_behind, some_read, invocation, leaf_by, leaf}
 use Rattle.rust_leaves.specs.declared.head.Head.{Head}
 use Rattle.rust_leaves.specs.declared.head.Head.TheVariants as heads
 use Rattle.rust_leaves.specs.Fronts.{FrontRead, front}
 use Rattle.rust_leaves.specs.Texts.{bare, last_text_from, last_text}
-use Rattle.rust_items.proofs.NearFronts.{FrontNear}
+use Rattle.rust_ranges.proofs.NearFronts.{FrontNear}
 use Rattle.rust_items.proofs.Leads.{named_leads, alias_if_leads, renamed_leads, item_end_leads, impl_end_leads, macro_end_leads, value_end_leads, call_end_leads}
 
 -- ---- places
