@@ -26,5 +26,11 @@ pub mod Places
 pub mod Level
 pub mod TreeTexts
 pub mod Around
+pub mod Near
+pub mod NearTests
+pub mod NearPassing
+pub mod NearUntil
+pub mod NearTexts
 pub mod Enclosed
+pub mod High
 pub mod Lockstep

@@ -18,11 +18,11 @@ use Rattle.rust_lexer.proofs.Whole.{plain_is, filter_moved}
 use Rattle.rust_cursor.specs.Elements.{most, beyond}
 use Rattle.rust_cursor.specs.Tokens.{Tokens, tokens_of}
 use Rattle.rust_cursor.specs.Words.{by_first, at, is_empty}
-use Rattle.rust_ranges.proofs.High.{tokens_proper}
+use Rattle.rust_cursor.proofs.High.{tokens_proper}
 use Rattle.rust_cursor.proofs.Laid.{IsLaid, behind, at_behind, taken_behind, tokens_laid}
 use Rattle.rust_cursor.proofs.Leads.{LeadsTo, here, further, when, bumped_leads}
-use Rattle.rust_ranges.proofs.Near.{Ending, Near, near, is_last, are_ended}
-use Rattle.rust_ranges.proofs.NearUntil.{more_left}
+use Rattle.rust_cursor.proofs.Near.{Ending, Near, near, is_last, are_ended}
+use Rattle.rust_cursor.proofs.NearUntil.{more_left}
 use Rattle.rust_leaves.specs.declared.head.Head.TheVariants as heads
 use Rattle.rust_leaves.specs.Fronts as fronts
 use Rattle.rust_ranges.specs.Parts.{ended, IsPart, tokens_behind}

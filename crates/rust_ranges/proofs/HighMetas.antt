@@ -13,9 +13,9 @@ use Rattle.rust_cursor.specs.Extents.{begins_item}
 use Rattle.rust_cursor.specs.Reader.{Reader}
 use Rattle.rust_cursor.specs.Tokens.{Tokens}
 use Rattle.rust_cursor.specs.Words.{symbol, word, kind, bumped, is_at_end, is_at_open}
-use Rattle.rust_ranges.proofs.High.{Held, Up, bump_up, end_not_close, behind_closed_up, in_bracket, behind_tree_up, turns_up, elements_up, tree_text_up}
+use Rattle.rust_cursor.proofs.High.{Held, Up, bump_up, end_not_close, behind_closed_up, in_bracket, behind_tree_up, turns_up, elements_up, tree_text_up}
 use Rattle.rust_cursor.proofs.Leads.{Forwards, when}
-use Rattle.rust_ranges.proofs.Near.{is_last, both_true}
+use Rattle.rust_cursor.proofs.Near.{is_last, both_true}
 use Rattle.rust_ranges.proofs.HighPaths.{not_close, word_up, symbol_up, name_up, path_up}
 use Rattle.rust_metas.specs.Attributes.{deepest, is_doc, is_attribute, is_behind, behind_bracket, bracketed, opened, one_attribute, attribute, attributes, inner_attributes}
 use Rattle.rust_metas.specs.Conditions.{comma_from, behind_comma, is_option_word, option_name, pair, named, if_named, ended, condition_with, conditions, condition}

@@ -4,9 +4,9 @@ use Rattle.std.specs.Str.{bytes_eq}
 use Rattle.std.proofs.lemmas.Bool.Decides.{nat_tests}
 use Rattle.rust_cursor.specs.Tokens.{Tokens}
 use Rattle.rust_cursor.specs.Words.{symbol, word, kind, bumped, is_pair, eat_pair, eat_colons, is_glued}
-use Rattle.rust_ranges.proofs.High.{Held, Up, bump_up, behind_angles_up}
+use Rattle.rust_cursor.proofs.High.{Held, Up, bump_up, behind_angles_up}
 use Rattle.rust_cursor.proofs.Leads.{when}
-use Rattle.rust_ranges.proofs.Near.{is_last, last_word, both_true}
+use Rattle.rust_cursor.proofs.Near.{is_last, last_word, both_true}
 use Rattle.rust_paths.specs.Names.{next_name, taken_with, name}
 use Rattle.rust_paths.specs.Paths.{is_raw, is_dollar_crate, named_word, other_segment, segment, is_colons, is_path_colons, more_from, more_segments, written_path, is_path_start, path}
 use Rattle.rust_ranges.proofs.NearPaths.{last_name, last_raw, are_colons}

@@ -13,7 +13,7 @@ use Rattle.rust_cursor.specs.Elements.{most, turns, turns_from, one}
 use Rattle.rust_cursor.specs.Tokens.{Tokens}
 use Rattle.rust_cursor.specs.Words.{by_first, word_by, symbol, word, kind, text, at, bumped, is_pair, is_at_end}
 use Rattle.rust_cursor.proofs.Leads.{when}
-use Rattle.rust_ranges.proofs.Near.{both_true}
+use Rattle.rust_cursor.proofs.Near.{both_true}
 use Rattle.rust_cursor.proofs.Turns.{turns_stop}
 use Rattle.rust_paths.specs.Names.{is_path_keyword, name_text, has_name}
 use Rattle.rust_ranges.proofs.NearFronts.{no_word_head, nothing_before}

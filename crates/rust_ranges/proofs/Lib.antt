@@ -1,9 +1,3 @@
-pub mod Near
-pub mod NearTests
-pub mod NearPassing
-pub mod NearUntil
-pub mod NearTexts
-pub mod High
 pub mod NearPaths
 pub mod NearTrees
 pub mod HighPaths

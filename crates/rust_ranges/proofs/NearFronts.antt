@@ -13,9 +13,9 @@ use Rattle.rust_cursor.specs.Reader.{Reader, ◌>>=◌, pure, pass}
 use Rattle.rust_cursor.specs.Tokens.{Tokens}
 use Rattle.rust_cursor.specs.Words.{by_first, symbol, word, kind, at, is_at_identifier, is_pair, bumped}
 use Rattle.rust_cursor.proofs.Leads.{Forwards, through, when}
-use Rattle.rust_ranges.proofs.Near.{Ending, Near, Onward, on, onward_leads, is_last, symbol_same, word_same, kind_same, identifier_same, end_same, doc_same, at_same, pair_same, not_last, last_word, last_identifier, last_test, both_true, after_word, after_symbol, after_pair}
-use Rattle.rust_ranges.proofs.NearPassing.{cond_onward, behind_tree_near}
-use Rattle.rust_ranges.proofs.NearUntil.{UntilBy, Until, UpTo, gone, kept, by_kept, then_until}
+use Rattle.rust_cursor.proofs.Near.{Ending, Near, Onward, on, onward_leads, is_last, symbol_same, word_same, kind_same, identifier_same, end_same, doc_same, at_same, pair_same, not_last, last_word, last_identifier, last_test, both_true, after_word, after_symbol, after_pair}
+use Rattle.rust_cursor.proofs.NearPassing.{cond_onward, behind_tree_near}
+use Rattle.rust_cursor.proofs.NearUntil.{UntilBy, Until, UpTo, gone, kept, by_kept, then_until}
 use Rattle.rust_paths.specs.Names.{has_name}
 use Rattle.rust_paths.proofs.Leads.{visibility_leads}
 use Rattle.rust_ranges.proofs.NearPaths.{has_name_same, visibility_until}

@@ -12,9 +12,9 @@ use Rattle.rust_cursor.specs.Tokens.{Tokens}
 use Rattle.rust_cursor.specs.Words.{symbol, at, eat_word, bumped, is_at_end}
 use Rattle.rust_cursor.proofs.Laid.{IsLaid, behind}
 use Rattle.rust_cursor.proofs.Leads.{LeadsTo, here, further, through, when, bumped_leads, beyond_leads, eat_leads, eat_word_leads}
-use Rattle.rust_ranges.proofs.Near.{Ending, Near, fewer, by_next, bumped_onward, symbol_same, empty_same, end_same, at_same, past_same}
-use Rattle.rust_ranges.proofs.NearPassing.{beyond_near}
-use Rattle.rust_ranges.proofs.NearUntil.{Same, Kept, by_kept, AtEnd, Outcome, lost, stays, comes, eat_outcome, eat_fewer}
+use Rattle.rust_cursor.proofs.Near.{Ending, Near, fewer, by_next, bumped_onward, symbol_same, empty_same, end_same, at_same, past_same}
+use Rattle.rust_cursor.proofs.NearPassing.{beyond_near}
+use Rattle.rust_cursor.proofs.NearUntil.{Same, Kept, by_kept, AtEnd, Outcome, lost, stays, comes, eat_outcome, eat_fewer}
 use Rattle.rust_paths.specs.declared.names.TextRange.{TextRange}
 use Rattle.rust_ranges.proofs.NearTrees.{further_on}
 use Rattle.rust_metas.specs.Attributes.{inner_attributes}

@@ -19,11 +19,11 @@ use Rattle.rust_cursor.specs.Reader.{Reader, ◌>>=◌, pure}
 use Rattle.rust_cursor.specs.Tokens.{Tokens}
 use Rattle.rust_cursor.specs.Words.{by_first, symbol, word, kind, text, at, bumped, is_at_open}
 use Rattle.rust_cursor.proofs.Leads.{through, Forwards, when, bumped_leads, behind_closed_leads, turns_leads}
-use Rattle.rust_ranges.proofs.Near.{Ending, Near, near, Onward, on, is_last, gone_on, by_next, onward_leads, bumped_onward, symbol_same, word_same, kind_same, text_same, open_same, end_same, at_same, not_last, last_word, last_test, symbol_test, after_word, after_symbol, both_true}
-use Rattle.rust_ranges.proofs.NearPassing.{cond_onward, behind_tree_near, behind_closed_near}
-use Rattle.rust_ranges.proofs.NearTests.{begins_item_same}
-use Rattle.rust_ranges.proofs.NearTexts.{tree_text_until}
-use Rattle.rust_ranges.proofs.NearUntil.{Until, UpTo, gone, kept, cond_until, map_until, pass_until, bind_until, turns_until, one_until, elements_until}
+use Rattle.rust_cursor.proofs.Near.{Ending, Near, near, Onward, on, is_last, gone_on, by_next, onward_leads, bumped_onward, symbol_same, word_same, kind_same, text_same, open_same, end_same, at_same, not_last, last_word, last_test, symbol_test, after_word, after_symbol, both_true}
+use Rattle.rust_cursor.proofs.NearPassing.{cond_onward, behind_tree_near, behind_closed_near}
+use Rattle.rust_cursor.proofs.NearTests.{begins_item_same}
+use Rattle.rust_cursor.proofs.NearTexts.{tree_text_until}
+use Rattle.rust_cursor.proofs.NearUntil.{Until, UpTo, gone, kept, cond_until, map_until, pass_until, bind_until, turns_until, one_until, elements_until}
 use Rattle.rust_paths.specs.Names.{as_name}
 use Rattle.rust_paths.specs.Paths.{path}
 use Rattle.rust_ranges.proofs.NearPaths.{name_until, path_until}

@@ -15,9 +15,9 @@ use Rattle.rust_cursor.specs.Reader.{Reader, ◌>>=◌, pure}
 use Rattle.rust_cursor.specs.Tokens.{Tokens}
 use Rattle.rust_cursor.specs.Words.{by_first, symbol, word, kind, text, at, bumped, eat_colons}
 use Rattle.rust_cursor.proofs.Leads.{Forwards, through, when, behind_closed_leads}
-use Rattle.rust_ranges.proofs.Near.{Ending, Near, is_last, edition_same, past_same, symbol_same, word_same, kind_same, text_same, at_same, not_last, last_word, last_test, word_test, symbol_test, after_word, after_symbol, pair_same, both_true, after_pair}
-use Rattle.rust_ranges.proofs.NearPassing.{behind_angles_near, behind_closed_near}
-use Rattle.rust_ranges.proofs.NearUntil.{UntilBy, Until, UpTo, kept, cond_until, with_rest, map_until, pass_until, then_until, bind_until, eat_pair_until}
+use Rattle.rust_cursor.proofs.Near.{Ending, Near, is_last, edition_same, past_same, symbol_same, word_same, kind_same, text_same, at_same, not_last, last_word, last_test, word_test, symbol_test, after_word, after_symbol, pair_same, both_true, after_pair}
+use Rattle.rust_cursor.proofs.NearPassing.{behind_angles_near, behind_closed_near}
+use Rattle.rust_cursor.proofs.NearUntil.{UntilBy, Until, UpTo, kept, cond_until, with_rest, map_until, pass_until, then_until, bind_until, eat_pair_until}
 use Rattle.rust_paths.specs.Meaning.{path_node}
 use Rattle.rust_paths.specs.Names.{name_text, has_name, as_name, next_name, taken_with, name, Placed, placed, placed_name}
 use Rattle.rust_paths.specs.Paths.{is_raw, is_dollar_crate, is_segment, named_word, other_segment, segment, is_colons, is_joint, is_path_colons, and_word, more_from, more_segments, front, written_path, is_path_start, path_in, path, use_path}

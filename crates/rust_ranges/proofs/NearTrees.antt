@@ -11,9 +11,9 @@ use Rattle.rust_cursor.specs.Reader.{Reader}
 use Rattle.rust_cursor.specs.Tokens.{Tokens}
 use Rattle.rust_cursor.specs.Words.{at, bumped, is_at_end, eat_word, eat_colons}
 use Rattle.rust_cursor.proofs.Leads.{through, Forwards, when, eat_word_leads, eat_pair_leads, behind_closed_leads, turns_leads}
-use Rattle.rust_ranges.proofs.Near.{Ending, Near, Onward, on, gone_on, by_next, onward_leads, bumped_onward, end_same, at_same, symbol_test, after_symbol}
-use Rattle.rust_ranges.proofs.NearPassing.{cond_onward, behind_closed_near, behind_tree_near}
-use Rattle.rust_ranges.proofs.NearUntil.{UntilBy, UpTo, gone, kept, by_kept, cond_until, map_until, bind_until, eat_word_until, eat_pair_until, turns_by}
+use Rattle.rust_cursor.proofs.Near.{Ending, Near, Onward, on, gone_on, by_next, onward_leads, bumped_onward, end_same, at_same, symbol_test, after_symbol}
+use Rattle.rust_cursor.proofs.NearPassing.{cond_onward, behind_closed_near, behind_tree_near}
+use Rattle.rust_cursor.proofs.NearUntil.{UntilBy, UpTo, gone, kept, by_kept, cond_until, map_until, bind_until, eat_word_until, eat_pair_until, turns_by}
 use Rattle.rust_paths.specs.Names.{name}
 use Rattle.rust_paths.specs.Paths.{use_path}
 use Rattle.rust_paths.specs.UseTrees.{Found, alias, alias_if, rename, begun, with_bare, listed, begun_list, with_list, star_or_list, renamed_tree, tree_behind, tree_with, comma_from, behind_comma, element_with, values, all_starts, first_too_deep, all_found, trees, some_list, no_list, list, tree_at, use_tree}

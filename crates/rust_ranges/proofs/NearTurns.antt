@@ -11,9 +11,9 @@ use Rattle.rust_cursor.specs.Tokens.{Tokens}
 use Rattle.rust_cursor.specs.Words.{symbol, at, eat, bumped, is_at_end}
 use Rattle.rust_cursor.proofs.Laid.{IsLaid, behind}
 use Rattle.rust_cursor.proofs.Leads.{LeadsTo, here, through, when, eat_leads}
-use Rattle.rust_ranges.proofs.Near.{both_true, Ending, Near, fewer, by_next, bumped_onward, symbol_same, end_same, at_same, past_same}
-use Rattle.rust_ranges.proofs.NearPassing.{behind_tree_near}
-use Rattle.rust_ranges.proofs.NearUntil.{by_kept, Step, at_last, next, step, eat_fewer}
+use Rattle.rust_cursor.proofs.Near.{both_true, Ending, Near, fewer, by_next, bumped_onward, symbol_same, end_same, at_same, past_same}
+use Rattle.rust_cursor.proofs.NearPassing.{behind_tree_near}
+use Rattle.rust_cursor.proofs.NearUntil.{by_kept, Step, at_last, next, step, eat_fewer}
 use Rattle.rust_leaves.specs.declared.head.Head.{Head}
 use Rattle.rust_leaves.specs.declared.head.Head.TheVariants as heads
 use Rattle.rust_leaves.specs.Fronts.{FrontRead, front}

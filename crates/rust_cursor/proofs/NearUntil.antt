@@ -8,9 +8,9 @@ use Rattle.rust_cursor.specs.Reader.{Reader, ◌>>=◌, pure}
 use Rattle.rust_cursor.specs.Tokens.{Tokens}
 use Rattle.rust_cursor.specs.Words.{symbol, bumped, taken_if, eat, eat_word, is_pair, eat_pair, is_at_end}
 use Rattle.rust_cursor.proofs.Leads.{LeadsTo, through, Forwards, when, symbol_some, beyond_leads, turns_from_leads}
-use Rattle.rust_ranges.proofs.Near.{Ending, Near, near, next_near, Gone, is_last, gone_on, Onward, into, on, by_next, word_test, symbol_test, end_same, after_word, after_symbol, pair_same, after_pair}
+use Rattle.rust_cursor.proofs.Near.{Ending, Near, near, next_near, Gone, is_last, gone_on, Onward, into, on, by_next, word_test, symbol_test, end_same, after_word, after_symbol, pair_same, after_pair}
 use Rattle.rust_cursor.proofs.Nesting.{shorter}
-use Rattle.rust_ranges.proofs.NearPassing.{beyond_near}
+use Rattle.rust_cursor.proofs.NearPassing.{beyond_near}
 
 -- what is read is alike, and what is left is near
 pub record Kept {A : Type 0} (alike : A → A → Type 0) (b : Ending) (p q : A × Tokens) : Type 0 where

@@ -12,9 +12,9 @@ use Rattle.rust_cursor.specs.Words.{symbol, bumped}
 use Rattle.rust_cursor.proofs.Leads.{when, from_last, stops_empty, taking_leads}
 use Rattle.rust_cursor.proofs.Nesting.{shorter}
 use Rattle.rust_cursor.proofs.Scans.{taking_stop, taking_end, taking_more, taking_some}
-use Rattle.rust_ranges.proofs.Near.{Ending, Near, symbol_same, fewer, nothing}
-use Rattle.rust_ranges.proofs.NearTests.{nest_same, stops_same, ends_same, more_same}
-use Rattle.rust_ranges.proofs.NearUntil.{UntilBy, gone, kept, UpTo, Step, at_last, next, step, Outcome, lost, stays, comes, outcome_until}
+use Rattle.rust_cursor.proofs.Near.{Ending, Near, symbol_same, fewer, nothing}
+use Rattle.rust_cursor.proofs.NearTests.{nest_same, stops_same, ends_same, more_same}
+use Rattle.rust_cursor.proofs.NearUntil.{UntilBy, gone, kept, UpTo, Step, at_last, next, step, Outcome, lost, stays, comes, outcome_until}
 
 -- braces that were opened in both
 pub data BlockNear (b : Ending) : Option Tokens → Option Tokens → Type 0 where

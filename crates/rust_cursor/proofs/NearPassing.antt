@@ -13,8 +13,8 @@ use Rattle.rust_cursor.specs.Words.{symbol, bumped}
 use Rattle.rust_cursor.proofs.Leads.{when, closing_leads, reaching_leads, behind_closing_leads, behind_closed_leads, from_last, closing_empty, reached_empty}
 use Rattle.rust_cursor.proofs.Reaches.{reaching_stop, reaching_end, reaching_more}
 use Rattle.rust_cursor.proofs.Steps.{closing_stop, closing_more}
-use Rattle.rust_ranges.proofs.Near.{Ending, Near, Onward, on, onward_leads, bumped_onward, symbol_same, symbol_test, open_same, taken_same}
-use Rattle.rust_ranges.proofs.NearTests.{nest_same, closing_same, reached_same}
+use Rattle.rust_cursor.proofs.Near.{Ending, Near, Onward, on, onward_leads, bumped_onward, symbol_same, symbol_test, open_same, taken_same}
+use Rattle.rust_cursor.proofs.NearTests.{nest_same, closing_same, reached_same}
 
 pub cond_onward : {b : Ending} {t' t : Bool} {ts us ts' us' : Tokens} → t' ≡ t → (t ≡ true → Onward b ts us) → (t ≡ false → Onward b ts' us') → Onward b (if t then ts else ts') (if t' then us else us')
 cond_onward {t = true} e when_so otherwise = rw e (when_so refl)

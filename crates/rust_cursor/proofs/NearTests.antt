@@ -17,7 +17,7 @@ use Rattle.rust_cursor.specs.Tokens.{Tokens}
 use Rattle.rust_cursor.specs.Words.{symbol, word, bumped}
 use Rattle.rust_cursor.proofs.Begins.{none_begins}
 use Rattle.rust_cursor.proofs.Leads.{when}
-use Rattle.rust_ranges.proofs.Near.{Ending, Near, is_last, symbol_same, word_same, kind_same, text_same, empty_same, end_same, identifier_same, doc_same, glued_same, not_last, last_word, last_identifier, last_test, after_word, after_symbol, pair_same}
+use Rattle.rust_cursor.proofs.Near.{Ending, Near, is_last, symbol_same, word_same, kind_same, text_same, empty_same, end_same, identifier_same, doc_same, glued_same, not_last, last_word, last_identifier, last_test, after_word, after_symbol, pair_same}
 
 -- ---- where an item begins
 
