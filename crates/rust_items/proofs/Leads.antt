@@ -62,15 +62,15 @@ call_end_leads ts =
 
 -- ---- the words in front
 
-behind_abi_leads : (ts : Tokens) → LeadsTo ts (behind_abi ts)
+pub behind_abi_leads : (ts : Tokens) → LeadsTo ts (behind_abi ts)
 unfolding behind_abi
 behind_abi_leads ts = when (is_literal_kind (kind ts)) (λ e. rw e (bumped_leads ts)) (λ e. rw e here)
 
-behind_modifier_leads : (ts : Tokens) → LeadsTo ts (behind_modifier ts)
+pub behind_modifier_leads : (ts : Tokens) → LeadsTo ts (behind_modifier ts)
 unfolding behind_modifier
 behind_modifier_leads ts = when (bytes_eq (word ts) (codes "extern")) (λ e. rw e (further (behind_abi_leads _))) (λ e. rw e (bumped_leads ts))
 
-modifiers_leads : (n : ℕ) (ts : Tokens) → LeadsTo ts (behind_modifiers_from n ts)
+pub modifiers_leads : (n : ℕ) (ts : Tokens) → LeadsTo ts (behind_modifiers_from n ts)
 modifiers_leads zero ts = here
 modifiers_leads (suc n) ts = when (is_modifier ts) (λ e. rw e (through (behind_modifier_leads ts) (modifiers_leads n _))) (λ e. rw e here)
 

@@ -9,9 +9,3 @@ pub mod FilePlaces
 pub mod Bodiless
 pub mod UntilLeaves
 pub mod UntilItems
-pub mod NearFronts
-pub mod NearLeaves
-pub mod NearItems
-pub mod NearTurns
-pub mod Inner
-pub mod Alone

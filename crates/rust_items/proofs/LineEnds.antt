@@ -179,7 +179,7 @@ place_rises_in text m n l h = place_rises (length (with_feeds text)) (returns_fr
 
 -- ---- what stands in a text
 
-below_none : (m at : ℕ) (z : List ℕ) → m ≤ at → prefix_len (λ q. nat_lt q m) (returns_from at z) ≡ 0
+pub below_none : (m at : ℕ) (z : List ℕ) → m ≤ at → prefix_len (λ q. nat_lt q m) (returns_from at z) ≡ 0
 below_none m at z h =
     prefix_at (λ q. nat_lt q m) (returns_from at z) 0 (omega arith) (λ k d l. absurd (omega arith))
     (λ k d l b. let above : at ≤ get_or (returns_from at z) k d = returns_above at z k d b in not_below (get_or (returns_from at z) k d) m (omega arith))
@@ -188,7 +188,7 @@ below_none m at z h =
     not_below x m h = grind (arith, nat_tests)
 
 -- so many returns stand before a place
-abbrev before : ℕ → ℕ → List ℕ → ℕ
+abbrev pub before : ℕ → ℕ → List ℕ → ℕ
 before place at z = prefix_len (λ q. nat_lt q place) (returns_from at z)
 
 -- a part without a line feed stands behind the returns before it, and none is in it
@@ -211,10 +211,10 @@ feed_first (d ∷ z) rest b c r e =
     let first : d ≡ c = head_same d c _ _ same in
     rw (← first) feed
 
-before_return : (place at b : ℕ) (z : List ℕ) → is_return b z ≡ true → at < place → before place at (b ∷ z) ≡ suc (before place at z)
+pub before_return : (place at b : ℕ) (z : List ℕ) → is_return b z ≡ true → at < place → before place at (b ∷ z) ≡ suc (before place at z)
 before_return place at b z r l = let below : nat_lt at place ≡ true = grind (arith, nat_tests) in rw r (rw below (omega arith))
 
-before_other : (place at b : ℕ) (z : List ℕ) → is_return b z ≡ false → before place at (b ∷ z) ≡ before place (suc at) z
+pub before_other : (place at b : ℕ) (z : List ℕ) → is_return b z ≡ false → before place at (b ∷ z) ≡ before place (suc at) z
 before_other place at b z r = rw r refl
 
 held_return : (at b n : ℕ) (z mid : List ℕ) → is_return b z ≡ true → 0 < n → IsHeld at z n mid → IsHeld at (b ∷ z) n mid
@@ -257,7 +257,7 @@ held_part at (b ∷ z) (f ∷ front) mid back e h =
     (λ (r : is_return b z ≡ false). let same : b ∷ with_feeds z ≡ f ∷ (front ++ (mid ++ back)) = rw r at e in held_other at b (length front) z mid r (held_part (suc at) z front mid back (tail_same b f _ _ same) h))
     (cases_Bool (is_return b z))
 
-place_held : (z : List ℕ) (m : ℕ) → m ≤ length (with_feeds z) → place_in z m ≡ m + before m 0 z
+pub place_held : (z : List ℕ) (m : ℕ) → m ≤ length (with_feeds z) → place_in z m ≡ m + before m 0 z
 unfolding place_in
 place_held z m l = rw (le_true m (length (with_feeds z)) l) refl
 

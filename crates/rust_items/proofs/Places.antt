@@ -34,6 +34,10 @@ use Rattle.rust_items.proofs.Names.{IsToken, untold, told_behind, named_told}
 
 -- ---- places
 
+-- what is told of the place of an item before its id is known
+abbrev pub Span : Type 0
+Span = ItemSpan
+
 -- with more places behind
 framed : {N : Telling} {from to : ℕ} {is : ItemViews} {ps rest : List ItemPlace} (more : List ItemPlace) → ArePlaces N from to is ps rest → ArePlaces N from to is (ps ++ more) (rest ++ more)
 framed more nothing = nothing

@@ -7,4 +7,3 @@ pub mod LineEnds
 pub mod SourceFiles
 pub mod Places
 pub mod Typed
-pub mod Alone

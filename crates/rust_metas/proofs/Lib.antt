@@ -9,6 +9,4 @@ pub mod Leads
 pub mod Until
 pub mod UntilMetas
 pub mod UntilAttributes
-pub mod Near
 pub mod Around
-pub mod High

@@ -117,7 +117,7 @@ plain_scope_leads : (v : Option Visibility) → Forwards (plain_scope v)
 plain_scope_leads None ts = here
 plain_scope_leads (Some v) ts = further (further (bumped_leads _))
 
-scoped_leads : Forwards scoped
+pub scoped_leads : Forwards scoped
 unfolding scoped
 scoped_leads ts =
     when (symbol ts == 40)

@@ -5,7 +5,4 @@ pub mod Trees
 pub mod Leads
 pub mod Beside
 pub mod UntilTrees
-pub mod Near
-pub mod NearTrees
 pub mod Around
-pub mod High

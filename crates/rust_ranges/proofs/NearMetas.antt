@@ -26,7 +26,7 @@ use Rattle.rust_cursor.proofs.NearTexts.{tree_text_until}
 use Rattle.rust_cursor.proofs.NearUntil.{Until, UpTo, gone, kept, cond_until, map_until, pass_until, bind_until, turns_until, one_until, elements_until}
 use Rattle.rust_paths.specs.Names.{as_name}
 use Rattle.rust_paths.specs.Paths.{path}
-use Rattle.rust_paths.proofs.Near.{name_until, path_until}
+use Rattle.rust_ranges.proofs.NearPaths.{name_until, path_until}
 use Rattle.rust_metas.specs.Attributes.{deepest, is_style, is_doc, is_attribute, is_behind, behind_bracket, bracketed, opened, one_attribute, behind_docs_from, behind_docs, behind_attribute, attribute, attributes, outer_attributes, inner_attributes}
 use Rattle.rust_metas.specs.Conditions.{comma_from, behind_comma, is_word_kind, is_option_word, option_name, composed, pair, named, if_named, ended, condition_with, conditions, condition}
 use Rattle.rust_metas.specs.Literals.{is_literal_kind, is_truth, is_literal, is_ended, root, next_literal, value, style_by, documentation}

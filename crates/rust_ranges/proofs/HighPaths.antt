@@ -9,7 +9,7 @@ use Rattle.rust_cursor.proofs.Leads.{when}
 use Rattle.rust_cursor.proofs.Near.{is_last, last_word, both_true}
 use Rattle.rust_paths.specs.Names.{next_name, taken_with, name}
 use Rattle.rust_paths.specs.Paths.{is_raw, is_dollar_crate, named_word, other_segment, segment, is_colons, is_path_colons, more_from, more_segments, written_path, is_path_start, path}
-use Rattle.rust_paths.proofs.Near.{last_name, last_raw, are_colons}
+use Rattle.rust_ranges.proofs.NearPaths.{last_name, last_raw, are_colons}
 
 pub not_close : (ts : Tokens) → is_last (symbol ts) ≡ false → (symbol ts == 125) ≡ false
 not_close ts e = grind (arith, nat_tests)

@@ -18,8 +18,8 @@ use Rattle.rust_cursor.proofs.NearPassing.{cond_onward, behind_tree_near}
 use Rattle.rust_cursor.proofs.NearUntil.{UntilBy, Until, UpTo, gone, kept, by_kept, then_until}
 use Rattle.rust_paths.specs.Names.{has_name}
 use Rattle.rust_paths.proofs.Leads.{visibility_leads}
-use Rattle.rust_paths.proofs.Near.{has_name_same, visibility_until}
-use Rattle.rust_metas.proofs.Near.{outer_attributes_until}
+use Rattle.rust_ranges.proofs.NearPaths.{has_name_same, visibility_until}
+use Rattle.rust_ranges.proofs.NearMetas.{outer_attributes_until}
 use Rattle.rust_leaves.specs.declared.head.Head.{Head}
 use Rattle.rust_leaves.specs.declared.head.Head.TheVariants as heads
 use Rattle.rust_leaves.specs.Fronts.{FrontRead, front_behind, front}

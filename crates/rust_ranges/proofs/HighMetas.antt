@@ -16,13 +16,13 @@ use Rattle.rust_cursor.specs.Words.{symbol, word, kind, bumped, is_at_end, is_at
 use Rattle.rust_cursor.proofs.High.{Held, Up, bump_up, end_not_close, behind_closed_up, in_bracket, behind_tree_up, turns_up, elements_up, tree_text_up}
 use Rattle.rust_cursor.proofs.Leads.{Forwards, when}
 use Rattle.rust_cursor.proofs.Near.{is_last, both_true}
-use Rattle.rust_paths.proofs.High.{not_close, word_up, symbol_up, name_up, path_up}
+use Rattle.rust_ranges.proofs.HighPaths.{not_close, word_up, symbol_up, name_up, path_up}
 use Rattle.rust_metas.specs.Attributes.{deepest, is_doc, is_attribute, is_behind, behind_bracket, bracketed, opened, one_attribute, attribute, attributes, inner_attributes}
 use Rattle.rust_metas.specs.Conditions.{comma_from, behind_comma, is_option_word, option_name, pair, named, if_named, ended, condition_with, conditions, condition}
 use Rattle.rust_metas.specs.Literals.{is_literal_kind, is_literal, is_ended, value, documentation}
 use Rattle.rust_metas.specs.Metas.{input, plain, is_call, member, meta_with, meta, doc}
 use Rattle.rust_metas.proofs.Leads.{condition_with_leads, conditions_leads, condition_leads, member_leads, meta_leads, attribute_leads}
-use Rattle.rust_metas.proofs.Near.{option_not_last, last_no_literal, last_literal, doc_not_last}
+use Rattle.rust_ranges.proofs.NearMetas.{option_not_last, last_no_literal, last_literal, doc_not_last}
 
 -- ---- conditions
 

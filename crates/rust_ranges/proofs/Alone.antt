@@ -25,14 +25,14 @@ use Rattle.rust_cursor.proofs.Near.{Ending, Near, near, is_last, are_ended}
 use Rattle.rust_cursor.proofs.NearUntil.{more_left}
 use Rattle.rust_leaves.specs.declared.head.Head.TheVariants as heads
 use Rattle.rust_leaves.specs.Fronts as fronts
-use Rattle.rust_items.specs.Alone.{ended, IsPart, tokens_behind}
+use Rattle.rust_ranges.specs.Parts.{ended, IsPart, tokens_behind}
 use Rattle.rust_items.specs.Found.{Found, nothing_found}
 use Rattle.rust_items.specs.SourceFiles.{read_of}
-use Rattle.rust_items.proofs.Inner.{no_inner, turn_none}
+use Rattle.rust_ranges.proofs.Inner.{no_inner, turn_none}
 use Rattle.rust_items.specs.Items.{finding_from, finding, is_list_end, turn, items}
-use Rattle.rust_items.proofs.NearItems.{FoundNear, FoundAlike, flat, is_sound}
-use Rattle.rust_items.proofs.NearLeaves.{IsWhole, Given, Ends, passes, before_end, at_end}
-use Rattle.rust_items.proofs.NearTurns.{turn_ends}
+use Rattle.rust_ranges.proofs.NearItems.{FoundNear, FoundAlike, flat, is_sound}
+use Rattle.rust_ranges.proofs.NearLeaves.{IsWhole, Given, Ends, passes, before_end, at_end}
+use Rattle.rust_ranges.proofs.NearTurns.{turn_ends}
 use Rattle.rust_items.proofs.Places.{turn_found}
 
 -- how the tokens of the part stand in the text

@@ -16,10 +16,10 @@ use Rattle.rust_cursor.proofs.Near.{Ending, Near, fewer, by_next, bumped_onward,
 use Rattle.rust_cursor.proofs.NearPassing.{beyond_near}
 use Rattle.rust_cursor.proofs.NearUntil.{Same, Kept, by_kept, AtEnd, Outcome, lost, stays, comes, eat_outcome, eat_fewer}
 use Rattle.rust_paths.specs.declared.names.TextRange.{TextRange}
-use Rattle.rust_paths.proofs.NearTrees.{further_on}
+use Rattle.rust_ranges.proofs.NearTrees.{further_on}
 use Rattle.rust_metas.specs.Attributes.{inner_attributes}
 use Rattle.rust_metas.proofs.Leads.{inner_attributes_leads}
-use Rattle.rust_metas.proofs.Near.{inner_attributes_until}
+use Rattle.rust_ranges.proofs.NearMetas.{inner_attributes_until}
 use Rattle.rust_ids.specs.Row.{Row}
 use Rattle.rust_leaves.specs.declared.head.Head.{Head}
 use Rattle.rust_leaves.specs.declared.head.Head.TheVariants as heads
@@ -36,8 +36,8 @@ use Rattle.rust_items.specs.Found.{Found, Finder, nothing_found, and_problem, an
 use Rattle.rust_items.specs.Items.{span_of, and_flaw, and_item, and_leaf, leaf_found, leaf_turn, finding_from, finding, is_list_end, BlockRead, block_of, as_extern, extern_kept, extern_found, unmatched, extern_turn, extern_inside, inside, turn}
 use Rattle.rust_items.specs.LineEnds.{moved_span, moved_problem}
 use Rattle.rust_items.proofs.Leads.{function_leaf, trait_leaf, union_leaf, enum_leaf, struct_leaf, impl_leaf, crate_leaf, use_leaf, const_leaf, static_leaf, type_alias_leaf, macro_def_leaf, macro_rules_leaf, call_end_leads, named_leads, named_or_leads, renamed_leads, behind_others_leads, front_takes}
-use Rattle.rust_items.proofs.NearFronts.{FrontNear, front_until, behind_others_near}
-use Rattle.rust_items.proofs.NearLeaves.{IsWhole, some_on, LeafNear, Given, given_on, Ends, passes, before_end, at_end, SomeLeaf, no_leaf, one_leaf, leaf_ended, LeafEnds, leaf_ends, item_end_fewer, impl_end_fewer, macro_end_fewer, value_end_fewer, call_end_fewer}
+use Rattle.rust_ranges.proofs.NearFronts.{FrontNear, front_until, behind_others_near}
+use Rattle.rust_ranges.proofs.NearLeaves.{IsWhole, some_on, LeafNear, Given, given_on, Ends, passes, before_end, at_end, SomeLeaf, no_leaf, one_leaf, leaf_ended, LeafEnds, leaf_ends, item_end_fewer, impl_end_fewer, macro_end_fewer, value_end_fewer, call_end_fewer}
 use Rattle.rust_items.proofs.Places.{Finds, extern_turn_found}
 
 -- ---- what is found

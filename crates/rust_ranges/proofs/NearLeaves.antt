@@ -31,19 +31,19 @@ use Rattle.rust_paths.specs.Paths.{path}
 use Rattle.rust_paths.specs.UseTrees.{use_tree}
 use Rattle.rust_paths.specs.Visibilities.{visibility}
 use Rattle.rust_paths.proofs.Leads.{path_leads, visibility_leads}
-use Rattle.rust_paths.proofs.Near.{PlacedNear, no_place, placed_near, placed_name_until, path_until, visibility_until}
-use Rattle.rust_paths.proofs.NearTrees.{further_on, use_tree_until}
+use Rattle.rust_ranges.proofs.NearPaths.{PlacedNear, no_place, placed_near, placed_name_until, path_until, visibility_until}
+use Rattle.rust_ranges.proofs.NearTrees.{further_on, use_tree_until}
 use Rattle.rust_metas.specs.Attributes.{inner_attributes}
-use Rattle.rust_metas.proofs.High.{inner_attributes_up}
+use Rattle.rust_ranges.proofs.HighMetas.{inner_attributes_up}
 use Rattle.rust_metas.proofs.Leads.{outer_attributes_leads}
-use Rattle.rust_metas.proofs.Near.{inner_attributes_until, outer_attributes_until, next_past}
+use Rattle.rust_ranges.proofs.NearMetas.{inner_attributes_until, outer_attributes_until, next_past}
 use Rattle.rust_leaves.specs.Leaves.{NameRead, RestRead, LeafRead, no_name, name_read, named, next_range, named_or, alias, alias_if, renamed, rename_of, range_to, rest_read, bare_end, item_end, impl_end, macro_end, value_end, semicolon_end, call_end, block_attributes, field, fields, struct_fields, has_trait}
 use Rattle.rust_leaves.specs.Kinds.{node, named_node, leaf_read, plain_read, function, block_item, macro_def, type_alias, static_value, constant, structure, implementation, told_at, crate_item, use_read, use_declaration, macro_definition, union_item, enumeration, trait_item, is_called, called, call_behind, some_read, invocation, leaf_by, leaf}
 use Rattle.rust_leaves.specs.declared.head.Head.{Head}
 use Rattle.rust_leaves.specs.declared.head.Head.TheVariants as heads
 use Rattle.rust_leaves.specs.Fronts.{FrontRead, front}
 use Rattle.rust_leaves.specs.Texts.{bare, last_text_from, last_text}
-use Rattle.rust_items.proofs.NearFronts.{FrontNear}
+use Rattle.rust_ranges.proofs.NearFronts.{FrontNear}
 use Rattle.rust_items.proofs.Leads.{named_leads, alias_if_leads, renamed_leads, item_end_leads, impl_end_leads, macro_end_leads, value_end_leads, call_end_leads}
 
 -- ---- places

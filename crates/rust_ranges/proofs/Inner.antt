@@ -16,7 +16,7 @@ use Rattle.rust_cursor.proofs.Leads.{when}
 use Rattle.rust_cursor.proofs.Near.{both_true}
 use Rattle.rust_cursor.proofs.Turns.{turns_stop}
 use Rattle.rust_paths.specs.Names.{is_path_keyword, name_text, has_name}
-use Rattle.rust_items.proofs.NearFronts.{no_word_head, nothing_before}
+use Rattle.rust_ranges.proofs.NearFronts.{no_word_head, nothing_before}
 use Rattle.rust_paths.specs.Paths.{is_raw, is_dollar_crate, is_segment, is_colons, is_path_colons, is_path_start, path}
 use Rattle.rust_paths.specs.Visibilities.{visibility}
 use Rattle.rust_metas.specs.Attributes.{is_doc, is_style, is_attribute, is_behind, attribute, attributes, outer_attributes, inner_attributes}

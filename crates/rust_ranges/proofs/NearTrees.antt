@@ -18,7 +18,7 @@ use Rattle.rust_paths.specs.Names.{name}
 use Rattle.rust_paths.specs.Paths.{use_path}
 use Rattle.rust_paths.specs.UseTrees.{Found, alias, alias_if, rename, begun, with_bare, listed, begun_list, with_list, star_or_list, renamed_tree, tree_behind, tree_with, comma_from, behind_comma, element_with, values, all_starts, first_too_deep, all_found, trees, some_list, no_list, list, tree_at, use_tree}
 use Rattle.rust_paths.proofs.Leads.{alias_if_leads, comma_from_leads, behind_comma_leads, tree_behind_leads, element_leads, list_leads}
-use Rattle.rust_paths.proofs.Near.{name_until, use_path_until}
+use Rattle.rust_ranges.proofs.NearPaths.{name_until, use_path_until}
 
 -- ---- renames
 

@@ -1,0 +1,11 @@
+pub mod NearPaths
+pub mod NearTrees
+pub mod HighPaths
+pub mod NearMetas
+pub mod HighMetas
+pub mod NearFronts
+pub mod NearLeaves
+pub mod NearItems
+pub mod NearTurns
+pub mod Inner
+pub mod Alone
