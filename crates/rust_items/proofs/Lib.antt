@@ -7,5 +7,6 @@ pub mod Places
 pub mod LineEnds
 pub mod FilePlaces
 pub mod Bodiless
+pub mod UntilFields
 pub mod UntilLeaves
 pub mod UntilItems

@@ -15,6 +15,7 @@ use Rattle.rust_cursor.specs.Words.{symbol, at, eat, is_at_end, bumped}
 use Rattle.rust_cursor.specs.Elements.{most, beyond}
 use Rattle.rust_cursor.specs.Beside.{Bodies, Beside, ahead, behind}
 use Rattle.rust_cursor.proofs.Leads.{LeadsTo, further, through, when, eat_leads, beyond_leads}
+use Rattle.rust_cursor.proofs.Around.{IsSound, sound_on}
 use Rattle.rust_cursor.proofs.Laid.{IsLaid, past_within}
 use Rattle.rust_cursor.proofs.Laid as laid
 use Rattle.rust_cursor.proofs.Views.{before_at, behind_at, symbol_same, empty_same, end_same}
@@ -41,12 +42,12 @@ use Rattle.rust_items.specs.declared.log.ProblemKind.TheVariants as problem
 use Rattle.rust_items.specs.declared.source_file.ItemPlace.{ItemPlace}
 use Rattle.rust_items.specs.Found.{Found, Finder, nothing_found, and_problem_if, and_problem_at}
 use Rattle.rust_items.specs.Items.{BlockRead, and_flaw, and_item, and_leaf, and_parent, leaf_found, leaf_turn, finding_from, finding, is_list_end, block_of, as_extern, extern_kept, extern_found, extern_turn, extern_inside, extern_block, one_more, unmatched, inside_unless, module_with, some_item, by_head, turn_with, inside, turn, depth_of, items}
-use Rattle.rust_items.specs.Typed.{begins_at, has_body, has_bare_fields}
+use Rattle.rust_items.specs.Typed.{begins_at, has_body}
 use Rattle.rust_items.specs.SourceFiles.{found_in, read_of}
 use Rattle.rust_items.specs.Places.{Telling, IsBodyIn, ArePlaces, nothing, placed}
 use Rattle.rust_items.proofs.Leads.{named_leads, behind_others_leads, front_takes}
 use Rattle.rust_items.proofs.Places.{adds_item, adds_problem_at, adds_use_trees, AreFound, Finds, FindsIn, list_from, list_found, place_span, inside_found, turn_found, turn_with_found, extern_turn_found, extern_inside_found, unless_found, items_found}
-use Rattle.rust_items.proofs.UntilLeaves.{FrontAlike, front_until, BeginPlain, LeafUntil, leaf_lost, leaf_same, leaf_until, LeafLost, leaf_gone, IsFit, fit_on, front_bare}
+use Rattle.rust_items.proofs.UntilLeaves.{FrontAlike, front_until, BeginPlain, LeafUntil, leaf_lost, leaf_same, leaf_until, LeafLost, leaf_gone}
 
 -- ---- whose braces they are
 
@@ -130,7 +131,7 @@ abbrev pub ListAlike : List ItemView → List ItemView → Type 0
 ListAlike is is' = map item_without_bodies is' ≡ map item_without_bodies is
 
 abbrev UpToFound : ℕ → Bodies → Finder (Option ItemView) → Type 0
-UpToFound end b turn = (f f' : Found) (ts us : Tokens) → IsFit end ts → f'.rows ≡ f.rows → Beside b ts us → FoundUntil ItemAlike b f (turn f ts) (turn f' us)
+UpToFound end b turn = (f f' : Found) (ts us : Tokens) → IsSound end ts → f'.rows ≡ f.rows → Beside b ts us → FoundUntil ItemAlike b f (turn f ts) (turn f' us)
 
 -- ---- rows
 
@@ -249,8 +250,8 @@ module _ (b : Bodies) (depth start start' : ℕ) (f f' : Found) (e : f'.rows ≡
 
 -- ---- turns
 
-front_laid : (end : ℕ) (ts : Tokens) → IsFit end ts → IsFit end (front ts).1
-front_laid end ts l = fit_on end (front_takes ts).leads l
+front_laid : (end : ℕ) (ts : Tokens) → IsSound end ts → IsSound end (front ts).1
+front_laid end ts l = sound_on end (front_takes ts).leads l
 
 -- nothing is found where a bracket closes nothing
 unmatched_until : (b : Bodies) (f f' : Found) (ts us : Tokens) → f'.rows ≡ f.rows → Beside b ts us → FoundUntil ItemAlike b f (unmatched f ts) (unmatched f' us)
@@ -263,17 +264,17 @@ extern_turn_until end depth b plain f f' ts us l e h =
     when (is_at_end ts)
     (λ t. rw (end_same b ts us h, t) (unmatched_until b f f' ts us e h))
     (λ t. rw (end_same b ts us h, t) (by_stayed (front_until b ts us h)
-    (λ g. extern_found_until b depth (front ts).0.start (front us).0.start f f' e (leaf (front ts).0 (front ts).1) (leaf (front us).0 (front us).1) (let x = leaf_gone b end (front ts).0 (front ts).1 (front_laid end ts l).sound g in leaf_lost x.gone x.free))
-    (λ k. extern_found_until b depth (front ts).0.start (front us).0.start f f' e (leaf (front ts).0 (front ts).1) (leaf (front us).0 (front us).1) (leaf_until b plain end (front ts).0 (front us).0 (front ts).1 (front us).1 k.value (front_laid end ts l).sound k.rest (front_bare end ts l)))))
+    (λ g. extern_found_until b depth (front ts).0.start (front us).0.start f f' e (leaf (front ts).0 (front ts).1) (leaf (front us).0 (front us).1) (let x = leaf_gone b end (front ts).0 (front ts).1 (front_laid end ts l) g in leaf_lost x.gone x.free))
+    (λ k. extern_found_until b depth (front ts).0.start (front us).0.start f f' e (leaf (front ts).0 (front ts).1) (leaf (front us).0 (front us).1) (leaf_until b plain end (front ts).0 (front us).0 (front ts).1 (front us).1 k.value (front_laid end ts l) k.rest))))
 
-leaf_turn_until : (end depth : ℕ) (b : Bodies) → BeginPlain b → (h h' : FrontRead) (f f' : Found) (ts us : Tokens) → IsFit end ts → f'.rows ≡ f.rows → FrontAlike h h' → Beside b ts us
-    → (h.head ≡ heads.Struct → has_bare_fields ts ≡ true) → FoundUntil ItemAlike b f (leaf_turn depth h f ts) (leaf_turn depth h' f' us)
+leaf_turn_until : (end depth : ℕ) (b : Bodies) → BeginPlain b → (h h' : FrontRead) (f f' : Found) (ts us : Tokens) → IsSound end ts → f'.rows ≡ f.rows → FrontAlike h h' → Beside b ts us
+    → FoundUntil ItemAlike b f (leaf_turn depth h f ts) (leaf_turn depth h' f' us)
 unfolding leaf_turn
-leaf_turn_until end depth b plain h h' f f' ts us l e a k bare = leaf_found_until b depth h.start h'.start f f' e (leaf h ts) (leaf h' us) (leaf_until b plain end h h' ts us a l.sound k bare)
+leaf_turn_until end depth b plain h h' f f' ts us l e a k = leaf_found_until b depth h.start h'.start f f' e (leaf h ts) (leaf h' us) (leaf_until b plain end h h' ts us a l k)
 
-leaf_turn_lost : (end depth : ℕ) (b : Bodies) (h : FrontRead) (f : Found) (ts : Tokens) → IsFit end ts → Gone b ts → Lost b f (leaf_turn depth h f ts)
+leaf_turn_lost : (end depth : ℕ) (b : Bodies) (h : FrontRead) (f : Found) (ts : Tokens) → IsSound end ts → Gone b ts → Lost b f (leaf_turn depth h f ts)
 unfolding leaf_turn
-leaf_turn_lost end depth b h f ts l g = leaf_found_lost b depth h.start f (leaf h ts) (leaf_gone b end h ts l.sound g)
+leaf_turn_lost end depth b h f ts l g = leaf_found_lost b depth h.start f (leaf h ts) (leaf_gone b end h ts l g)
 
 -- ---- lists
 
@@ -305,7 +306,7 @@ passed b = record {
 
 plain_passed : (b : Bodies) → BeginPlain b → BeginPlain (passed b)
 unfolding passed
-plain_passed b plain = record { old = plain.old; new = plain.new }
+plain_passed b plain = record { new_behind = plain.new_behind; old = plain.old; new = plain.new }
 
 side : {P : Type 0} (b : Bodies) (ts us : Tokens) → Beside b ts us → (ts.past ≤ b.opening.at → P) → (Beside (passed b) ts us → P) → P
 unfolding passed
@@ -333,7 +334,7 @@ more_alike done done' o o' a e =
 
 module _ (end : ℕ) (ends : Tokens → Bool) (ends_same : (b : Bodies) (ts us : Tokens) → Beside b ts us → ends us ≡ ends ts) (turn : Finder (Option ItemView)) (finds : Finds end turn)
     (each : (b : Bodies) → BeginPlain b → UpToFound end b turn) where
-  list_until : (n : ℕ) (b : Bodies) → BeginPlain b → (done done' : List ItemView) (f f' : Found) (ts us : Tokens) → IsFit end ts → ListAlike done done' → f'.rows ≡ f.rows → Beside b ts us
+  list_until : (n : ℕ) (b : Bodies) → BeginPlain b → (done done' : List ItemView) (f f' : Found) (ts us : Tokens) → IsSound end ts → ListAlike done done' → f'.rows ≡ f.rows → Beside b ts us
       → FoundUntil ListAlike b f (finding_from ends turn n done f ts) (finding_from ends turn n done' f' us)
   list_until zero b plain done done' f f' ts us l a e h = same (record { value = a; rows = e; rest = h })
   list_until (suc n) b plain done done' f f' ts us l a e h =
@@ -343,9 +344,9 @@ module _ (end : ℕ) (ends : Tokens → Bool) (ends_same : (b : Bodies) (ts us :
       let g' = (turn f' us).1.0 in
       let next = beyond ts.past (turn f ts).1.1 in
       let next' = beyond us.past (turn f' us).1.1 in
-      let one = finds f ts l.sound.laid in
+      let one = finds f ts l.laid in
       let leads : LeadsTo (turn f ts).1.1 next = beyond_leads ts.past (turn f ts).1.1 in
-      let first = laid.behind end one.leads l.sound.laid in
+      let first = laid.behind end one.leads l.laid in
       let then_laid = laid.behind end leads first.laid in
       let rest = list_from end ends turn finds n (done ++ option_to_list o) g next then_laid.laid in
       when (ends ts)
@@ -355,9 +356,9 @@ module _ (end : ℕ) (ends : Tokens → Bool) (ends_same : (b : Bodies) (ts us :
       (λ k. let both = beyond_beside b ts us _ _ h k.rest in
       let alike = more_alike done done' o o' a k.value in
       side b next next' both
-      (λ low. by_found (list_until n b plain (done ++ option_to_list o) (done' ++ option_to_list o') g g' next next' (fit_on end (through one.leads leads) l) alike k.rows both)
+      (λ low. by_found (list_until n b plain (done ++ option_to_list o) (done' ++ option_to_list o') g g' next next' (sound_on end (through one.leads leads) l) alike k.rows both)
       (λ x m. lost x (misses_both (found_before b one (let past = then_laid.past in omega arith)) m)) (λ j. same j))
-      (λ far. unpassed b (list_until n (passed b) (plain_passed b plain) (done ++ option_to_list o) (done' ++ option_to_list o') g g' next next' (fit_on end (through one.leads leads) l) alike k.rows far)))))
+      (λ far. unpassed b (list_until n (passed b) (plain_passed b plain) (done ++ option_to_list o) (done' ++ option_to_list o') g g' next next' (sound_on end (through one.leads leads) l) alike k.rows far)))))
 
 -- ---- blocks
 
@@ -366,7 +367,7 @@ pub record BlockAlike (r s : BlockRead) : Type 0 where
   pub items : option_map (map item_without_bodies) s.items ≡ option_map (map item_without_bodies) r.items
 
 abbrev UpToBlock : ℕ → Bodies → Finder BlockRead → Type 0
-UpToBlock end b inside = (f f' : Found) (ts us : Tokens) → IsFit end ts → f'.rows ≡ f.rows → Beside b ts us → FoundUntil BlockAlike b f (inside f ts) (inside f' us)
+UpToBlock end b inside = (f f' : Found) (ts us : Tokens) → IsSound end ts → f'.rows ≡ f.rows → Beside b ts us → FoundUntil BlockAlike b f (inside f ts) (inside f' us)
 
 list_end_same : (is_top : Bool) (b : Bodies) (ts us : Tokens) → Beside b ts us → is_list_end is_top us ≡ is_list_end is_top ts
 unfolding is_list_end
@@ -379,13 +380,13 @@ module _ (end : ℕ) (turn : Finder (Option ItemView)) (finds : Finds end turn) 
       let inner = inner_attributes (bumped ts) in
       let inner' = inner_attributes (bumped us) in
       let open_leads : LeadsTo ts inner.1 = further (inner_attributes_leads (bumped ts)) in
-      let first = laid.behind end open_leads l.sound.laid in
+      let first = laid.behind end open_leads l.laid in
       let list = list_found end (is_list_end false) turn finds f inner.1 first.laid in
       by_next (bumped_onward b ts us h)
       (λ g. let k = gone_on g (inner_attributes_leads (bumped ts)) in lost (gone_on (gone_on k list.leads) (eat_leads 125 _)) (found_gone list k))
       (λ n. by_kept (inner_attributes_until b (bumped ts) (bumped us) n)
       (λ k. lost (gone_on (gone_on k list.leads) (eat_leads 125 _)) (found_gone list k))
-      (λ k. by_found (list_until end (is_list_end false) (list_end_same false) turn finds each most b plain [] [] f f' inner.1 inner'.1 (fit_on end open_leads l) refl e k.rest)
+      (λ k. by_found (list_until end (is_list_end false) (list_end_same false) turn finds each most b plain [] [] f f' inner.1 inner'.1 (sound_on end open_leads l) refl e k.rest)
       (λ g m. lost (gone_on g (eat_leads 125 _)) m)
       (λ j. same (record { value = record { attrs = k.value; items = ap Some j.value }; rows = j.rows; rest = (eat_local b 125 refl _ _ j.rest).rest }))))
 
@@ -425,7 +426,7 @@ extern_inside_until end depth b plain f f' ts us l e h =
     (λ z. rw (symbol_same b ts us h, z) (block_until end (extern_turn depth) (extern_turn_found end depth) (extern_turn_until end depth) b plain f f' ts us l e h))
     (λ z. rw (symbol_same b ts us h, z) (same (record { value = record { attrs = refl; items = refl }; rows = e; rest = h })))
 
-extern_block_until : (end depth start start' : ℕ) (attrs attrs' : List MetaView) (b : Bodies) → BeginPlain b → attrs' ≡ attrs → (f f' : Found) (ts us : Tokens) → IsFit end ts → f'.rows ≡ f.rows → Beside b ts us
+extern_block_until : (end depth start start' : ℕ) (attrs attrs' : List MetaView) (b : Bodies) → BeginPlain b → attrs' ≡ attrs → (f f' : Found) (ts us : Tokens) → IsSound end ts → f'.rows ≡ f.rows → Beside b ts us
     → FoundUntil ItemAlike b f (some_item (extern_block depth start attrs f ts)) (some_item (extern_block depth start' attrs' f' us))
 unfolding extern_block
 extern_block_until end depth start start' attrs attrs' b plain a f f' ts us l e h =
@@ -439,21 +440,21 @@ extern_block_until end depth start start' attrs attrs' b plain a f f' ts us l e 
       rest = k.rest;
     }))
 
-extern_block_lost : (end depth start : ℕ) (attrs : List MetaView) (b : Bodies) (f : Found) (ts : Tokens) → IsFit end ts → Gone b ts → Lost b f (some_item (extern_block depth start attrs f ts))
+extern_block_lost : (end depth start : ℕ) (attrs : List MetaView) (b : Bodies) (f : Found) (ts : Tokens) → IsSound end ts → Gone b ts → Lost b f (some_item (extern_block depth start attrs f ts))
 unfolding extern_block
 extern_block_lost end depth start attrs b f ts l g =
     let x = extern_inside (one_more depth) nothing_found ts in
-    let found = extern_inside_found end (one_more depth) nothing_found ts l.sound.laid in
+    let found = extern_inside_found end (one_more depth) nothing_found ts l.laid in
     record { gone = gone_on g found.leads; misses = parent_misses b.opening.at depth start x.1.1.past kind.ExternBlock no_name x.0.is_ended x.1.0 f (found_gone found g) }
 
 -- modules
 module _ (end : ℕ) (inside : Finder BlockRead) (finds : FindsIn end inside) (each : (b : Bodies) → BeginPlain b → UpToBlock end b inside) (depth : ℕ) where
-  unless_until : (b : Bodies) → BeginPlain b → (s s' : Bool) → s' ≡ s → (f f' : Found) (ts us : Tokens) → IsFit end ts → f'.rows ≡ f.rows → Beside b ts us
+  unless_until : (b : Bodies) → BeginPlain b → (s s' : Bool) → s' ≡ s → (f f' : Found) (ts us : Tokens) → IsSound end ts → f'.rows ≡ f.rows → Beside b ts us
       → FoundUntil BlockAlike b f (inside_unless s inside f ts) (inside_unless s' inside f' us)
   unless_until b plain true s' d f f' ts us l e h = rw d (same (record { value = record { attrs = refl; items = refl }; rows = e; rest = h }))
   unless_until b plain false s' d f f' ts us l e h = rw d (each b plain f f' ts us l e h)
 
-  module_until : (b : Bodies) → BeginPlain b → (h h' : FrontRead) → FrontAlike h h' → (f f' : Found) (ts us : Tokens) → IsFit end ts → f'.rows ≡ f.rows → Beside b ts us
+  module_until : (b : Bodies) → BeginPlain b → (h h' : FrontRead) → FrontAlike h h' → (f f' : Found) (ts us : Tokens) → IsSound end ts → f'.rows ≡ f.rows → Beside b ts us
       → FoundUntil ItemAlike b f (some_item (module_with inside depth h f ts)) (some_item (module_with inside depth h' f' us))
   module_until b plain h h' a f f' ts us l e k =
       let n = named_local b ts us k in
@@ -462,7 +463,7 @@ module _ (end : ℕ) (inside : Finder BlockRead) (finds : FindsIn end inside) (e
       let c' = eat 59 (named us).1 in
       let x = inside_unless c.0 inside nothing_found c.1 in
       let y = inside_unless c'.0 inside nothing_found c'.1 in
-      let sound = fit_on end (through (named_leads ts) (eat_leads 59 (named ts).1)) l in
+      let sound = sound_on end (through (named_leads ts) (eat_leads 59 (named ts).1)) l in
       by_found (unless_until b plain c.0 c'.0 s.value nothing_found nothing_found c.1 c'.1 sound refl s.rest)
       (λ g m. lost g (parent_misses b.opening.at depth h.start x.1.1.past kind.Module (named ts).0 (c.0 || x.0.is_ended) x.1.0 f m))
       (λ j. same (record {
@@ -472,25 +473,25 @@ module _ (end : ℕ) (inside : Finder BlockRead) (finds : FindsIn end inside) (e
         rest = j.rest;
       }))
 
-  module_lost : (b : Bodies) (h : FrontRead) (f : Found) (ts : Tokens) → IsFit end ts → Gone b ts → Lost b f (some_item (module_with inside depth h f ts))
+  module_lost : (b : Bodies) (h : FrontRead) (f : Found) (ts : Tokens) → IsSound end ts → Gone b ts → Lost b f (some_item (module_with inside depth h f ts))
   module_lost b h f ts l g =
       let c = eat 59 (named ts).1 in
       let x = inside_unless c.0 inside nothing_found c.1 in
       let leads = through (named_leads ts) (eat_leads 59 (named ts).1) in
-      let sound = fit_on end leads l in
-      let found = unless_found end inside finds depth c.0 nothing_found c.1 sound.sound.laid in
+      let sound = sound_on end leads l in
+      let found = unless_found end inside finds depth c.0 nothing_found c.1 sound.laid in
       record { gone = gone_on (gone_on g leads) found.leads; misses = parent_misses b.opening.at depth h.start x.1.1.past kind.Module (named ts).0 (c.0 || x.0.is_ended) x.1.0 f (found_gone found (gone_on g leads)) }
 
-  head_lost : (b : Bodies) (k : Head) (h : FrontRead) (f : Found) (ts : Tokens) → IsFit end ts → Gone b ts → Lost b f (by_head inside depth k h f ts)
+  head_lost : (b : Bodies) (k : Head) (h : FrontRead) (f : Found) (ts : Tokens) → IsSound end ts → Gone b ts → Lost b f (by_head inside depth k h f ts)
   head_lost b heads.Module h f ts l g = module_lost b h f ts l g
   head_lost b heads.ExternBlock h f ts l g = extern_block_lost end depth h.start h.attrs b f ts l g
   head_lost b _ h f ts l g = leaf_turn_lost end depth b h f ts l g
 
-  head_until : (b : Bodies) → BeginPlain b → (k : Head) (h h' : FrontRead) → FrontAlike h h' → (f f' : Found) (ts us : Tokens) → IsFit end ts → f'.rows ≡ f.rows → Beside b ts us → (h.head ≡ heads.Struct → has_bare_fields ts ≡ true)
+  head_until : (b : Bodies) → BeginPlain b → (k : Head) (h h' : FrontRead) → FrontAlike h h' → (f f' : Found) (ts us : Tokens) → IsSound end ts → f'.rows ≡ f.rows → Beside b ts us
       → FoundUntil ItemAlike b f (by_head inside depth k h f ts) (by_head inside depth k h' f' us)
-  head_until b plain heads.Module h h' a f f' ts us l e k bare = module_until b plain h h' a f f' ts us l e k
-  head_until b plain heads.ExternBlock h h' a f f' ts us l e k bare = extern_block_until end depth h.start h'.start h.attrs h'.attrs b plain a.attrs f f' ts us l e k
-  head_until b plain _ h h' a f f' ts us l e k bare = leaf_turn_until end depth b plain h h' f f' ts us l e a k bare
+  head_until b plain heads.Module h h' a f f' ts us l e k = module_until b plain h h' a f f' ts us l e k
+  head_until b plain heads.ExternBlock h h' a f f' ts us l e k = extern_block_until end depth h.start h'.start h.attrs h'.attrs b plain a.attrs f f' ts us l e k
+  head_until b plain _ h h' a f f' ts us l e k = leaf_turn_until end depth b plain h h' f f' ts us l e a k
 
   turn_with_until : (b : Bodies) → BeginPlain b → UpToFound end b (turn_with inside depth)
   turn_with_until b plain f f' ts us l e h =
@@ -498,7 +499,7 @@ module _ (end : ℕ) (inside : Finder BlockRead) (finds : FindsIn end inside) (e
       (λ t. rw (end_same b ts us h, t) (unmatched_until b f f' ts us e h))
       (λ t. rw (end_same b ts us h, t) (by_stayed (front_until b ts us h)
       (λ g. let x = head_lost b (front ts).0.head (front ts).0 f (front ts).1 (front_laid end ts l) g in lost x.gone x.misses)
-      (λ k. rw k.value.head (head_until b plain (front ts).0.head (front ts).0 (front us).0 k.value f f' (front ts).1 (front us).1 (front_laid end ts l) e k.rest (front_bare end ts l)))))
+      (λ k. rw k.value.head (head_until b plain (front ts).0.head (front ts).0 (front us).0 k.value f f' (front ts).1 (front us).1 (front_laid end ts l) e k.rest))))
 
 inside_until : (end left : ℕ) (b : Bodies) → BeginPlain b → UpToBlock end b (inside left)
 unfolding inside
@@ -518,7 +519,7 @@ unfolding turn
 turn_until end left b plain f f' ts us l e h = turn_with_until end (inside left) (inside_found end left) (inside_until end left) (depth_of left) b plain f f' ts us l e h
 
 -- the items of a file
-pub items_until : (end : ℕ) (is_top : Bool) (left : ℕ) (b : Bodies) → BeginPlain b → (f f' : Found) (ts us : Tokens) → IsFit end ts → f'.rows ≡ f.rows → Beside b ts us
+pub items_until : (end : ℕ) (is_top : Bool) (left : ℕ) (b : Bodies) → BeginPlain b → (f f' : Found) (ts us : Tokens) → IsSound end ts → f'.rows ≡ f.rows → Beside b ts us
     → FoundUntil ListAlike b f (items is_top left f ts) (items is_top left f' us)
 unfolding finding
 items_until end is_top left b plain f f' ts us l e h =
@@ -545,12 +546,12 @@ pub data FileUntil (b : Bodies) (ts us : Tokens) : Type 0 where
   of_none : has_body b.opening.at (items_behind ts).1.0.spans ≡ false → FileUntil b ts us
   alike : (inner_attributes us).0 ≡ (inner_attributes ts).0 → ListAlike (items_behind ts).0 (items_behind us).0 → (items_behind us).1.0.rows ≡ (items_behind ts).1.0.rows → FileUntil b ts us
 
-pub file_until : (end : ℕ) (b : Bodies) → BeginPlain b → (ts us : Tokens) → IsFit end ts → Beside b ts us → FileUntil b ts us
+pub file_until : (end : ℕ) (b : Bodies) → BeginPlain b → (ts us : Tokens) → IsSound end ts → Beside b ts us → FileUntil b ts us
 file_until end b plain ts us l h =
     let inner = inner_attributes ts in
-    let sound = fit_on end (inner_attributes_leads ts) l in
+    let sound = sound_on end (inner_attributes_leads ts) l in
     by_kept (inner_attributes_until b ts us h)
-    (λ g. let m = found_gone (items_found end true 128 nothing_found inner.1 sound.sound.laid) g in of_none (misses_all m))
+    (λ g. let m = found_gone (items_found end true 128 nothing_found inner.1 sound.laid) g in of_none (misses_all m))
     (λ k. by_found (items_until end true 128 b plain nothing_found nothing_found inner.1 (inner_attributes us).1 sound refl k.rest)
     (λ g m. of_none (misses_all m)) (λ j. alike k.value j.value j.rows))
 

@@ -42,21 +42,20 @@ use Rattle.rust_cursor.proofs.Around.{IsSound, sound_on}
 use Rattle.rust_cursor.proofs.Enclosed.{item_enclosed, impl_enclosed}
 use Rattle.rust_metas.proofs.Around.{inner_within}
 use Rattle.rust_cursor.proofs.Turns.{turns_stop}
-use Rattle.rust_items.specs.Typed.{ends_plain, bare_field, all_true, are_bare_fields, has_bare_fields, have_bare_from, have_bare_fields}
 use Rattle.rust_metas.proofs.UntilAttributes.{outer_attributes_until, inner_attributes_until}
 use Rattle.rust_leaves.specs.declared.head.Head.{Head}
 use Rattle.rust_leaves.specs.declared.head.Head.TheVariants as heads
 use Rattle.rust_leaves.specs.Heads.{behind_abi, behind_modifiers, extern_head, macro_rules_head, union_head, head_by, behind_head, head}
 use Rattle.rust_paths.specs.Names.{has_name}
 use Rattle.rust_leaves.specs.Fronts.{FrontRead, front_behind, front}
-use Rattle.rust_leaves.specs.Leaves.{LeafRead, named, impl_end, item_end, call_end, block_attributes, range_to, field, fields, fields_at, struct_fields}
+use Rattle.rust_leaves.specs.Leaves.{LeafRead, named, impl_end, item_end, call_end, block_attributes, range_to}
 use Rattle.rust_cursor.specs.Angles.{behind_angles}
 use Rattle.rust_leaves.specs.Kinds.{node, function, union_item, enumeration, trait_item, structure, implementation, use_read, use_declaration, is_called, called, call_behind, some_read, invocation, leaf_by, leaf}
 use Rattle.rust_leaves.specs.Texts.{bare, last_text}
-use Rattle.rust_leaves.proofs.Fields.{field_leads, fields_within}
 use Rattle.rust_leaves.proofs.Fronts.{modifiers_beside, head_local}
-use Rattle.rust_leaves.proofs.Beside.{named_local, item_end_local, impl_end_local, call_end_local, NameAlike, RestAlike, LeafAlike, function_local, block_item_local, macro_def_local, type_alias_local, static_local, constant_local, structure_local, implementation_local, macro_definition_local}
+use Rattle.rust_leaves.proofs.Beside.{named_local, item_end_local, impl_end_local, call_end_local, NameAlike, RestAlike, LeafAlike, function_local, block_item_local, macro_def_local, type_alias_local, static_local, constant_local, fields_of, structure_local, implementation_local, macro_definition_local}
 use Rattle.rust_leaves.proofs.Crates.{crate_item_local, is_called_same, called_next, SameLast, beyond_braces, same_text, last_same}
+use Rattle.rust_items.proofs.UntilFields.{NewBehind, SameFields, header_gone, fields_same, struct_fields_same, item_gone}
 use Rattle.rust_items.proofs.Leads.{word_some, LeafAt, leaf_at, named_leads, behind_modifiers_leads, head_takes, call_end_leads, call_end_braced, IsBraced, braced}
 
 -- ---- what stands in front
@@ -86,8 +85,9 @@ front_until b ts us h =
 
 -- ---- braces
 
--- what stands between the braces begins with no inner attribute, in both texts
+-- what stands between the braces begins with no inner attribute, in both texts; and that of the new text stands behind the `{` too
 pub record BeginPlain (b : Bodies) : Type 0 where
+  pub new_behind : NewBehind b
   pub old : (past : ℕ) (r : List Piece) (u : Option ℕ) → (inner_attributes (bumped (tokens_at b.edition past (b.opening ∷ (b.old ++ moved b.by b.closing ∷ map (moved b.by) r)) u))).0 ≡ []
   pub new : (past : ℕ) (r : List Piece) (u : Option ℕ) → (inner_attributes (bumped (tokens_at b.edition past (b.opening ∷ (b.new ++ moved b.by_new b.closing ∷ map (moved b.by_new) r)) u))).0 ≡ []
 
@@ -135,102 +135,6 @@ block_attributes_until b plain end {v = v} l (block t before some close) (passin
     by (elsewhere n other) =
         by_kept (inner_attributes_until b (bumped t) (bumped u) n) (λ g. not_same (gone_on g (within t refl)) (λ s e. let same : t ≡ s = cc in subst (λ (k : Tokens). at k ≡ b.opening.at → ⊥) same other))
         (λ k. both_same k.value)
-
--- ---- fields
-
--- where no attribute comes next
-behind_outer : (b : Bodies) (ts us : Tokens) → Beside b ts us → is_behind Outer us ≡ is_behind Outer ts
-unfolding is_behind is_doc is_attribute
-behind_outer b ts us h =
-    when (symbol ts == 35)
-    (λ e. rw (symbol_same b (bumped ts) (bumped us) (after_symbol b 35 ts us refl h e), kind_same b ts us h, symbol_same b ts us h) refl)
-    (λ e. rw (kind_same b ts us h, symbol_same b ts us h, e) refl)
-
-no_outer : (ts : Tokens) → is_behind Outer ts ≡ true → outer_attributes ts ≡ ([], ts)
-unfolding outer_attributes attributes turns
-no_outer ts e = turns_stop (is_behind Outer) _ _ [] ts e
-
-field_kept : (b : Bodies) (ts us : Tokens) → Beside b ts us → is_behind Outer ts ≡ true → Kept b (field ts) (field us)
-unfolding field
-field_kept b ts us h e =
-    let k : Kept b (outer_attributes ts) (outer_attributes us) = rw (no_outer ts e, no_outer us (behind_outer b ts us h ∙ e)) (record { value = refl; rest = h }) in
-    let v = visibility_local b (outer_attributes ts).1 (outer_attributes us).1 k.rest in
-    let f = behind_field_beside b (visibility (outer_attributes ts).1).1 (visibility (outer_attributes us).1).1 v.rest in
-    let c = eat_local b 44 refl _ _ f in
-    record { value = v.value; rest = c.rest }
-
-all_left : (xs ys : List Bool) → all_true (xs ++ ys) ≡ true → all_true xs ≡ true
-all_left [] ys e = refl
-all_left (true ∷ xs) ys e = all_left xs ys e
-all_left (false ∷ xs) ys e = absurd cc
-
-all_last : (xs : List Bool) (t : Bool) → all_true (xs ++ t ∷ []) ≡ true → t ≡ true
-all_last [] true e = refl
-all_last [] false e = absurd cc
-all_last (true ∷ xs) t e = all_last xs t e
-all_last (false ∷ xs) t e = absurd cc
-
-abbrev bare_turns : ℕ → List Bool → Tokens → List Bool
-bare_turns n flags ts = (turns_from is_at_end (one bare_field) n flags ts).0
-
-turns_go : {A : Type 0} (ends : Tokens → Bool) (reader : Reader (List A)) (n : ℕ) (done : List A) (ts : Tokens) → ends ts ≡ false → turns_from ends reader (suc n) done ts ≡ turns_from ends reader n (done ++ (reader ts).0) (beyond ts.past (reader ts).1)
-turns_go ends reader n done ts e = rw e refl
-
-bare_end : (n : ℕ) (flags : List Bool) (ts : Tokens) → is_at_end ts ≡ true → bare_turns (suc n) flags ts ≡ flags
-bare_end n flags ts t = ap (λ r. r.0) (turns_stop is_at_end (one bare_field) (suc n) flags ts t)
-
-bare_more : (n : ℕ) (flags : List Bool) (ts : Tokens) → is_at_end ts ≡ false → bare_turns (suc n) flags ts ≡ bare_turns n (flags ++ is_behind Outer ts ∷ []) (beyond ts.past (field ts).1)
-bare_more n flags ts t = ap (λ r. r.0) (turns_go is_at_end (one bare_field) n flags ts t)
-
-all_before : (n : ℕ) (flags : List Bool) (ts : Tokens) → all_true (bare_turns n flags ts) ≡ true → all_true flags ≡ true
-all_before zero flags ts e = e
-all_before (suc n) flags ts e =
-    when (is_at_end ts) (λ t. ap all_true (sym (bare_end n flags ts t)) ∙ e)
-    (λ t. all_left flags _ (all_before n (flags ++ is_behind Outer ts ∷ []) (beyond ts.past (field ts).1) (ap all_true (sym (bare_more n flags ts t)) ∙ e)))
-
-fields_from : (b : Bodies) (n : ℕ) (flags : List Bool) (done done' : List (Option Visibility)) (ts us : Tokens) → done' ≡ done → Beside b ts us → all_true (bare_turns n flags ts) ≡ true
-    → Kept b (turns_from is_at_end (one field) n done ts) (turns_from is_at_end (one field) n done' us)
-fields_from b zero flags done done' ts us d h e = record { value = d; rest = h }
-fields_from b (suc n) flags done done' ts us d h e =
-    when (is_at_end ts)
-    (λ t. rw (end_same b ts us h, t) (record { value = d; rest = h }))
-    (λ t. let f : all_true (bare_turns n (flags ++ is_behind Outer ts ∷ []) (beyond ts.past (field ts).1)) ≡ true = ap all_true (sym (bare_more n flags ts t)) ∙ e in
-    let k = field_kept b ts us h (all_last flags (is_behind Outer ts) (all_before n (flags ++ is_behind Outer ts ∷ []) (beyond ts.past (field ts).1) f)) in
-    rw (end_same b ts us h, t) (fields_from b n (flags ++ is_behind Outer ts ∷ []) (done ++ (field ts).0 ∷ []) (done' ++ (field us).0 ∷ []) (beyond ts.past (field ts).1) (beyond us.past (field us).1)
-    (ap (λ l. l ++ (field us).0 ∷ []) d ∙ ap (λ v. done ++ v ∷ []) k.value) (beyond_beside b ts us _ _ h k.rest) f))
-
-fields_kept : (b : Bodies) (ts us : Tokens) → Beside b ts us → all_true (elements (one bare_field) ts).0 ≡ true → Kept b (fields ts) (fields us)
-unfolding fields turns
-fields_kept b ts us h e = fields_from b _ [] [] [] ts us refl h e
-
-fields_at_same : (b : Bodies) (has : Bool) (ts us : Tokens) → Beside b ts us → are_bare_fields ts ≡ true → fields_at has us ≡ fields_at has ts
-fields_at_same b has ts us h e =
-    when (symbol ts == 40)
-    (λ f. let g = rw f at e in rw (symbol_same b ts us h, f) (ap tuple_fields (fields_kept b (bumped ts) (bumped us) (after_symbol b 40 ts us refl h f) g).value))
-    (λ f. rw (symbol_same b ts us h, f) refl)
-
--- ---- fields that anything may stand at
-
-field_until : (b : Bodies) → UpTo b field
-unfolding field
-field_until b ts us h =
-    by_kept (outer_attributes_until b ts us h) (λ g. gone (gone_on g (through (visibility_leads _) (through (reached_leads _ _) (eat_leads _ _)))))
-    (λ k. let v = visibility_local b (outer_attributes ts).1 (outer_attributes us).1 k.rest in
-    let f = behind_field_beside b (visibility (outer_attributes ts).1).1 (visibility (outer_attributes us).1).1 v.rest in
-    let e = eat_local b 44 refl _ _ f in
-    kept (record { value = v.value; rest = e.rest }))
-
-fields_until : (b : Bodies) → UpTo b fields
-unfolding fields
-fields_until b = elements_until b (one field) (one_until b field (field_until b)) field_leads
-
-both_some : {b : Bodies} {o o' : Option Tokens} → BothBeside b o o' → is_some o' ≡ is_some o
-both_some passing.neither = refl
-both_some (passing.both t u h) = refl
-
-struct_fields_same : (b : Bodies) (has has' : Bool) (ts us : Tokens) → has' ≡ has → Beside b ts us → are_bare_fields (behind_angles ts) ≡ true → struct_fields has' us ≡ struct_fields has ts
-unfolding struct_fields
-struct_fields_same b has has' ts us e h f = rw e (fields_at_same b has (behind_angles ts) (behind_angles us) (behind_angles_beside b ts us h) f)
 
 -- ---- items
 
@@ -309,16 +213,9 @@ module _ (b : Bodies) (plain : BeginPlain b) (end : ℕ) (attrs : List MetaView)
       by (not_same g f) = lost_block (implementation attrs ts) (impl_end ts).0.block (impl_end ts).1.past (impl_end_braces ts) g f
       by (both_same e) = some_alike (implementation_local b attrs ts us h e)
 
-  -- where it ends with a semicolon, they stand in it
-  ended_structure : ends_plain (named ts).1 ≡ true → LeafUntil b (some_read (structure attrs v ts)) (some_read (structure attrs v us))
-  unfolding structure struct_fields
-  ended_structure plain_end =
-      when (symbol (behind_angles x) == 40)
-      (λ f. by_kept (fields_until b (bumped (behind_angles x)) (bumped (behind_angles (named us).1)) (after_symbol b 40 (behind_angles x) (behind_angles (named us).1) refl angles f))
-      (λ g. lost_block (structure attrs v ts) (item_end x).0.block (item_end x).1.past (item_end_braces x) (gone_on g (fields_within end x sound f parts.0 none))
-      (λ t o z. let no : None ≡ Some t = sym none ∙ o in absurd cc))
-      (λ k. some_alike (structure_local b attrs v ts us h (rw (both_some r.value, symbol_same b (behind_angles x) (behind_angles (named us).1) angles, f) (ap tuple_fields k.value)))))
-      (λ f. some_alike (structure_local b attrs v ts us h (rw (both_some r.value, symbol_same b (behind_angles x) (behind_angles (named us).1) angles, f) refl)))
+  structure_until : LeafUntil b (some_read (structure attrs v ts)) (some_read (structure attrs v us))
+  unfolding structure
+  structure_until = by (struct_fields_same b plain.new_behind x (named us).1 (item_end x).1 (item_end (named us).1).1 (item_end x).0.block (item_end (named us).1).0.block n.rest r.rest r.value)
     where
       x : Tokens
       x = (named ts).1
@@ -329,31 +226,11 @@ module _ (b : Bodies) (plain : BeginPlain b) (end : ℕ) (attrs : List MetaView)
       r : KeptBy (RestAlike b) b (item_end (named ts).1) (item_end (named us).1)
       r = item_end_local b (named ts).1 (named us).1 n.rest
 
-      sound : IsSound end x
-      sound = sound_on end (named_leads ts) l
-
-      angles : Beside b (behind_angles x) (behind_angles (named us).1)
-      angles = behind_angles_beside b x (named us).1 n.rest
-
-      parts : ((item_end x).0.is_ended ≡ true) × (is_none (item_end x).0.block ≡ true)
-      parts = and_parts (item_end x).0.is_ended (is_none (item_end x).0.block) plain_end
-
-      by_none : (o : Option Tokens) → is_none o ≡ true → o ≡ None
-      by_none None e = refl
-      by_none (Some t) e = absurd cc
-
-      none : (item_end x).0.block ≡ None
-      none = by_none (item_end x).0.block parts.1
-
-  structure_until : has_bare_fields ts ≡ true → LeafUntil b (some_read (structure attrs v ts)) (some_read (structure attrs v us))
-  unfolding has_bare_fields
-  structure_until told =
-      let n = named_local b ts us h in
-      let r = item_end_local b (named ts).1 (named us).1 n.rest in
-      when (ends_plain (named ts).1) (λ e. ended_structure e)
-      (λ e. let bare = rw e at told in
-      some_alike (structure_local b attrs v ts us h
-      (struct_fields_same b (is_some (item_end (named ts).1).0.block) (is_some (item_end (named us).1).0.block) (named ts).1 (named us).1 (both_some r.value) n.rest bare)))
+      by : SameFields b (item_end x).0.block (item_end x).1 (fields_of x) (fields_of (named us).1) → LeafUntil b (some_read (structure attrs v ts)) (some_read (structure attrs v us))
+      by (header_gone g) =
+          let i = item_gone b end (laid.behind end (named_leads ts) l.laid).laid (item_end_block x) g in
+          lost_block (structure attrs v ts) (item_end x).0.block (item_end x).1.past (item_end_braces x) i.gone i.free
+      by (fields_same e) = some_alike (structure_local b attrs v ts us h e)
 
   use_until : LeafUntil b (some_read (use_declaration attrs v ts)) (some_read (use_declaration attrs v us))
   unfolding use_declaration
@@ -399,27 +276,27 @@ module _ (b : Bodies) (plain : BeginPlain b) (end : ℕ) (attrs : List MetaView)
 
 -- ---- all kinds
 
-leaf_by_until : (b : Bodies) → BeginPlain b → (end : ℕ) (k : Head) (attrs : List MetaView) (v : Option Visibility) (ts us : Tokens) → IsSound end ts → Beside b ts us → (k ≡ heads.Struct → has_bare_fields ts ≡ true) → LeafUntil b (leaf_by k attrs v ts) (leaf_by k attrs v us)
+leaf_by_until : (b : Bodies) → BeginPlain b → (end : ℕ) (k : Head) (attrs : List MetaView) (v : Option Visibility) (ts us : Tokens) → IsSound end ts → Beside b ts us → LeafUntil b (leaf_by k attrs v ts) (leaf_by k attrs v us)
 unfolding trait_item union_item enumeration
-leaf_by_until b plain end heads.Use attrs v ts us l h bare = use_until b plain end attrs v ts us l h
-leaf_by_until b plain end heads.ExternCrate attrs v ts us l h bare = some_alike (crate_item_local b attrs v ts us h)
-leaf_by_until b plain end heads.Fn attrs v ts us l h bare = function_until b plain end attrs v ts us l h
-leaf_by_until b plain end heads.Impl attrs v ts us l h bare = implementation_until b plain end attrs v ts us l h
-leaf_by_until b plain end heads.Trait attrs v ts us l h bare = some_alike (block_item_local b trait_kind attrs v ts us h)
-leaf_by_until b plain end heads.Struct attrs v ts us l h bare = structure_until b plain end attrs v ts us l h (bare refl)
-leaf_by_until b plain end heads.Union attrs v ts us l h bare = some_alike (block_item_local b union_kind attrs v ts us h)
-leaf_by_until b plain end heads.Enum attrs v ts us l h bare = some_alike (block_item_local b enum_kind attrs v ts us h)
-leaf_by_until b plain end heads.Const attrs v ts us l h bare = some_alike (constant_local b attrs v ts us h)
-leaf_by_until b plain end heads.Static attrs v ts us l h bare = some_alike (static_local b attrs v ts us h)
-leaf_by_until b plain end heads.TypeAlias attrs v ts us l h bare = some_alike (type_alias_local b attrs v ts us h)
-leaf_by_until b plain end heads.MacroDef attrs v ts us l h bare = some_alike (macro_def_local b attrs v ts us h)
-leaf_by_until b plain end heads.MacroRules attrs v ts us l h bare = some_alike (macro_definition_local b attrs ts us h)
-leaf_by_until b plain end _ attrs v ts us l h bare = invocation_until b plain end attrs v ts us l h
+leaf_by_until b plain end heads.Use attrs v ts us l h = use_until b plain end attrs v ts us l h
+leaf_by_until b plain end heads.ExternCrate attrs v ts us l h = some_alike (crate_item_local b attrs v ts us h)
+leaf_by_until b plain end heads.Fn attrs v ts us l h = function_until b plain end attrs v ts us l h
+leaf_by_until b plain end heads.Impl attrs v ts us l h = implementation_until b plain end attrs v ts us l h
+leaf_by_until b plain end heads.Trait attrs v ts us l h = some_alike (block_item_local b trait_kind attrs v ts us h)
+leaf_by_until b plain end heads.Struct attrs v ts us l h = structure_until b plain end attrs v ts us l h
+leaf_by_until b plain end heads.Union attrs v ts us l h = some_alike (block_item_local b union_kind attrs v ts us h)
+leaf_by_until b plain end heads.Enum attrs v ts us l h = some_alike (block_item_local b enum_kind attrs v ts us h)
+leaf_by_until b plain end heads.Const attrs v ts us l h = some_alike (constant_local b attrs v ts us h)
+leaf_by_until b plain end heads.Static attrs v ts us l h = some_alike (static_local b attrs v ts us h)
+leaf_by_until b plain end heads.TypeAlias attrs v ts us l h = some_alike (type_alias_local b attrs v ts us h)
+leaf_by_until b plain end heads.MacroDef attrs v ts us l h = some_alike (macro_def_local b attrs v ts us h)
+leaf_by_until b plain end heads.MacroRules attrs v ts us l h = some_alike (macro_definition_local b attrs ts us h)
+leaf_by_until b plain end _ attrs v ts us l h = invocation_until b plain end attrs v ts us l h
 
-pub leaf_until : (b : Bodies) → BeginPlain b → (end : ℕ) (f g : FrontRead) (ts us : Tokens) → FrontAlike f g → IsSound end ts → Beside b ts us → (f.head ≡ heads.Struct → has_bare_fields ts ≡ true) → LeafUntil b (leaf f ts) (leaf g us)
+pub leaf_until : (b : Bodies) → BeginPlain b → (end : ℕ) (f g : FrontRead) (ts us : Tokens) → FrontAlike f g → IsSound end ts → Beside b ts us → LeafUntil b (leaf f ts) (leaf g us)
 unfolding leaf
-leaf_until b plain end f g ts us a l h bare =
-    rw (a.head, a.attrs, a.visibility) (leaf_by_until b plain end f.head f.attrs f.visibility ts us l h bare)
+leaf_until b plain end f g ts us a l h =
+    rw (a.head, a.attrs, a.visibility) (leaf_by_until b plain end f.head f.attrs f.visibility ts us l h)
 
 -- what is left has gone into the braces, and they are not those of the item
 pub record LeafLost (b : Bodies) (p : Option LeafRead × Tokens) : Type 0 where
@@ -438,72 +315,3 @@ leaf_gone b end h ts l g = record { gone = gone_on g (leads (leaf h ts).0 (leaf_
     some m r e d s p =
         let is : LeafAt ts (leaf h ts).1 (Some m) = subst (LeafAt ts (leaf h ts).1) e p in
         braced_gone b end r l.laid g (subst (λ (o : Option TextRange). IsBraced ts (leaf h ts).1 o) d is.body) s
-
--- ---- the structs of a text
-
--- where what is left is sound, and fields in parentheses are bare
-pub record IsFit (end : ℕ) (ts : Tokens) : Type 0 where
-  pub sound : IsSound end ts
-  pub bare : (us : Tokens) → LeadsTo ts us → bytes_eq (word us) (codes "struct") ≡ true → has_bare_fields (bumped us) ≡ true
-
-pub fit_on : {ts us : Tokens} (end : ℕ) → LeadsTo ts us → IsFit end ts → IsFit end us
-fit_on end p f = record { sound = sound_on end p f.sound; bare = λ vs q. f.bare vs (through p q) }
-
-pick : (P : Head → Type 0) (t : Bool) {x y : Head} → (t ≡ true → P x) → P y → P (if t then x else y)
-pick P true p q = p refl
-pick P false p q = q
-
--- the word of a struct
-struct_word : (w : List ℕ) (next : Tokens) → head_by w next ≡ heads.Struct → bytes_eq w (codes "struct") ≡ true
-unfolding head_by union_head macro_rules_head extern_head
-struct_word w next =
-    pick Is (bytes_eq w (codes "use")) (λ _ e. absurd cc) (pick Is (bytes_eq w (codes "fn")) (λ _ e. absurd cc) (pick Is (bytes_eq w (codes "impl")) (λ _ e. absurd cc)
-    (pick Is (bytes_eq w (codes "trait")) (λ _ e. absurd cc) (pick Is (bytes_eq w (codes "struct")) (λ t e. t) (pick Is (bytes_eq w (codes "enum")) (λ _ e. absurd cc)
-    (pick Is (bytes_eq w (codes "const")) (λ _ e. absurd cc) (pick Is (bytes_eq w (codes "static")) (λ _ e. absurd cc) (pick Is (bytes_eq w (codes "type")) (λ _ e. absurd cc)
-    (pick Is (bytes_eq w (codes "mod")) (λ _ e. absurd cc) (pick Is (bytes_eq w (codes "macro")) (λ _ e. absurd cc)
-    (pick Is (bytes_eq w (codes "union")) (λ _. pick Is (has_name next) (λ _ e. absurd cc) (λ e. absurd cc))
-    (pick Is (bytes_eq w (codes "macro_rules")) (λ _. pick Is (symbol next == 33 && is_at_identifier (bumped next)) (λ _ e. absurd cc) (λ e. absurd cc))
-    (pick Is (bytes_eq w (codes "extern")) (λ _. pick Is (bytes_eq (word next) (codes "crate")) (λ _ e. absurd cc) (pick Is (symbol (behind_abi next) == 123) (λ _ e. absurd cc) (λ e. absurd cc))) (λ e. absurd cc))))))))))))))
-  where
-    Is : Head → Type 0
-    Is k = k ≡ heads.Struct → bytes_eq w (codes "struct") ≡ true
-
-head_struct : (ts : Tokens) → (head ts).0 ≡ heads.Struct → (head ts).1 ≡ bumped ts
-unfolding head
-head_struct ts e = ap (λ (k : Head). behind_head k ts) e
-
-named_struct : (ts : Tokens) → (head ts).0 ≡ heads.Struct → bytes_eq (word ts) (codes "struct") ≡ true
-unfolding head
-named_struct ts e = struct_word (word ts) (bumped ts) e
-
-head_bare : (end : ℕ) (ts : Tokens) → IsFit end ts → (head ts).0 ≡ heads.Struct → has_bare_fields (head ts).1 ≡ true
-head_bare end ts f e = ap has_bare_fields (head_struct ts e) ∙ f.bare ts here (named_struct ts e)
-
-pub front_bare : (end : ℕ) (ts : Tokens) → IsFit end ts → (front ts).0.head ≡ heads.Struct → has_bare_fields (front ts).1 ≡ true
-unfolding front front_behind
-front_bare end ts f e = head_bare end _ (fit_on end (through (outer_attributes_leads ts) (through (visibility_leads _) (behind_modifiers_leads _))) f) e
-
-first_bare : (ts : Tokens) (left : List Piece) → have_bare_from ts left ≡ true → by_first true (λ _. false) left ≡ false → bytes_eq (word ts) (codes "struct") ≡ true → has_bare_fields (bumped ts) ≡ true
-first_bare ts [] e n w = absurd cc
-first_bare ts (t ∷ more) e n w = let f = rw w at e in (and_parts (has_bare_fields (bumped ts)) (have_bare_from (bumped ts) more) f).0
-
-next_bare : (ts : Tokens) (left : List Piece) → have_bare_from ts left ≡ true → have_bare_from (bumped ts) (rest left) ≡ true
-next_bare ts [] e = refl
-next_bare ts (t ∷ more) e = (and_parts (if bytes_eq (word ts) (codes "struct") then has_bare_fields (bumped ts) else true) (have_bare_from (bumped ts) more) e).1
-
-some_first : (ts : Tokens) → is_empty ts ≡ false → by_first true (λ _. false) ts.left ≡ false
-unfolding is_empty
-some_first ts e = e
-
-next_left : (ts : Tokens) → (bumped ts).left ≡ rest ts.left
-unfolding bumped
-next_left ts = refl
-
-bare_on : {ts us : Tokens} → LeadsTo ts us → have_bare_from ts ts.left ≡ true → bytes_eq (word us) (codes "struct") ≡ true → has_bare_fields (bumped us) ≡ true
-bare_on {ts} here e w = first_bare ts ts.left e (some_first ts (word_some (codes "struct") refl ts w)) w
-bare_on {ts} (further p) e w = bare_on p (subst (λ (l : List Piece). have_bare_from (bumped ts) l ≡ true) (sym (next_left ts)) (next_bare ts ts.left e)) w
-
--- where all are bare
-pub all_bare : (end : ℕ) (ts : Tokens) → IsSound end ts → have_bare_fields ts ≡ true → IsFit end ts
-unfolding have_bare_fields
-all_bare end ts s e = record { sound = s; bare = λ us p w. bare_on p e w }

@@ -1,38 +1,39 @@
--- The fields of a struct that ends with a semicolon stand in it.
-use Rattle.std.proofs.Common.{◌≡◌, ◌==◌, ℕ, true, None, refl}
+-- The fields of a struct: what is left behind one, and none are read behind the end of the header.
+use Rattle.std.proofs.Common.{◌≡◌, ◌≤◌, ◌==◌, ◌||◌, ℕ, Bool, true, false, Option, None, refl, arith}
+use Rattle.std.specs.Prelude.{if◌then◌else◌, not}
+use Rattle.std.proofs.lemmas.Bool.Decides.{nat_tests}
+use Rattle.hir_input.specs.declared.ast.Visibility.{Visibility}
 use Rattle.rust_cursor.specs.Tokens.{Tokens}
-use Rattle.rust_cursor.specs.Words.{symbol, bumped}
-use Rattle.rust_cursor.specs.Elements.{one}
-use Rattle.rust_cursor.specs.Angles.{behind_angles, behind_field}
-use Rattle.rust_cursor.proofs.Leads.{LeadsTo, through, Forwards, bumped_leads, behind_angles_leads, reached_leads, eat_leads}
-use Rattle.rust_cursor.proofs.Around.{IsSound, sound_on, Remains, same_within, behind_field_within, eat_around, elements_within, to_around}
-use Rattle.rust_cursor.proofs.Lockstep.{round_enclosed}
-use Rattle.rust_paths.specs.Visibilities.{visibility}
+use Rattle.rust_cursor.specs.Words.{symbol, is_at_end, eat}
+use Rattle.rust_cursor.specs.Angles.{behind_field}
+use Rattle.rust_cursor.proofs.Leads.{LeadsTo, through, Forwards, when, reached_leads, eat_leads}
 use Rattle.rust_paths.proofs.Leads.{visibility_leads}
-use Rattle.rust_paths.proofs.Around.{visibility_within}
-use Rattle.rust_metas.specs.Attributes.{outer_attributes}
 use Rattle.rust_metas.proofs.Leads.{outer_attributes_leads}
-use Rattle.rust_metas.proofs.Around.{outer_attributes_within}
-use Rattle.rust_leaves.specs.Leaves.{item_end, field, fields}
+use Rattle.rust_leaves.specs.Leaves.{is_before, field, are_over, symbol_before}
 
-pub field_leads : Forwards field
+-- behind its visibility
+pub type_leads : (ts : Tokens) → LeadsTo ts (eat 44 (behind_field ts)).1
+type_leads ts = through (reached_leads _ ts) (eat_leads 44 _)
+
+pub field_leads : (end : ℕ) → Forwards (field end)
 unfolding field
-field_leads ts = through (outer_attributes_leads ts) (through (visibility_leads _) (through (reached_leads _ _) (eat_leads _ _)))
+field_leads end ts = through (outer_attributes_leads ts) (through (visibility_leads _) (type_leads _))
 
-field_within : (end c : ℕ) → Remains end c field
-unfolding field
-field_within end c ts s =
-    let first = (outer_attributes ts).1 in
-    let second = (visibility first).1 in
-    let third = behind_field second in
-    let s1 = sound_on end (outer_attributes_leads ts) s in
-    let s2 = sound_on end (visibility_leads first) s1 in
-    through (same_within c _ third (eat_around c 44 third refl)) (through (behind_field_within end c second s2) (through (visibility_within end c first s1) (outer_attributes_within end c ts s)))
+-- ---- behind the end
 
--- what is left of those in round brackets comes to what is left of the struct, which begins behind its name
-pub fields_within : (end : ℕ) (ts : Tokens) → IsSound end ts → (symbol (behind_angles ts) == 40) ≡ true → (item_end ts).0.is_ended ≡ true → (item_end ts).0.block ≡ None → LeadsTo (fields (bumped (behind_angles ts))).1 (item_end ts).1
-unfolding fields item_end
-fields_within end ts s e h b =
-    let inner = bumped (behind_angles ts) in
-    let s1 = sound_on end (through (behind_angles_leads ts) (bumped_leads (behind_angles ts))) s in
-    through (to_around 40 (fields inner).1) (through (elements_within end 40 (one field) field_leads (field_within end 40) inner s1) (round_enclosed ts e h b))
+pub not_before : (end : ℕ) (ts : Tokens) → end ≤ ts.past → is_before end ts ≡ false
+not_before end ts h = grind (arith, nat_tests)
+
+pub over_ends : (end : ℕ) (ts : Tokens) → end ≤ ts.past → are_over end ts ≡ true
+over_ends end ts h = rw (not_before end ts h) (or_true (is_at_end ts))
+  where
+    or_true : (t : Bool) → (t || not false) ≡ true
+    or_true true = refl
+    or_true false = refl
+
+-- no visibility is read there
+pub none_seen : (t t' : Bool) (v v' : Option Visibility) → t ≡ false → t' ≡ false → (if t' then v' else None) ≡ (if t then v else None)
+none_seen t t' v v' e f = rw (e, f) refl
+
+pub symbol_is : (end : ℕ) (ts : Tokens) → (symbol_before end ts == 40) ≡ true → (symbol ts == 40) ≡ true
+symbol_is end ts e = when (is_before end ts) (λ t. rw t at e) (λ t. absurd (let no = rw t at e in cc))

@@ -99,7 +99,8 @@ structure attrs visibility = do
   n ← named
   header ← look here
   r ← item_end
-  pure (leaf_read (struct_item (named_node attrs n.name visibility r.body) (struct_fields (is_some r.block) header)) kind.Struct n r)
+  end ← look past
+  pure (leaf_read (struct_item (named_node attrs n.name visibility r.body) (struct_fields end r.block header)) kind.Struct n r)
 
 -- Implementation
 unfoldable pub implementation : List MetaView → Reader LeafRead

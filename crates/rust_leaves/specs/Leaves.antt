@@ -1,5 +1,5 @@
 -- What items are made of, but for those that hold items.
-use Rattle.std.specs.Prelude.{ℕ, Bool, false, ◌==◌, ◌&&◌, ◌||◌, if◌then◌else◌, Option, Some, None, List, [], codes}
+use Rattle.std.specs.Prelude.{ℕ, nat_lt, Bool, false, not, ◌==◌, ◌&&◌, ◌||◌, if◌then◌else◌, Option, Some, None, is_some, List, [], codes}
 use Rattle.std.specs.Str.{bytes_eq}
 use Rattle.hir_input.specs.declared.ids.AstIdKind.{AstIdKind}
 use Rattle.hir_input.specs.declared.ast.Rename.{Rename}
@@ -8,8 +8,8 @@ use Rattle.hir_input.specs.Attr.{MetaView}
 use Rattle.hir_input.specs.Syntax.{FieldsView, ItemView, record_fields, tuple_fields, no_fields}
 use Rattle.rust_cursor.specs.Tokens.{Tokens}
 use Rattle.rust_cursor.specs.Reader.{Reader, ◌>>=◌, pure, look, pass}
-use Rattle.rust_cursor.specs.Words.{symbol, word, text, at, eat, eat_word, bumped, is_at_open}
-use Rattle.rust_cursor.specs.Elements.{elements, one}
+use Rattle.rust_cursor.specs.Words.{symbol, word, text, at, eat, eat_word, bumped, is_at_open, is_at_end}
+use Rattle.rust_cursor.specs.Elements.{turns, one}
 use Rattle.rust_cursor.specs.Extents.{ExcerptRead, tree_body, impl_rest, item_rest, macro_rest, value_rest}
 use Rattle.rust_cursor.specs.Angles.{behind_angles, behind_field, is_trait_impl}
 use Rattle.rust_paths.specs.declared.names.TextRange.{TextRange}
@@ -150,27 +150,51 @@ unfoldable pub block_attributes : Option Tokens → List MetaView
 block_attributes None = []
 block_attributes (Some block) = (inner_attributes (bumped block)).0
 
--- TupleField: its visibility; attributes and the type are passed over
-unfoldable pub field : Reader (Option Visibility)
-field = do
-  _ ← outer_attributes
+-- what is left begins before this place
+abbrev pub is_before : ℕ → Tokens → Bool
+is_before end ts = nat_lt ts.past end
+
+-- a visibility that ends before this place
+abbrev pub visibility_before : ℕ → Reader (Option Visibility)
+visibility_before end = do
   v ← visibility
+  is_in ← look (is_before end)
+  pure (if is_in then v else None)
+
+-- TupleField, of a header that ends at this place: its visibility; attributes and the type are passed over
+unfoldable pub field : ℕ → Reader (Option Visibility)
+field end = do
+  _ ← outer_attributes
+  v ← visibility_before end
   _ ← pass behind_field
   _ ← eat 44
   pure v
 
-unfoldable pub fields : Reader (List (Option Visibility))
-fields = elements (one field)
+-- no field begins here
+abbrev pub are_over : ℕ → Tokens → Bool
+are_over end ts = is_at_end ts || not (is_before end ts)
+
+unfoldable pub fields : ℕ → Reader (List (Option Visibility))
+fields end = turns (are_over end) (one (field end))
+
+-- the symbol that comes next before this place, or 0
+abbrev pub symbol_before : ℕ → Tokens → ℕ
+symbol_before end ts = if is_before end ts then symbol ts else 0
 
 -- behind a `where`, the fields are in the braces that the struct ends with
-abbrev pub fields_at : Bool → Tokens → FieldsView
-fields_at has_block ts =
-    if symbol ts == 40 then tuple_fields (fields (bumped ts)).0
-    else (if symbol ts == 123 || has_block then record_fields else no_fields)
+abbrev pub fields_at : Bool → ℕ → Tokens → FieldsView
+fields_at has_block end ts =
+    if symbol_before end ts == 40 then tuple_fields (fields end (bumped ts)).0
+    else (if symbol_before end ts == 123 || has_block then record_fields else no_fields)
 
--- StructStruct or TupleStruct: what stands behind a struct's name and generics
-unfoldable pub struct_fields : Bool → Tokens → FieldsView
-struct_fields has_block ts = fields_at has_block (behind_angles ts)
+-- the header of an item that ends at this place ends there too, or before the braces that the item ends with
+abbrev pub header_end : ℕ → Option Tokens → ℕ
+header_end end None = end
+header_end end (Some block) = block.past
+
+-- StructStruct or TupleStruct: what stands in a struct's header behind its name and generics
+unfoldable pub struct_fields : ℕ → Option Tokens → Tokens → FieldsView
+struct_fields end block ts = fields_at (is_some block) (header_end end block) (behind_angles ts)
 
 -- behind `impl`, of an impl that ends at this place: the items are those of a trait
 unfoldable pub has_trait : ℕ → Tokens → Bool

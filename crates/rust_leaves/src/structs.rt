@@ -27,64 +27,116 @@ pub(crate) fn has_trait(header: &Cursor<'_>, end: usize) -> bool
     behind.is_trait_impl(end)
 }
 
+/// Whether what is left begins before a place.
+fn is_before(cursor: &Cursor<'_>, end: usize) -> bool
+    ensures { result ≡ spec.is_before end cursor.now }
+{
+    cursor.past() < end
+}
+
+fn visibility_before(
+    alloc: Global,
+    cursor: &mut Cursor<'_>,
+    end: usize,
+) -> Result<Option<Visibility>, AllocError>
+    ensures { Gives (λ v. v) (spec.visibility_before end cursor.old) result cursor.new }
+{
+    let visibility = visibility(alloc, cursor)?;
+    if is_before(cursor, end) {
+        return Ok(visibility);
+    }
+    Ok(None)
+}
+
 #[tactic(auto, unfolding(crate::specs::Leaves::field))]
-fn field(alloc: Global, cursor: &mut Cursor<'_>) -> Result<TupleField, AllocError>
-    ensures { Gives field_view (spec.field cursor.old) result cursor.new }
+fn field(alloc: Global, cursor: &mut Cursor<'_>, end: usize) -> Result<TupleField, AllocError>
+    ensures { Gives field_view (spec.field end cursor.old) result cursor.new }
 {
     let _attrs = outer_attributes(alloc, cursor)?;
-    let visibility = visibility(alloc, cursor)?;
+    let visibility = visibility_before(alloc, cursor, end)?;
     cursor.pass_field();
     cursor.eat(b',');
     Ok(TupleField { visibility })
 }
 
+fn are_over(cursor: &Cursor<'_>, end: usize) -> bool
+    ensures { result ≡ spec.are_over end cursor.now }
+{
+    cursor.is_at_end() || !is_before(cursor, end)
+}
+
 #[tactic(auto, unfolding(crate::specs::Leaves::fields, rust_cursor::specs::Elements::turns), using(rust_cursor::proofs::Turns::turns_stop))]
-fn fields(alloc: Global, cursor: &mut Cursor<'_>) -> Result<Vec<TupleField>, AllocError>
-    ensures { Gives (λ v. map field_view v.items) (spec.fields cursor.old) result cursor.new }
+fn fields(
+    alloc: Global,
+    cursor: &mut Cursor<'_>,
+    end: usize,
+) -> Result<Vec<TupleField>, AllocError>
+    ensures { Gives (λ v. map field_view v.items) (spec.fields end cursor.old) result cursor.new }
 {
     let mut fields = Vec::new(alloc);
     let most = Cursor::most_turns();
     for _turn in 0..most {
-        if cursor.is_at_end() {
+        if are_over(cursor, end) {
             break;
         }
         let past = cursor.past();
-        let field = field(alloc, cursor)?;
+        let field = field(alloc, cursor, end)?;
         fields.push(field)?;
         cursor.pass_beyond(past);
     }
     Ok(fields)
 }
 
+fn symbol_before(cursor: &Cursor<'_>, end: usize) -> u8
+    ensures { result ≡ spec.symbol_before end cursor.now }
+{
+    if is_before(cursor, end) {
+        return cursor.symbol();
+    }
+    0
+}
+
 fn fields_at(
     alloc: Global,
     cursor: &mut Cursor<'_>,
     has_block: bool,
+    end: usize,
 ) -> Result<StructKind, AllocError>
-    ensures { IfOk result (λ kind. fields_view kind ≡ spec.fields_at has_block cursor.old) }
+    ensures { IfOk result (λ kind. fields_view kind ≡ spec.fields_at has_block end cursor.old) }
 {
-    if cursor.symbol() == b'(' {
+    let symbol = symbol_before(cursor, end);
+    if symbol == b'(' {
         cursor.bump();
-        return Ok(StructKind::Tuple(fields(alloc, cursor)?));
+        return Ok(StructKind::Tuple(fields(alloc, cursor, end)?));
     }
-    if cursor.symbol() == b'{' || has_block {
+    if symbol == b'{' || has_block {
         return Ok(StructKind::Record);
     }
     Ok(StructKind::Unit)
 }
 
-/// How the fields of a struct are written, behind its name, where the struct ends with braces or not.
+fn header_end(end: usize, block: &Option<Cursor<'_>>) -> usize
+    ensures { result ≡ spec.header_end end block.now }
+{
+    match block {
+        Some(block) => block.past(),
+        None => end,
+    }
+}
+
+/// How the fields of a struct are written, behind its name, where the struct ends at a place, and with braces or not.
 #[tactic(auto, unfolding(crate::specs::Leaves::struct_fields))]
 fn struct_fields(
     alloc: Global,
     header: &Cursor<'_>,
-    has_block: bool,
+    end: usize,
+    block: &Option<Cursor<'_>>,
 ) -> Result<StructKind, AllocError>
-    ensures { IfOk result (λ kind. fields_view kind ≡ spec.struct_fields has_block header.now) }
+    ensures { IfOk result (λ kind. fields_view kind ≡ spec.struct_fields end block.now header.now) }
 {
     let mut behind = header.ahead();
     behind.pass_angles();
-    fields_at(alloc, &mut behind, has_block)
+    fields_at(alloc, &mut behind, block.is_some(), header_end(end, block))
 }
 
 #[tactic(auto, unfolding(crate::specs::Kinds::structure), using(hir_input::proofs::SyntaxViews::item_views))]
@@ -99,7 +151,7 @@ pub(crate) fn structure<'t>(
     let named = item_name(alloc, cursor)?;
     let header = cursor.ahead();
     let rest = item_end(alloc, cursor)?;
-    let kind = struct_fields(alloc, &header, rest.block.is_some())?;
+    let kind = struct_fields(alloc, &header, cursor.past(), &rest.block)?;
     let item = Item::Struct(Struct {
         hash: 0,
         number: 0,

@@ -18,20 +18,18 @@ use Rattle.rust_lexer.proofs.Whole.{plain_is, filter_moved}
 use Rattle.rust_cursor.specs.Elements.{most, beyond}
 use Rattle.rust_cursor.specs.Tokens.{Tokens, tokens_of}
 use Rattle.rust_cursor.specs.Words.{by_first, at, is_empty}
-use Rattle.rust_cursor.proofs.High.{tokens_proper}
+use Rattle.rust_ranges.proofs.High.{tokens_proper}
 use Rattle.rust_cursor.proofs.Laid.{IsLaid, behind, at_behind, taken_behind, tokens_laid}
 use Rattle.rust_cursor.proofs.Leads.{LeadsTo, here, further, when, bumped_leads}
-use Rattle.rust_cursor.proofs.Near.{Ending, Near, near, is_last, are_ended}
-use Rattle.rust_cursor.proofs.NearUntil.{more_left}
-use Rattle.rust_leaves.specs.declared.head.Head.TheVariants as heads
-use Rattle.rust_leaves.specs.Fronts as fronts
+use Rattle.rust_ranges.proofs.Near.{Ending, Near, near, is_last, are_ended}
+use Rattle.rust_ranges.proofs.NearUntil.{more_left}
 use Rattle.rust_ranges.specs.Parts.{ended, IsPart, tokens_behind}
 use Rattle.rust_items.specs.Found.{Found, nothing_found}
 use Rattle.rust_items.specs.SourceFiles.{read_of}
 use Rattle.rust_ranges.proofs.Inner.{no_inner, turn_none}
 use Rattle.rust_items.specs.Items.{finding_from, finding, is_list_end, turn, items}
 use Rattle.rust_ranges.proofs.NearItems.{FoundNear, FoundAlike, flat, is_sound}
-use Rattle.rust_ranges.proofs.NearLeaves.{IsWhole, Given, Ends, passes, before_end, at_end}
+use Rattle.rust_ranges.proofs.NearLeaves.{Given, Ends, passes, before_end, at_end}
 use Rattle.rust_ranges.proofs.NearTurns.{turn_ends}
 use Rattle.rust_items.proofs.Places.{turn_found}
 
@@ -172,14 +170,14 @@ alone {m = m} edition b text f ts us is some h laid (at_end t a) sound ends =
 pub item_alone : (n : ℕ) (edition : EditionYear) (u : Option ℕ) (q w : List ℕ) (o : Stop) (y : List ℕ) (f : Found) → IsPart q w o y → is_last (stop o) ≡ true
     → (let ts = tokens_behind edition u q (w ++ stop o ∷ y) in
     let r = turn 128 f ts in
-    IsLaid n ts → ((vs : Tokens) → LeadsTo ts vs → (fronts.front vs).0.head ≡ heads.Struct → IsWhole (fronts.front vs).1) → is_sound (at ts) (r.0, r.1.0) ≡ true → length r.1.1.left ≡ length (part_in edition u q w o y).behind
+    IsLaid n ts → is_sound (at ts) (r.0, r.1.0) ≡ true → length r.1.1.left ≡ length (part_in edition u q w o y).behind
     → StandsAlone edition (part_in edition u q w o y) (ended w o) f r)
-item_alone n edition u q w o y f p e laid whole sound ends =
+item_alone n edition u q w o y f p e laid sound ends =
     let b = part_in edition u q w o y in
     let ts = tokens_behind edition u q (w ++ stop o ∷ y) in
     let us = tokens_of edition (ended w o) in
     let m = length (ended w o) in
     let last = part_ended edition q w o y p e in
     let h = part_near edition u q w o y p last in
-    let given : Given n m ts us = record { laid = laid; whole = whole; short = tokens_laid edition (ended w o); proper = tokens_proper edition (ended w o) } in
+    let given : Given n m ts us = record { laid = laid; short = tokens_laid edition (ended w o); proper = tokens_proper edition (ended w o) } in
     alone edition b (ended w o) f ts us refl (ended_some us last) h given.short (turn_ends n m 127 b f f nothing_found ts us given h (start_near b f)) sound ends

@@ -4,6 +4,7 @@ pub mod HighPaths
 pub mod NearMetas
 pub mod HighMetas
 pub mod NearFronts
+pub mod NearFields
 pub mod NearLeaves
 pub mod NearItems
 pub mod NearTurns

@@ -37,7 +37,7 @@ use Rattle.rust_items.specs.Items.{span_of, and_flaw, and_item, and_leaf, leaf_f
 use Rattle.rust_items.specs.LineEnds.{moved_span, moved_problem}
 use Rattle.rust_items.proofs.Leads.{function_leaf, trait_leaf, union_leaf, enum_leaf, struct_leaf, impl_leaf, crate_leaf, use_leaf, const_leaf, static_leaf, type_alias_leaf, macro_def_leaf, macro_rules_leaf, call_end_leads, named_leads, named_or_leads, renamed_leads, behind_others_leads, front_takes}
 use Rattle.rust_ranges.proofs.NearFronts.{FrontNear, front_until, behind_others_near}
-use Rattle.rust_ranges.proofs.NearLeaves.{IsWhole, some_on, LeafNear, Given, given_on, Ends, passes, before_end, at_end, SomeLeaf, no_leaf, one_leaf, leaf_ended, LeafEnds, leaf_ends, item_end_fewer, impl_end_fewer, macro_end_fewer, value_end_fewer, call_end_fewer}
+use Rattle.rust_ranges.proofs.NearLeaves.{some_on, LeafNear, Given, given_on, Ends, passes, before_end, at_end, SomeLeaf, no_leaf, one_leaf, leaf_ended, LeafEnds, leaf_ends, item_end_fewer, impl_end_fewer, macro_end_fewer, value_end_fewer, call_end_fewer}
 use Rattle.rust_items.proofs.Places.{Finds, extern_turn_found}
 
 -- ---- what is found
@@ -308,10 +308,10 @@ leaf_found_ends b before f g depth start start' {p = p} {q = q} s n (passes few 
 leaf_found_ends b before f g depth start start' {p = p} {q = q} s n (before_end k) = kept_leaf b before f g depth start start' p.1 q.1 s n k.rest p.0 q.0 k.value
 leaf_found_ends b before f g depth start start' {p = p} {q = q} s n (at_end t a) = ended_leaf b before f g depth start start' p.1 q.1 s n a p.0 q.0 t
 
-pub leaf_turn_ends : (n m : ℕ) (b : Ending) (before f g : Found) (depth : ℕ) (h h' : FrontRead) → FrontNear b h h' → (ts us : Tokens) → Given n m ts us → (h.head ≡ heads.Struct → IsWhole ts) → Near b ts us → FoundNear b before f g
+pub leaf_turn_ends : (n m : ℕ) (b : Ending) (before f g : Found) (depth : ℕ) (h h' : FrontRead) → FrontNear b h h' → (ts us : Tokens) → Given n m ts us → Near b ts us → FoundNear b before f g
     → TurnEnds b before h.start (leaf_turn depth h f ts) (leaf_turn depth h' g us)
 unfolding leaf_turn
-leaf_turn_ends n m b before f g depth h h' k ts us given whole w a = leaf_found_ends b before f g depth h.start h'.start k.start a (leaf_ends b h h' k ts us given whole w)
+leaf_turn_ends n m b before f g depth h h' k ts us given w a = leaf_found_ends b before f g depth h.start h'.start k.start a (leaf_ends b h h' k ts us given w)
 
 -- ---- extern blocks
 
@@ -359,7 +359,7 @@ extern_turn_long b depth n m before f g ts us given h a =
     (by_kept (front_until b ts us h)
     (λ o. extern_over b before f depth fr.0.start (leaf fr.0 fr.1).0 (leaf fr.0 fr.1).1 _ (let few = o.few in let less = fewer (leaf_leads fr.0 fr.1) in omega arith))
     (λ k. let given' = given_on given (front_leads ts) (front_leads us) in
-    by_ends (leaf_ends b fr.0 fr'.0 k.value fr.1 fr'.1 given' (given.whole ts here) k.rest)
+    by_ends (leaf_ends b fr.0 fr'.0 k.value fr.1 fr'.1 given' k.rest)
     (λ few. extern_over b before f depth fr.0.start (leaf fr.0 fr.1).0 (leaf fr.0 fr.1).1 _ few)
     (λ l. extern_under b before f g depth fr.0.start fr'.0.start (leaf fr.0 fr.1).1 (leaf fr'.0 fr'.1).1 k.value.start a l.rest (leaf fr.0 fr.1).0 (leaf fr'.0 fr'.1).0 l.value))))
   where

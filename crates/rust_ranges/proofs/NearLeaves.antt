@@ -16,15 +16,16 @@ use Rattle.rust_cursor.specs.Extents.{ExcerptRead, tree_body}
 use Rattle.rust_cursor.specs.Reader.{Reader}
 use Rattle.rust_cursor.specs.Tokens.{Tokens, end_of}
 use Rattle.rust_cursor.specs.Words.{by_first, rest, symbol, word, text, bumped, is_empty, eat, eat_word, is_at_open}
-use Rattle.rust_cursor.proofs.High.{height, Held, are_proper, proper_on, taken_high}
+use Rattle.rust_cursor.proofs.Enclosed.{item_enclosed}
+use Rattle.rust_ranges.proofs.High.{height, Held, are_proper, proper_on, taken_high}
 use Rattle.rust_lexer.specs.Piece.{Piece}
 use Rattle.rust_cursor.proofs.Nesting.{shorter}
 use Rattle.rust_cursor.proofs.Laid.{IsLaid, behind}
 use Rattle.rust_cursor.proofs.Leads.{LeadsTo, here, further, through, Forwards, when, HasBlock, no_block as no_block_at, block as block_at, taken_block, bumped_leads, eat_leads, eat_word_leads, reached_leads, behind_angles_leads, taken_leads_on, turns_leads}
-use Rattle.rust_cursor.proofs.Near.{both_true, Ending, Near, Gone, Onward, into, on, gone_on, by_next, onward_leads, bumped_onward, fewer, symbol_same, word_same, text_same, open_same, at_same, past_same, taken_same, word_test, after_word, after_symbol}
-use Rattle.rust_cursor.proofs.NearPassing.{behind_angles_near, reached_near}
-use Rattle.rust_cursor.proofs.NearTexts.{BlockNear, no_block, block, SameText, taken_outcome, taken_until, taken_fewer}
-use Rattle.rust_cursor.proofs.NearUntil.{UntilBy, UpTo, Kept, gone, kept, by_kept, cond_until, pass_until, then_until, elements_until, eat_until, eat_word_until, AtEnd, Outcome, lost, stays, comes, more_left, map_outcome, then_outcome, eat_outcome, eat_fewer}
+use Rattle.rust_ranges.proofs.Near.{both_true, Ending, Near, Gone, Onward, into, on, gone_on, by_next, onward_leads, bumped_onward, fewer, symbol_same, word_same, text_same, open_same, at_same, past_same, taken_same, word_test, after_word, after_symbol}
+use Rattle.rust_ranges.proofs.NearPassing.{behind_angles_near, reached_near}
+use Rattle.rust_ranges.proofs.NearTexts.{BlockNear, no_block, block, SameText, taken_outcome, taken_until, taken_fewer}
+use Rattle.rust_ranges.proofs.NearUntil.{UntilBy, UpTo, Kept, gone, kept, by_kept, cond_until, pass_until, then_until, elements_until, eat_until, eat_word_until, AtEnd, Outcome, lost, stays, comes, more_left, map_outcome, then_outcome, eat_outcome, eat_fewer}
 use Rattle.rust_paths.specs.declared.names.TextRange.{TextRange}
 use Rattle.rust_paths.specs.Names.{Placed, as_name}
 use Rattle.rust_paths.specs.Paths.{path}
@@ -37,13 +38,15 @@ use Rattle.rust_metas.specs.Attributes.{inner_attributes}
 use Rattle.rust_ranges.proofs.HighMetas.{inner_attributes_up}
 use Rattle.rust_metas.proofs.Leads.{outer_attributes_leads}
 use Rattle.rust_ranges.proofs.NearMetas.{inner_attributes_until, outer_attributes_until, next_past}
-use Rattle.rust_leaves.specs.Leaves.{NameRead, RestRead, LeafRead, no_name, name_read, named, next_range, named_or, alias, alias_if, renamed, rename_of, range_to, rest_read, bare_end, item_end, impl_end, macro_end, value_end, semicolon_end, call_end, block_attributes, field, fields, struct_fields, has_trait}
+use Rattle.rust_leaves.specs.Leaves.{NameRead, RestRead, LeafRead, no_name, name_read, named, next_range, named_or, alias, alias_if, renamed, rename_of, range_to, rest_read, bare_end, item_end, impl_end, macro_end, value_end, semicolon_end, call_end, block_attributes, has_trait}
 use Rattle.rust_leaves.specs.Kinds.{node, named_node, leaf_read, plain_read, function, block_item, macro_def, type_alias, static_value, constant, structure, implementation, told_at, crate_item, use_read, use_declaration, macro_definition, union_item, enumeration, trait_item, is_called, called, call_behind, some_read, invocation, leaf_by, leaf}
 use Rattle.rust_leaves.specs.declared.head.Head.{Head}
 use Rattle.rust_leaves.specs.declared.head.Head.TheVariants as heads
 use Rattle.rust_leaves.specs.Fronts.{FrontRead, front}
 use Rattle.rust_leaves.specs.Texts.{bare, last_text_from, last_text}
+use Rattle.rust_leaves.proofs.Beside.{fields_of}
 use Rattle.rust_ranges.proofs.NearFronts.{FrontNear}
+use Rattle.rust_ranges.proofs.NearFields.{in_order, lt_by, struct_fields_near}
 use Rattle.rust_items.proofs.Leads.{named_leads, alias_if_leads, renamed_leads, item_end_leads, impl_end_leads, macro_end_leads, value_end_leads, call_end_leads}
 
 -- ---- places
@@ -227,43 +230,13 @@ attributes_same b n _ _ (block {ts = ts} {us = us} h) laid high =
 
 -- ---- what is given of both texts
 
--- Of a struct, behind its word: its generics and its fields end before it does, as they do where each `<` of it is closed.
-pub record IsWhole (ts : Tokens) : Type 0 where
-  pub generics : (behind_angles (named ts).1).past < (item_end (named ts).1).1.past
-  pub fields : (symbol (behind_angles (named ts).1) == 40) ≡ true → (fields (bumped (behind_angles (named ts).1))).1.past < (item_end (named ts).1).1.past
-
 pub record Given (n m : ℕ) (ts us : Tokens) : Type 0 where
   pub laid : IsLaid n ts
-  pub whole : (vs : Tokens) → LeadsTo ts vs → (front vs).0.head ≡ heads.Struct → IsWhole (front vs).1
   pub short : IsLaid m us
   pub proper : are_proper us.left ≡ true
 
 pub given_on : {n m : ℕ} {ts us vs ws : Tokens} → Given n m ts us → LeadsTo ts vs → LeadsTo us ws → Given n m vs ws
-given_on {n = n} {m = m} g p q = record { laid = (behind n p g.laid).laid; whole = λ xs r. g.whole xs (through p r); short = (behind m q g.short).laid; proper = proper_on q g.proper }
-
--- where nothing is left, nothing is behind
-empty_stays : {ts us : Tokens} → LeadsTo ts us → ts.left ≡ [] → us.past ≡ ts.past
-unfolding bumped
-empty_stays here e = refl
-empty_stays {ts} (further p) e = empty_stays p (ap rest e) ∙ ap (λ l. by_first ts.past end_of l) e
-
-no_token : (ts : Tokens) → is_empty ts ≡ true → ts.left ≡ []
-unfolding is_empty
-no_token ts e = none ts.left e
-  where
-    none : (left : List Piece) → by_first true (λ _. false) left ≡ true → left ≡ []
-    none [] e = refl
-    none (t ∷ left) e = absurd cc
-
--- what leads on, and has no more left, stands no earlier
-in_order : {n : ℕ} {ts us vs : Tokens} → IsLaid n ts → LeadsTo ts us → LeadsTo ts vs → length vs.left ≤ length us.left → us.past ≤ vs.past
-in_order {n = n} l here q le = (behind n q l).past
-in_order {n = n} {ts = ts} l (further p) here le =
-    let first = fewer p in
-    when (is_empty ts)
-    (λ e. let same = empty_stays (further p) (no_token ts e) in omega arith)
-    (λ e. let less = shorter ts e in absurd (omega arith))
-in_order {n = n} {ts = ts} l (further p) (further q) le = in_order (behind n (bumped_leads ts) l).laid p q le
+given_on {n = n} {m = m} g p q = record { laid = (behind n p g.laid).laid; short = (behind m q g.short).laid; proper = proper_on q g.proper }
 
 -- ---- items
 
@@ -393,9 +366,6 @@ module _ (b : Ending) (attrs : List MetaView) (v : Option Visibility) where
 
 -- ---- impls
 
-lt_by : (m n d : ℕ) → nat_lt m n ≡ nat_lt (m + d) (n + d)
-lt_by m n d = grind (arith, nat_tests)
-
 nil_word : (ts : Tokens) → ts.left ≡ [] → word ts ≡ []
 unfolding word
 nil_word ts e = rw e refl
@@ -443,83 +413,33 @@ implementation_outcome b attrs ts us g h = by (impl_end_outcome b ts us h)
 
 -- ---- structs
 
-comma_near : (b : Ending) (ts us : Tokens) → Near b ts us → Onward b (eat 44 ts).1 (eat 44 us).1
-comma_near b ts us h = by_kept (eat_until b 44 refl ts us h) (λ g. into g) (λ k. on k.rest)
+block_leads : (ts a : Tokens) → (item_end ts).0.block ≡ Some a → LeadsTo ts a
+unfolding item_end
+block_leads ts a e = (item_enclosed ts a e).before
 
--- behind its attributes
-plain_field : Reader (Option Visibility)
-plain_field ts = ((visibility ts).0, (eat 44 (behind_field (visibility ts).1)).1)
-
-plain_field_leads : Forwards plain_field
-unfolding plain_field
-plain_field_leads ts = through (visibility_leads ts) (through (reached_leads reaches.Field _) (eat_leads 44 _))
-
-plain_field_until : (b : Ending) → UpTo b plain_field plain_field
-unfolding plain_field
-plain_field_until b ts us h =
-    pass_until (λ ts. (eat 44 ts).1) (λ ts. (eat 44 ts).1) (eat_leads 44) (eat_leads 44) (comma_near b)
-    (pass_until behind_field behind_field (reached_leads reaches.Field) (reached_leads reaches.Field) (reached_near b reaches.Field) (visibility_until b ts us h))
-
-field_until : (b : Ending) → UpTo b field field
-unfolding field plain_field
-field_until b ts us h = then_until (λ _. plain_field) (λ _. plain_field) (λ _. plain_field_leads) (λ _. plain_field_leads) (λ _. plain_field_until b) (outer_attributes_until b ts us h)
-
-field_leads : Forwards (one field)
-unfolding field plain_field
-field_leads ts = through (outer_attributes_leads ts) (plain_field_leads _)
-
-fields_until : (b : Ending) → UpTo b fields fields
-unfolding fields
-fields_until b = elements_until b field field (field_until b) field_leads field_leads
-
-fields_leads : Forwards fields
-unfolding fields
-fields_leads = turns_leads _ (one field) field_leads
-
-fields_same : {n : ℕ} (b : Ending) (ts us es : Tokens) (t : Bool) → IsLaid n ts → Near b ts us → LeadsTo ts es → length b.behind ≤ length es.left → (behind_angles ts).past < es.past
-    → ((symbol (behind_angles ts) == 40) ≡ true → (fields (bumped (behind_angles ts))).1.past < es.past) → struct_fields t us ≡ struct_fields t ts
-unfolding struct_fields
-fields_same b ts us es t laid h p le generics inside =
-    let v = behind_angles ts in
-    let v' = behind_angles us in
-    let to : LeadsTo ts v = behind_angles_leads ts in
-    by_next (behind_angles_near b ts us h) (λ o. let few = o.few in let late = in_order laid p to (omega arith) in absurd (omega arith))
-    (λ k. when (symbol v == 40)
-    (λ e. let next = after_symbol b 40 v v' refl k e in
-    let far : LeadsTo ts (fields (bumped v)).1 = through to (further (fields_leads (bumped v))) in
-    let near_end = inside e in
-    rw (symbol_same b v v' k, e)
-    (by_kept (fields_until b (bumped v) (bumped v') next) (λ o. let few = o.few in let late = in_order laid p far (omega arith) in absurd (omega arith))
-    (λ l. ap tuple_fields l.value)))
-    (λ e. rw (symbol_same b v v' k, e) refl))
-
-some_same : (b : Ending) (o o' : Option Tokens) → BlockNear b o o' → is_some o' ≡ is_some o
-some_same b _ _ no_block = refl
-some_same b _ _ (block h) = refl
-
-struct_near : {n m : ℕ} (b : Ending) (attrs : List MetaView) (v : Option Visibility) (ts us : Tokens) → Given n m ts us → IsWhole ts → NameNear b (named ts).0 (named us).0 → Near b (named ts).1 (named us).1
-    → RestNear b (item_end (named ts).1).0 (item_end (named us).1).0 → length b.behind ≤ length (item_end (named ts).1).1.left → LeafNear b (structure attrs v ts).0 (structure attrs v us).0
+struct_near : {n m : ℕ} (b : Ending) (attrs : List MetaView) (v : Option Visibility) (ts us : Tokens) → Given n m ts us → NameNear b (named ts).0 (named us).0 → Near b (named ts).1 (named us).1 → RestNear b (item_end (named ts).1).0 (item_end (named us).1).0
+    → (item_end (named ts).1).1.past ≡ (item_end (named us).1).1.past + b.by → length b.behind ≤ length (item_end (named ts).1).1.left → LeafNear b (structure attrs v ts).0 (structure attrs v us).0
 unfolding structure
-struct_near b attrs v ts us g whole nn h r le =
-    let laid = (behind _ (named_leads ts) g.laid).laid in
-    let some = some_same b _ _ r.block in
+struct_near b attrs v ts us g nn h r e le =
+    let x = (named ts).1 in
+    let y = (named us).1 in
+    let given = given_on g (named_leads ts) (named_leads us) in
     read_near b _ _ kind.Struct _ _ _ _
-    (ap (λ z. struct_item (named_node attrs z v (item_end (named us).1).0.body) (struct_fields (is_some (item_end (named us).1).0.block) (named us).1)) nn.name
-    ∙ ap (λ z. struct_item (named_node attrs (named ts).0.name v z) (struct_fields (is_some (item_end (named us).1).0.block) (named us).1)) r.body
-    ∙ ap (λ t. struct_item (named_node attrs (named ts).0.name v (item_end (named ts).1).0.body) (struct_fields t (named us).1)) some
-    ∙ ap (λ (f : FieldsView). struct_item (named_node attrs (named ts).0.name v (item_end (named ts).1).0.body) f)
-    (fields_same b (named ts).1 (named us).1 (item_end (named ts).1).1 (is_some (item_end (named ts).1).0.block) laid h (item_end_leads _) le whole.generics whole.fields))
+    (ap (λ z. struct_item (named_node attrs z v (item_end y).0.body) (fields_of y)) nn.name
+    ∙ ap (λ z. struct_item (named_node attrs (named ts).0.name v z) (fields_of y)) r.body
+    ∙ ap (λ (f : FieldsView). struct_item (named_node attrs (named ts).0.name v (item_end x).0.body) f)
+    (struct_fields_near b x y (item_end x).1 (item_end y).1 _ _ given.laid given.short h r.block (block_leads x) (block_leads y) (item_end_leads x) (item_end_leads y) e le))
     nn r
 
-structure_outcome : {n m : ℕ} (b : Ending) (attrs : List MetaView) (v : Option Visibility) (ts us : Tokens) → Given n m ts us → IsWhole ts → Near b ts us → LeafOutcome b (structure attrs v ts) (structure attrs v us)
+structure_outcome : {n m : ℕ} (b : Ending) (attrs : List MetaView) (v : Option Visibility) (ts us : Tokens) → Given n m ts us → Near b ts us → LeafOutcome b (structure attrs v ts) (structure attrs v us)
 unfolding structure
-structure_outcome b attrs v ts us g whole h =
+structure_outcome b attrs v ts us g h =
     by_kept (named_until b ts us h) (λ o. lost_by o (item_end_leads _) (item_end_leads _) (item_end_fewer _)) (λ l. by l.value l.rest (item_end_outcome b _ _ l.rest))
   where
     by : NameNear b (named ts).0 (named us).0 → Near b (named ts).1 (named us).1 → RestOutcome b (item_end (named ts).1) (item_end (named us).1) → LeafOutcome b (structure attrs v ts) (structure attrs v us)
     by nn l (lost o f) = lost o f
-    by nn l (stays k) = stays (record { value = struct_near b attrs v ts us g whole nn l k.value (let more = more_left b _ _ k.rest in omega arith); rest = k.rest })
-    by nn l (comes r a) = comes (struct_near b attrs v ts us g whole nn l r (let same = ap length a.behind in omega arith)) a
+    by nn l (stays k) = stays (record { value = struct_near b attrs v ts us g nn l k.value (past_same b _ _ k.rest) (let more = more_left b _ _ k.rest in omega arith); rest = k.rest })
+    by nn l (comes r a) = comes (struct_near b attrs v ts us g nn l r a.past (let same = ap length a.behind in omega arith)) a
 
 -- ---- macro calls
 
@@ -628,22 +548,22 @@ invocation_ends b attrs ts us h =
 
 -- ---- by the word
 
-pub leaf_ends : {n m : ℕ} (b : Ending) (f g : FrontRead) → FrontNear b f g → (ts us : Tokens) → Given n m ts us → (f.head ≡ heads.Struct → IsWhole ts) → Near b ts us → LeafEnds b (leaf f ts) (leaf g us)
+pub leaf_ends : {n m : ℕ} (b : Ending) (f g : FrontRead) → FrontNear b f g → (ts us : Tokens) → Given n m ts us → Near b ts us → LeafEnds b (leaf f ts) (leaf g us)
 unfolding leaf
-leaf_ends b f g k ts us given whole h = rw (k.head, k.attrs, k.visibility) (by f.head refl)
+leaf_ends b f g k ts us given h = rw (k.head, k.attrs, k.visibility) (by f.head)
   where
-    by : (w : Head) → f.head ≡ w → LeafEnds b (leaf_by w f.attrs f.visibility ts) (leaf_by w f.attrs f.visibility us)
-    by heads.Use is = some_ends (use_outcome b f.attrs f.visibility ts us h)
-    by heads.ExternCrate is = some_ends (crate_item_outcome b f.attrs f.visibility ts us h)
-    by heads.Fn is = some_ends (function_outcome b f.attrs f.visibility ts us given h)
-    by heads.Impl is = some_ends (implementation_outcome b f.attrs ts us given h)
-    by heads.Trait is = some_ends (trait_outcome b f.attrs f.visibility ts us h)
-    by heads.Struct is = some_ends (structure_outcome b f.attrs f.visibility ts us given (whole is) h)
-    by heads.Union is = some_ends (union_outcome b f.attrs f.visibility ts us h)
-    by heads.Enum is = some_ends (enum_outcome b f.attrs f.visibility ts us h)
-    by heads.Const is = some_ends (constant_outcome b f.attrs f.visibility ts us h)
-    by heads.Static is = some_ends (static_outcome b f.attrs f.visibility ts us h)
-    by heads.TypeAlias is = some_ends (type_alias_outcome b f.attrs f.visibility ts us h)
-    by heads.MacroDef is = some_ends (macro_def_outcome b f.attrs f.visibility ts us h)
-    by heads.MacroRules is = some_ends (macro_definition_outcome b f.attrs f.visibility ts us h)
-    by _ is = invocation_ends b f.attrs ts us h
+    by : (w : Head) → LeafEnds b (leaf_by w f.attrs f.visibility ts) (leaf_by w f.attrs f.visibility us)
+    by heads.Use = some_ends (use_outcome b f.attrs f.visibility ts us h)
+    by heads.ExternCrate = some_ends (crate_item_outcome b f.attrs f.visibility ts us h)
+    by heads.Fn = some_ends (function_outcome b f.attrs f.visibility ts us given h)
+    by heads.Impl = some_ends (implementation_outcome b f.attrs ts us given h)
+    by heads.Trait = some_ends (trait_outcome b f.attrs f.visibility ts us h)
+    by heads.Struct = some_ends (structure_outcome b f.attrs f.visibility ts us given h)
+    by heads.Union = some_ends (union_outcome b f.attrs f.visibility ts us h)
+    by heads.Enum = some_ends (enum_outcome b f.attrs f.visibility ts us h)
+    by heads.Const = some_ends (constant_outcome b f.attrs f.visibility ts us h)
+    by heads.Static = some_ends (static_outcome b f.attrs f.visibility ts us h)
+    by heads.TypeAlias = some_ends (type_alias_outcome b f.attrs f.visibility ts us h)
+    by heads.MacroDef = some_ends (macro_def_outcome b f.attrs f.visibility ts us h)
+    by heads.MacroRules = some_ends (macro_definition_outcome b f.attrs f.visibility ts us h)
+    by _ = invocation_ends b f.attrs ts us h

@@ -25,7 +25,7 @@ use Rattle.rust_items.specs.Found.{Found, Finder, nothing_found, and_problem, an
 use Rattle.rust_items.specs.Items.{span_of, needs_name, and_item, leaf_turn, BlockRead, no_block, deep_block, unmatched, extern_inside, and_parent, one_more, extern_block, depth_of, inside_unless, module_with, some_item, by_head, turn_with, inside, turn}
 use Rattle.rust_items.proofs.Leads.{named_leads, front_start}
 use Rattle.rust_ranges.proofs.NearFronts.{FrontNear, front_until}
-use Rattle.rust_ranges.proofs.NearLeaves.{IsWhole, NameNear, named_until, Given, given_on, Ends, passes, before_end, at_end}
+use Rattle.rust_ranges.proofs.NearLeaves.{NameNear, named_until, Given, given_on, Ends, passes, before_end, at_end}
 use Rattle.rust_ranges.proofs.NearItems.{FoundNear, problem_near, item_near, all_near, flat, FoundAlike, ends_long, TurnLong, block_ends, leaf_leads, is_unfinished, is_sound, flawed, found_leads, leaf_turn_ends, leaf_turn_fewer, extern_inside_fewer, block_fewer, extern_inside_ends, front_leads}
 use Rattle.rust_items.proofs.Places.{Finds, FindsIn, turn_with_found, inside_found, extern_inside_found, unless_found}
 
@@ -167,12 +167,12 @@ module _ (b : Ending) (strict : Bool) (inside : Finder BlockRead) (ends : Inside
   abbrev HeadEnds : Found → ℕ → Option ItemView × (Found × Tokens) → Option ItemView × (Found × Tokens) → Type 0
   HeadEnds before start r r' = Ends (FoundAlike b before) (λ r. strict && is_sound start r) b (flat r) (flat r')
 
-  head_ends : (w : Head) (n m : ℕ) (before f g : Found) (h h' : FrontRead) → FrontNear b h h' → (ts us : Tokens) → Given n m ts us → (h.head ≡ heads.Struct → IsWhole ts) → Near b ts us → FoundNear b before f g
+  head_ends : (w : Head) (n m : ℕ) (before f g : Found) (h h' : FrontRead) → FrontNear b h h' → (ts us : Tokens) → Given n m ts us → Near b ts us → FoundNear b before f g
       → HeadEnds before h.start (by_head inside depth w h f ts) (by_head inside depth w h' g us)
-  head_ends heads.Module n m before f g h h' k ts us given whole i a = item_ends before h.start (module_ends n m before f g h h' k ts us given i a)
-  head_ends heads.ExternBlock n m before f g h h' k ts us given whole i a =
+  head_ends heads.Module n m before f g h h' k ts us given i a = item_ends before h.start (module_ends n m before f g h h' k ts us given i a)
+  head_ends heads.ExternBlock n m before f g h h' k ts us given i a =
       item_ends before h.start (extern_block_ends n m b before f g depth h.start h'.start h.attrs h'.attrs ts us k.start k.attrs given i a strict)
-  head_ends _ n m before f g h h' k ts us given whole i a = weaker (λ e. (both_true strict _ e).1) (leaf_turn_ends n m b before f g depth h h' k ts us given whole i a)
+  head_ends _ n m before f g h h' k ts us given i a = weaker (λ e. (both_true strict _ e).1) (leaf_turn_ends n m b before f g depth h h' k ts us given i a)
 
   head_leads : (w : Head) (n : ℕ) (h : FrontRead) (f : Found) (ts : Tokens) → IsLaid n ts → LeadsTo ts (by_head inside depth w h f ts).1.1
   unfolding extern_block leaf_turn
@@ -212,7 +212,7 @@ module _ (b : Ending) (strict : Bool) (inside : Finder BlockRead) (ends : Inside
       (by_kept (front_until b ts us h)
       (λ o. passes {p = flat r} (let few = o.few in let less = fewer (head_leads fr.0.head n fr.0 f fr.1 laid) in omega arith)
       (λ c. let few = o.few in let strictly = head_takes fr.0.head n fr.0 f fr.1 laid c in omega arith))
-      (λ k. rw k.value.head (head_ends fr.0.head n m before f g fr.0 fr'.0 k.value fr.1 fr'.1 (given_on given (front_leads ts) (front_leads us)) (given.whole ts here) k.rest a)))))
+      (λ k. rw k.value.head (head_ends fr.0.head n m before f g fr.0 fr'.0 k.value fr.1 fr'.1 (given_on given (front_leads ts) (front_leads us)) k.rest a)))))
 
 -- ---- items in items
 

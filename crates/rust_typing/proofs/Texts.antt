@@ -130,6 +130,7 @@ plain_inside y at past d m s r u e =
 pub begin_plain : (edition : EditionYear) (q m m' s : List ℕ) (h : StandsAlone m) (h' : StandsAlone m') → BeginsPlain m → BeginsPlain m' → BeginPlain (bodies edition q m m' s h h')
 unfolding bodies
 begin_plain edition q m m' s h h' p p' = record {
+  new_behind = body_behind (length q) m';
   old = λ past r u. plain_inside edition (length q) past (suc (length q) + length m) m s (map (moved (suc (length q) + length m)) r) u p;
   new = λ past r u. plain_inside edition (length q) past (suc (length q) + length m') m' s (map (moved (suc (length q) + length m')) r) u p';
 }

@@ -18,7 +18,6 @@ use Rattle.rust_items.specs.LineEnds.{place_in}
 use Rattle.rust_items.specs.Typed.{has_body}
 use Rattle.rust_items.specs.SourceFiles.{found_in, items_in, read_of, IsFile}
 use Rattle.rust_items.proofs.Bodiless.{with_bodiless}
-use Rattle.rust_items.proofs.UntilLeaves.{all_bare}
 use Rattle.rust_items.proofs.UntilItems.{FileUntil, of_none, alike, file_until, found_rows, found_spans}
 use Rattle.rust_typing.specs.Laws.{with_body, IsTyped, TypingInside}
 use Rattle.rust_typing.proofs.Texts.{bodies, bodies_at, tokens_beside, begin_plain}
@@ -60,7 +59,7 @@ same_ids edition x x' place place' file file' f g e =
 read_alike : (edition : EditionYear) (q m m' s : List ℕ) (place place' : ℕ → ℕ) (file file' : SourceFile) → IsTyped edition q m m' s → IsFile edition (with_body q m s) place file → IsFile edition (with_body q m' s) place' file'
     → without_bodies (syntax_view file.syntax) ≡ without_bodies (syntax_view file'.syntax)
 read_alike edition q m m' s place place' file file' t f g =
-    by (file_until (length x) b (begin_plain edition q m m' s t.alone t.alone_new t.begins t.begins_new) (tokens_of edition x) (tokens_of edition x') (all_bare (length x) (tokens_of edition x) (tokens_sound edition x) t.fields)
+    by (file_until (length x) b (begin_plain edition q m m' s t.alone t.alone_new t.begins t.begins_new) (tokens_of edition x) (tokens_of edition x') (tokens_sound edition x)
     (tokens_beside edition q m m' s t.opens t.alone t.alone_new))
   where
     x : List ℕ

@@ -13,8 +13,7 @@ use Rattle.rust_metas.specs.Literals.{style_by}
 use Rattle.rust_items.specs.declared.source_file.SourceFile.{SourceFile}
 use Rattle.rust_items.specs.LineEnds.{with_feeds}
 use Rattle.rust_items.specs.SourceFiles.{found_in, IsSourceFile}
-use Rattle.rust_items.specs.Typed.{has_body, have_bare_fields}
-use Rattle.rust_cursor.specs.Tokens.{tokens_of}
+use Rattle.rust_items.specs.Typed.{has_body}
 
 -- a text with this between two braces
 abbrev pub with_body : List ℕ → List ℕ → List ℕ → List ℕ
@@ -46,8 +45,7 @@ first_plain (t ∷ ts) = if is_significant t then is_plain t else first_plain ts
 abbrev pub BeginsPlain : List ℕ → Type 0
 BeginsPlain m = first_plain (front 0 0 m (125 ∷ [])) ≡ true
 
--- A text of which what stands in a body was typed anew. Neither attributes nor documentation stand at the fields in parentheses of a
--- struct in it that does not end with a semicolon.
+-- a text of which what stands in a body was typed anew
 pub record IsTyped (edition : EditionYear) (q m m' s : List ℕ) : Type 0 where
   pub opens : OpensAt q (m ++ 125 ∷ s)
   pub body : IsBody edition q m s
@@ -55,7 +53,6 @@ pub record IsTyped (edition : EditionYear) (q m m' s : List ℕ) : Type 0 where
   pub alone_new : StandsAlone m'
   pub begins : BeginsPlain m
   pub begins_new : BeginsPlain m'
-  pub fields : have_bare_fields (tokens_of edition (with_body q m s)) ≡ true
 
 -- Whatever is typed inside a body, what is read of the text is the same but for body texts, with the same ids.
 abbrev pub TypingInside : Type 0

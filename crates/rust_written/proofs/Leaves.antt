@@ -29,7 +29,7 @@ use Rattle.rust_round.specs.Words.{Word}
 use Rattle.rust_round.specs.Trees.{Trees, no_trees, mark, curly, open_of, close_of, first_of, trees_words, AreTrees, GoesOn, GoesOnType, spaced}
 use Rattle.rust_round.specs.Impls.{ImplHeader, header_trees, IsImplHeader}
 use Rattle.rust_round.specs.Trees as trees
-use Rattle.rust_round.proofs.Begins.{Shows, Begins, behind, behind_append, begins_left, begins_right}
+use Rattle.rust_round.proofs.Begins.{Shows, Begins, behind, behind_append, begins_left, begins_right, past_behind}
 use Rattle.rust_round.proofs.Same.{shows_first}
 use Rattle.rust_round.proofs.Ends.{whole, item_semicolon, value_semicolon, item_block, impl_block}
 use Rattle.rust_round.proofs.Impls.{impl_header_read}
@@ -206,12 +206,12 @@ value_reads constants v n t start ts m i g u s b =
 
 -- ---- structs
 
-struct_steps : (v : Option Visibility) (n : NameRead) (shape : FieldsView) (block : Option Tokens) (ws : List Word) (ts us : Tokens) → named ts ≡ (n, us) → struct_fields (is_some block) us ≡ shape → (e : Ends item_end block ws us)
+struct_steps : (v : Option Visibility) (n : NameRead) (shape : FieldsView) (block : Option Tokens) (ws : List Word) (ts us : Tokens) → named ts ≡ (n, us) → struct_fields (behind ws us).past block us ≡ shape → (e : Ends item_end block ws us)
     → structure [] v ts ≡ (leaf_read (struct_item (named_node [] n.name v (spaced ws)) shape) kind.Struct n (rest_is block ws us), behind ws us)
 unfolding structure
 struct_steps v n shape block ws ts us m f e = rw (m, e, f) refl
 
-struct_reads : (v : Front) (n : List ℕ) (shape : FieldsView) (block : Option Tokens) (ws : List Word) (start : ℕ) (ts : Tokens) → IsNamed n → Shows (trees.word n) ts → struct_fields (is_some block) (bumped ts) ≡ shape
+struct_reads : (v : Front) (n : List ℕ) (shape : FieldsView) (block : Option Tokens) (ws : List Word) (start : ℕ) (ts : Tokens) → IsNamed n → Shows (trees.word n) ts → struct_fields (behind ws (bumped ts)).past block (bumped ts) ≡ shape
     → Ends item_end block ws (bumped ts) → Reads heads.Struct v start (struct_item (named_by v n ws) shape) kind.Struct n (trees.word n ∷ ws) ts
 unfolding leaf
 struct_reads v n shape block ws start ts m s f ends =
@@ -228,10 +228,21 @@ struct_ends g (unit_shape w) ts is b e = item_ends None (struct_words g (unit_sh
 struct_ends g (tuple_shape fs w) ts is b e = item_ends None (struct_words g (tuple_shape fs w)) ts (item_semicolon (struct_trees g (tuple_shape fs w)) ts is.trees is.goes b)
 struct_ends g (record_shape w b) ts is begun e = block_ends (struct_trees g (record_shape w b)) b ts is.trees is.shape is.goes begun e
 
-struct_fields_are : (g : Option Trees) (s : Shape) (ts : Tokens) → length ts.left ≤ most → IsStruct g s → Begins (struct_words g s) ts → struct_fields (is_some (struct_block g s ts)) ts ≡ shape_view s
-struct_fields_are g (unit_shape w) ts l is b = struct_read g (unit_shape w) [] ts l is b
-struct_fields_are g (tuple_shape fs w) ts l is b = struct_read g (tuple_shape fs w) [] ts l is b
-struct_fields_are g (record_shape w b) ts l is begun = struct_read g (record_shape w b) (trees_words b ++ close_of curly ∷ []) ts l is begun
+-- behind the last of them
+last_past : (ws : List Word) (w : Word) (ts : Tokens) → Begins (ws ++ w ∷ []) ts → (behind ws ts).past ≤ (behind (ws ++ w ∷ []) ts).past
+last_past ws w ts b =
+    let all : (behind (ws ++ w ∷ []) ts).past ≡ (behind (w ∷ []) (behind ws ts)).past = ap (λ (k : Tokens). k.past) (behind_append ws (w ∷ []) ts) in
+    let more : (behind ws ts).past ≤ (behind (w ∷ []) (behind ws ts)).past = past_behind (w ∷ []) (behind ws ts) (begins_right ws (w ∷ []) ts b) in
+    omega (arith, all, more)
+
+struct_fields_are : (g : Option Trees) (s : Shape) (ts : Tokens) → length ts.left ≤ most → IsStruct g s → Begins (struct_words g s) ts → struct_fields (behind (struct_words g s) ts).past (struct_block g s ts) ts ≡ shape_view s
+unfolding struct_fields
+struct_fields_are g (unit_shape w) ts l is b =
+    let ws = trees_words (struct_trees g (unit_shape w)) in struct_read g (unit_shape w) [] (behind (ws ++ mark 59 ∷ []) ts).past ts l is b (last_past ws (mark 59) ts b)
+struct_fields_are g (tuple_shape fs w) ts l is b =
+    let ws = trees_words (struct_trees g (tuple_shape fs w)) in struct_read g (tuple_shape fs w) [] (behind (ws ++ mark 59 ∷ []) ts).past ts l is b (last_past ws (mark 59) ts b)
+struct_fields_are g (record_shape w b) ts l is begun =
+    struct_read g (record_shape w b) (trees_words b ++ close_of curly ∷ []) (behind (trees_words (struct_trees g (record_shape w b))) ts).past ts l is begun (omega arith)
 
 pub structure_reads : (v : Front) (n : List ℕ) (g : Option Trees) (s : Shape) (start : ℕ) (ts : Tokens) → length (bumped ts).left ≤ most → IsNamed n → IsStruct g s → Shows (trees.word n) ts → Begins (struct_words g s) (bumped ts)
     → goes_on (behind (struct_words g s) (bumped ts)) ≡ false

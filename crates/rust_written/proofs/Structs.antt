@@ -1,22 +1,24 @@
 -- Structs: their generics, and their fields.
 use Rattle.std.proofs.Common.{◌≡◌, ◌≤◌, ◌<◌, ℕ, zero, suc, ◌+◌, ◌==◌, ◌||◌, Bool, true, false, Option, Some, None, List, [], ◌∷◌, ◌++◌, codes, length, refl, ap, ◌∙◌, sym, subst, arith, append_assoc, append-nil}
-use Rattle.std.specs.Prelude.{map}
+use Rattle.std.specs.Prelude.{map, not, if◌then◌else◌}
+use Rattle.std.proofs.lemmas.Bool.Decides.{nat_tests}
 use Rattle.hir_input.specs.declared.ast.Visibility.{Visibility}
 use Rattle.hir_input.specs.Syntax.{no_fields, record_fields, tuple_fields}
 use Rattle.rust_cursor.specs.Tokens.{Tokens}
-use Rattle.rust_cursor.specs.Words.{is_at_end, bumped, documents, eat}
+use Rattle.rust_cursor.specs.Words.{symbol, is_at_end, bumped, documents, eat}
 use Rattle.rust_cursor.specs.Elements.{most, turns, turns_from, one, beyond}
-use Rattle.rust_cursor.specs.Angles.{behind_field}
+use Rattle.rust_cursor.specs.Angles.{behind_angles, behind_field}
+use Rattle.rust_cursor.proofs.Leads.{when}
 use Rattle.rust_cursor.proofs.Nesting.{shorter}
 use Rattle.rust_cursor.proofs.Turns.{turns_stop}
 use Rattle.rust_paths.specs.Visibilities.{visibility, scoped, is_in, scope, scope_of}
 use Rattle.rust_metas.specs.Attributes.{outer_attributes}
-use Rattle.rust_leaves.specs.Leaves.{field, fields, fields_at, struct_fields}
+use Rattle.rust_leaves.specs.Leaves.{is_before, field, are_over, fields, fields_at}
 use Rattle.rust_round.specs.Words.{Word}
 use Rattle.rust_round.specs.Trees.{mark, Bracket, round, curly, open_of, close_of, close_mark, Tree, single, group, Trees, no_trees, tree_and, tree_words, trees_words, AreTrees, first_of, GoesOn, AreClosed}
 use Rattle.rust_round.specs.Trees as trees
 use Rattle.rust_round.specs.Impls.{trees_append, where_part, generics}
-use Rattle.rust_round.proofs.Begins.{Shows, Begins, behind, behind_append, begins_left, begins_right}
+use Rattle.rust_round.proofs.Begins.{Shows, Begins, behind, behind_append, begins_left, begins_right, past_behind}
 use Rattle.rust_round.proofs.Same.{shows_first}
 use Rattle.rust_round.proofs.Impls.{append_words, append_trees, generics_words, enclosed, generics_passed, no_generics, field_type_passed}
 use Rattle.rust_written.specs.Written.{Scope, unwritten, everywhere, in_crate, in_super, in_self, scope_words, scope_view, Field, Shape, unit_shape, tuple_shape, record_shape, scope_trees, fields_trees, shape_trees, struct_trees, shape_end, field_view, shape_view, BeginsType, IsField, AreFields, IsShape, IsStruct}
@@ -59,9 +61,13 @@ comma_eaten : (ts : Tokens) → Shows (mark 44) ts → eat 44 ts ≡ (true, bump
 unfolding eat
 comma_eaten ts s = rw s.symbol_is refl
 
-field_steps : (v : Option Visibility) (ts us vs : Tokens) → outer_attributes ts ≡ ([], ts) → visibility ts ≡ (v, us) → behind_field us ≡ vs → eat 44 vs ≡ (true, bumped vs) → field ts ≡ (v, bumped vs)
+-- what stands before this place
+before : (end : ℕ) (ts : Tokens) → ts.past < end → is_before end ts ≡ true
+before end ts l = grind (arith, nat_tests, l)
+
+field_steps : (end : ℕ) (v : Option Visibility) (ts us vs : Tokens) → outer_attributes ts ≡ ([], ts) → visibility ts ≡ (v, us) → is_before end us ≡ true → behind_field us ≡ vs → eat 44 vs ≡ (true, bumped vs) → field end ts ≡ (v, bumped vs)
 unfolding field
-field_steps v ts us vs o s f e = rw (o, s, f, e) refl
+field_steps end v ts us vs o s t f e = rw (o, s, t, f, e) refl
 
 abbrev field_words : Field → List Word
 field_words f = scope_words f.scope ++ (trees_words f.of_type ++ mark 44 ∷ [])
@@ -70,8 +76,13 @@ parts_of : (a b : Bool) → (a || b) ≡ false → (a ≡ false) × (b ≡ false
 parts_of true b e = absurd cc
 parts_of false b e = (refl, e)
 
-field_read : (f : Field) (ts : Tokens) → AreTrees f.of_type → IsField f → Begins (field_words f) ts → field ts ≡ (field_view f, behind (field_words f) ts)
-field_read f ts h is b =
+-- a comma is behind it
+ended_by : (ws : List Word) → 0 < length (ws ++ mark 44 ∷ [])
+ended_by [] = omega arith
+ended_by (w ∷ ws) = omega arith
+
+field_read : (end : ℕ) (f : Field) (ts : Tokens) → AreTrees f.of_type → IsField f → Begins (field_words f) ts → (behind (field_words f) ts).past ≤ end → field end ts ≡ (field_view f, behind (field_words f) ts)
+field_read end f ts h is b e =
     let tail = trees_words f.of_type ++ mark 44 ∷ [] in
     let us = behind (scope_words f.scope) ts in
     let vs = behind (trees_words f.of_type) us in
@@ -82,7 +93,9 @@ field_read f ts h is b =
     let plain = parts_of (trees.symbol_of begin == 35) (documents begin.kind) is.plain in
     let first = first_word f.scope begin ts (record { plain = plain.1; hash = plain.0 }) front shown in
     let comma : Shows (mark 44) vs = (begins_right (trees_words f.of_type) (mark 44 ∷ []) us rest).0 in
-    field_steps (field_view f) ts us vs (outer_none first.0 ts first.2 first.1.plain first.1.hash) (field_scope f.scope begin ts is.begins front shown) (field_type_passed f.of_type [] us h is.passed rest) (comma_eaten vs comma)
+    let all : (behind (field_words f) ts).past ≡ (behind tail us).past = ap (λ (k : Tokens). k.past) (behind_append (scope_words f.scope) tail ts) in
+    let more : us.past < (behind tail us).past = past_more tail us rest (ended_by (trees_words f.of_type)) in
+    field_steps end (field_view f) ts us vs (outer_none first.0 ts first.2 first.1.plain first.1.hash) (field_scope f.scope begin ts is.begins front shown) (before end us (omega (arith, all, more, e))) (field_type_passed f.of_type [] us h is.passed rest) (comma_eaten vs comma)
     ∙ ap (λ k. (field_view f, k)) (sym (behind_append (scope_words f.scope) tail ts ∙ behind_append (trees_words f.of_type) (mark 44 ∷ []) us))
 
 -- ---- the fields of a tuple
@@ -104,12 +117,8 @@ field_trees_are f fs h =
 some_field : (f : Field) → 0 < length (field_words f)
 some_field f = last (scope_words f.scope) (trees_words f.of_type)
   where
-    behind_some : (ws : List Word) → 0 < length (ws ++ mark 44 ∷ [])
-    behind_some [] = omega arith
-    behind_some (w ∷ ws) = omega arith
-
     last : (vs ws : List Word) → 0 < length (vs ++ (ws ++ mark 44 ∷ []))
-    last [] ws = behind_some ws
+    last [] ws = ended_by ws
     last (v ∷ vs) ws = omega arith
 
 -- a field begins with no bracket that closes
@@ -134,35 +143,45 @@ field_goes f ts h b =
     goes in_super ts b e = b.0.end_is
     goes in_self ts b e = b.0.end_is
 
-fields_read : (fs : List Field) (n : ℕ) (done : List (Option Visibility)) (ts : Tokens) → length ts.left ≤ n → AreTrees (fields_trees fs) → AreFields fs → Begins (trees_words (fields_trees fs) ++ close_of round ∷ []) ts
-    → turns_from is_at_end (one field) n done ts ≡ (done ++ map field_view fs, behind (trees_words (fields_trees fs)) ts)
-fields_read [] n done ts l h is b = turns_stop is_at_end (one field) n done ts b.0.end_is ∙ ap (λ d. (d, ts)) (sym (append-nil done))
-fields_read (f ∷ fs) n done ts l h is b =
+fields_read : (end : ℕ) (fs : List Field) (n : ℕ) (done : List (Option Visibility)) (ts : Tokens) → length ts.left ≤ n → AreTrees (fields_trees fs) → AreFields fs → Begins (trees_words (fields_trees fs) ++ close_of round ∷ []) ts
+    → (behind (trees_words (fields_trees fs)) ts).past ≤ end → turns_from (are_over end) (one (field end)) n done ts ≡ (done ++ map field_view fs, behind (trees_words (fields_trees fs)) ts)
+fields_read end [] n done ts l h is b e =
+    turns_stop (are_over end) (one (field end)) n done ts (ap (λ t. t || not (is_before end ts)) b.0.end_is) ∙ ap (λ d. (d, ts)) (sym (append-nil done))
+fields_read end (f ∷ fs) n done ts l h is b e =
     let ws = field_words f in
     let more = trees_words (fields_trees fs) ++ close_of round ∷ [] in
     let split : Begins (ws ++ more) ts = subst (λ k. Begins k ts) (ap (λ k. k ++ close_of round ∷ []) (cons_words f fs) ∙ append_assoc ws (trees_words (fields_trees fs)) (close_of round ∷ [])) b in
     let first : Begins ws ts = begins_left ws more ts split in
     let us = behind ws ts in
+    let rest : Begins more us = begins_right ws more ts split in
     let parts = field_trees_are f fs h in
     let few : length ws + length us.left ≡ length ts.left = fewer_left ws ts first in
     let some = some_field f in
-    step n f fs done ts us l few some (field_goes f ts parts.0 first) (field_read f ts parts.0 is.0 first) (beyond_none ts.past us (past_more ws ts first some))
-    (λ m d k. fields_read fs m d us k parts.1 is.1 (begins_right ws more ts split))
-    ∙ ap (λ k. (done ++ map field_view (f ∷ fs), k)) (sym (ap (λ k. behind k ts) (cons_words f fs) ∙ behind_append ws (trees_words (fields_trees fs)) ts))
+    let went : ts.past < us.past = past_more ws ts first some in
+    let over : us.past ≤ (behind (trees_words (fields_trees fs)) us).past = past_behind (trees_words (fields_trees fs)) us (begins_left (trees_words (fields_trees fs)) (close_of round ∷ []) us rest) in
+    let all : behind (trees_words (fields_trees (f ∷ fs))) ts ≡ behind (trees_words (fields_trees fs)) us = ap (λ k. behind k ts) (cons_words f fs) ∙ behind_append ws (trees_words (fields_trees fs)) ts in
+    let place : (behind (trees_words (fields_trees (f ∷ fs))) ts).past ≡ (behind (trees_words (fields_trees fs)) us).past = ap (λ (k : Tokens). k.past) all in
+    step n f fs done ts us l few some (goes_on_here (field_goes f ts parts.0 first) (before end ts (omega (arith, e, went, over, place)))) (field_read end f ts parts.0 is.0 first (omega (arith, e, over, place))) (beyond_none ts.past us went)
+    (λ m d k. fields_read end fs m d us k parts.1 is.1 rest (omega (arith, e, place)))
+    ∙ ap (λ k. (done ++ map field_view (f ∷ fs), k)) (sym all)
   where
-    step : (n : ℕ) (f : Field) (fs : List Field) (done : List (Option Visibility)) (ts us : Tokens) → length ts.left ≤ n → length (field_words f) + length us.left ≡ length ts.left → 0 < length (field_words f) → is_at_end ts ≡ false
-        → field ts ≡ (field_view f, us) → beyond ts.past us ≡ us
-        → ((m : ℕ) (d : List (Option Visibility)) → length us.left ≤ m → turns_from is_at_end (one field) m d us ≡ (d ++ map field_view fs, behind (trees_words (fields_trees fs)) us))
-        → turns_from is_at_end (one field) n done ts ≡ (done ++ map field_view (f ∷ fs), behind (trees_words (fields_trees fs)) us)
+    goes_on_here : is_at_end ts ≡ false → is_before end ts ≡ true → are_over end ts ≡ false
+    goes_on_here p q = rw (p, q) refl
+
+    step : (n : ℕ) (f : Field) (fs : List Field) (done : List (Option Visibility)) (ts us : Tokens) → length ts.left ≤ n → length (field_words f) + length us.left ≡ length ts.left → 0 < length (field_words f) → are_over end ts ≡ false
+        → field end ts ≡ (field_view f, us) → beyond ts.past us ≡ us
+        → ((m : ℕ) (d : List (Option Visibility)) → length us.left ≤ m → turns_from (are_over end) (one (field end)) m d us ≡ (d ++ map field_view fs, behind (trees_words (fields_trees fs)) us))
+        → turns_from (are_over end) (one (field end)) n done ts ≡ (done ++ map field_view (f ∷ fs), behind (trees_words (fields_trees fs)) us)
     step zero f fs done ts us l few some goes read stays more = absurd (omega (arith, few, some, l))
     step (suc n) f fs done ts us l few some goes read stays more =
-        one_element field n done (field_view f) ts us goes read stays
+        one_element (are_over end) (field end) n done (field_view f) ts us goes read stays
         ∙ more n (done ++ field_view f ∷ []) (omega (arith, few, some, l))
         ∙ ap (λ d. (d, behind (trees_words (fields_trees fs)) us)) (append_assoc done (field_view f ∷ []) (map field_view fs))
 
-all_fields : (fs : List Field) (ts : Tokens) → length ts.left ≤ most → AreTrees (fields_trees fs) → AreFields fs → Begins (trees_words (fields_trees fs) ++ close_of round ∷ []) ts → (fields ts).0 ≡ map field_view fs
+all_fields : (end : ℕ) (fs : List Field) (ts : Tokens) → length ts.left ≤ most → AreTrees (fields_trees fs) → AreFields fs → Begins (trees_words (fields_trees fs) ++ close_of round ∷ []) ts → (behind (trees_words (fields_trees fs)) ts).past ≤ end
+    → (fields end ts).0 ≡ map field_view fs
 unfolding fields turns
-all_fields fs ts l h is b = ap (λ r. r.0) (fields_read fs most [] ts l h is b)
+all_fields end fs ts l h is b e = ap (λ r. r.0) (fields_read end fs most [] ts l h is b e)
 
 -- ---- shapes
 
@@ -171,41 +190,60 @@ abbrev pub has_block : Shape → Bool
 has_block (record_shape w b) = true
 has_block _ = false
 
-unit_at : (w : Option Trees) (ts : Tokens) → Begins (trees_words (where_part w) ++ mark 59 ∷ []) ts → fields_at false ts ≡ no_fields
-unit_at None ts b = rw b.0.symbol_is refl
-unit_at (Some w) ts b = rw b.0.symbol_is refl
+no_symbol : (has : Bool) (end : ℕ) (ts : Tokens) → (symbol ts == 40) ≡ false → (symbol ts == 123) ≡ false → fields_at has end ts ≡ (if has then record_fields else no_fields)
+no_symbol true end ts o c = when (is_before end ts) (λ t. rw (t, o, c) refl) (λ t. rw t refl)
+no_symbol false end ts o c = when (is_before end ts) (λ t. rw (t, o, c) refl) (λ t. rw t refl)
 
-record_at : (w : Option Trees) (more : List Word) (ts : Tokens) → Begins (trees_words (where_part w) ++ open_of curly ∷ more) ts → fields_at true ts ≡ record_fields
-record_at None more ts b = rw b.0.symbol_is refl
-record_at (Some w) more ts b = rw b.0.symbol_is refl
+unit_at : (w : Option Trees) (end : ℕ) (ts : Tokens) → Begins (trees_words (where_part w) ++ mark 59 ∷ []) ts → fields_at false end ts ≡ no_fields
+unit_at None end ts b = no_symbol false end ts (ap (λ s. s == 40) b.0.symbol_is) (ap (λ s. s == 123) b.0.symbol_is)
+unit_at (Some w) end ts b = no_symbol false end ts (ap (λ s. s == 40) b.0.symbol_is) (ap (λ s. s == 123) b.0.symbol_is)
 
-tuple_at : (fs : List Field) (rest : List Word) (ts : Tokens) → length ts.left ≤ most → AreTrees (fields_trees fs) → AreFields fs → Begins (tree_words (group round (fields_trees fs)) ++ rest) ts
-    → fields_at false ts ≡ tuple_fields (map field_view fs)
-tuple_at fs rest ts l h is b =
+record_at : (w : Option Trees) (more : List Word) (end : ℕ) (ts : Tokens) → Begins (trees_words (where_part w) ++ open_of curly ∷ more) ts → fields_at true end ts ≡ record_fields
+record_at None more end ts b = when (is_before end ts) (λ t. rw (t, b.0.symbol_is) refl) (λ t. rw t refl)
+record_at (Some w) more end ts b = no_symbol true end ts (ap (λ s. s == 40) b.0.symbol_is) (ap (λ s. s == 123) b.0.symbol_is)
+
+tuple_at : (end : ℕ) (fs : List Field) (rest : List Word) (ts : Tokens) → length ts.left ≤ most → AreTrees (fields_trees fs) → AreFields fs → Begins (tree_words (group round (fields_trees fs)) ++ rest) ts
+    → (behind (tree_words (group round (fields_trees fs))) ts).past ≤ end → fields_at false end ts ≡ tuple_fields (map field_view fs)
+tuple_at end fs rest ts l h is b e =
     let here = begins_left (tree_words (group round (fields_trees fs))) rest ts b in
     let one : length (bumped ts).left + 1 ≡ length ts.left = shorter ts here.0.some in
-    rw here.0.symbol_is (ap tuple_fields (all_fields fs (bumped ts) (omega (arith, one, l)) h is here.1))
+    let ws = trees_words (fields_trees fs) in
+    let last = close_of round ∷ [] in
+    let all : (behind (ws ++ last) (bumped ts)).past ≡ (behind last (behind ws (bumped ts))).past = ap (λ (k : Tokens). k.past) (behind_append ws last (bumped ts)) in
+    let close : (behind ws (bumped ts)).past ≤ (behind last (behind ws (bumped ts))).past = past_behind last (behind ws (bumped ts)) (begins_right ws last (bumped ts) here.1) in
+    let inner : (bumped ts).past ≤ (behind ws (bumped ts)).past = past_behind ws (bumped ts) (begins_left ws last (bumped ts) here.1) in
+    let first : ts.past < (bumped ts).past = here.0.past in
+    rw (before end ts (omega (arith, all, close, inner, first, e)), here.0.symbol_is) (ap tuple_fields (all_fields end fs (bumped ts) (omega (arith, one, l)) h is here.1 (omega (arith, all, close, e))))
 
-shape_read : (s : Shape) (more : List Word) (ts : Tokens) → length ts.left ≤ most → AreTrees (shape_trees s) → IsShape s → Begins (trees_words (shape_trees s) ++ shape_end s ∷ more) ts → fields_at (has_block s) ts ≡ shape_view s
-shape_read (unit_shape w) more ts l h is b = unit_at w ts (begins_left (trees_words (where_part w) ++ mark 59 ∷ []) more ts (subst (λ k. Begins k ts) (sym (append_assoc (trees_words (where_part w)) (mark 59 ∷ []) more)) b))
-shape_read (tuple_shape fs w) more ts l h is b =
-    tuple_at fs (trees_words (where_part w) ++ mark 59 ∷ more) ts l h.0 is (subst (λ k. Begins k ts) (append_assoc (tree_words (group round (fields_trees fs))) (trees_words (where_part w)) (mark 59 ∷ more)) b)
-shape_read (record_shape w b) more ts l h is begun = record_at w more ts begun
+shape_read : (s : Shape) (more : List Word) (end : ℕ) (ts : Tokens) → length ts.left ≤ most → AreTrees (shape_trees s) → IsShape s → Begins (trees_words (shape_trees s) ++ shape_end s ∷ more) ts → (behind (trees_words (shape_trees s)) ts).past ≤ end
+    → fields_at (has_block s) end ts ≡ shape_view s
+shape_read (unit_shape w) more end ts l h is b e =
+    unit_at w end ts (begins_left (trees_words (where_part w) ++ mark 59 ∷ []) more ts (subst (λ k. Begins k ts) (sym (append_assoc (trees_words (where_part w)) (mark 59 ∷ []) more)) b))
+shape_read (tuple_shape fs w) more end ts l h is b e =
+    let ws = tree_words (group round (fields_trees fs)) in
+    let tail = trees_words (where_part w) ++ mark 59 ∷ more in
+    let split : Begins (ws ++ tail) ts = subst (λ k. Begins k ts) (append_assoc ws (trees_words (where_part w)) (mark 59 ∷ more)) b in
+    let us = behind ws ts in
+    let all : (behind (ws ++ trees_words (where_part w)) ts).past ≡ (behind (trees_words (where_part w)) us).past = ap (λ (k : Tokens). k.past) (behind_append ws (trees_words (where_part w)) ts) in
+    let later : us.past ≤ (behind (trees_words (where_part w)) us).past = past_behind (trees_words (where_part w)) us (begins_left (trees_words (where_part w)) (mark 59 ∷ more) us (begins_right ws tail ts split)) in
+    tuple_at end fs tail ts l h.0 is split (omega (arith, all, later, e))
+shape_read (record_shape w b) more end ts l h is begun e = record_at w more end ts begun
 
--- what a struct's fields are read as, behind its name
-pub struct_read : (g : Option Trees) (s : Shape) (more : List Word) (ts : Tokens) → length ts.left ≤ most → IsStruct g s → Begins (trees_words (struct_trees g s) ++ shape_end s ∷ more) ts → struct_fields (has_block s) ts ≡ shape_view s
-unfolding struct_fields
-struct_read None s more ts l is b =
-    ap (fields_at (has_block s)) (no_generics (first_of (shape_trees s) (shape_end s)) ts (shows_first (shape_trees s) (shape_end s) more ts b) is.has_generics) ∙ shape_read s more ts l is.trees is.shape b
-struct_read (Some g) s more ts l is b =
+-- what a struct's fields are read as, behind its name, where its header ends there
+pub struct_read : (g : Option Trees) (s : Shape) (more : List Word) (end : ℕ) (ts : Tokens) → length ts.left ≤ most → IsStruct g s → Begins (trees_words (struct_trees g s) ++ shape_end s ∷ more) ts → (behind (trees_words (struct_trees g s)) ts).past ≤ end
+    → fields_at (has_block s) end (behind_angles ts) ≡ shape_view s
+struct_read None s more end ts l is b e =
+    ap (fields_at (has_block s) end) (no_generics (first_of (shape_trees s) (shape_end s)) ts (shows_first (shape_trees s) (shape_end s) more ts b) is.has_generics) ∙ shape_read s more end ts l is.trees is.shape b e
+struct_read (Some g) s more end ts l is b e =
     let front = generics (Some g) in
     let tail = trees_words (shape_trees s) ++ shape_end s ∷ more in
     let parts = append_trees front (shape_trees s) is.trees in
+    let words : trees_words (struct_trees (Some g) s) ≡ enclosed g ++ trees_words (shape_trees s) = append_words front (shape_trees s) ∙ ap (λ k. k ++ trees_words (shape_trees s)) (generics_words g) in
     let split : Begins (enclosed g ++ tail) ts =
-    subst (λ k. Begins k ts)
-    (ap (λ k. k ++ shape_end s ∷ more) (append_words front (shape_trees s) ∙ ap (λ k. k ++ trees_words (shape_trees s)) (generics_words g)) ∙ append_assoc (enclosed g) (trees_words (shape_trees s)) (shape_end s ∷ more))
-    b in
+    subst (λ k. Begins k ts) (ap (λ k. k ++ shape_end s ∷ more) words ∙ append_assoc (enclosed g) (trees_words (shape_trees s)) (shape_end s ∷ more)) b in
     let first = begins_left (enclosed g) tail ts split in
     let few : length (enclosed g) + length (behind (enclosed g) ts).left ≡ length ts.left = fewer_left (enclosed g) ts first in
-    ap (fields_at (has_block s)) (generics_passed g ts (append_trees g (tree_and (single (mark 62)) no_trees) parts.0.1).0 is.has_generics first)
-    ∙ shape_read s more (behind (enclosed g) ts) (omega (arith, few, l)) parts.1 is.shape (begins_right (enclosed g) tail ts split)
+    let place : (behind (trees_words (struct_trees (Some g) s)) ts).past ≡ (behind (trees_words (shape_trees s)) (behind (enclosed g) ts)).past =
+    ap (λ (k : Tokens). k.past) (ap (λ k. behind k ts) words ∙ behind_append (enclosed g) (trees_words (shape_trees s)) ts) in
+    ap (fields_at (has_block s) end) (generics_passed g ts (append_trees g (tree_and (single (mark 62)) no_trees) parts.0.1).0 is.has_generics first)
+    ∙ shape_read s more end (behind (enclosed g) ts) (omega (arith, few, l)) parts.1 is.shape (begins_right (enclosed g) tail ts split) (omega (arith, place, e))

@@ -408,9 +408,9 @@ pub beyond_none : (past : ℕ) (ts : Tokens) → past < ts.past → beyond past 
 unfolding beyond
 beyond_none past ts e = let other : (ts.past == past) ≡ false = grind (arith, nat_tests, e) in rw other refl
 
-pub one_element : {A : Type 0} (reader : Reader A) (n : ℕ) (done : List A) (a : A) (ts us : Tokens) → is_at_end ts ≡ false → reader ts ≡ (a, us) → beyond ts.past us ≡ us
-    → turns_from is_at_end (one reader) (suc n) done ts ≡ turns_from is_at_end (one reader) n (done ++ a ∷ []) us
-one_element reader n done a ts us e r b = rw (e, r, b) refl
+pub one_element : {A : Type 0} (ends : Tokens → Bool) (reader : Reader A) (n : ℕ) (done : List A) (a : A) (ts us : Tokens) → ends ts ≡ false → reader ts ≡ (a, us) → beyond ts.past us ≡ us
+    → turns_from ends (one reader) (suc n) done ts ≡ turns_from ends (one reader) n (done ++ a ∷ []) us
+one_element ends reader n done a ts us e r b = rw (e, r, b) refl
 
 element_steps : (inner : Reader (Found (Option (List UseTreeView)))) (found : Found (Option UseTreeView)) (ts mid after : Tokens) → tree_with inner ts ≡ (found, mid) → behind_comma mid ≡ after → element_with inner ts ≡ (found, after)
 element_steps inner found ts mid after e f = rw (e, f) refl
@@ -511,7 +511,7 @@ mutual
         found = found ∷ more.found;
         values_are = ap (λ vs. use_view t ∷ vs) more.values_are;
         none_deep = more.none_deep;
-        turns = one_element (element_with (list depth)) n done found ts next.after (use_goes t ts first) read (beyond_none ts.past next.after (omega (arith, went, later)))
+        turns = one_element is_at_end (element_with (list depth)) n done found ts next.after (use_goes t ts first) read (beyond_none ts.past next.after (omega (arith, went, later)))
             ∙ more.turns
             ∙ ap (λ d. (d, behind (list_words us) next.after)) (append_assoc done (found ∷ []) more.found)
             ∙ ap (λ k. (done ++ found ∷ more.found, k)) (sym (behind_append ws (comma_words us) ts ∙ next.rest));
