@@ -17,7 +17,7 @@ FOLDER = os.path.join(os.path.dirname(os.path.realpath(__file__)), 'reader')
 DAMAGE = ['"', "'", '{', '}', '(', ')', '[', ']', ';', '#', '!', '/', '*', '\\', 'r', '0', ' ', '\n', ':', '=']
 LINE = r'^([\w.]+):(?: (.*))?$'
 # The lines that are compared as they stand; others hold JSON.
-TEXTS = ['outline', 'check', 'checked', 'ids', 'count', 'items']
+TEXTS = ['outline', 'check', 'imports', 'checked', 'ids', 'count', 'items']
 COUNTED = {'count': ['outline', '--no-members'], 'checked': ['check']}
 passed = failed = 0
 
@@ -77,7 +77,7 @@ def part(value, steps):
 
 def answer(word, text, options):
     """What is compared with the line of a case that begins with a word."""
-    if word == 'check':
+    if word in ('check', 'imports'):
         return lines([word], text, options)
     if word == 'outline':
         return lines([word, '--no-members'], text, options)

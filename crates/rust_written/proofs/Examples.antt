@@ -1,4 +1,4 @@
--- Three examples: the texts of items, what they are read as, and that the laws speak of them.
+-- Five examples: the texts of items, what they are read as, and that the laws speak of them.
 use Rattle.std.proofs.Common.{Bool, ◌≡◌, ℕ, true, false, Option, Some, None, List, [], ◌∷◌, codes, refl, arith}
 use Rattle.hir_input.specs.declared.edition.EditionYear.{EditionYear}
 use Rattle.hir_input.specs.declared.ast.Visibility.{Visibility}
