@@ -6,5 +6,6 @@ pub mod Ids
 pub mod LineEnds
 pub mod SourceFiles
 pub mod Places
+pub mod Uses
 pub mod Typed
 pub mod Alone
