@@ -8,6 +8,7 @@ pub mod UsesFound
 pub mod Places
 pub mod LineEnds
 pub mod FilePlaces
+pub mod BlockPlaces
 pub mod UsesTold
 pub mod Bodiless
 pub mod UntilLeaves

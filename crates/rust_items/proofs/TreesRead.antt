@@ -1,5 +1,5 @@
 -- Where a use tree tells that trees begin, those of it that can be read are read.
-use Rattle.std.proofs.Common.{◌≡◌, ◌==◌, ◌||◌, ℕ, zero, suc, Bool, true, false, Option, Some, None, List, [], ◌∷◌, ◌++◌, codes, if◌then◌else◌, refl, sym, ap, ◌∙◌, subst, append-nil, append_assoc, arith}
+use Rattle.std.proofs.Common.{◌≡◌, ◌==◌, ◌||◌, ℕ, zero, suc, Bool, true, false, Option, Some, None, List, [], ◌∷◌, ◌++◌, codes, refl, sym, ap, ◌∙◌, subst, append-nil, append_assoc, arith}
 use Rattle.std.specs.Prelude.{is_none, option_map, option_to_list}
 use Rattle.std.specs.List.{AllZip}
 use Rattle.std.specs.Str.{bytes_eq}
@@ -12,12 +12,12 @@ use Rattle.rust_cursor.specs.Tokens.{Tokens}
 use Rattle.rust_cursor.specs.Reader.{Reader}
 use Rattle.rust_cursor.specs.Words.{symbol, word, kind, at, is_empty, is_pair, eat_pair, bumped, is_at_end, eat_colons}
 use Rattle.rust_cursor.specs.Elements.{most, beyond, turns_from, turns, elements, one}
-use Rattle.rust_cursor.proofs.Leads.{LeadsTo, here, further, through, when, bumped_leads, eat_pair_leads, behind_closed_leads, behind_tree_leads, beyond_leads, turns_leads, Takes, takes, takes_behind, takes_before, symbol_some, word_none}
+use Rattle.rust_cursor.proofs.Leads.{LeadsTo, here, through, when, bumped_leads, eat_pair_leads, behind_closed_leads, behind_tree_leads, beyond_leads, turns_leads, Takes, takes, takes_behind, takes_before, symbol_some, word_none}
 use Rattle.rust_paths.specs.Names.{next_name, name, placed_name, taken_with}
 use Rattle.rust_paths.specs.Paths.{is_raw, is_dollar_crate, other_segment, segment, more_segments, front, written_path, is_path_start, use_path}
 use Rattle.rust_paths.specs.Meaning.{path_node}
 use Rattle.rust_paths.specs.UseTrees.{Found, begun, begun_list, values, all_starts, bare, listed, star_or_list, tree_behind, tree_with, tree_at, element_with, list, rename, use_tree}
-use Rattle.rust_paths.proofs.Leads.{placed_next, segment_leads, more_segments_leads, use_path_leads, rename_leads, behind_comma_leads, list_leads, tree_leads, element_leads}
+use Rattle.rust_paths.proofs.Leads.{placed_next, segment_leads, more_segments_leads, use_path_leads, rename_leads, behind_comma_leads, list_leads, element_leads}
 use Rattle.rust_items.specs.Uses.{is_readable, all_readable_trees, readable_trees, written_trees}
 
 -- ---- lists side by side

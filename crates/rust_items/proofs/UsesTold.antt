@@ -1,5 +1,5 @@
 -- Where use trees begin, in a whole text.
-use Rattle.std.proofs.Common.{◌≡◌, ◌≤◌, ◌<◌, ℕ, zero, suc, Some, List, [], ◌∷◌, ◌++◌, map, length, refl, sym, ap, subst, ◌∙◌, arith, append-nil}
+use Rattle.std.proofs.Common.{◌≡◌, ◌≤◌, ◌<◌, ℕ, suc, List, [], ◌∷◌, ◌++◌, map, length, refl, sym, ap, subst, ◌∙◌, arith, append-nil}
 use Rattle.std.specs.List.{AllZip}
 use Rattle.std.proofs.lemmas.List.{length-map, map-append}
 use Rattle.std.proofs.lemmas.List.Elements.{All-nil}
@@ -14,11 +14,10 @@ use Rattle.rust_paths.specs.declared.names.TextRange.{TextRange}
 use Rattle.rust_paths.specs.UseTrees.{tree_at}
 use Rattle.rust_items.specs.declared.ids.Numbers.{Numbers}
 use Rattle.rust_items.specs.declared.source_file.ItemPlace.{ItemPlace}
-use Rattle.rust_items.specs.declared.source_file.SourceFile.{SourceFile}
 use Rattle.rust_items.specs.Ids.{first, held_with_ids, with_ids}
 use Rattle.rust_items.specs.LineEnds.{with_feeds, place_in, moved_span}
-use Rattle.rust_items.specs.SourceFiles.{places, found_in, items_in, IsSourceFile}
-use Rattle.rust_items.specs.Uses.{trees_in, trees_within, preorder_of, preorder, left_behind, IsTreeAt, AreTreesIn, AreTreesOf, AreUsesOf, UsesAreTold}
+use Rattle.rust_items.specs.SourceFiles.{places, items_in}
+use Rattle.rust_items.specs.Uses.{trees_in, trees_within, preorder_of, preorder, left_behind, IsTreeAt, AreTreesIn, AreTreesOf, UsesAreTold}
 use Rattle.rust_items.proofs.FilePlaces.{id_kind, kinds, spans_moved, text_found}
 use Rattle.rust_items.proofs.LineEnds.{moved_place, place_rises_in, place_within}
 use Rattle.rust_items.proofs.Places.{place_kind, place_span}
