@@ -6,26 +6,30 @@ use Rattle.hir_input.specs.declared.edition.EditionYear.{EditionYear}
 use Rattle.hir_input.specs.declared.ids.AstIdKind.{AstIdKind}
 use Rattle.hir_input.specs.declared.ids.FileAstId.{FileAstId}
 use Rattle.hir_input.specs.Syntax.{ItemView, ItemViews, plain_item, const_item, struct_item, bare_module, listed_module, use_item, extern_crate, bare_extern_block, listed_extern_block, impl_item, macro_call, macro_rules, asm_item, items_of, syntax_view}
-use Rattle.rust_cursor.specs.Tokens.{tokens_of}
+use Rattle.rust_cursor.specs.Tokens.{Tokens, tokens_of}
 use Rattle.rust_cursor.proofs.Laid.{behind, past_within, tokens_laid}
+use Rattle.rust_cursor.proofs.Leads.{LeadsTo, here}
 use Rattle.rust_metas.proofs.Leads.{inner_attributes_leads}
 use Rattle.rust_ids.specs.Row.{Row}
-use Rattle.rust_ids.specs.Ids.{nth_row, id_at}
+use Rattle.rust_ids.specs.Ids.{AreIds, nth_row, id_at}
 use Rattle.rust_ids.proofs.Consequences.{distinct}
 use Rattle.rust_items.specs.declared.ids.Numbers.{Numbers}
 use Rattle.rust_items.specs.declared.log.ItemSpan.{ItemSpan}
+use Rattle.rust_items.specs.declared.log.ProblemKind.{ProblemKind}
 use Rattle.rust_items.specs.declared.source_file.ItemPlace.{ItemPlace}
 use Rattle.rust_items.specs.declared.source_file.SourceFile.{SourceFile}
 use Rattle.rust_items.specs.declared.blocks.SourceBlock.{SourceBlock}
 use Rattle.rust_items.specs.Blocks.{IsBlock, IsBlockOf}
-use Rattle.rust_items.specs.Found.{nothing_found}
+use Rattle.rust_items.specs.Found.{Found, nothing_found, and_problem_at}
 use Rattle.rust_items.specs.Ids.{held_with_ids, with_ids}
 use Rattle.rust_items.specs.Places.{Telling, id_of, name_of, IsWritten, held, IsPlace, ArePlaces, nothing, placed}
 use Rattle.rust_items.proofs.Names.{IsToken, told_behind, told_written}
 use Rattle.rust_items.specs.LineEnds.{with_feeds, returns_from, place_by, place_in, moved_span}
 use Rattle.rust_items.specs.SourceFiles.{places, behind_attributes, found_in, items_in, IsFile, IsSourceFile}
 use Rattle.rust_items.proofs.LineEnds.{returns_count, place_rises_in, place_within, moved_place, places_moved}
-use Rattle.rust_items.proofs.Places.{few, widened, retold, row_kind, place_kind, place_span, Adds, adds_problem_at, items_found}
+use Rattle.rust_items.proofs.Places.{few, widened, retold, row_kind, place_kind, place_span, Adds, adds_problem_at, AreFound, same_problem_at, items_found}
+use Rattle.rust_items.proofs.TreesRead.{IsRead, read_around}
+use Rattle.rust_items.proofs.UsesFound.{UsesIn, widened_uses, retold_uses}
 
 -- ---- ids
 
@@ -126,25 +130,40 @@ none_left (id ∷ ids) = refl
 -- ---- a text
 
 -- what is found in a text
-record IsText (edition : EditionYear) (text : List ℕ) : Type 0 where
+pub record IsText (edition : EditionYear) (text : List ℕ) (found : Found) (items : ItemViews) : Type 0 where
   pub ps : List ItemPlace
-  pub adds : Adds nothing_found (found_in edition text) ps
-  pub are : ArePlaces (IsToken (tokens_of edition text)) 0 (length text) (items_in edition text) ps []
+  pub adds : Adds nothing_found found ps
+  pub are : ArePlaces (IsToken (tokens_of edition text)) 0 (length text) items ps []
+  pub left : Tokens
+  pub starts : List ℕ
+  pub more : found.use_trees ≡ starts
+  pub uses : UsesIn (IsRead (tokens_of edition text) left) 0 (length text) items ps starts
 
-text_found : (edition : EditionYear) (text : List ℕ) → IsText edition text
-unfolding found_in items_in
-text_found edition text =
-    let whole = tokens_laid edition text in
-    let first = behind (length text) (inner_attributes_leads (tokens_of edition text)) whole in
-    let found = items_found (length text) true 128 nothing_found (behind_attributes edition text) first.laid in
-    let last = behind (length text) found.leads first.laid in
+-- what is found from a token of the text on
+pub whole_text : (edition : EditionYear) (text : List ℕ) (ts us : Tokens) (found : Found) (items : ItemViews) (kind : ProblemKind) (place : Option ℕ) → LeadsTo (tokens_of edition text) ts
+    → AreFound ts us nothing_found found items → IsText edition text (and_problem_at kind place found) items
+whole_text edition text ts us found items kind place p are =
+    let first = behind (length text) p (tokens_laid edition text) in
+    let last = behind (length text) are.leads first.laid in
+    let within = past_within (length text) us last.laid in
     record {
-      ps = found.places;
-      adds = adds_problem_at _ _ found.adds;
-      are = widened 0 (length text) (omega arith) (past_within (length text) _ last.laid) (retold (told_behind (inner_attributes_leads (tokens_of edition text))) found.are);
+      ps = are.places;
+      adds = adds_problem_at kind place are.adds;
+      are = widened 0 (length text) (omega arith) within (retold (told_behind p) are.are);
+      left = us;
+      starts = are.starts;
+      more = same_problem_at kind place found ∙ are.more;
+      uses = widened_uses 0 (length text) (omega arith) within (retold_uses (read_around p here) are.uses);
     }
 
-spans_moved : (place : ℕ → ℕ) (ps : List ItemPlace) → map (moved_span place) (map place_span ps) ≡ map place_span (map (moved_place place) ps)
+pub text_found : (edition : EditionYear) (text : List ℕ) → IsText edition text (found_in edition text) (items_in edition text)
+unfolding found_in items_in
+text_found edition text =
+    let p = inner_attributes_leads (tokens_of edition text) in
+    let first = behind (length text) p (tokens_laid edition text) in
+    whole_text edition text (behind_attributes edition text) _ _ _ _ _ p (items_found (length text) true 128 nothing_found (behind_attributes edition text) first.laid)
+
+pub spans_moved : (place : ℕ → ℕ) (ps : List ItemPlace) → map (moved_span place) (map place_span ps) ≡ map place_span (map (moved_place place) ps)
 spans_moved place [] = refl
 spans_moved place (p ∷ ps) = ap (λ l. place_span (moved_place place p) ∷ l) (spans_moved place ps)
 
@@ -152,21 +171,23 @@ kinds_moved : (place : ℕ → ℕ) (ps : List ItemPlace) → map place_kind (ma
 kinds_moved place [] = refl
 kinds_moved place (p ∷ ps) = ap (λ l. p.id.kind ∷ l) (kinds_moved place ps)
 
--- the ids of a file have the kinds of its places
-kinds : (edition : EditionYear) (text : List ℕ) (place : ℕ → ℕ) (file : SourceFile) (is : IsFile edition text place file) → map id_kind is.ids ≡ map place_kind (text_found edition text).ps
-kinds edition text place file is =
-    kinds_same is.ids (found_in edition text).rows is.are_ids.as_many (λ k l. (is.are_ids.each k l).kind)
-    ∙ (text_found edition text).adds.rows
+-- ids have the kinds of the places
+pub kinds : {edition : EditionYear} {text : List ℕ} {found : Found} {items : ItemViews} (t : IsText edition text found items) (ids : List FileAstId) → AreIds found.rows ids → map id_kind ids ≡ map place_kind t.ps
+kinds {edition} {text} {found} {items} t ids are = kinds_same ids found.rows are.as_many (λ k l. (are.each k l).kind) ∙ t.adds.rows
+
+-- the places with ids are those of the items with the same ids
+pub placed_text : (edition : EditionYear) (text : List ℕ) (found : Found) (items : ItemViews) → IsText edition (with_feeds text) found items → (ids : List FileAstId) → AreIds found.rows ids
+    → ArePlaces (IsWritten text) 0 (length text) (with_ids items ids).0 (places ids (map (moved_span (place_in text)) found.spans)) []
+placed_text edition text found items t ids are =
+    let feeds = with_feeds text in
+    let place = place_in text in
+    let moved = places_moved place (length feeds) (place_rises_in text) (IsToken (tokens_of edition feeds)) (IsWritten text) (told_written edition text) t.are 0 (length text) (omega arith) (place_within text) (omega arith) in
+    let all = numbered moved ids (kinds t ids are ∙ sym (kinds_moved place t.ps)) in
+    rw (t.adds.spans, spans_moved place t.ps) (rw (none_left (with_ids items ids).1) at all.0)
 
 -- the places of a text are those of its items
 pub file_placed : (edition : EditionYear) (text : List ℕ) (file : SourceFile) → IsSourceFile edition text file → ArePlaces (IsWritten text) 0 (length text) (items_of (syntax_view file.syntax)) file.places.items []
-file_placed edition text file is =
-    let feeds = with_feeds text in
-    let place = place_in text in
-    let t = text_found edition feeds in
-    let moved = places_moved place (length feeds) (place_rises_in text) (IsToken (tokens_of edition feeds)) (IsWritten text) (told_written edition text) t.are 0 (length text) (omega arith) (place_within text) (omega arith) in
-    let all = numbered moved is.ids (kinds edition feeds place file is ∙ sym (kinds_moved place t.ps)) in
-    rw (is.syntax, is.places, t.adds.spans, spans_moved place t.ps) (rw (none_left (with_ids (items_in edition feeds) is.ids).1) at all.0)
+file_placed edition text file is = rw (is.syntax, is.places) (placed_text edition text _ _ (text_found edition (with_feeds text)) is.ids is.are_ids)
 
 -- what is read of a text with line feeds alone is read of the text
 pub same_file : (edition : EditionYear) (text feeds : List ℕ) (len : ℕ) (returns : List ℕ) (file : SourceFile) → feeds ≡ with_feeds text → len ≡ length (with_feeds text) → returns ≡ returns_from 0 text

@@ -1,6 +1,7 @@
 -- What is left behind items that hold none is left of the tokens before them, and what they are.
 use Rattle.std.proofs.Common.{◌≡◌, ◌==◌, ◌&&◌, ℕ, zero, suc, Bool, true, false, Option, Some, None, List, [], codes, refl, ap, ◌∙◌, arith}
 use Rattle.std.specs.Prelude.{is_some}
+use Rattle.std.specs.List.{AllZip}
 use Rattle.std.specs.Option.{option_or}
 use Rattle.std.specs.Str.{bytes_eq}
 use Rattle.std.proofs.lemmas.Bool.{and_parts}
@@ -11,12 +12,13 @@ use Rattle.hir_input.specs.declared.ast.Visibility.{Visibility}
 use Rattle.hir_input.specs.Attr.{MetaView}
 use Rattle.hir_input.specs.Syntax.{PlainKind, union_kind, enum_kind, trait_kind, no_items}
 use Rattle.rust_cursor.specs.Tokens.{Tokens}
-use Rattle.rust_cursor.specs.Words.{symbol, word, kind, text, at, eat_word, is_empty, is_at_open, bumped}
+use Rattle.rust_cursor.specs.Words.{symbol, word, kind, text, at, eat, eat_word, is_empty, is_at_open, bumped}
 use Rattle.rust_cursor.specs.Extents.{ExcerptRead, tree_body}
 use Rattle.rust_cursor.proofs.Leads.{LeadsTo, here, further, through, Forwards, when, bumped_leads, eat_leads, eat_word_leads, behind_tree_leads, taken_leads_on, Takes, takes, takes_leads, takes_behind, takes_before, symbol_some, word_none, HasBlock, no_block, block, taken_block}
 use Rattle.rust_paths.specs.declared.names.TextRange.{TextRange}
 use Rattle.rust_paths.specs.Names.{Placed, placed_name}
 use Rattle.rust_paths.specs.Paths.{path}
+use Rattle.rust_paths.specs.UseTrees.{use_tree}
 use Rattle.rust_paths.proofs.Leads.{placed_name_leads, placed_next, path_leads, visibility_leads, use_tree_leads}
 use Rattle.rust_metas.proofs.Leads.{outer_attributes_leads}
 use Rattle.rust_leaves.specs.declared.head.Head.{Head}
@@ -27,11 +29,13 @@ use Rattle.rust_leaves.specs.Leaves.{LeafRead, range_to, name_read, named, named
 use Rattle.rust_leaves.specs.Kinds.{function, block_item, union_item, enumeration, trait_item, macro_def, type_alias, static_value, constant, structure, implementation, told_at, crate_item, use_declaration, macro_definition, is_called, invocation, leaf_by, leaf}
 use Rattle.rust_leaves.specs.Fronts.{FrontRead, front_behind, front}
 use Rattle.rust_items.specs.Places.{id_of, name_of, held}
+use Rattle.rust_items.specs.Uses.{trees_in, written_trees}
 use Rattle.rust_items.proofs.Names.{IsToken, untold, told_behind, named_told, named_or_told}
+use Rattle.rust_items.proofs.TreesRead.{word_some, zip_is, IsRead, read_around, use_tree_told}
 
 -- ---- texts
 
-tree_body_leads : Forwards tree_body
+pub tree_body_leads : Forwards tree_body
 tree_body_leads ts = taken_leads_on _ _ ts
 
 pub item_end_leads : Forwards item_end
@@ -155,9 +159,6 @@ pub named_or_leads : (keyword : List ℕ) → Forwards (named_or keyword)
 unfolding named_or
 named_or_leads keyword ts = when (bytes_eq (word ts) keyword) (λ e. rw e (bumped_leads ts)) (λ e. rw e (named_leads ts))
 
-pub word_some : (keyword : List ℕ) → bytes_eq [] keyword ≡ false → (ts : Tokens) → bytes_eq (word ts) keyword ≡ true → is_empty ts ≡ false
-word_some keyword some ts e = when (is_empty ts) (λ h. let none = word_none ts h in let wrong : bytes_eq [] keyword ≡ true = rw none at e in absurd cc) (λ h. h)
-
 named_or_named : (keyword : List ℕ) → bytes_eq [] keyword ≡ false → (ts : Tokens) → IsNamed ts (named_or keyword ts).1 (named_or keyword ts).0.range
 unfolding named_or
 named_or_named keyword some ts =
@@ -203,7 +204,7 @@ pub braces_behind : {ts us vs : Tokens} {range : Option TextRange} → LeadsTo t
 braces_behind p unbraced = unbraced
 braces_behind p (braced b before some t) = braced b (through p before) some t
 
-block_braced : {ts us : Tokens} {o : Option Tokens} → HasBlock ts us o → IsBraced ts us (range_to us.past o)
+pub block_braced : {ts us : Tokens} {o : Option Tokens} → HasBlock ts us o → IsBraced ts us (range_to us.past o)
 block_braced no_block = unbraced
 block_braced (block b before some t) = braced b before some t
 
@@ -243,14 +244,15 @@ pub record IsLeaf (ts us : Tokens) (l : LeafRead) : Type 0 where
   pub name : IsNamed ts us l.named
   pub body : IsBraced ts us l.body
   pub told : (l.kind ≡ ast.ExternCrate → ⊥) → IsToken ts (name_of l.item) l.named
+  pub uses : AllZip (IsRead ts us) l.use_trees (trees_in l.item)
 
 module _ (attrs : List MetaView) (v : Option Visibility) (ts : Tokens) where
   pub function_leaf : IsLeaf ts (function attrs v ts).1 (function attrs v ts).0
   unfolding function
-  function_leaf = record { leads = through (named_leads ts) (item_end_leads _); id = refl; alone = refl; name = name_before (named_named ts) (item_end_leads _); body = braces_behind (named_leads ts) (item_end_braced _); told = λ _. named_told ts }
+  function_leaf = record { leads = through (named_leads ts) (item_end_leads _); id = refl; alone = refl; name = name_before (named_named ts) (item_end_leads _); body = braces_behind (named_leads ts) (item_end_braced _); told = λ _. named_told ts; uses = tt }
 
   block_leaf : (k : PlainKind) → IsLeaf ts (block_item k attrs v ts).1 (block_item k attrs v ts).0
-  block_leaf k = record { leads = through (named_leads ts) (item_end_leads _); id = refl; alone = refl; name = name_before (named_named ts) (item_end_leads _); body = braces_behind (named_leads ts) (item_end_braced _); told = λ _. named_told ts }
+  block_leaf k = record { leads = through (named_leads ts) (item_end_leads _); id = refl; alone = refl; name = name_before (named_named ts) (item_end_leads _); body = braces_behind (named_leads ts) (item_end_braced _); told = λ _. named_told ts; uses = tt }
 
   pub union_leaf : IsLeaf ts (union_item attrs v ts).1 (union_item attrs v ts).0
   unfolding union_item
@@ -266,11 +268,11 @@ module _ (attrs : List MetaView) (v : Option Visibility) (ts : Tokens) where
 
   pub macro_def_leaf : IsLeaf ts (macro_def attrs v ts).1 (macro_def attrs v ts).0
   unfolding macro_def
-  macro_def_leaf = record { leads = through (named_leads ts) (macro_end_leads _); id = refl; alone = refl; name = name_before (named_named ts) (macro_end_leads _); body = braces_behind (named_leads ts) (macro_end_braced _); told = λ _. named_told ts }
+  macro_def_leaf = record { leads = through (named_leads ts) (macro_end_leads _); id = refl; alone = refl; name = name_before (named_named ts) (macro_end_leads _); body = braces_behind (named_leads ts) (macro_end_braced _); told = λ _. named_told ts; uses = tt }
 
   pub type_alias_leaf : IsLeaf ts (type_alias attrs v ts).1 (type_alias attrs v ts).0
   unfolding type_alias
-  type_alias_leaf = record { leads = through (named_leads ts) (value_end_leads _); id = refl; alone = refl; name = name_before (named_named ts) (value_end_leads _); body = braces_behind (named_leads ts) (value_end_braced _); told = λ _. named_told ts }
+  type_alias_leaf = record { leads = through (named_leads ts) (value_end_leads _); id = refl; alone = refl; name = name_before (named_named ts) (value_end_leads _); body = braces_behind (named_leads ts) (value_end_braced _); told = λ _. named_told ts; uses = tt }
 
   pub static_leaf : IsLeaf ts (static_value attrs v ts).1 (static_value attrs v ts).0
   unfolding static_value
@@ -281,6 +283,7 @@ module _ (attrs : List MetaView) (v : Option Visibility) (ts : Tokens) where
     name = name_behind (eat_word_leads _ ts) (name_before (named_named _) (value_end_leads _));
     body = braces_behind (through (eat_word_leads _ ts) (named_leads _)) (value_end_braced _);
     told = λ _. told_behind (eat_word_leads _ ts) _ _ (named_told _);
+    uses = tt;
   }
 
   pub const_leaf : IsLeaf ts (constant attrs v ts).1 (constant attrs v ts).0
@@ -292,15 +295,16 @@ module _ (attrs : List MetaView) (v : Option Visibility) (ts : Tokens) where
     name = name_before (named_named ts) (through (eat_word_leads _ _) (value_end_leads _));
     body = braces_behind (through (named_leads ts) (eat_word_leads _ _)) (value_end_braced _);
     told = λ _. named_told ts;
+    uses = tt;
   }
 
   pub struct_leaf : IsLeaf ts (structure attrs v ts).1 (structure attrs v ts).0
   unfolding structure
-  struct_leaf = record { leads = through (named_leads ts) (item_end_leads _); id = refl; alone = refl; name = name_before (named_named ts) (item_end_leads _); body = braces_behind (named_leads ts) (item_end_braced _); told = λ _. named_told ts }
+  struct_leaf = record { leads = through (named_leads ts) (item_end_leads _); id = refl; alone = refl; name = name_before (named_named ts) (item_end_leads _); body = braces_behind (named_leads ts) (item_end_braced _); told = λ _. named_told ts; uses = tt }
 
   pub impl_leaf : IsLeaf ts (implementation attrs ts).1 (implementation attrs ts).0
   unfolding implementation
-  impl_leaf = record { leads = impl_end_leads ts; id = refl; alone = refl; name = nameless; body = impl_end_braced ts; told = λ _. untold }
+  impl_leaf = record { leads = impl_end_leads ts; id = refl; alone = refl; name = nameless; body = impl_end_braced ts; told = λ _. untold; uses = tt }
 
   pub crate_leaf : IsLeaf ts (crate_item attrs v ts).1 (crate_item attrs v ts).0
   unfolding crate_item
@@ -311,11 +315,20 @@ module _ (attrs : List MetaView) (v : Option Visibility) (ts : Tokens) where
     name = name_before (told_named (named_or (codes "self") ts).0.range ts (named_or (codes "self") ts).1 (named_or_named (codes "self") refl ts) (named_or_leads (codes "self") ts)) (eat_leads _ _);
     body = unbraced;
     told = λ other. absurd (other refl);
+    uses = tt;
   }
 
   pub use_leaf : IsLeaf ts (use_declaration attrs v ts).1 (use_declaration attrs v ts).0
   unfolding use_declaration
-  use_leaf = record { leads = through (use_tree_leads ts) (eat_leads _ _); id = refl; alone = refl; name = nameless; body = unbraced; told = λ _. untold }
+  use_leaf = record {
+    leads = through (use_tree_leads ts) (eat_leads _ _);
+    id = refl;
+    alone = refl;
+    name = nameless;
+    body = unbraced;
+    told = λ _. untold;
+    uses = zip_is (IsRead ts (use_tree ts).1) (IsRead ts (eat 59 (use_tree ts).1).1) (read_around here (eat_leads 59 (use_tree ts).1)) (use_tree ts).0.starts (written_trees (use_tree ts).0.value) (use_tree_told ts);
+  }
 
   pub macro_rules_leaf : IsLeaf ts (macro_definition attrs ts).1 (macro_definition attrs ts).0
   unfolding macro_definition
@@ -326,6 +339,7 @@ module _ (attrs : List MetaView) (v : Option Visibility) (ts : Tokens) where
     name = name_before (named_or_named (codes "try") refl ts) (call_end_leads _);
     body = braces_behind (named_or_leads (codes "try") ts) (call_end_braced _);
     told = λ _. named_or_told 116 (codes "ry") refl ts;
+    uses = tt;
   }
 
 -- an item of tokens, one at least
@@ -334,9 +348,9 @@ pub record IsTaken (ts us : Tokens) (l : LeafRead) : Type 0 where
   pub leaf : IsLeaf ts us l
 
 leaf_taken : {ts us vs : Tokens} {l : LeafRead} → Takes ts us → IsLeaf us vs l → IsTaken ts vs l
-leaf_taken t l = record {
-  takes = takes_before t l.leads;
-  leaf = record { leads = through (takes_leads t) l.leads; id = l.id; alone = l.alone; name = name_behind (takes_leads t) l.name; body = braces_behind (takes_leads t) l.body; told = λ other. told_behind (takes_leads t) _ _ (l.told other) };
+leaf_taken {ts} {us} {vs} {l} t k = record {
+  takes = takes_before t k.leads;
+  leaf = record { leads = through (takes_leads t) k.leads; id = k.id; alone = k.alone; name = name_behind (takes_leads t) k.name; body = braces_behind (takes_leads t) k.body; told = λ other. told_behind (takes_leads t) _ _ (k.told other); uses = zip_is (IsRead us vs) (IsRead ts vs) (read_around (takes_leads t) here) l.use_trees (trees_in l.item) k.uses };
 }
 
 -- an item, or none
@@ -344,7 +358,7 @@ abbrev pub LeafFound : Tokens → Tokens → Option LeafRead → Type 0
 LeafFound ts us None = LeadsTo ts us
 LeafFound ts us (Some l) = IsTaken ts us l
 
-called_some : (ts : Tokens) → is_called ts ≡ true → is_empty ts ≡ false
+pub called_some : (ts : Tokens) → is_called ts ≡ true → is_empty ts ≡ false
 unfolding is_called
 called_some ts e = symbol_some 33 ts (omega arith) (and_parts (symbol ts == 33) (is_at_open (bumped ts)) e).0
 
@@ -354,7 +368,7 @@ invocation_found attrs ts us p =
     when (is_some (path us).0 && is_called (path us).1)
     (λ e. rw e (record {
       takes = takes (path us).1 (through p (path_leads us)) (called_some (path us).1 (and_parts (is_some (path us).0) (is_called (path us).1) e).1) (call_end_leads _);
-      leaf = record { leads = through p (through (path_leads us) (further (call_end_leads _))); id = refl; alone = refl; name = nameless; body = braces_behind (through p (through (path_leads us) (further here))) (call_end_braced _); told = λ _. untold };
+      leaf = record { leads = through p (through (path_leads us) (further (call_end_leads _))); id = refl; alone = refl; name = nameless; body = braces_behind (through p (through (path_leads us) (further here))) (call_end_braced _); told = λ _. untold; uses = tt };
     }))
     (λ e. rw e p)
 

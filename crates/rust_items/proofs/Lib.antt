@@ -2,10 +2,14 @@ pub mod Steps
 pub mod Parts
 pub mod Numbering
 pub mod Names
+pub mod TreesRead
 pub mod Leads
+pub mod UsesFound
 pub mod Places
 pub mod LineEnds
 pub mod FilePlaces
+pub mod BlockPlaces
+pub mod UsesTold
 pub mod Bodiless
 pub mod UntilFields
 pub mod UntilLeaves

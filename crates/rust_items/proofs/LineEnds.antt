@@ -281,29 +281,29 @@ part_moved z front mid back e h =
 abbrev pub moved_place : (ℕ → ℕ) → ItemPlace → ItemPlace
 moved_place place p = record { id = p.id; range = moved_range place p.range; name = option_map (moved_range place) p.name; body = option_map (moved_range place) p.body }
 
+pub place_le : (place : ℕ → ℕ) (end : ℕ) → ((m n : ℕ) → m < n → n ≤ end → place m < place n) → (m n : ℕ) → m ≤ n → n ≤ end → place m ≤ place n
+place_le place end rises m n l h = ⊎_elim (λ (k : m ≡ n). let e = ap place k in omega arith) (λ (k : m < n). let r = rises m n k h in omega arith) (eq-or-lt_of_le l)
+
 module _ (place : ℕ → ℕ) (end : ℕ) (rises : (m n : ℕ) → m < n → n ≤ end → place m < place n)
     (N M : Telling) (told : (o : Option (List ℕ)) (r : Option TextRange) → N o r → M o (option_map (moved_range place) r)) where
-  place_le : (m n : ℕ) → m ≤ n → n ≤ end → place m ≤ place n
-  place_le m n l h = ⊎_elim (λ (k : m ≡ n). let e = ap place k in omega arith) (λ (k : m < n). let r = rises m n k h in omega arith) (eq-or-lt_of_le l)
-
   moved_name : (r : TextRange) (o : Option TextRange) → r.end ≤ end → IsNameIn r o → IsNameIn (moved_range place r) (option_map (moved_range place) o)
   moved_name r None l h = tt
-  moved_name r (Some n) l h = (place_le r.start n.start h.0 (omega (arith, h.1, h.2)), rises n.start n.end h.1 (omega (arith, h.2)), place_le n.end r.end h.2 l)
+  moved_name r (Some n) l h = (place_le place end rises r.start n.start h.0 (omega (arith, h.1, h.2)), rises n.start n.end h.1 (omega (arith, h.2)), place_le place end rises n.end r.end h.2 l)
 
   moved_body : (r : TextRange) (o : Option TextRange) → r.end ≤ end → IsBodyIn r o → IsBodyIn (moved_range place r) (option_map (moved_range place) o)
   moved_body r None l h = tt
   moved_body r (Some b) l h =
       let first : place b.start < place (b.start + 1) = rises b.start (b.start + 1) (omega arith) (omega (arith, h.1, h.2)) in
       let second : place (b.start + 1) < place b.end = rises (b.start + 1) b.end (omega (arith, h.1)) (omega (arith, h.2)) in
-      (place_le r.start b.start h.0 (omega (arith, h.1, h.2)), omega arith, ap place h.2)
+      (place_le place end rises r.start b.start h.0 (omega (arith, h.1, h.2)), omega arith, ap place h.2)
 
   pub places_moved : {from to : ℕ} {is : ItemViews} {ps rest : List ItemPlace} → ArePlaces N from to is ps rest → (low high : ℕ) → low ≤ place from → place to ≤ high → to ≤ end
       → ArePlaces M low high is (map (moved_place place) ps) (map (moved_place place) rest)
   places_moved nothing low high l h e = nothing
   places_moved {from} {to} (placed {i = i} {p = p} at inside behind) low high l h e =
       let within : p.range.end ≤ end = omega (arith, at.ends) in
-      let begins : place from ≤ place p.range.start = place_le from p.range.start at.begins (omega (arith, at.some)) in
-      let ends : place p.range.end ≤ place to = place_le p.range.end to at.ends e in
+      let begins : place from ≤ place p.range.start = place_le place end rises from p.range.start at.begins (omega (arith, at.some)) in
+      let ends : place p.range.end ≤ place to = place_le place end rises p.range.end to at.ends e in
       let next : place p.range.start < place (p.range.start + 1) = rises p.range.start (p.range.start + 1) (omega arith) (omega (arith, at.some)) in
       let here : IsPlace M low high i (moved_place place p) = record { id = at.id; begins = omega arith; some = rises p.range.start p.range.end at.some within; ends = omega arith; name = moved_name p.range p.name within at.name; body = moved_body p.range p.body within at.body; named = λ other. told (name_of i) p.name (at.named other) } in
       placed here (places_moved inside (place p.range.start + 1) (place p.range.end) (omega arith) (omega arith) within) (places_moved behind (place p.range.end) high (omega arith) h e)

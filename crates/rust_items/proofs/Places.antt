@@ -1,12 +1,15 @@
 -- Items stand where their places say.
-use Rattle.std.proofs.Common.{◌≡◌, ◌≤◌, ◌+◌, ◌-◌, ◌==◌, ℕ, zero, suc, Bool, true, false, Option, Some, None, List, [], ◌∷◌, ◌++◌, map, length, refl, sym, subst, ap, ◌∙◌, arith, append_assoc, append-nil}
-use Rattle.std.specs.Prelude.{option_to_list}
+use Rattle.std.proofs.Common.{◌≡◌, ◌≤◌, ◌+◌, ◌-◌, ◌==◌, ◌&&◌, ℕ, zero, suc, Bool, true, false, Option, Some, None, List, [], ◌∷◌, ◌++◌, map, length, refl, sym, subst, ap, ◌∙◌, arith, append_assoc, append-nil}
+use Rattle.std.specs.Prelude.{option_to_list, All, is_none}
+use Rattle.std.specs.List.{AllZip}
+use Rattle.std.proofs.lemmas.List.Elements.{All-nil, All-cons}
 use Rattle.std.proofs.lemmas.List.{map-append}
 use Rattle.hir_input.specs.declared.ids.AstIdKind.{AstIdKind}
 use Rattle.hir_input.specs.declared.ids.AstIdKind.TheVariants as kind
 use Rattle.hir_input.specs.declared.ast.Visibility.{Visibility}
 use Rattle.hir_input.specs.Attr.{MetaView}
 use Rattle.hir_input.specs.Syntax.{NodeView, NamedView, ItemView, ItemViews, plain_item, fn_kind, static_kind, type_alias_kind, macro_call, no_items, item_and, items_from, module_from, extern_block_from}
+use Rattle.hir_input.specs.UseTreeView.{UseTreeView}
 use Rattle.rust_cursor.specs.Tokens.{Tokens}
 use Rattle.rust_cursor.specs.Words.{symbol, at, eat, is_at_end, bumped}
 use Rattle.rust_cursor.specs.Elements.{most, beyond}
@@ -22,14 +25,17 @@ use Rattle.rust_items.specs.declared.log.ItemSpan.{ItemSpan}
 use Rattle.rust_items.specs.declared.log.ProblemKind.{ProblemKind}
 use Rattle.rust_items.specs.declared.log.ProblemKind.TheVariants as problem
 use Rattle.rust_items.specs.declared.source_file.ItemPlace.{ItemPlace}
-use Rattle.rust_items.specs.Found.{Found, Finder, nothing_found, and_problem, and_problem_if, and_problem_at, and_use_trees, and_all}
+use Rattle.rust_items.specs.Found.{Found, Finder, nothing_found, and_problem, and_problem_if, and_problem_at, and_row, and_use_trees, and_all}
 use Rattle.rust_leaves.specs.Leaves.{LeafRead, NameRead, no_name, named}
 use Rattle.rust_leaves.specs.Kinds.{node, named_node}
 use Rattle.rust_leaves.specs.Fronts.{FrontRead, front}
-use Rattle.rust_items.specs.Items.{BlockRead, and_flaw, and_item, and_leaf, and_parent, leaf_found, leaf_turn, finding_from, finding, is_list_end, block_of, as_extern, extern_kept, extern_found, extern_turn, extern_inside, extern_block, one_more, unmatched, inside_unless, module_with, by_head, turn_with, inside, turn, depth_of, items}
+use Rattle.rust_items.specs.Items.{BlockRead, span_of, needs_name, and_flaw, and_item, and_leaf, and_parent, leaf_found, leaf_turn, finding_from, finding, is_list_end, block_of, as_extern, extern_kept, extern_found, extern_turn, extern_inside, extern_block, one_more, unmatched, inside_unless, module_with, by_head, turn_with, inside, turn, depth_of, items}
 use Rattle.rust_items.specs.Places.{Telling, id_of, name_of, held, IsNameIn, IsBodyIn, IsPlace, ArePlaces, nothing, placed}
 use Rattle.rust_items.proofs.Leads.{IsNamed, nameless, by_token, name_behind, name_before, IsBraced, unbraced, braced, blank, IsLeaf, IsTaken, LeafFound, TakesBy, front_takes, front_start, named_leads, named_named, behind_others_leads}
 use Rattle.rust_items.proofs.Leads as leads
+use Rattle.rust_items.specs.Uses.{trees_in, trees_within}
+use Rattle.rust_items.proofs.TreesRead.{IsRead, read_around}
+use Rattle.rust_items.proofs.UsesFound.{IsWithin, IsIn, UsesIn, no_uses, leaf_uses, holder_uses, widened_uses, retold_uses, joined_uses}
 use Rattle.rust_items.proofs.Names.{IsToken, untold, told_behind, named_told}
 
 -- ---- places
@@ -93,10 +99,10 @@ pub record Adds (f g : Found) (ps : List ItemPlace) : Type 0 where
   pub rows : map row_kind g.rows ≡ map row_kind f.rows ++ map place_kind ps
   pub spans : g.spans ≡ f.spans ++ map place_span ps
 
-adds_none : (f : Found) → Adds f f []
+pub adds_none : (f : Found) → Adds f f []
 adds_none f = record { rows = sym (append-nil _); spans = sym (append-nil _) }
 
-adds_problem : {f g : Found} {ps : List ItemPlace} (kind : ProblemKind) (place : ℕ) → Adds f g ps → Adds f (and_problem kind place g) ps
+pub adds_problem : {f g : Found} {ps : List ItemPlace} (kind : ProblemKind) (place : ℕ) → Adds f g ps → Adds f (and_problem kind place g) ps
 adds_problem kind place a = record { rows = a.rows; spans = a.spans }
 
 adds_problem_if : {f g : Found} {ps : List ItemPlace} (test : Bool) (kind : ProblemKind) (place : ℕ) → Adds f g ps → Adds f (and_problem_if test kind place g) ps
@@ -145,15 +151,18 @@ pub record AreFound (ts us : Tokens) (f g : Found) (is : ItemViews) : Type 0 whe
   pub places : List ItemPlace
   pub adds : Adds f g places
   pub are : ArePlaces (IsToken ts) ts.past us.past is places []
+  pub starts : List ℕ
+  pub more : g.use_trees ≡ f.use_trees ++ starts
+  pub uses : UsesIn (IsRead ts us) ts.past us.past is places starts
 
-none_found : {ts us : Tokens} (f g : Found) → LeadsTo ts us → Adds f g [] → AreFound ts us f g no_items
-none_found f g p a = record { leads = p; places = []; adds = a; are = nothing }
+pub none_found : {ts us : Tokens} (f g : Found) → LeadsTo ts us → Adds f g [] → g.use_trees ≡ f.use_trees → AreFound ts us f g no_items
+none_found f g p a e = record { leads = p; places = []; adds = a; are = nothing; starts = []; more = e ∙ sym (append-nil f.use_trees); uses = no_uses }
 
 -- what a reader finds in tokens that end before this place
 abbrev pub Finds : ℕ → Finder (Option ItemView) → Type 0
 Finds end turn = (f : Found) (ts : Tokens) → IsLaid end ts → AreFound ts (turn f ts).1.1 f (turn f ts).1.0 (items_from (option_to_list (turn f ts).0))
 
-found_more : (end : ℕ) (ts us vs ws : Tokens) (f g h : Found) (xs ys : List ItemView) → IsLaid end ts → LeadsTo us vs → AreFound ts us f g (items_from xs)
+pub found_more : (end : ℕ) (ts us vs ws : Tokens) (f g h : Found) (xs ys : List ItemView) → IsLaid end ts → LeadsTo us vs → AreFound ts us f g (items_from xs)
     → AreFound vs ws g h (items_from ys) → AreFound ts ws f h (items_from (xs ++ ys))
 found_more end ts us vs ws f g h xs ys laid p a b =
     let first = behind end a.leads laid in
@@ -164,6 +173,9 @@ found_more end ts us vs ws f g h xs ys laid p a b =
       places = a.places ++ b.places;
       adds = adds_more a.adds b.adds;
       are = joined ts.past us.past vs.past ws.past xs ys (a.places ++ b.places) b.places [] (omega arith) (omega arith) (omega arith) (framed b.places a.are) (retold (told_behind (through a.leads p)) b.are);
+      starts = a.starts ++ b.starts;
+      more = b.more ∙ ap (λ l. l ++ b.starts) a.more ∙ append_assoc f.use_trees a.starts b.starts;
+      uses = joined_uses ts.past us.past vs.past ws.past xs ys b.places b.starts (omega arith) (omega arith) (omega arith) (retold_uses (read_around here (through p b.leads)) a.uses) (retold_uses (read_around (through a.leads p) here) b.uses);
     }
 
 -- ---- lists
@@ -176,7 +188,7 @@ pub record IsListed (ts : Tokens) (f : Found) (done : List ItemView) (r : List I
 
 module _ (end : ℕ) (ends : Tokens → Bool) (turn : Finder (Option ItemView)) (t : Finds end turn) where
   list_end : (done : List ItemView) (f : Found) (ts : Tokens) → IsListed ts f done (done, (f, ts))
-  list_end done f ts = record { new = []; list = sym (append-nil done); found = none_found f f here (adds_none f) }
+  list_end done f ts = record { new = []; list = sym (append-nil done); found = none_found f f here (adds_none f) refl }
 
   list_more : (done : List ItemView) (f : Found) (ts : Tokens) (r : List ItemView × (Found × Tokens)) → IsLaid end ts
       → IsListed (beyond ts.past (turn f ts).1.1) (turn f ts).1.0 (done ++ option_to_list (turn f ts).0) r → IsListed ts f done r
@@ -219,10 +231,43 @@ body_in end ts us (Some range) laid (braced b before some t) =
     let strict = takes_strict end t next.laid in
     (first.place, omega arith, refl)
 
-place_is : (end : ℕ) (ts us : Tokens) (i : ItemView) (k : AstIdKind) (body name : Option TextRange) → IsLaid end ts → Takes ts us → id_of i ≡ Some (blank k) → IsNamed ts us name → IsBraced ts us body → ((k ≡ kind.ExternCrate → ⊥) → IsToken ts (name_of i) name)
+pub place_is : (end : ℕ) (ts us : Tokens) (i : ItemView) (k : AstIdKind) (body name : Option TextRange) → IsLaid end ts → Takes ts us → id_of i ≡ Some (blank k) → IsNamed ts us name → IsBraced ts us body → ((k ≡ kind.ExternCrate → ⊥) → IsToken ts (name_of i) name)
     → IsPlace (IsToken ts) ts.past us.past i (unnumbered k (at ts) us.past body name)
 place_is end ts us i k body name laid t e n b spelled =
     record { id = e; begins = at_behind end ts laid; some = takes_strict end t laid; ends = omega arith; name = name_in end ts us name laid n; body = body_in end ts us body laid b; named = spelled }
+
+-- ---- where its use trees begin
+
+pub same_problem_at : (kind : ProblemKind) (place : Option ℕ) (f : Found) → (and_problem_at kind place f).use_trees ≡ f.use_trees
+same_problem_at kind None f = refl
+same_problem_at kind (Some place) f = refl
+
+same_flaw : (is_ended is_nameless : Bool) (start : ℕ) (f : Found) → (and_flaw is_ended is_nameless start f).use_trees ≡ f.use_trees
+same_flaw true true start f = refl
+same_flaw true false start f = refl
+same_flaw false is_nameless start f = refl
+
+same_item : (depth start end : ℕ) (body : Option TextRange) (kind : AstIdKind) (hashed : List ℕ) (name : Option TextRange) (is_ended : Bool) (f : Found)
+    → (and_item depth start end body kind hashed name is_ended f).use_trees ≡ f.use_trees
+same_item depth start end body kind hashed name is_ended f =
+    same_flaw is_ended (is_none name && needs_name kind) start (and_row (record { depth = depth; kind = kind; name = hashed }) (span_of start end body name) f)
+
+pub place_within : (end : ℕ) (ts us : Tokens) → IsLaid end ts → Takes ts us → IsWithin ts.past us.past (record { start = at ts; end = us.past })
+place_within end ts us laid t = let strict = takes_strict end t laid in record { begins = at_behind end ts laid; some = omega arith; ends = omega arith }
+
+read_in : (end : ℕ) (ts us : Tokens) (start : ℕ) (w : UseTreeView) → IsLaid end ts → IsRead ts us start w → IsIn (at ts) us.past start
+read_in end ts us start w laid r =
+    let first = behind end r.before laid in
+    let strict = takes_strict end r.taken first.laid in
+    let place = first.place in
+    let same = r.first in
+    (omega arith, omega arith)
+
+starts_in : (end : ℕ) (ts us : Tokens) (starts : List ℕ) (ws : List UseTreeView) → IsLaid end ts → AllZip (IsRead ts us) starts ws → All (IsIn (at ts) us.past) starts
+starts_in end ts us [] [] laid z = All-nil (IsIn (at ts) us.past)
+starts_in end ts us (s ∷ ss) (w ∷ ws) laid z = All-cons (IsIn (at ts) us.past) s ss (read_in end ts us s w laid z.0) (starts_in end ts us ss ws laid z.1)
+starts_in end ts us [] (w ∷ ws) laid z = absurd z
+starts_in end ts us (s ∷ ss) [] laid z = absurd z
 
 -- an item that holds none
 leaf_is : (end : ℕ) (ts us : Tokens) (depth : ℕ) (l : LeafRead) (f : Found) → IsLaid end ts → IsTaken ts us l → AreFound ts us f (and_leaf depth (at ts) us.past l f) (item_and l.item no_items)
@@ -231,6 +276,9 @@ leaf_is end ts us depth l f laid t = record {
   places = unnumbered l.kind (at ts) us.past l.body l.named ∷ [];
   adds = adds_use_trees l.use_trees (adds_problem_at _ l.too_deep (adds_item f depth (at ts) us.past l.body l.kind l.name l.named l.is_ended));
   are = placed (place_is end ts us l.item l.kind l.body l.named laid t.takes t.leaf.id t.leaf.name t.leaf.body t.leaf.told) (rw t.leaf.alone nothing) nothing;
+  starts = l.use_trees;
+  more = ap (λ k. k ++ l.use_trees) (same_problem_at problem.TooDeep l.too_deep (and_item depth (at ts) us.past l.body l.kind l.name l.named l.is_ended f) ∙ same_item depth (at ts) us.past l.body l.kind l.name l.named l.is_ended f);
+  uses = leaf_uses l.use_trees [] (sym (append-nil l.use_trees)) t.leaf.alone (place_within end ts us laid t.takes) (starts_in end ts us l.use_trees (trees_in l.item) laid t.leaf.uses) t.leaf.uses no_uses;
 }
 
 -- the items of a block, if there is one
@@ -240,21 +288,25 @@ listed (Some is) = items_from is
 
 -- an item that holds these
 parent_is : (end : ℕ) (ts ms us : Tokens) (f g : Found) (depth : ℕ) (k : AstIdKind) (n : NameRead) (is_ended : Bool) (i : ItemView) (is : ItemViews) → IsLaid end ts → Takes ts ms → AreFound ms us nothing_found g is
-    → id_of i ≡ Some (blank k) → held i ≡ is → IsNamed ts ms n.range → IsToken ts (name_of i) n.range → AreFound ts us f (and_parent depth (at ts) us.past k n is_ended g f) (item_and i no_items)
-parent_is end ts ms us f g depth k n is_ended i is laid t b e same name spelled =
+    → id_of i ≡ Some (blank k) → held i ≡ is → trees_in i ≡ trees_within (held i) → IsNamed ts ms n.range → IsToken ts (name_of i) n.range → AreFound ts us f (and_parent depth (at ts) us.past k n is_ended g f) (item_and i no_items)
+parent_is end ts ms us f g depth k n is_ended i is laid t b e same trees name spelled =
     let strict = takes_strict end t laid in
     record {
       leads = through (takes_leads t) b.leads;
       places = unnumbered k (at ts) us.past None n.range ∷ b.places;
       adds = adds_more (adds_item f depth (at ts) us.past None k n.hashed n.range is_ended) (adds_all _ g b.places b.adds);
       are = placed (place_is end ts us i k None n.range laid (takes_before t b.leads) e (name_before name b.leads) unbraced (λ _. spelled)) (rw same (widened (at ts + 1) us.past (omega arith) (omega arith) (retold (told_behind (takes_leads t)) b.are))) nothing;
+      starts = b.starts;
+      more = ap (λ l. l ++ g.use_trees) (same_item depth (at ts) us.past None k n.hashed n.range is_ended f) ∙ ap (λ l. f.use_trees ++ l) b.more;
+      uses = holder_uses b.places [] b.starts [] (sym (append-nil b.places)) (sym (append-nil b.starts)) trees (place_within end ts us laid (takes_before t b.leads))
+          (subst (λ (js : ItemViews). UsesIn (IsRead ts us) (at ts) us.past js b.places b.starts) (sym same) (widened_uses (at ts) us.past (omega arith) (omega arith) (retold_uses (read_around (takes_leads t) here) b.uses))) no_uses;
     }
 
 -- ---- items that hold none
 
 option_found : (end : ℕ) (ts us : Tokens) (depth : ℕ) (o : Option LeafRead) (f : Found) → IsLaid end ts → LeafFound ts us o
     → AreFound ts (leaf_found depth (at ts) o f us).1.1 f (leaf_found depth (at ts) o f us).1.0 (items_from (option_to_list (leaf_found depth (at ts) o f us).0))
-option_found end ts us depth None f laid p = none_found f _ (through p (behind_others_leads us)) (adds_problem _ _ (adds_none f))
+option_found end ts us depth None f laid p = none_found f _ (through p (behind_others_leads us)) (adds_problem _ _ (adds_none f)) refl
 option_found end ts us depth (Some l) f laid t = leaf_is end ts us depth l f laid t
 
 -- the same where an item's start is said otherwise
@@ -269,7 +321,7 @@ unfolding leaf_turn
 leaf_turn_found end ts us depth h f s laid t = start_found end ts _ depth h.start _ f s laid (leads.leaf_found h ts us t)
 
 unmatched_found : (ts : Tokens) (f : Found) → AreFound ts (unmatched f ts).1.1 f (unmatched f ts).1.0 no_items
-unmatched_found ts f = none_found f _ (bumped_leads ts) (adds_problem _ _ (adds_none f))
+unmatched_found ts f = none_found f _ (bumped_leads ts) (adds_problem _ _ (adds_none f)) refl
 
 -- ---- blocks
 
@@ -290,10 +342,13 @@ block_found end turn t f ts laid =
       places = list.places;
       adds = list.adds;
       are = widened ts.past _ first.past last.past (retold (told_behind open_leads) list.are);
+      starts = list.starts;
+      more = list.more;
+      uses = widened_uses ts.past _ first.past last.past (retold_uses (read_around open_leads close_leads) list.uses);
     }
 
 no_block_found : (f : Found) (ts : Tokens) → AreFound ts ts f f no_items
-no_block_found f ts = none_found f f here (adds_none f)
+no_block_found f ts = none_found f f here (adds_none f) refl
 
 -- ---- extern blocks
 
@@ -306,12 +361,12 @@ extern_same _ j e = absurd cc
 
 kept_found : (end : ℕ) (ts us : Tokens) (depth : ℕ) (l : LeafRead) (o : Option ItemView) (f : Found) → IsLaid end ts → IsTaken ts us l → as_extern l.item ≡ o
     → AreFound ts us f (extern_kept depth (at ts) us.past l o f).1 (items_from (option_to_list (extern_kept depth (at ts) us.past l o f).0))
-kept_found end ts us depth l None f laid t e = none_found f _ (takes_leads t.takes) (adds_problem _ _ (adds_none f))
+kept_found end ts us depth l None f laid t e = none_found f _ (takes_leads t.takes) (adds_problem _ _ (adds_none f)) refl
 kept_found end ts us depth l (Some i) f laid t e = let same = extern_same l.item i e in rw (← same) (leaf_is end ts us depth l f laid t)
 
 extern_option_found : (end : ℕ) (ts us : Tokens) (depth : ℕ) (o : Option LeafRead) (f : Found) → IsLaid end ts → LeafFound ts us o
     → AreFound ts (extern_found depth (at ts) o f us).1.1 f (extern_found depth (at ts) o f us).1.0 (items_from (option_to_list (extern_found depth (at ts) o f us).0))
-extern_option_found end ts us depth None f laid p = none_found f _ (through p (behind_others_leads us)) (adds_problem _ _ (adds_none f))
+extern_option_found end ts us depth None f laid p = none_found f _ (through p (behind_others_leads us)) (adds_problem _ _ (adds_none f)) refl
 extern_option_found end ts us depth (Some l) f laid t = kept_found end ts us depth l (as_extern l.item) f laid t refl
 
 pub extern_turn_found : (end depth : ℕ) → Finds end (extern_turn depth)
@@ -337,12 +392,16 @@ extern_held : (n : NodeView) (is : Option (List ItemView)) → held (extern_bloc
 extern_held n None = refl
 extern_held n (Some is) = refl
 
+extern_trees : (n : NodeView) (is : Option (List ItemView)) → trees_in (extern_block_from n is) ≡ trees_within (held (extern_block_from n is))
+extern_trees n None = refl
+extern_trees n (Some is) = refl
+
 extern_block_found : (end : ℕ) (ts us : Tokens) (depth : ℕ) (attrs : List MetaView) (f : Found) → IsLaid end ts → Takes ts us
     → AreFound ts (extern_block depth (at ts) attrs f us).1.1 f (extern_block depth (at ts) attrs f us).1.0 (item_and (extern_block depth (at ts) attrs f us).0 no_items)
 unfolding extern_block
 extern_block_found end ts us depth attrs f laid t =
     let first = behind end (takes_leads t) laid in
-    parent_is end ts us _ f _ depth kind.ExternBlock no_name _ _ _ laid t (extern_inside_found end (one_more depth) nothing_found us first.laid) (extern_id _ _) (extern_held _ _) nameless (rw (extern_name _ _) untold)
+    parent_is end ts us _ f _ depth kind.ExternBlock no_name _ _ _ laid t (extern_inside_found end (one_more depth) nothing_found us first.laid) (extern_id _ _) (extern_held _ _) (extern_trees (node (attrs ++ (extern_inside (one_more depth) nothing_found us).0.attrs) []) (extern_inside (one_more depth) nothing_found us).0.items) nameless (rw (extern_name _ _) untold)
 
 -- ---- modules
 
@@ -359,6 +418,10 @@ module_name : (n : NamedView) (semicolon : Bool) (is : Option (List ItemView)) �
 module_name n semicolon None = refl
 module_name n semicolon (Some is) = refl
 
+module_trees : (n : NamedView) (semicolon : Bool) (is : Option (List ItemView)) → trees_in (module_from n semicolon is) ≡ trees_within (held (module_from n semicolon is))
+module_trees n semicolon None = refl
+module_trees n semicolon (Some is) = refl
+
 module _ (end : ℕ) (inside : Finder BlockRead) (finds : FindsIn end inside) (depth : ℕ) where
   pub unless_found : (semicolon : Bool) → FindsIn end (inside_unless semicolon inside)
   unless_found true f ts laid = no_block_found f ts
@@ -370,7 +433,7 @@ module _ (end : ℕ) (inside : Finder BlockRead) (finds : FindsIn end inside) (d
       let name_leads = through (named_leads us) (eat_leads 59 (named us).1) in
       let first = behind end (through (takes_leads t) name_leads) laid in
       let b = unless_found (eat 59 (named us).1).0 nothing_found (eat 59 (named us).1).1 first.laid in
-      rw s (parent_is end ts (eat 59 (named us).1).1 _ f _ depth kind.Module (named us).0 _ _ _ laid (takes_before t name_leads) b (module_id _ _ _ _ _) (module_held _ _ _)
+      rw s (parent_is end ts (eat 59 (named us).1).1 _ f _ depth kind.Module (named us).0 _ _ _ laid (takes_before t name_leads) b (module_id _ _ _ _ _) (module_held _ _ _) (module_trees (named_node (h.attrs ++ (inside_unless (eat 59 (named us).1).0 inside nothing_found (eat 59 (named us).1).1).0.attrs) (named us).0.name h.visibility []) (eat 59 (named us).1).0 (inside_unless (eat 59 (named us).1).0 inside nothing_found (eat 59 (named us).1).1).0.items)
       (name_behind (takes_leads t) (name_before (named_named us) (eat_leads 59 (named us).1))) (rw (module_name _ _ _) (told_behind (takes_leads t) _ _ (named_told us))))
 
   head_found : (head : Head) (ts us : Tokens) (h : FrontRead) (f : Found) → h.start ≡ at ts → IsLaid end ts → TakesBy head ts us → TakesBy h.head ts us
@@ -387,7 +450,7 @@ module _ (end : ℕ) (inside : Finder BlockRead) (finds : FindsIn end inside) (d
 pub inside_found : (end left : ℕ) → FindsIn end (inside left)
 unfolding inside
 inside_found end zero f ts laid =
-    when (symbol ts == 123) (λ e. rw e (none_found f _ (behind_tree_leads ts) (adds_problem _ _ (adds_none f)))) (λ e. rw e (no_block_found f ts))
+    when (symbol ts == 123) (λ e. rw e (none_found f _ (behind_tree_leads ts) (adds_problem _ _ (adds_none f)) refl)) (λ e. rw e (no_block_found f ts))
 inside_found end (suc left) f ts laid =
     when (symbol ts == 123)
     (λ e. rw e (block_found end (turn_with (inside left) (depth_of left)) (turn_with_found end (inside left) (inside_found end left) (depth_of left)) f ts laid))

@@ -56,7 +56,8 @@ use Rattle.rust_leaves.proofs.Fronts.{modifiers_beside, head_local}
 use Rattle.rust_leaves.proofs.Beside.{named_local, item_end_local, impl_end_local, call_end_local, NameAlike, RestAlike, LeafAlike, function_local, block_item_local, macro_def_local, type_alias_local, static_local, constant_local, fields_of, structure_local, implementation_local, macro_definition_local}
 use Rattle.rust_leaves.proofs.Crates.{crate_item_local, is_called_same, called_next, SameLast, beyond_braces, same_text, last_same}
 use Rattle.rust_items.proofs.UntilFields.{NewBehind, SameFields, header_gone, fields_same, struct_fields_same, item_gone}
-use Rattle.rust_items.proofs.Leads.{word_some, LeafAt, leaf_at, named_leads, behind_modifiers_leads, head_takes, call_end_leads, call_end_braced, IsBraced, braced}
+use Rattle.rust_items.proofs.TreesRead.{word_some}
+use Rattle.rust_items.proofs.Leads.{LeafAt, leaf_at, named_leads, behind_modifiers_leads, head_takes, call_end_leads, call_end_braced, IsBraced, braced}
 
 -- ---- what stands in front
 

@@ -6,4 +6,5 @@ pub mod Ids
 pub mod LineEnds
 pub mod SourceFiles
 pub mod Places
+pub mod Uses
 pub mod Typed

@@ -1,12 +1,13 @@
 //! Blocks.
 
-ghost use Rattle.std.specs.Prelude.{◌≡◌, IfOk, OnOk, map, option_map};
+ghost use Rattle.std.specs.Prelude.{◌≡◌, [], length, IfOk, OnOk, map, option_map};
 ghost use Rattle.hir_input.specs.Attr.{meta_view};
-ghost use Rattle.hir_input.specs.Syntax.{call_view, item_view, stmt_view, tail_view};
+ghost use Rattle.hir_input.specs.Syntax.{block_view, call_view, item_view, items_of, stmt_view, tail_view};
 ghost use Rattle.rust_leaves.specs.Views.{call_read_view, front_view};
 ghost use Rattle.rust_items.specs.Blocks as spec;
 ghost use Rattle.rust_items.specs.Found.{Finds, log_view};
 ghost use Rattle.rust_items.specs.LineEnds.{place_by};
+ghost use Rattle.rust_items.specs.Places.{ArePlaces, IsWritten};
 ghost use Rattle.rust_items.specs.Views.{body_view, part_view, supply_view};
 
 use crate::externs::is_list_end;
@@ -347,6 +348,19 @@ fn block_of(
     })
 }
 
+/// What is read of a block's text, whichever line ends it has.
+#[tactic(auto, using(crate::proofs::FilePlaces::same_block))]
+fn read_text(alloc: Global, text: &str, edition: EditionYear) -> Result<SourceBlock, AllocError>
+    ensures { IfOk result (λ read. spec.IsBlock edition text.now read) }
+{
+    if !has_return(text) {
+        let ends = LineEnds::none(alloc, text);
+        return block_of(alloc, text, edition, &ends);
+    }
+    let (feeds, ends) = with_feeds(alloc, text)?;
+    block_of(alloc, &feeds, edition, &ends)
+}
+
 /// Reads a block expression from its text, with its braces; a text that begins with none is that between them. The edition tells
 /// which words are names.
 ///
@@ -357,18 +371,15 @@ fn block_of(
 /// # Errors
 ///
 /// `AllocError` where memory is refused.
-#[tactic(auto, using(crate::proofs::FilePlaces::same_block))]
+#[tactic(auto, using(crate::proofs::BlockPlaces::block_placed))]
 pub fn read_block(
     alloc: Global,
     text: &str,
     edition: EditionYear,
 ) -> Result<SourceBlock, AllocError>
-    ensures { IfOk result (λ read. spec.IsBlock edition text.now read) }
+    ensures block { IfOk result (λ read. spec.IsBlock edition text.now read) }
+    ensures placed { IfOk result (λ read. let items = items_of (block_view read.block) in
+        ArePlaces (IsWritten text.now) 0 (length text.now) items read.places.items []) }
 {
-    if !has_return(text) {
-        let ends = LineEnds::none(alloc, text);
-        return block_of(alloc, text, edition, &ends);
-    }
-    let (feeds, ends) = with_feeds(alloc, text)?;
-    block_of(alloc, &feeds, edition, &ends)
+    read_text(alloc, text, edition)
 }
