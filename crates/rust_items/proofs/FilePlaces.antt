@@ -126,12 +126,12 @@ none_left (id ∷ ids) = refl
 -- ---- a text
 
 -- what is found in a text
-record IsText (edition : EditionYear) (text : List ℕ) : Type 0 where
+pub record IsText (edition : EditionYear) (text : List ℕ) : Type 0 where
   pub ps : List ItemPlace
   pub adds : Adds nothing_found (found_in edition text) ps
   pub are : ArePlaces (IsToken (tokens_of edition text)) 0 (length text) (items_in edition text) ps []
 
-text_found : (edition : EditionYear) (text : List ℕ) → IsText edition text
+pub text_found : (edition : EditionYear) (text : List ℕ) → IsText edition text
 unfolding found_in items_in
 text_found edition text =
     let whole = tokens_laid edition text in

@@ -15,3 +15,6 @@ pub mod NearItems
 pub mod NearTurns
 pub mod Inner
 pub mod Alone
+pub mod Within
+pub mod Told
+pub mod Moving

@@ -139,7 +139,7 @@ prefix_at p (x ∷ xs) (suc i) l f g =
     let first : p x ≡ true = f 0 0 (omega arith) in
     rw first (omega arith)
 
-prefix_short : (p : ℕ → Bool) (xs : List ℕ) → prefix_len p xs ≤ length xs
+pub prefix_short : (p : ℕ → Bool) (xs : List ℕ) → prefix_len p xs ≤ length xs
 prefix_short p [] = omega arith
 prefix_short p (x ∷ xs) = let rest = prefix_short p xs in ⊎_elim (λ e. rw e (omega arith)) (λ e. rw e (omega arith)) (cases_Bool (p x))
 
@@ -179,7 +179,7 @@ place_rises_in text m n l h = place_rises (length (with_feeds text)) (returns_fr
 
 -- ---- what stands in a text
 
-below_none : (m at : ℕ) (z : List ℕ) → m ≤ at → prefix_len (λ q. nat_lt q m) (returns_from at z) ≡ 0
+pub below_none : (m at : ℕ) (z : List ℕ) → m ≤ at → prefix_len (λ q. nat_lt q m) (returns_from at z) ≡ 0
 below_none m at z h =
     prefix_at (λ q. nat_lt q m) (returns_from at z) 0 (omega arith) (λ k d l. absurd (omega arith))
     (λ k d l b. let above : at ≤ get_or (returns_from at z) k d = returns_above at z k d b in not_below (get_or (returns_from at z) k d) m (omega arith))
@@ -188,7 +188,7 @@ below_none m at z h =
     not_below x m h = grind (arith, nat_tests)
 
 -- so many returns stand before a place
-abbrev before : ℕ → ℕ → List ℕ → ℕ
+abbrev pub before : ℕ → ℕ → List ℕ → ℕ
 before place at z = prefix_len (λ q. nat_lt q place) (returns_from at z)
 
 -- a part without a line feed stands behind the returns before it, and none is in it
