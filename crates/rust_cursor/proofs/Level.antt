@@ -30,7 +30,7 @@ unfolding at
 level_here b ts us (ahead past [] r u u' i j) = level_ahead refl (before_at b.opening.at past [] i) (ahead past [] r u u' i j)
 level_here b ts us (ahead past (t ∷ x) r u u' i j) = level_ahead refl (before_at b.opening.at past (t ∷ x) i) (ahead past (t ∷ x) r u u' i j)
 level_here b ts us (behind past [] u u' i) = level_behind past refl refl (let far = b.apart in omega arith) (behind past [] u u' i)
-level_here b ts us (behind past (t ∷ r) u u' i) = let low : end_of b.closing ≤ past = i.0 in let far = b.apart in level_behind t.at refl refl (omega arith) (behind past (t ∷ r) u u' i)
+level_here b ts us (behind past (t ∷ r) u u' i) = let low : end_of b.closing ≤ past = i.0.0 in let far = b.apart in level_behind t.at refl refl (omega arith) (behind past (t ∷ r) u u' i)
 
 settled_ahead : {A : Type 0} {b : Bodies} {r : List Piece} {u : Option ℕ} {ts : Tokens} → Settled b r u ts → (Gone b ts → A) → (ts.past ≤ b.opening.at → A) → A
 settled_ahead {b = b} (still past x i) left same = same (before_at b.opening.at past x i)

@@ -1,9 +1,10 @@
 -- Places that are told of tokens beside: they are equal, or moved as what stands behind the braces.
-use Rattle.std.proofs.Common.{◌≡◌, ℕ, ◌+◌, Option, Some, None, List, [], ◌∷◌, ◌++◌, refl}
+use Rattle.std.proofs.Common.{◌≡◌, ◌≤◌, ℕ, ◌+◌, Option, Some, None, List, [], ◌∷◌, ◌++◌, refl, arith}
 use Rattle.std.specs.Option.{option_or}
-use Rattle.rust_cursor.specs.Tokens.{Tokens}
+use Rattle.rust_cursor.specs.Tokens.{Tokens, end_of}
 use Rattle.rust_cursor.specs.Words.{at}
 use Rattle.rust_cursor.specs.Beside.{Bodies, Beside, ahead, behind}
+use Rattle.rust_cursor.proofs.Views.{before_at, behind_at}
 
 -- the members of two lists are alike, one by one
 pub data AreAlike {A : Type 0} (alike : A → A → Type 0) : List A → List A → Type 0 where
@@ -23,14 +24,23 @@ pub alike_or : {A : Type 0} {alike : A → A → Type 0} {o p o' p' : Option A} 
 alike_or neither k = k
 alike_or (both a) k = both a
 
--- a place of the one text, and that of the other
-pub data SamePlace (b : Bodies) (n m : ℕ) : Type 0 where
-  unmoved : m ≡ n → SamePlace b n m
-  moves : (c : ℕ) → n ≡ c + b.by → m ≡ c + b.by_new → SamePlace b n m
+-- A place of the one text, and that of the other: before the braces it stays, and behind them it is moved.
+pub data Moves (at low by by_new n m : ℕ) : Type 0 where
+  unmoved : n ≤ at → m ≡ n → Moves at low by by_new n m
+  moves : (c : ℕ) → low ≤ c → n ≡ c + by → m ≡ c + by_new → Moves at low by by_new n m
 
+abbrev pub SamePlace : Bodies → ℕ → ℕ → Type 0
+SamePlace b = Moves b.opening.at (end_of b.closing) b.by b.by_new
+
+-- the place of what is left
 pub at_place : (b : Bodies) (ts us : Tokens) → Beside b ts us → SamePlace b (at ts) (at us)
 unfolding at
-at_place b ts us (ahead past [] r u u' i j) = unmoved refl
-at_place b ts us (ahead past (t ∷ x) r u u' i j) = unmoved refl
-at_place b ts us (behind past [] u u' i) = moves past refl refl
-at_place b ts us (behind past (t ∷ r) u u' i) = moves t.at refl refl
+at_place b ts us (ahead past [] r u u' i j) = unmoved (omega arith) refl
+at_place b ts us (ahead past (t ∷ x) r u u' i j) = let end = before_at b.opening.at (end_of t) x i.1 in unmoved (omega arith) refl
+at_place b ts us (behind past [] u u' i) = moves past i refl refl
+at_place b ts us (behind past (t ∷ r) u u' i) = moves t.at i.0.1 refl refl
+
+-- and where what was taken ends
+pub past_place : (b : Bodies) (ts us : Tokens) → Beside b ts us → SamePlace b ts.past us.past
+past_place b ts us (ahead past x r u u' i j) = unmoved (before_at b.opening.at past x i) refl
+past_place b ts us (behind past r u u' i) = moves past (behind_at (end_of b.closing) past r i) refl refl

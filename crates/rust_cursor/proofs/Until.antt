@@ -29,12 +29,13 @@ over_leads {ts} low (further p) h = over_leads low p (bumped_over low ts.past ts
 pub over_moved : (low low' past d : ℕ) (r : List Piece) → low' ≤ low + d → AreBehind low past r → AreBehind low' (past + d) (map (moved d) r)
 over_moved low low' past d [] e h = omega arith
 over_moved low low' past d (t ∷ r) e h =
-    let first : low ≤ past = h.0 in
+    let first : low ≤ past = h.0.0 in
+    let begins : low ≤ t.at = h.0.1 in
     let end : t.at + length t.text + d ≡ t.at + d + length t.text = omega arith in
-    (omega arith, subst (λ (n : ℕ). AreBehind low' n (map (moved d) r)) end (over_moved low low' (end_of t) d r e h.1))
+    ((omega arith, omega arith), subst (λ (n : ℕ). AreBehind low' n (map (moved d) r)) end (over_moved low low' (end_of t) d r e h.1))
 
-over_both : (low past : ℕ) (xs : List Piece) (t : Piece) (ys : List Piece) → AreBehind low past xs → low ≤ end_of t → AreBehind low (end_of t) ys → AreBehind low past (xs ++ t ∷ ys)
-over_both low past [] t ys h e k = (h, k)
+over_both : (low past : ℕ) (xs : List Piece) (t : Piece) (ys : List Piece) → AreBehind low past xs → low ≤ t.at → AreBehind low (end_of t) ys → AreBehind low past (xs ++ t ∷ ys)
+over_both low past [] t ys h e k = ((h, e), k)
 over_both low past (x ∷ xs) t ys h e k = (h.0, over_both low (end_of x) xs t ys h.1 e k)
 
 -- ---- gone

@@ -149,7 +149,7 @@ before_at at past (t ∷ x) h = h.0
 
 pub behind_at : (low past : ℕ) (r : List Piece) → AreBehind low past r → low ≤ past
 behind_at low past [] h = h
-behind_at low past (t ∷ r) h = h.0
+behind_at low past (t ∷ r) h = h.0.0
 
 apart_tests : (m n m' n' : ℕ) → m < n → m' < n' → (n' == m') ≡ (n == m)
 apart_tests m n m' n' h h' = grind (arith, nat_tests)

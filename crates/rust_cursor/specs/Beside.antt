@@ -12,10 +12,10 @@ abbrev pub AreBefore : ℕ → ℕ → List Piece → Type 0
 AreBefore at past [] = past ≤ at
 AreBefore at past (t ∷ ts) = (past ≤ at) × AreBefore at (end_of t) ts
 
--- and behind them
+-- and behind them, as where these tokens begin
 abbrev pub AreBehind : ℕ → ℕ → List Piece → Type 0
 AreBehind low past [] = low ≤ past
-AreBehind low past (t ∷ ts) = (low ≤ past) × AreBehind low (end_of t) ts
+AreBehind low past (t ∷ ts) = ((low ≤ past) × (low ≤ t.at)) × AreBehind low (end_of t) ts
 
 -- What stands between the braces, in one text and in the other of the same edition, and how far each moves what stands behind; and
 -- whether they are passed: then only what stands behind them is spoken of.
@@ -32,8 +32,8 @@ pub record Bodies : Type 0 where
   pub is_bracket : is_open opening ≡ true
   pub closes : symbol_of closing ≡ 125
   pub old_behind : AreBehind (suc opening.at) (end_of opening) old
-  pub apart : opening.at < end_of closing + by
-  pub apart_new : opening.at < end_of closing + by_new
+  pub apart : opening.at < closing.at + by
+  pub apart_new : opening.at < closing.at + by_new
   pub old_matched : braces_from 0 old ≡ Some 0
   pub new_matched : braces_from 0 new ≡ Some 0
 

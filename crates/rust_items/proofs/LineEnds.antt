@@ -139,7 +139,7 @@ prefix_at p (x ∷ xs) (suc i) l f g =
     let first : p x ≡ true = f 0 0 (omega arith) in
     rw first (omega arith)
 
-prefix_short : (p : ℕ → Bool) (xs : List ℕ) → prefix_len p xs ≤ length xs
+pub prefix_short : (p : ℕ → Bool) (xs : List ℕ) → prefix_len p xs ≤ length xs
 prefix_short p [] = omega arith
 prefix_short p (x ∷ xs) = let rest = prefix_short p xs in ⊎_elim (λ e. rw e (omega arith)) (λ e. rw e (omega arith)) (cases_Bool (p x))
 

@@ -1,5 +1,5 @@
 -- The items of two texts that differ between the braces of one item are the same but for body texts.
-use Rattle.std.proofs.Common.{◌≡◌, ◌≤◌, ◌<◌, ◌+◌, ◌==◌, ◌||◌, ℕ, zero, suc, Bool, true, false, Option, Some, None, List, [], ◌∷◌, ◌++◌, map, refl, ap, sym, ◌∙◌, arith, append_assoc, append-nil}
+use Rattle.std.proofs.Common.{◌≡◌, ◌≤◌, ◌<◌, ◌+◌, ◌==◌, ◌||◌, ℕ, zero, suc, Bool, true, false, Option, Some, None, List, [], ◌∷◌, ◌++◌, map, refl, ap, sym, subst, ◌∙◌, arith, append_assoc, append-nil}
 use Rattle.hir_input.specs.declared.ast.Visibility.{Visibility}
 use Rattle.std.specs.Prelude.{option_map, option_to_list}
 use Rattle.std.proofs.lemmas.Bool.{eqb-true}
@@ -23,6 +23,7 @@ use Rattle.rust_cursor.proofs.Passing.{beyond_beside, behind_tree_beside}
 use Rattle.rust_cursor.proofs.Local.{eat_local}
 use Rattle.rust_cursor.proofs.Until.{Gone, gone_on, by_kept, by_next, bumped_onward}
 use Rattle.rust_cursor.proofs.Alike.{by_stayed}
+use Rattle.rust_cursor.proofs.Places.{AreAlike, no_more, alike_join, SamePlace, at_place, past_place}
 use Rattle.rust_cursor.proofs.Places as places
 use Rattle.rust_ids.specs.Row.{Row}
 use Rattle.rust_paths.specs.declared.names.TextRange.{TextRange}
@@ -35,17 +36,17 @@ use Rattle.rust_leaves.specs.Fronts.{FrontRead, front}
 use Rattle.rust_leaves.specs.Leaves.{NameRead, LeafRead, no_name, named}
 use Rattle.rust_leaves.specs.Kinds.{node, named_node, leaf}
 use Rattle.rust_leaves.proofs.Fronts.{behind_others_beside}
-use Rattle.rust_leaves.proofs.Beside.{LeafAlike, named_local}
+use Rattle.rust_leaves.proofs.Beside.{SameRange, RangeAlike, LeafAlike, named_local}
 use Rattle.rust_items.specs.declared.log.ItemSpan.{ItemSpan}
 use Rattle.rust_items.specs.declared.log.ProblemKind.{ProblemKind}
 use Rattle.rust_items.specs.declared.log.ProblemKind.TheVariants as problem
 use Rattle.rust_items.specs.declared.source_file.ItemPlace.{ItemPlace}
 use Rattle.rust_items.specs.Found.{Found, Finder, nothing_found, and_problem_if, and_problem_at}
-use Rattle.rust_items.specs.Items.{BlockRead, and_flaw, and_item, and_leaf, and_parent, leaf_found, leaf_turn, finding_from, finding, is_list_end, block_of, as_extern, extern_kept, extern_found, extern_turn, extern_inside, extern_block, one_more, unmatched, inside_unless, module_with, some_item, by_head, turn_with, inside, turn, depth_of, items}
+use Rattle.rust_items.specs.Items.{BlockRead, span_of, and_flaw, and_item, and_leaf, and_parent, leaf_found, leaf_turn, finding_from, finding, is_list_end, block_of, as_extern, extern_kept, extern_found, extern_turn, extern_inside, extern_block, one_more, unmatched, inside_unless, module_with, some_item, by_head, turn_with, inside, turn, depth_of, items}
 use Rattle.rust_items.specs.Typed.{begins_at, has_body}
 use Rattle.rust_items.specs.SourceFiles.{found_in, read_of}
 use Rattle.rust_items.specs.Places.{Telling, IsBodyIn, ArePlaces, nothing, placed}
-use Rattle.rust_items.proofs.Leads.{named_leads, behind_others_leads, front_takes}
+use Rattle.rust_items.proofs.Leads.{named_leads, behind_others_leads, front_takes, front_start}
 use Rattle.rust_items.proofs.Places.{adds_item, adds_problem_at, adds_use_trees, AreFound, Finds, FindsIn, list_from, list_found, place_span, inside_found, turn_found, turn_with_found, extern_turn_found, extern_inside_found, unless_found, items_found}
 use Rattle.rust_items.proofs.UntilLeaves.{FrontAlike, front_until, BeginPlain, LeafUntil, leaf_lost, leaf_same, leaf_until, LeafLost, leaf_gone}
 
@@ -112,10 +113,32 @@ found_before b a l = record { more = map place_span a.places; is = a.adds.spans;
 
 -- ---- what is found
 
--- the same rows, what is read is alike, and what is left stands beside
+-- where an item stands in the one text and in the other
+pub record SpanAlike (same : ℕ → ℕ → Type 0) (s t : ItemSpan) : Type 0 where
+  pub range : SameRange same s.range t.range
+  pub name : places.IsAlike (SameRange same) s.name t.name
+  pub body : places.IsAlike (SameRange same) s.body t.body
+
+-- what is found but for problems
+abbrev pub Rows : Type 0
+Rows = List Row × (List ItemSpan × List ℕ)
+
+abbrev pub rows_of : Found → Rows
+rows_of f = (f.rows, (f.spans, f.use_trees))
+
+-- the same rows, and where their items and use trees stand in each
+pub record RowsAlike (same : ℕ → ℕ → Type 0) (r s : Rows) : Type 0 where
+  pub rows : s.0 ≡ r.0
+  pub spans : AreAlike (SpanAlike same) r.1.0 s.1.0
+  pub use_trees : AreAlike same r.1.1 s.1.1
+
+abbrev pub FoundAlike : Bodies → Found → Found → Type 0
+FoundAlike b f g = RowsAlike (SamePlace b) (rows_of f) (rows_of g)
+
+-- what is found and what is read is alike, and what is left stands beside
 pub record FoundKept {A : Type 0} (alike : A → A → Type 0) (b : Bodies) (p q : A × (Found × Tokens)) : Type 0 where
   pub value : alike p.0 q.0
-  pub rows : q.1.0.rows ≡ p.1.0.rows
+  pub found : FoundAlike b p.1.0 q.1.0
   pub rest : Beside b p.1.1 q.1.1
 
 -- or the one went into the braces, and they are of no item that was found;
@@ -131,34 +154,72 @@ abbrev pub ListAlike : List ItemView → List ItemView → Type 0
 ListAlike is is' = map item_without_bodies is' ≡ map item_without_bodies is
 
 abbrev UpToFound : ℕ → Bodies → Finder (Option ItemView) → Type 0
-UpToFound end b turn = (f f' : Found) (ts us : Tokens) → IsSound end ts → f'.rows ≡ f.rows → Beside b ts us → FoundUntil ItemAlike b f (turn f ts) (turn f' us)
+UpToFound end b turn = (f f' : Found) (ts us : Tokens) → IsSound end ts → FoundAlike b f f' → Beside b ts us → FoundUntil ItemAlike b f (turn f ts) (turn f' us)
 
 -- ---- rows
 
-problem_if_rows : (test : Bool) (k : ProblemKind) (at : ℕ) (f : Found) → (and_problem_if test k at f).rows ≡ f.rows
+nothing_alike : (b : Bodies) → FoundAlike b nothing_found nothing_found
+nothing_alike b = record { rows = refl; spans = no_more; use_trees = no_more }
+
+problem_if_rows : (test : Bool) (k : ProblemKind) (at : ℕ) (f : Found) → rows_of (and_problem_if test k at f) ≡ rows_of f
 problem_if_rows true k at f = refl
 problem_if_rows false k at f = refl
 
-flaw_rows : (is_ended is_nameless : Bool) (start : ℕ) (f : Found) → (and_flaw is_ended is_nameless start f).rows ≡ f.rows
+flaw_rows : (is_ended is_nameless : Bool) (start : ℕ) (f : Found) → rows_of (and_flaw is_ended is_nameless start f) ≡ rows_of f
 flaw_rows true is_nameless start f = problem_if_rows is_nameless problem.Nameless start f
 flaw_rows false is_nameless start f = refl
 
-item_rows : (depth start end : ℕ) (body named : Option TextRange) (k : AstIdKind) (name : List ℕ) (is_ended : Bool) (f : Found)
-    → (and_item depth start end body k name named is_ended f).rows ≡ f.rows ++ record { depth = depth; kind = k; name = name } ∷ []
-item_rows depth start end body named k name is_ended f = flaw_rows is_ended _ start _
-
-problem_at_rows : (k : ProblemKind) (o : Option ℕ) (f : Found) → (and_problem_at k o f).rows ≡ f.rows
+problem_at_rows : (k : ProblemKind) (o : Option ℕ) (f : Found) → rows_of (and_problem_at k o f) ≡ rows_of f
 problem_at_rows k None f = refl
 problem_at_rows k (Some at) f = refl
 
-leaf_rows : (depth start end : ℕ) (l : LeafRead) (f : Found) → (and_leaf depth start end l f).rows ≡ f.rows ++ record { depth = depth; kind = l.kind; name = l.name } ∷ []
-leaf_rows depth start end l f = problem_at_rows problem.TooDeep l.too_deep _ ∙ item_rows depth start end l.body l.named l.kind l.name l.is_ended f
+-- with an item, with use trees, and with all of another behind
+abbrev and_one : Row → ItemSpan → Rows → Rows
+and_one row span r = (r.0 ++ row ∷ [], (r.1.0 ++ span ∷ [], r.1.1))
 
-leaf_rows_same : (depth start end start' end' : ℕ) (l m : LeafRead) (f f' : Found) → LeafAlike l m → f'.rows ≡ f.rows → (and_leaf depth start' end' m f').rows ≡ (and_leaf depth start end l f).rows
-leaf_rows_same depth start end start' end' l m f f' a e =
-    leaf_rows depth start' end' m f' ∙ ap (λ (rs : List Row). rs ++ record { depth = depth; kind = m.kind; name = m.name } ∷ []) e
-    ∙ ap (λ (k : AstIdKind). f.rows ++ record { depth = depth; kind = k; name = m.name } ∷ []) a.kind
-    ∙ ap (λ (n : List ℕ). f.rows ++ record { depth = depth; kind = l.kind; name = n } ∷ []) a.name ∙ sym (leaf_rows depth start end l f)
+abbrev and_trees : List ℕ → Rows → Rows
+and_trees starts r = (r.0, (r.1.0, r.1.1 ++ starts))
+
+abbrev and_more : Rows → Rows → Rows
+and_more more r = (r.0 ++ more.0, (r.1.0 ++ more.1.0, r.1.1 ++ more.1.1))
+
+one_alike : {same : ℕ → ℕ → Type 0} (r s : Rows) (x y : Row) (t u : ItemSpan) → y ≡ x → SpanAlike same t u → RowsAlike same r s → RowsAlike same (and_one x t r) (and_one y u s)
+one_alike r s x y t u e k a = record { rows = ap (λ (l : List Row). l ++ y ∷ []) a.rows ∙ ap (λ (z : Row). r.0 ++ z ∷ []) e; spans = alike_join a.spans (places.one_more k no_more); use_trees = a.use_trees }
+
+trees_alike : {same : ℕ → ℕ → Type 0} (r s : Rows) (xs ys : List ℕ) → AreAlike same xs ys → RowsAlike same r s → RowsAlike same (and_trees xs r) (and_trees ys s)
+trees_alike r s xs ys k a = record { rows = a.rows; spans = a.spans; use_trees = alike_join a.use_trees k }
+
+all_alike : {same : ℕ → ℕ → Type 0} (r s x y : Rows) → RowsAlike same x y → RowsAlike same r s → RowsAlike same (and_more x r) (and_more y s)
+all_alike r s x y k a = record {
+  rows = ap (λ (l : List Row). l ++ y.0) a.rows ∙ ap (λ (l : List Row). r.0 ++ l) k.rows;
+  spans = alike_join a.spans k.spans;
+  use_trees = alike_join a.use_trees k.use_trees;
+}
+
+pub by_rows : {same : ℕ → ℕ → Type 0} {r s x y : Rows} → x ≡ r → y ≡ s → RowsAlike same r s → RowsAlike same x y
+by_rows {same} {r} {s} {x} {y} d e a = subst (λ (z : Rows). RowsAlike same z y) (sym d) (subst (λ (z : Rows). RowsAlike same r z) (sym e) a)
+
+abbrev row_of : ℕ → AstIdKind → List ℕ → Row
+row_of depth k name = record { depth = depth; kind = k; name = name }
+
+item_rows : (depth start end : ℕ) (body named : Option TextRange) (k : AstIdKind) (name : List ℕ) (is_ended : Bool) (f : Found)
+    → rows_of (and_item depth start end body k name named is_ended f) ≡ and_one (row_of depth k name) (span_of start end body named) (rows_of f)
+item_rows depth start end body named k name is_ended f = flaw_rows is_ended _ start _
+
+leaf_rows : (depth start end : ℕ) (l : LeafRead) (f : Found) → rows_of (and_leaf depth start end l f) ≡ and_trees l.use_trees (and_one (row_of depth l.kind l.name) (span_of start end l.body l.named) (rows_of f))
+leaf_rows depth start end l f = ap (and_trees l.use_trees) (problem_at_rows problem.TooDeep l.too_deep _ ∙ item_rows depth start end l.body l.named l.kind l.name l.is_ended f)
+
+leaf_rows_same : (b : Bodies) (depth start end start' end' : ℕ) (l m : LeafRead) (f f' : Found) → SamePlace b start start' → SamePlace b end end' → LeafAlike b l m → FoundAlike b f f'
+    → FoundAlike b (and_leaf depth start end l f) (and_leaf depth start' end' m f')
+leaf_rows_same b depth start end start' end' l m f f' i j a e =
+    let x = row_of depth l.kind l.name in
+    let y = row_of depth m.kind m.name in
+    let t = span_of start end l.body l.named in
+    let u = span_of start' end' m.body m.named in
+    let row = ap (λ (k : AstIdKind). row_of depth k m.name) a.kind ∙ ap (λ (n : List ℕ). row_of depth l.kind n) a.name in
+    by_rows (leaf_rows depth start end l f) (leaf_rows depth start' end' m f')
+    (trees_alike (and_one x t (rows_of f)) (and_one y u (rows_of f')) l.use_trees m.use_trees a.use_trees
+    (one_alike (rows_of f) (rows_of f') x y t u row (record { range = record { start = i; end = j }; name = a.named; body = a.body }) e))
 
 leaf_misses : (at depth start end : ℕ) (l : LeafRead) (f : Found) → Elsewhere at l.body → Misses at f (and_leaf depth start end l f)
 leaf_misses at depth start end l f h = record {
@@ -173,15 +234,19 @@ elsewhere_by at (Some r) f = f r refl
 
 -- an item that holds others
 parent_rows : (depth start end : ℕ) (k : AstIdKind) (n : NameRead) (is_ended : Bool) (g f : Found)
-    → (and_parent depth start end k n is_ended g f).rows ≡ (f.rows ++ record { depth = depth; kind = k; name = n.hashed } ∷ []) ++ g.rows
-parent_rows depth start end k n is_ended g f = ap (λ l. l ++ g.rows) (item_rows depth start end None n.range k n.hashed is_ended f)
+    → rows_of (and_parent depth start end k n is_ended g f) ≡ and_more (rows_of g) (and_one (row_of depth k n.hashed) (span_of start end None n.range) (rows_of f))
+parent_rows depth start end k n is_ended g f = ap (and_more (rows_of g)) (item_rows depth start end None n.range k n.hashed is_ended f)
 
-parent_same : (depth start end start' end' : ℕ) (k : AstIdKind) (n n' : NameRead) (is_ended is_ended' : Bool) (g g' f f' : Found) → n'.hashed ≡ n.hashed → g'.rows ≡ g.rows → f'.rows ≡ f.rows
-    → (and_parent depth start' end' k n' is_ended' g' f').rows ≡ (and_parent depth start end k n is_ended g f).rows
-parent_same depth start end start' end' k n n' is_ended is_ended' g g' f f' h i j =
-    parent_rows depth start' end' k n' is_ended' g' f' ∙ ap (λ (rs : List Row). (rs ++ record { depth = depth; kind = k; name = n'.hashed } ∷ []) ++ g'.rows) j
-    ∙ ap (λ (z : List ℕ). (f.rows ++ record { depth = depth; kind = k; name = z } ∷ []) ++ g'.rows) h
-    ∙ ap (λ (rs : List Row). (f.rows ++ record { depth = depth; kind = k; name = n.hashed } ∷ []) ++ rs) i ∙ sym (parent_rows depth start end k n is_ended g f)
+parent_same : (b : Bodies) (depth start end start' end' : ℕ) (k : AstIdKind) (n n' : NameRead) (is_ended is_ended' : Bool) (g g' f f' : Found) → SamePlace b start start' → SamePlace b end end'
+    → n'.hashed ≡ n.hashed → RangeAlike b n.range n'.range → FoundAlike b g g' → FoundAlike b f f' → FoundAlike b (and_parent depth start end k n is_ended g f) (and_parent depth start' end' k n' is_ended' g' f')
+parent_same b depth start end start' end' k n n' is_ended is_ended' g g' f f' i j h r d e =
+    let x = row_of depth k n.hashed in
+    let y = row_of depth k n'.hashed in
+    let t = span_of start end None n.range in
+    let u = span_of start' end' None n'.range in
+    by_rows (parent_rows depth start end k n is_ended g f) (parent_rows depth start' end' k n' is_ended' g' f')
+    (all_alike (and_one x t (rows_of f)) (and_one y u (rows_of f')) (rows_of g) (rows_of g') d
+    (one_alike (rows_of f) (rows_of f') x y t u (ap (row_of depth k) h) (record { range = record { start = i; end = j }; name = r; body = places.neither }) e))
 
 parent_misses : (at depth start end : ℕ) (k : AstIdKind) (n : NameRead) (is_ended : Bool) (g f : Found) → Misses at nothing_found g → Misses at f (and_parent depth start end k n is_ended g f)
 parent_misses at depth start end k n is_ended g f m = record {
@@ -204,14 +269,14 @@ leaf_found_lost b depth start f p h = by p.0 h.free
     by None k = record { gone = gone_on h.gone (behind_others_leads p.1); misses = misses_none b.opening.at f _ refl }
     by (Some l) k = record { gone = h.gone; misses = leaf_misses b.opening.at depth start p.1.past l f (elsewhere_by b.opening.at l.body (λ r d s. k l r refl d s)) }
 
-module _ (b : Bodies) (depth start start' : ℕ) (f f' : Found) (e : f'.rows ≡ f.rows) where
+module _ (b : Bodies) (depth start start' : ℕ) (i : SamePlace b start start') (f f' : Found) (e : FoundAlike b f f') where
   leaf_found_until : (p q : Option LeafRead × Tokens) → LeafUntil b p q → FoundUntil ItemAlike b f (leaf_found depth start p.0 f p.1) (leaf_found depth start' q.0 f' q.1)
   leaf_found_until p q (leaf_lost g h) = let l = leaf_found_lost b depth start f p (record { gone = g; free = h }) in lost l.gone l.misses
   leaf_found_until p q (leaf_same a h) = by p.0 q.0 a
     where
-      by : (o o' : Option LeafRead) → places.IsAlike LeafAlike o o' → FoundUntil ItemAlike b f (leaf_found depth start o f p.1) (leaf_found depth start' o' f' q.1)
-      by o o' places.neither = same (record { value = refl; rows = e; rest = behind_others_beside b p.1 q.1 h })
-      by o o' (places.both {x = l} {y = m} k) = same (record { value = ap Some k.item; rows = leaf_rows_same depth start p.1.past start' q.1.past l m f f' k e; rest = h })
+      by : (o o' : Option LeafRead) → places.IsAlike (LeafAlike b) o o' → FoundUntil ItemAlike b f (leaf_found depth start o f p.1) (leaf_found depth start' o' f' q.1)
+      by o o' places.neither = same (record { value = refl; found = e; rest = behind_others_beside b p.1 q.1 h })
+      by o o' (places.both {x = l} {y = m} k) = same (record { value = ap Some k.item; found = leaf_rows_same b depth start p.1.past start' q.1.past l m f f' i (past_place b p.1 q.1 h) k e; rest = h })
 
 -- ---- extern blocks
 
@@ -222,13 +287,13 @@ extern_alike (plain_item type_alias_kind n) = refl
 extern_alike (macro_call c) = refl
 extern_alike _ = refl
 
-module _ (b : Bodies) (depth start start' : ℕ) (f f' : Found) (e : f'.rows ≡ f.rows) where
-  kept_until : (end end' : ℕ) (ts us : Tokens) (l m : LeafRead) (o o' : Option ItemView) → LeafAlike l m → option_map item_without_bodies o' ≡ option_map item_without_bodies o → Beside b ts us
+module _ (b : Bodies) (depth start start' : ℕ) (i : SamePlace b start start') (f f' : Found) (e : FoundAlike b f f') where
+  kept_until : (end end' : ℕ) (ts us : Tokens) (l m : LeafRead) (o o' : Option ItemView) → SamePlace b end end' → LeafAlike b l m → option_map item_without_bodies o' ≡ option_map item_without_bodies o → Beside b ts us
       → FoundUntil ItemAlike b f ((extern_kept depth start end l o f).0, ((extern_kept depth start end l o f).1, ts)) ((extern_kept depth start' end' m o' f').0, ((extern_kept depth start' end' m o' f').1, us))
-  kept_until end end' ts us l m None None a d h = same (record { value = refl; rows = e; rest = h })
-  kept_until end end' ts us l m (Some i) (Some j) a d h = same (record { value = d; rows = leaf_rows_same depth start end start' end' l m f f' a e; rest = h })
-  kept_until end end' ts us l m None (Some j) a d h = absurd cc
-  kept_until end end' ts us l m (Some i) None a d h = absurd cc
+  kept_until end end' ts us l m None None j a d h = same (record { value = refl; found = e; rest = h })
+  kept_until end end' ts us l m (Some _) (Some _) j a d h = same (record { value = d; found = leaf_rows_same b depth start end start' end' l m f f' i j a e; rest = h })
+  kept_until end end' ts us l m None (Some _) j a d h = absurd cc
+  kept_until end end' ts us l m (Some _) None j a d h = absurd cc
 
   kept_misses : (end : ℕ) (l : LeafRead) (o : Option ItemView) → Elsewhere b.opening.at l.body → Misses b.opening.at f (extern_kept depth start end l o f).1
   kept_misses end l None h = misses_none b.opening.at f _ refl
@@ -243,20 +308,23 @@ module _ (b : Bodies) (depth start start' : ℕ) (f f' : Found) (e : f'.rows ≡
       by (Some l) h = lost g (kept_misses p.1.past l (as_extern l.item) (elsewhere_by b.opening.at l.body (λ r d s. h l r refl d s)))
   extern_found_until p q (leaf_same a h) = by p.0 q.0 a
     where
-      by : (o o' : Option LeafRead) → places.IsAlike LeafAlike o o' → FoundUntil ItemAlike b f (extern_found depth start o f p.1) (extern_found depth start' o' f' q.1)
-      by o o' places.neither = same (record { value = refl; rows = e; rest = behind_others_beside b p.1 q.1 h })
+      by : (o o' : Option LeafRead) → places.IsAlike (LeafAlike b) o o' → FoundUntil ItemAlike b f (extern_found depth start o f p.1) (extern_found depth start' o' f' q.1)
+      by o o' places.neither = same (record { value = refl; found = e; rest = behind_others_beside b p.1 q.1 h })
       by o o' (places.both {x = l} {y = m} k) =
-          kept_until p.1.past q.1.past p.1 q.1 l m (as_extern l.item) (as_extern m.item) k (extern_alike m.item ∙ ap as_extern k.item ∙ sym (extern_alike l.item)) h
+          kept_until p.1.past q.1.past p.1 q.1 l m (as_extern l.item) (as_extern m.item) (past_place b p.1 q.1 h) k (extern_alike m.item ∙ ap as_extern k.item ∙ sym (extern_alike l.item)) h
 
 -- ---- turns
 
 front_laid : (end : ℕ) (ts : Tokens) → IsSound end ts → IsSound end (front ts).1
 front_laid end ts l = sound_on end (front_takes ts).leads l
 
+front_place : (b : Bodies) (ts us : Tokens) → Beside b ts us → SamePlace b (front ts).0.start (front us).0.start
+front_place b ts us h = rw (front_start ts, front_start us) (at_place b ts us h)
+
 -- nothing is found where a bracket closes nothing
-unmatched_until : (b : Bodies) (f f' : Found) (ts us : Tokens) → f'.rows ≡ f.rows → Beside b ts us → FoundUntil ItemAlike b f (unmatched f ts) (unmatched f' us)
+unmatched_until : (b : Bodies) (f f' : Found) (ts us : Tokens) → FoundAlike b f f' → Beside b ts us → FoundUntil ItemAlike b f (unmatched f ts) (unmatched f' us)
 unmatched_until b f f' ts us e h =
-    by_next (bumped_onward b ts us h) (λ g. lost g (misses_none b.opening.at f _ refl)) (λ n. same (record { value = refl; rows = e; rest = n }))
+    by_next (bumped_onward b ts us h) (λ g. lost g (misses_none b.opening.at f _ refl)) (λ n. same (record { value = refl; found = e; rest = n }))
 
 extern_turn_until : (end depth : ℕ) (b : Bodies) → BeginPlain b → UpToFound end b (extern_turn depth)
 unfolding extern_turn
@@ -264,13 +332,13 @@ extern_turn_until end depth b plain f f' ts us l e h =
     when (is_at_end ts)
     (λ t. rw (end_same b ts us h, t) (unmatched_until b f f' ts us e h))
     (λ t. rw (end_same b ts us h, t) (by_stayed (front_until b ts us h)
-    (λ g. extern_found_until b depth (front ts).0.start (front us).0.start f f' e (leaf (front ts).0 (front ts).1) (leaf (front us).0 (front us).1) (let x = leaf_gone b end (front ts).0 (front ts).1 (front_laid end ts l) g in leaf_lost x.gone x.free))
-    (λ k. extern_found_until b depth (front ts).0.start (front us).0.start f f' e (leaf (front ts).0 (front ts).1) (leaf (front us).0 (front us).1) (leaf_until b plain end (front ts).0 (front us).0 (front ts).1 (front us).1 k.value (front_laid end ts l) k.rest))))
+    (λ g. extern_found_until b depth (front ts).0.start (front us).0.start (front_place b ts us h) f f' e (leaf (front ts).0 (front ts).1) (leaf (front us).0 (front us).1) (let x = leaf_gone b end (front ts).0 (front ts).1 (front_laid end ts l) g in leaf_lost x.gone x.free))
+    (λ k. extern_found_until b depth (front ts).0.start (front us).0.start k.value.start f f' e (leaf (front ts).0 (front ts).1) (leaf (front us).0 (front us).1) (leaf_until b plain end (front ts).0 (front us).0 (front ts).1 (front us).1 k.value (front_laid end ts l) k.rest))))
 
-leaf_turn_until : (end depth : ℕ) (b : Bodies) → BeginPlain b → (h h' : FrontRead) (f f' : Found) (ts us : Tokens) → IsSound end ts → f'.rows ≡ f.rows → FrontAlike h h' → Beside b ts us
+leaf_turn_until : (end depth : ℕ) (b : Bodies) → BeginPlain b → (h h' : FrontRead) (f f' : Found) (ts us : Tokens) → IsSound end ts → FoundAlike b f f' → FrontAlike b h h' → Beside b ts us
     → FoundUntil ItemAlike b f (leaf_turn depth h f ts) (leaf_turn depth h' f' us)
 unfolding leaf_turn
-leaf_turn_until end depth b plain h h' f f' ts us l e a k = leaf_found_until b depth h.start h'.start f f' e (leaf h ts) (leaf h' us) (leaf_until b plain end h h' ts us a l k)
+leaf_turn_until end depth b plain h h' f f' ts us l e a k = leaf_found_until b depth h.start h'.start a.start f f' e (leaf h ts) (leaf h' us) (leaf_until b plain end h h' ts us a l k)
 
 leaf_turn_lost : (end depth : ℕ) (b : Bodies) (h : FrontRead) (f : Found) (ts : Tokens) → IsSound end ts → Gone b ts → Lost b f (leaf_turn depth h f ts)
 unfolding leaf_turn
@@ -313,6 +381,10 @@ unfolding passed
 side b ts us (ahead past x r u u' i j) before far = before (before_at b.opening.at past x i)
 side b ts us (behind past r u u' i) before far = far (behind past r u u' i)
 
+found_passed : (b : Bodies) (f g : Found) → FoundAlike b f g → FoundAlike (passed b) f g
+unfolding passed
+found_passed b f g a = a
+
 unpassed_beside : (b : Bodies) (ts us : Tokens) → Beside (passed b) ts us → Beside b ts us
 unfolding passed
 unpassed_beside b ts us (ahead past x r u u' i j) = absurd (let no : true ≡ false = j.unpassed in cc)
@@ -321,7 +393,7 @@ unpassed_beside b ts us (behind past r u u' i) = behind past r u u' i
 unpassed : {A : Type 0} {alike : A → A → Type 0} (b : Bodies) {f g : Found} {p q : A × (Found × Tokens)} → FoundUntil alike (passed b) f p q → FoundUntil alike b g p q
 unfolding passed
 unpassed b (lost g m) = absurd (let no : true ≡ false = g.unpassed in cc)
-unpassed b (same k) = same (record { value = k.value; rows = k.rows; rest = unpassed_beside b _ _ k.rest })
+unpassed b (same k) = same (record { value = k.value; found = k.found; rest = unpassed_beside b _ _ k.rest })
 
 list_of : (o : Option ItemView) → map item_without_bodies (option_to_list o) ≡ option_to_list (option_map item_without_bodies o)
 list_of None = refl
@@ -334,9 +406,9 @@ more_alike done done' o o' a e =
 
 module _ (end : ℕ) (ends : Tokens → Bool) (ends_same : (b : Bodies) (ts us : Tokens) → Beside b ts us → ends us ≡ ends ts) (turn : Finder (Option ItemView)) (finds : Finds end turn)
     (each : (b : Bodies) → BeginPlain b → UpToFound end b turn) where
-  list_until : (n : ℕ) (b : Bodies) → BeginPlain b → (done done' : List ItemView) (f f' : Found) (ts us : Tokens) → IsSound end ts → ListAlike done done' → f'.rows ≡ f.rows → Beside b ts us
+  list_until : (n : ℕ) (b : Bodies) → BeginPlain b → (done done' : List ItemView) (f f' : Found) (ts us : Tokens) → IsSound end ts → ListAlike done done' → FoundAlike b f f' → Beside b ts us
       → FoundUntil ListAlike b f (finding_from ends turn n done f ts) (finding_from ends turn n done' f' us)
-  list_until zero b plain done done' f f' ts us l a e h = same (record { value = a; rows = e; rest = h })
+  list_until zero b plain done done' f f' ts us l a e h = same (record { value = a; found = e; rest = h })
   list_until (suc n) b plain done done' f f' ts us l a e h =
       let o = (turn f ts).0 in
       let o' = (turn f' us).0 in
@@ -350,15 +422,15 @@ module _ (end : ℕ) (ends : Tokens → Bool) (ends_same : (b : Bodies) (ts us :
       let then_laid = laid.behind end leads first.laid in
       let rest = list_from end ends turn finds n (done ++ option_to_list o) g next then_laid.laid in
       when (ends ts)
-      (λ z. rw (ends_same b ts us h, z) (same (record { value = a; rows = e; rest = h })))
+      (λ z. rw (ends_same b ts us h, z) (same (record { value = a; found = e; rest = h })))
       (λ z. rw (ends_same b ts us h, z) (by_found (each b plain f f' ts us l e h)
       (λ k m. let k' = gone_on k leads in lost (gone_on k' rest.found.leads) (misses_both m (found_gone rest.found k')))
       (λ k. let both = beyond_beside b ts us _ _ h k.rest in
       let alike = more_alike done done' o o' a k.value in
       side b next next' both
-      (λ low. by_found (list_until n b plain (done ++ option_to_list o) (done' ++ option_to_list o') g g' next next' (sound_on end (through one.leads leads) l) alike k.rows both)
+      (λ low. by_found (list_until n b plain (done ++ option_to_list o) (done' ++ option_to_list o') g g' next next' (sound_on end (through one.leads leads) l) alike k.found both)
       (λ x m. lost x (misses_both (found_before b one (let past = then_laid.past in omega arith)) m)) (λ j. same j))
-      (λ far. unpassed b (list_until n (passed b) (plain_passed b plain) (done ++ option_to_list o) (done' ++ option_to_list o') g g' next next' (sound_on end (through one.leads leads) l) alike k.rows far)))))
+      (λ far. unpassed b (list_until n (passed b) (plain_passed b plain) (done ++ option_to_list o) (done' ++ option_to_list o') g g' next next' (sound_on end (through one.leads leads) l) alike (found_passed b g g' k.found) far)))))
 
 -- ---- blocks
 
@@ -367,7 +439,7 @@ pub record BlockAlike (r s : BlockRead) : Type 0 where
   pub items : option_map (map item_without_bodies) s.items ≡ option_map (map item_without_bodies) r.items
 
 abbrev UpToBlock : ℕ → Bodies → Finder BlockRead → Type 0
-UpToBlock end b inside = (f f' : Found) (ts us : Tokens) → IsSound end ts → f'.rows ≡ f.rows → Beside b ts us → FoundUntil BlockAlike b f (inside f ts) (inside f' us)
+UpToBlock end b inside = (f f' : Found) (ts us : Tokens) → IsSound end ts → FoundAlike b f f' → Beside b ts us → FoundUntil BlockAlike b f (inside f ts) (inside f' us)
 
 list_end_same : (is_top : Bool) (b : Bodies) (ts us : Tokens) → Beside b ts us → is_list_end is_top us ≡ is_list_end is_top ts
 unfolding is_list_end
@@ -388,7 +460,7 @@ module _ (end : ℕ) (turn : Finder (Option ItemView)) (finds : Finds end turn) 
       (λ k. lost (gone_on (gone_on k list.leads) (eat_leads 125 _)) (found_gone list k))
       (λ k. by_found (list_until end (is_list_end false) (list_end_same false) turn finds each most b plain [] [] f f' inner.1 inner'.1 (sound_on end open_leads l) refl e k.rest)
       (λ g m. lost (gone_on g (eat_leads 125 _)) m)
-      (λ j. same (record { value = record { attrs = k.value; items = ap Some j.value }; rows = j.rows; rest = (eat_local b 125 refl _ _ j.rest).rest }))))
+      (λ j. same (record { value = record { attrs = k.value; items = ap Some j.value }; found = j.found; rest = (eat_local b 125 refl _ _ j.rest).rest }))))
 
 -- ---- items that hold others
 
@@ -424,19 +496,19 @@ unfolding extern_inside
 extern_inside_until end depth b plain f f' ts us l e h =
     when (symbol ts == 123)
     (λ z. rw (symbol_same b ts us h, z) (block_until end (extern_turn depth) (extern_turn_found end depth) (extern_turn_until end depth) b plain f f' ts us l e h))
-    (λ z. rw (symbol_same b ts us h, z) (same (record { value = record { attrs = refl; items = refl }; rows = e; rest = h })))
+    (λ z. rw (symbol_same b ts us h, z) (same (record { value = record { attrs = refl; items = refl }; found = e; rest = h })))
 
-extern_block_until : (end depth start start' : ℕ) (attrs attrs' : List MetaView) (b : Bodies) → BeginPlain b → attrs' ≡ attrs → (f f' : Found) (ts us : Tokens) → IsSound end ts → f'.rows ≡ f.rows → Beside b ts us
+extern_block_until : (end depth start start' : ℕ) (attrs attrs' : List MetaView) (b : Bodies) → BeginPlain b → SamePlace b start start' → attrs' ≡ attrs → (f f' : Found) (ts us : Tokens) → IsSound end ts → FoundAlike b f f' → Beside b ts us
     → FoundUntil ItemAlike b f (some_item (extern_block depth start attrs f ts)) (some_item (extern_block depth start' attrs' f' us))
 unfolding extern_block
-extern_block_until end depth start start' attrs attrs' b plain a f f' ts us l e h =
+extern_block_until end depth start start' attrs attrs' b plain i a f f' ts us l e h =
     let x = extern_inside (one_more depth) nothing_found ts in
     let y = extern_inside (one_more depth) nothing_found us in
-    by_found (extern_inside_until end (one_more depth) b plain nothing_found nothing_found ts us l refl h)
+    by_found (extern_inside_until end (one_more depth) b plain nothing_found nothing_found ts us l (nothing_alike b) h)
     (λ g m. lost g (parent_misses b.opening.at depth start x.1.1.past kind.ExternBlock no_name x.0.is_ended x.1.0 f m))
     (λ k. same (record {
       value = ap Some (extern_block_same (attrs ++ x.0.attrs) (attrs' ++ y.0.attrs) x.0.items y.0.items (ap (λ l. l ++ y.0.attrs) a ∙ ap (λ l. attrs ++ l) k.value.attrs) k.value.items);
-      rows = parent_same depth start x.1.1.past start' y.1.1.past kind.ExternBlock no_name no_name x.0.is_ended y.0.is_ended x.1.0 y.1.0 f f' refl k.rows e;
+      found = parent_same b depth start x.1.1.past start' y.1.1.past kind.ExternBlock no_name no_name x.0.is_ended y.0.is_ended x.1.0 y.1.0 f f' i (past_place b x.1.1 y.1.1 k.rest) refl places.neither k.found e;
       rest = k.rest;
     }))
 
@@ -449,12 +521,12 @@ extern_block_lost end depth start attrs b f ts l g =
 
 -- modules
 module _ (end : ℕ) (inside : Finder BlockRead) (finds : FindsIn end inside) (each : (b : Bodies) → BeginPlain b → UpToBlock end b inside) (depth : ℕ) where
-  unless_until : (b : Bodies) → BeginPlain b → (s s' : Bool) → s' ≡ s → (f f' : Found) (ts us : Tokens) → IsSound end ts → f'.rows ≡ f.rows → Beside b ts us
+  unless_until : (b : Bodies) → BeginPlain b → (s s' : Bool) → s' ≡ s → (f f' : Found) (ts us : Tokens) → IsSound end ts → FoundAlike b f f' → Beside b ts us
       → FoundUntil BlockAlike b f (inside_unless s inside f ts) (inside_unless s' inside f' us)
-  unless_until b plain true s' d f f' ts us l e h = rw d (same (record { value = record { attrs = refl; items = refl }; rows = e; rest = h }))
+  unless_until b plain true s' d f f' ts us l e h = rw d (same (record { value = record { attrs = refl; items = refl }; found = e; rest = h }))
   unless_until b plain false s' d f f' ts us l e h = rw d (each b plain f f' ts us l e h)
 
-  module_until : (b : Bodies) → BeginPlain b → (h h' : FrontRead) → FrontAlike h h' → (f f' : Found) (ts us : Tokens) → IsSound end ts → f'.rows ≡ f.rows → Beside b ts us
+  module_until : (b : Bodies) → BeginPlain b → (h h' : FrontRead) → FrontAlike b h h' → (f f' : Found) (ts us : Tokens) → IsSound end ts → FoundAlike b f f' → Beside b ts us
       → FoundUntil ItemAlike b f (some_item (module_with inside depth h f ts)) (some_item (module_with inside depth h' f' us))
   module_until b plain h h' a f f' ts us l e k =
       let n = named_local b ts us k in
@@ -464,12 +536,12 @@ module _ (end : ℕ) (inside : Finder BlockRead) (finds : FindsIn end inside) (e
       let x = inside_unless c.0 inside nothing_found c.1 in
       let y = inside_unless c'.0 inside nothing_found c'.1 in
       let sound = sound_on end (through (named_leads ts) (eat_leads 59 (named ts).1)) l in
-      by_found (unless_until b plain c.0 c'.0 s.value nothing_found nothing_found c.1 c'.1 sound refl s.rest)
+      by_found (unless_until b plain c.0 c'.0 s.value nothing_found nothing_found c.1 c'.1 sound (nothing_alike b) s.rest)
       (λ g m. lost g (parent_misses b.opening.at depth h.start x.1.1.past kind.Module (named ts).0 (c.0 || x.0.is_ended) x.1.0 f m))
       (λ j. same (record {
         value = ap Some (module_same (h.attrs ++ x.0.attrs) (h'.attrs ++ y.0.attrs) (named ts).0.name (named us).0.name h.visibility h'.visibility c.0 c'.0 x.0.items y.0.items
             (ap (λ l. l ++ y.0.attrs) a.attrs ∙ ap (λ l. h.attrs ++ l) j.value.attrs) n.value.name a.visibility s.value j.value.items);
-        rows = parent_same depth h.start x.1.1.past h'.start y.1.1.past kind.Module (named ts).0 (named us).0 (c.0 || x.0.is_ended) (c'.0 || y.0.is_ended) x.1.0 y.1.0 f f' n.value.hashed j.rows e;
+        found = parent_same b depth h.start x.1.1.past h'.start y.1.1.past kind.Module (named ts).0 (named us).0 (c.0 || x.0.is_ended) (c'.0 || y.0.is_ended) x.1.0 y.1.0 f f' a.start (past_place b x.1.1 y.1.1 j.rest) n.value.hashed n.value.range j.found e;
         rest = j.rest;
       }))
 
@@ -487,10 +559,10 @@ module _ (end : ℕ) (inside : Finder BlockRead) (finds : FindsIn end inside) (e
   head_lost b heads.ExternBlock h f ts l g = extern_block_lost end depth h.start h.attrs b f ts l g
   head_lost b _ h f ts l g = leaf_turn_lost end depth b h f ts l g
 
-  head_until : (b : Bodies) → BeginPlain b → (k : Head) (h h' : FrontRead) → FrontAlike h h' → (f f' : Found) (ts us : Tokens) → IsSound end ts → f'.rows ≡ f.rows → Beside b ts us
+  head_until : (b : Bodies) → BeginPlain b → (k : Head) (h h' : FrontRead) → FrontAlike b h h' → (f f' : Found) (ts us : Tokens) → IsSound end ts → FoundAlike b f f' → Beside b ts us
       → FoundUntil ItemAlike b f (by_head inside depth k h f ts) (by_head inside depth k h' f' us)
   head_until b plain heads.Module h h' a f f' ts us l e k = module_until b plain h h' a f f' ts us l e k
-  head_until b plain heads.ExternBlock h h' a f f' ts us l e k = extern_block_until end depth h.start h'.start h.attrs h'.attrs b plain a.attrs f f' ts us l e k
+  head_until b plain heads.ExternBlock h h' a f f' ts us l e k = extern_block_until end depth h.start h'.start h.attrs h'.attrs b plain a.start a.attrs f f' ts us l e k
   head_until b plain _ h h' a f f' ts us l e k = leaf_turn_until end depth b plain h h' f f' ts us l e a k
 
   turn_with_until : (b : Bodies) → BeginPlain b → UpToFound end b (turn_with inside depth)
@@ -505,21 +577,21 @@ inside_until : (end left : ℕ) (b : Bodies) → BeginPlain b → UpToBlock end 
 unfolding inside
 inside_until end zero b plain f f' ts us l e h =
     when (symbol ts == 123)
-    (λ z. rw (symbol_same b ts us h, z) (same (record { value = record { attrs = refl; items = refl }; rows = e; rest = behind_tree_beside b ts us h })))
-    (λ z. rw (symbol_same b ts us h, z) (same (record { value = record { attrs = refl; items = refl }; rows = e; rest = h })))
+    (λ z. rw (symbol_same b ts us h, z) (same (record { value = record { attrs = refl; items = refl }; found = e; rest = behind_tree_beside b ts us h })))
+    (λ z. rw (symbol_same b ts us h, z) (same (record { value = record { attrs = refl; items = refl }; found = e; rest = h })))
 inside_until end (suc left) b plain f f' ts us l e h =
     when (symbol ts == 123)
     (λ z. rw (symbol_same b ts us h, z)
     (block_until end (turn_with (inside left) (depth_of left)) (turn_with_found end (inside left) (inside_found end left) (depth_of left))
     (turn_with_until end (inside left) (inside_found end left) (inside_until end left) (depth_of left)) b plain f f' ts us l e h))
-    (λ z. rw (symbol_same b ts us h, z) (same (record { value = record { attrs = refl; items = refl }; rows = e; rest = h })))
+    (λ z. rw (symbol_same b ts us h, z) (same (record { value = record { attrs = refl; items = refl }; found = e; rest = h })))
 
 turn_until : (end left : ℕ) (b : Bodies) → BeginPlain b → UpToFound end b (turn left)
 unfolding turn
 turn_until end left b plain f f' ts us l e h = turn_with_until end (inside left) (inside_found end left) (inside_until end left) (depth_of left) b plain f f' ts us l e h
 
 -- the items of a file
-pub items_until : (end : ℕ) (is_top : Bool) (left : ℕ) (b : Bodies) → BeginPlain b → (f f' : Found) (ts us : Tokens) → IsSound end ts → f'.rows ≡ f.rows → Beside b ts us
+pub items_until : (end : ℕ) (is_top : Bool) (left : ℕ) (b : Bodies) → BeginPlain b → (f f' : Found) (ts us : Tokens) → IsSound end ts → FoundAlike b f f' → Beside b ts us
     → FoundUntil ListAlike b f (items is_top left f ts) (items is_top left f' us)
 unfolding finding
 items_until end is_top left b plain f f' ts us l e h =
@@ -544,7 +616,7 @@ misses_all {at} m = ap (has_body at) m.is ∙ none_has at m.more m.free
 -- the braces are of no item of the file, or the same is read but for body texts
 pub data FileUntil (b : Bodies) (ts us : Tokens) : Type 0 where
   of_none : has_body b.opening.at (items_behind ts).1.0.spans ≡ false → FileUntil b ts us
-  alike : (inner_attributes us).0 ≡ (inner_attributes ts).0 → ListAlike (items_behind ts).0 (items_behind us).0 → (items_behind us).1.0.rows ≡ (items_behind ts).1.0.rows → FileUntil b ts us
+  alike : (inner_attributes us).0 ≡ (inner_attributes ts).0 → ListAlike (items_behind ts).0 (items_behind us).0 → FoundAlike b (items_behind ts).1.0 (items_behind us).1.0 → FileUntil b ts us
 
 pub file_until : (end : ℕ) (b : Bodies) → BeginPlain b → (ts us : Tokens) → IsSound end ts → Beside b ts us → FileUntil b ts us
 file_until end b plain ts us l h =
@@ -552,17 +624,9 @@ file_until end b plain ts us l h =
     let sound = sound_on end (inner_attributes_leads ts) l in
     by_kept (inner_attributes_until b ts us h)
     (λ g. let m = found_gone (items_found end true 128 nothing_found inner.1 sound.laid) g in of_none (misses_all m))
-    (λ k. by_found (items_until end true 128 b plain nothing_found nothing_found inner.1 (inner_attributes us).1 sound refl k.rest)
-    (λ g m. of_none (misses_all m)) (λ j. alike k.value j.value j.rows))
+    (λ k. by_found (items_until end true 128 b plain nothing_found nothing_found inner.1 (inner_attributes us).1 sound (nothing_alike b) k.rest)
+    (λ g m. of_none (misses_all m)) (λ j. alike k.value j.value j.found))
 
-problem_at_spans : (k : ProblemKind) (o : Option ℕ) (f : Found) → (and_problem_at k o f).spans ≡ f.spans
-problem_at_spans k None f = refl
-problem_at_spans k (Some at) f = refl
-
-pub found_spans : (edition : EditionYear) (x : List ℕ) → (found_in edition x).spans ≡ (read_of edition x).1.0.spans
-unfolding found_in
-found_spans edition x = problem_at_spans _ _ _
-
-pub found_rows : (edition : EditionYear) (x : List ℕ) → (found_in edition x).rows ≡ (read_of edition x).1.0.rows
+pub found_rows : (edition : EditionYear) (x : List ℕ) → rows_of (found_in edition x) ≡ rows_of (read_of edition x).1.0
 unfolding found_in
 found_rows edition x = problem_at_rows _ _ _

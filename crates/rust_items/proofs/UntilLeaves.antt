@@ -27,7 +27,7 @@ use Rattle.rust_cursor.proofs.Passing as passing
 use Rattle.rust_cursor.proofs.Local.{Kept, eat_local, after_symbol}
 use Rattle.rust_cursor.proofs.Until.{Gone, gone_on, gone, kept, UpTo, by_kept, elements_until, one_until}
 use Rattle.rust_cursor.proofs.Alike.{KeptBy, UntilBy, went, stayed, by_stayed}
-use Rattle.rust_cursor.proofs.Places.{IsAlike}
+use Rattle.rust_cursor.proofs.Places.{IsAlike, no_more, SamePlace, at_place}
 use Rattle.rust_cursor.proofs.Places as places
 use Rattle.rust_paths.specs.declared.names.TextRange.{TextRange}
 use Rattle.rust_paths.specs.Paths.{path}
@@ -61,7 +61,8 @@ use Rattle.rust_items.proofs.Leads.{LeafAt, leaf_at, named_leads, behind_modifie
 
 -- ---- what stands in front
 
-pub record FrontAlike (f g : FrontRead) : Type 0 where
+pub record FrontAlike (b : Bodies) (f g : FrontRead) : Type 0 where
+  pub start : SamePlace b f.start g.start
   pub attrs : g.attrs ≡ f.attrs
   pub visibility : g.visibility ≡ f.visibility
   pub head : g.head ≡ f.head
@@ -70,19 +71,19 @@ front_rest : (start : ℕ) (attrs : List MetaView) → Forwards (front_behind st
 unfolding front_behind
 front_rest start attrs ts = through (visibility_leads ts) (through (behind_modifiers_leads _) (head_takes _).leads)
 
-front_behind_local : (b : Bodies) (start start' : ℕ) (attrs attrs' : List MetaView) (ts us : Tokens) → attrs' ≡ attrs → Beside b ts us → KeptBy FrontAlike b (front_behind start attrs ts) (front_behind start' attrs' us)
+front_behind_local : (b : Bodies) (start start' : ℕ) (attrs attrs' : List MetaView) (ts us : Tokens) → SamePlace b start start' → attrs' ≡ attrs → Beside b ts us → KeptBy (FrontAlike b) b (front_behind start attrs ts) (front_behind start' attrs' us)
 unfolding front_behind
-front_behind_local b start start' attrs attrs' ts us e h =
+front_behind_local b start start' attrs attrs' ts us i e h =
     let v = visibility_local b ts us h in
     let m = modifiers_beside b (visibility ts).1 (visibility us).1 v.rest in
     let k = head_local b (behind_modifiers (visibility ts).1) (behind_modifiers (visibility us).1) m in
-    record { value = record { attrs = e; visibility = v.value; head = k.value }; rest = k.rest }
+    record { value = record { start = i; attrs = e; visibility = v.value; head = k.value }; rest = k.rest }
 
-pub front_until : (b : Bodies) (ts us : Tokens) → Beside b ts us → UntilBy FrontAlike b (front ts) (front us)
+pub front_until : (b : Bodies) (ts us : Tokens) → Beside b ts us → UntilBy (FrontAlike b) b (front ts) (front us)
 unfolding front
 front_until b ts us h =
     by_kept (outer_attributes_until b ts us h) (λ g. went (gone_on g (front_rest (at ts) (outer_attributes ts).0 _)))
-    (λ k. stayed (front_behind_local b (at ts) (at us) (outer_attributes ts).0 (outer_attributes us).0 (outer_attributes ts).1 (outer_attributes us).1 k.value k.rest))
+    (λ k. stayed (front_behind_local b (at ts) (at us) (outer_attributes ts).0 (outer_attributes us).0 (outer_attributes ts).1 (outer_attributes us).1 (at_place b ts us h) k.value k.rest))
 
 -- ---- braces
 
@@ -114,7 +115,7 @@ opens_at b plain end t u l some (ahead past (p ∷ x) r v v' i j) =
     elsewhere (next_ahead b past p x r v v' i.1 j) (λ e. absurd (omega arith))
 opens_at b plain end t u l some (behind past [] v v' i) = absurd cc
 opens_at b plain end t u l some (behind past (p ∷ r) v v' i) =
-    let low : end_of b.closing ≤ past = i.0 in
+    let low : end_of b.closing ≤ past = i.0.0 in
     let far = b.apart in
     let place = at_behind end t l in
     elsewhere (next_behind b (past + b.by) (past + b.by_new) p r v v' i.1) (λ e. absurd (omega arith))
@@ -146,9 +147,9 @@ IsWithin o v = (t : Tokens) → o ≡ Some t → LeadsTo (inner_attributes (bump
 -- an item of both texts, or none of either; or the one went into the braces, and its own do not stand at their place
 pub data LeafUntil (b : Bodies) (p q : Option LeafRead × Tokens) : Type 0 where
   leaf_lost : Gone b p.1 → ((l : LeafRead) (r : TextRange) → p.0 ≡ Some l → l.body ≡ Some r → r.start ≡ b.opening.at → ⊥) → LeafUntil b p q
-  leaf_same : IsAlike LeafAlike p.0 q.0 → Beside b p.1 q.1 → LeafUntil b p q
+  leaf_same : IsAlike (LeafAlike b) p.0 q.0 → Beside b p.1 q.1 → LeafUntil b p q
 
-some_alike : {b : Bodies} {p q : LeafRead × Tokens} → KeptBy LeafAlike b p q → LeafUntil b (Some p.0, p.1) (Some q.0, q.1)
+some_alike : {b : Bodies} {p q : LeafRead × Tokens} → KeptBy (LeafAlike b) b p q → LeafUntil b (Some p.0, p.1) (Some q.0, q.1)
 some_alike k = leaf_same (places.both k.value) k.rest
 
 some_is : {A : Type 0} (x y : A) → Some x ≡ Some y → x ≡ y
@@ -189,12 +190,12 @@ impl_end_within end ts s t e = inner_within end ts (impl_end ts).1 t s (impl_enc
 module _ (b : Bodies) (plain : BeginPlain b) (end : ℕ) (attrs : List MetaView) (v : Option Visibility) (ts us : Tokens) (l : IsSound end ts) (h : Beside b ts us) where
   function_until : LeafUntil b (some_read (function attrs v ts)) (some_read (function attrs v us))
   unfolding function
-  function_until = by (block_attributes_until b plain end sound.laid (item_end_block (named ts).1) r.value (item_end_within end (named ts).1 sound))
+  function_until = by (block_attributes_until b plain end sound.laid (item_end_block (named ts).1) r.value.block (item_end_within end (named ts).1 sound))
     where
       sound : IsSound end (named ts).1
       sound = sound_on end (named_leads ts) l
 
-      n : KeptBy NameAlike b (named ts) (named us)
+      n : KeptBy (NameAlike b) b (named ts) (named us)
       n = named_local b ts us h
 
       r : KeptBy (RestAlike b) b (item_end (named ts).1) (item_end (named us).1)
@@ -207,7 +208,7 @@ module _ (b : Bodies) (plain : BeginPlain b) (end : ℕ) (attrs : List MetaView)
 
   implementation_until : LeafUntil b (some_read (implementation attrs ts)) (some_read (implementation attrs us))
   unfolding implementation
-  implementation_until = by (block_attributes_until b plain end l.laid (impl_end_block ts) (impl_end_local b ts us h).value (impl_end_within end ts l))
+  implementation_until = by (block_attributes_until b plain end l.laid (impl_end_block ts) (impl_end_local b ts us h).value.block (impl_end_within end ts l))
     where
       by : SameOr b (impl_end ts).1 (impl_end ts).0.block (block_attributes (impl_end ts).0.block) (block_attributes (impl_end us).0.block)
           → LeafUntil b (some_read (implementation attrs ts)) (some_read (implementation attrs us))
@@ -221,7 +222,7 @@ module _ (b : Bodies) (plain : BeginPlain b) (end : ℕ) (attrs : List MetaView)
       x : Tokens
       x = (named ts).1
 
-      n : KeptBy NameAlike b (named ts) (named us)
+      n : KeptBy (NameAlike b) b (named ts) (named us)
       n = named_local b ts us h
 
       r : KeptBy (RestAlike b) b (item_end (named ts).1) (item_end (named us).1)
@@ -243,7 +244,9 @@ module _ (b : Bodies) (plain : BeginPlain b) (end : ℕ) (attrs : List MetaView)
         item = ap (λ (t : Option UseTreeView). item_without_bodies (use_item (record { node = node attrs []; visibility = v; use_tree = t }))) k.value.value;
         kind = refl;
         name = refl;
-        named = refl;
+        named = places.neither;
+        body = places.neither;
+        use_trees = k.value.starts;
       })) s.rest)
 
   invocation_until : LeafUntil b (invocation attrs ts) (invocation attrs us)
@@ -272,7 +275,9 @@ module _ (b : Bodies) (plain : BeginPlain b) (end : ℕ) (attrs : List MetaView)
             item = ap (λ (x : Option PathNode). item_without_bodies (called attrs x [] (call_end (bumped (path us).1)).0).item) p.value;
             kind = refl;
             name = ap bare f;
-            named = refl;
+            named = places.neither;
+            body = c.value.braces;
+            use_trees = no_more;
           })) c.rest
 
 -- ---- all kinds
@@ -294,7 +299,7 @@ leaf_by_until b plain end heads.MacroDef attrs v ts us l h = some_alike (macro_d
 leaf_by_until b plain end heads.MacroRules attrs v ts us l h = some_alike (macro_definition_local b attrs ts us h)
 leaf_by_until b plain end _ attrs v ts us l h = invocation_until b plain end attrs v ts us l h
 
-pub leaf_until : (b : Bodies) → BeginPlain b → (end : ℕ) (f g : FrontRead) (ts us : Tokens) → FrontAlike f g → IsSound end ts → Beside b ts us → LeafUntil b (leaf f ts) (leaf g us)
+pub leaf_until : (b : Bodies) → BeginPlain b → (end : ℕ) (f g : FrontRead) (ts us : Tokens) → FrontAlike b f g → IsSound end ts → Beside b ts us → LeafUntil b (leaf f ts) (leaf g us)
 unfolding leaf
 leaf_until b plain end f g ts us a l h =
     rw (a.head, a.attrs, a.visibility) (leaf_by_until b plain end f.head f.attrs f.visibility ts us l h)

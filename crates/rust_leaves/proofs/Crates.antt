@@ -1,7 +1,5 @@
 -- Extern crates, and what a macro is called by, of tokens beside are the same.
 use Rattle.std.proofs.Common.{arith, ◌≡◌, ◌==◌, ℕ, zero, suc, Bool, true, false, Option, Some, None, List, [], refl, ap, ◌∙◌, codes}
-use Rattle.std.specs.Prelude.{is_none}
-use Rattle.std.specs.Option.{option_or}
 use Rattle.std.specs.Str.{bytes_eq}
 use Rattle.std.proofs.lemmas.Bool.Decides.{nat_tests}
 use Rattle.hir_input.specs.declared.ast.Visibility.{Visibility}
@@ -16,52 +14,47 @@ use Rattle.rust_cursor.proofs.Views.{symbol_same, text_same, open_same, taken_sa
 use Rattle.rust_cursor.proofs.Local.{word_test, after_word, after_symbol, eat_local, eat_word_local, both_true}
 use Rattle.rust_cursor.proofs.Until.{Gone, gone_on, Onward, into, on, bumped_onward}
 use Rattle.rust_cursor.proofs.Alike.{KeptBy}
+use Rattle.rust_cursor.proofs.Places.{no_more, IsAlike, neither, both, alike_or}
 use Rattle.rust_paths.specs.declared.names.TextRange.{TextRange}
 use Rattle.rust_leaves.specs.Leaves.{NameRead, named_or, alias, alias_if, renamed, rename_of}
 use Rattle.rust_leaves.specs.Kinds.{named_node, told_at, crate_item, is_called}
 use Rattle.rust_leaves.specs.Texts.{last_text_from, last_text}
-use Rattle.rust_leaves.proofs.Beside.{LocalBy, NameAlike, named_local, named_or_local, LeafAlike}
+use Rattle.rust_leaves.proofs.Beside.{LocalBy, RangeAlike, next_alike, NameAlike, named_local, named_or_local, LeafAlike}
 
 -- ---- extern crates
 
--- the same rename, and a place where there is one
-data AliasAlike : Option NameRead → Option NameRead → Type 0 where
-  none : AliasAlike None None
-  alike : (n m : NameRead) → NameAlike n m → AliasAlike (Some n) (Some m)
+-- the same rename, where it stands in each
+abbrev AliasAlike : Bodies → Option NameRead → Option NameRead → Type 0
+AliasAlike b = IsAlike (NameAlike b)
 
-alias_local : (b : Bodies) → LocalBy NameAlike b alias
+alias_local : (b : Bodies) → LocalBy (NameAlike b) b alias
 unfolding alias
 alias_local b ts us h =
     when (bytes_eq (word ts) (codes "_"))
     (λ e. let f : bytes_eq (word us) (codes "_") ≡ true = word_test b (codes "_") ts us h ∙ e in
-    rw (e, f) (record { value = record { name = refl; hashed = refl; placed = refl }; rest = after_word b (codes "_") ts us refl h e }))
+    let next = after_word b (codes "_") ts us refl h e in
+    rw (e, f) (record { value = record { name = refl; hashed = refl; range = next_alike b ts us h next }; rest = next }))
     (λ e. let f : bytes_eq (word us) (codes "_") ≡ false = word_test b (codes "_") ts us h ∙ e in rw (e, f) (named_local b ts us h))
 
-alias_if_local : (b : Bodies) (found found' : Bool) (ts us : Tokens) → found' ≡ found → Beside b ts us → KeptBy AliasAlike b (alias_if found ts) (alias_if found' us)
-alias_if_local b true found' ts us e h = rw e (let k = alias_local b ts us h in record { value = alike _ _ k.value; rest = k.rest })
-alias_if_local b false found' ts us e h = rw e (record { value = none; rest = h })
+alias_if_local : (b : Bodies) (found found' : Bool) (ts us : Tokens) → found' ≡ found → Beside b ts us → KeptBy (AliasAlike b) b (alias_if found ts) (alias_if found' us)
+alias_if_local b true found' ts us e h = rw e (let k = alias_local b ts us h in record { value = both k.value; rest = k.rest })
+alias_if_local b false found' ts us e h = rw e (record { value = neither; rest = h })
 
-renamed_local : (b : Bodies) → LocalBy AliasAlike b renamed
+renamed_local : (b : Bodies) → LocalBy (AliasAlike b) b renamed
 unfolding renamed
 renamed_local b ts us h =
     let k = eat_word_local b (codes "as") refl ts us h in
     alias_if_local b (eat_word (codes "as") ts).0 (eat_word (codes "as") us).0 (eat_word (codes "as") ts).1 (eat_word (codes "as") us).1 k.value k.rest
 
-rename_same : {o o' : Option NameRead} → AliasAlike o o' → rename_of o' ≡ rename_of o
-rename_same none = refl
-rename_same (alike n m a) = ap (λ z. rename_of (Some (record { name = z; hashed = []; range = None }))) a.name
+rename_same : {b : Bodies} {o o' : Option NameRead} → AliasAlike b o o' → rename_of o' ≡ rename_of o
+rename_same neither = refl
+rename_same (both a) = ap (λ z. rename_of (Some (record { name = z; hashed = []; range = None }))) a.name
 
-or_same : (r r' s s' : Option TextRange) → is_none r' ≡ is_none r → is_none s' ≡ is_none s → is_none (option_or r' s') ≡ is_none (option_or r s)
-or_same None None s s' p q = q
-or_same None (Some _) s s' p q = absurd cc
-or_same (Some _) None s s' p q = absurd cc
-or_same (Some _) (Some _) s s' p q = refl
+told_same : {b : Bodies} {o o' : Option NameRead} (r r' : Option TextRange) → RangeAlike b r r' → AliasAlike b o o' → RangeAlike b (told_at r o) (told_at r' o')
+told_same r r' e neither = e
+told_same r r' e (both a) = alike_or a.range e
 
-told_same : {o o' : Option NameRead} (r r' : Option TextRange) → is_none r' ≡ is_none r → AliasAlike o o' → is_none (told_at r' o') ≡ is_none (told_at r o)
-told_same r r' e none = e
-told_same r r' e (alike n m a) = or_same n.range m.range r r' a.placed e
-
-pub crate_item_local : (b : Bodies) (attrs : List MetaView) (v : Option Visibility) → LocalBy LeafAlike b (crate_item attrs v)
+pub crate_item_local : (b : Bodies) (attrs : List MetaView) (v : Option Visibility) → LocalBy (LeafAlike b) b (crate_item attrs v)
 unfolding crate_item
 crate_item_local b attrs v ts us h =
     let n = named_or_local b (codes "self") refl ts us h in
@@ -74,7 +67,9 @@ crate_item_local b attrs v ts us h =
         item = ap (λ z. item_without_bodies (extern_crate (named_node attrs z v []) (rename_of r'))) n.value.name ∙ ap (λ z. item_without_bodies (extern_crate (named_node attrs (named_or (codes "self") ts).0.name v []) z)) (rename_same a.value);
         kind = refl;
         name = n.value.hashed;
-        named = told_same (named_or (codes "self") ts).0.range (named_or (codes "self") us).0.range n.value.placed a.value;
+        named = told_same (named_or (codes "self") ts).0.range (named_or (codes "self") us).0.range n.value.range a.value;
+        body = neither;
+        use_trees = no_more;
       };
       rest = s.rest;
     }

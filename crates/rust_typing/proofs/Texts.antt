@@ -19,23 +19,25 @@ use Rattle.rust_cursor.specs.Words.{kind, symbol, bumped}
 use Rattle.rust_cursor.specs.Elements.{turns}
 use Rattle.rust_cursor.specs.Beside.{Bodies, AreBehind, Beside, ahead}
 use Rattle.rust_cursor.proofs.Braced.{tokens_at, bumped_at}
-use Rattle.rust_cursor.proofs.Ordered.{front_before, left_behind, close_some}
+use Rattle.rust_cursor.proofs.Ordered.{front_before, left_behind}
+use Rattle.rust_cursor.proofs.Places.{Moves, SamePlace}
 use Rattle.rust_cursor.proofs.Turns.{turns_stop}
 use Rattle.rust_metas.specs.Attributes.{is_style, is_doc, is_attribute, is_behind, inner_attributes, attributes}
 use Rattle.rust_metas.specs.Literals.{style_by}
 use Rattle.rust_items.proofs.UntilLeaves.{BeginPlain}
+use Rattle.rust_items.proofs.UntilItems.{Rows, RowsAlike}
 use Rattle.rust_typing.specs.Laws.{with_body, OpensAt, is_plain, first_plain, BeginsPlain}
 
 -- ---- the braces
 
-near : (q m s : List ℕ) → length q < end_of (close_of s) + (suc (length q) + length m)
-near q m s = let some = close_some s in omega arith
+near : (q m s : List ℕ) → length q < (close_of s).at + (suc (length q) + length m)
+near q m s = omega arith
 
 -- what stands between the braces stands behind the `{`
 counted_behind : (low past : ℕ) (ts : List Piece) → low ≤ past → AreBehind low past (filter is_significant (map (moved low) ts))
 counted_behind low past [] h = h
 counted_behind low past (t ∷ ts) h =
-    when (is_significant t) (λ e. rw e (h, counted_behind low (end_of (moved low t)) ts (omega arith))) (λ e. rw e (counted_behind low past ts h))
+    when (is_significant t) (λ e. rw e ((h, omega arith), counted_behind low (end_of (moved low t)) ts (omega arith))) (λ e. rw e (counted_behind low past ts h))
 
 body_behind : (at : ℕ) (m : List ℕ) → AreBehind (suc at) (at + 1) (body at m)
 unfolding body inside_of
@@ -64,6 +66,14 @@ bodies edition q m m' s h h' = record {
 pub bodies_at : (edition : EditionYear) (q m m' s : List ℕ) (h : StandsAlone m) (h' : StandsAlone m') → (bodies edition q m m' s h h').opening.at ≡ length q
 unfolding bodies
 bodies_at edition q m m' s h h' = refl
+
+-- a place of the one text, and that of the other
+abbrev pub IsMoved : List ℕ → List ℕ → List ℕ → List ℕ → ℕ → ℕ → Type 0
+IsMoved q m m' s = Moves (length q) (end_of (close_of s)) (suc (length q) + length m) (suc (length q) + length m')
+
+pub moved_by : (edition : EditionYear) (q m m' s : List ℕ) (h : StandsAlone m) (h' : StandsAlone m') {r r' : Rows} → RowsAlike (SamePlace (bodies edition q m m' s h h')) r r' → RowsAlike (IsMoved q m m' s) r r'
+unfolding bodies
+moved_by edition q m m' s h h' a = a
 
 -- ---- the tokens
 

@@ -18,9 +18,9 @@ use Rattle.rust_items.specs.LineEnds.{place_in}
 use Rattle.rust_items.specs.Typed.{has_body}
 use Rattle.rust_items.specs.SourceFiles.{found_in, items_in, read_of, IsFile}
 use Rattle.rust_items.proofs.Bodiless.{with_bodiless}
-use Rattle.rust_items.proofs.UntilItems.{FileUntil, of_none, alike, file_until, found_rows, found_spans}
+use Rattle.rust_items.proofs.UntilItems.{Rows, rows_of, RowsAlike, by_rows, ListAlike, FileUntil, of_none, alike, file_until, found_rows}
 use Rattle.rust_typing.specs.Laws.{with_body, IsTyped, TypingInside}
-use Rattle.rust_typing.proofs.Texts.{bodies, bodies_at, tokens_beside, begin_plain}
+use Rattle.rust_typing.proofs.Texts.{bodies, bodies_at, IsMoved, moved_by, tokens_beside, begin_plain}
 
 -- ---- what was found
 
@@ -48,17 +48,16 @@ read_bare edition x place file f =
     ap without_bodies f.syntax ∙ ap (λ (l : ItemViews). source_file (inner_attributes (tokens_of edition x)).0 (items_without_bodies (with_ids l f.ids).0)) (items_are edition x)
     ∙ ap (source_file (inner_attributes (tokens_of edition x)).0) (bare_is (read_of edition x).0 f.ids)
 
--- ---- the law
+-- ---- the two texts
 
-same_ids : (edition : EditionYear) (x x' : List ℕ) (place place' : ℕ → ℕ) (file file' : SourceFile) (f : IsFile edition x place file) (g : IsFile edition x' place' file')
-    → (read_of edition x').1.0.rows ≡ (read_of edition x).1.0.rows → g.ids ≡ f.ids
-same_ids edition x x' place place' file file' f g e =
-    let rows : (found_in edition x').rows ≡ (found_in edition x).rows = found_rows edition x' ∙ e ∙ sym (found_rows edition x) in
-    determined (found_in edition x).rows g.ids f.ids (subst (λ (l : List Row). AreIds l g.ids) rows g.are_ids) f.are_ids
+-- the same is read of both but for body texts, and the same is found where it stands in each
+pub record ReadAlike (edition : EditionYear) (q m m' s : List ℕ) : Type 0 where
+  pub attrs : (inner_attributes (tokens_of edition (with_body q m' s))).0 ≡ (inner_attributes (tokens_of edition (with_body q m s))).0
+  pub items : ListAlike (read_of edition (with_body q m s)).0 (read_of edition (with_body q m' s)).0
+  pub found : RowsAlike (IsMoved q m m' s) (rows_of (found_in edition (with_body q m s))) (rows_of (found_in edition (with_body q m' s)))
 
-read_alike : (edition : EditionYear) (q m m' s : List ℕ) (place place' : ℕ → ℕ) (file file' : SourceFile) → IsTyped edition q m m' s → IsFile edition (with_body q m s) place file → IsFile edition (with_body q m' s) place' file'
-    → without_bodies (syntax_view file.syntax) ≡ without_bodies (syntax_view file'.syntax)
-read_alike edition q m m' s place place' file file' t f g =
+pub both_read : (edition : EditionYear) (q m m' s : List ℕ) → IsTyped edition q m m' s → ReadAlike edition q m m' s
+both_read edition q m m' s t =
     by (file_until (length x) b (begin_plain edition q m m' s t.alone t.alone_new t.begins t.begins_new) (tokens_of edition x) (tokens_of edition x') (tokens_sound edition x)
     (tokens_beside edition q m m' s t.opens t.alone t.alone_new))
   where
@@ -71,18 +70,32 @@ read_alike edition q m m' s place place' file file' t f g =
     b : Bodies
     b = bodies edition q m m' s t.alone t.alone_new
 
-    by : FileUntil b (tokens_of edition x) (tokens_of edition x') → without_bodies (syntax_view file.syntax) ≡ without_bodies (syntax_view file'.syntax)
+    by : FileUntil b (tokens_of edition x) (tokens_of edition x') → ReadAlike edition q m m' s
     by (of_none k) =
         let none : has_body (length q) (read_of edition x).1.0.spans ≡ false = subst (λ (n : ℕ). has_body n (read_of edition x).1.0.spans ≡ false) (bodies_at edition q m m' s t.alone t.alone_new) k in
-        let same : has_body (length q) (found_in edition x).spans ≡ has_body (length q) (read_of edition x).1.0.spans = ap (has_body (length q)) (found_spans edition x) in
+        let same : has_body (length q) (found_in edition x).spans ≡ has_body (length q) (read_of edition x).1.0.spans = ap (λ (r : Rows). has_body (length q) r.1.0) (found_rows edition x) in
         let some = t.body in
         absurd cc
-    by (alike a v r) =
-        let ids = same_ids edition x x' place place' file file' f g r in
-        read_bare edition x place file f ∙ sym (ap (λ (l : List MetaView). source_file l (bare (read_of edition x).0 f.ids)) a)
-        ∙ sym (ap (λ (l : List ItemView). source_file (inner_attributes (tokens_of edition x')).0 (with_ids (items_from l) f.ids).0) v)
-        ∙ sym (ap (λ (l : List FileAstId). source_file (inner_attributes (tokens_of edition x')).0 (bare (read_of edition x').0 l)) ids)
-        ∙ sym (read_bare edition x' place' file' g)
+    by (alike a v r) = record { attrs = a; items = v; found = by_rows (found_rows edition x) (found_rows edition x') (moved_by edition q m m' s t.alone t.alone_new r) }
+
+pub same_ids : (edition : EditionYear) (x x' : List ℕ) (place place' : ℕ → ℕ) (file file' : SourceFile) (f : IsFile edition x place file) (g : IsFile edition x' place' file')
+    → (found_in edition x').rows ≡ (found_in edition x).rows → g.ids ≡ f.ids
+same_ids edition x x' place place' file file' f g e =
+    determined (found_in edition x).rows g.ids f.ids (subst (λ (l : List Row). AreIds l g.ids) e g.are_ids) f.are_ids
+
+-- ---- the law
+
+read_alike : (edition : EditionYear) (q m m' s : List ℕ) (place place' : ℕ → ℕ) (file file' : SourceFile) → IsTyped edition q m m' s → IsFile edition (with_body q m s) place file → IsFile edition (with_body q m' s) place' file'
+    → without_bodies (syntax_view file.syntax) ≡ without_bodies (syntax_view file'.syntax)
+read_alike edition q m m' s place place' file file' t f g =
+    let x = with_body q m s in
+    let x' = with_body q m' s in
+    let r = both_read edition q m m' s t in
+    let ids = same_ids edition x x' place place' file file' f g r.found.rows in
+    read_bare edition x place file f ∙ sym (ap (λ (l : List MetaView). source_file l (bare (read_of edition x).0 f.ids)) r.attrs)
+    ∙ sym (ap (λ (l : List ItemView). source_file (inner_attributes (tokens_of edition x')).0 (with_ids (items_from l) f.ids).0) r.items)
+    ∙ sym (ap (λ (l : List FileAstId). source_file (inner_attributes (tokens_of edition x')).0 (bare (read_of edition x').0 l)) ids)
+    ∙ sym (read_bare edition x' place' file' g)
 
 pub typing_inside : TypingInside
 typing_inside edition q m m' s old new read again e e' t f g =

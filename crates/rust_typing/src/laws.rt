@@ -1,8 +1,19 @@
-//! What follows from the definitions; the function does nothing.
+//! What follows from the definitions; the functions do nothing.
 
 ghost use Rattle.rust_typing.specs.Laws.{TypingInside};
+ghost use Rattle.rust_typing.specs.Moved.{BodyIsTold, PlacesMove};
 
 // Typing inside a body changes no syntax but for its body texts.
 fn typing_inside()
     ensures { TypingInside }
+{}
+
+// Items and use trees stand where they stood, or are moved with the text.
+fn places_move()
+    ensures { PlacesMove }
+{}
+
+// The braces of a body are told by the places of what was read.
+fn body_is_told()
+    ensures { BodyIsTold }
 {}

@@ -1,0 +1,44 @@
+-- Where items and use trees stand, in two texts that differ between the braces of a body.
+use Rattle.std.specs.Prelude.{◌≡◌, ℕ, suc, ◌+◌, ◌-◌, nat_le, if◌then◌else◌, option_map, List, length, map}
+use Rattle.hir_input.specs.declared.edition.EditionYear.{EditionYear}
+use Rattle.rust_items.specs.declared.source_file.ItemPlace.{ItemPlace}
+use Rattle.rust_items.specs.declared.source_file.SourceFile.{SourceFile}
+use Rattle.rust_items.specs.LineEnds.{with_feeds, place_in, moved_range}
+use Rattle.rust_items.specs.SourceFiles.{found_in, IsSourceFile}
+use Rattle.rust_items.specs.Typed.{has_body, has_body_at}
+use Rattle.rust_typing.specs.Laws.{with_body, IsTyped}
+
+-- Where a place of the old text is in the new one: up to the `{` it stays, and behind the braces it is counted from the `}`. The numbers
+-- are the places of the `{`, of the `}`, and of the `}` in the new text.
+abbrev pub shifted : ℕ → ℕ → ℕ → ℕ → ℕ
+shifted opening closing closing_new n = if nat_le n opening then n else closing_new + (n - closing)
+
+-- the place of the `}`
+abbrev pub close_at : List ℕ → List ℕ → ℕ
+close_at q m = suc (length q) + length m
+
+abbrev pub shifted_by : List ℕ → List ℕ → List ℕ → ℕ → ℕ
+shifted_by q m m' = shifted (length q) (close_at q m) (close_at q m')
+
+-- the place of the same item, in another text
+abbrev pub moved_place : (ℕ → ℕ) → ItemPlace → ItemPlace
+moved_place place p = record { id = p.id; range = moved_range place p.range; name = option_map (moved_range place) p.name; body = option_map (moved_range place) p.body }
+
+-- Where what is read of two texts stands, that differ between the two braces of a body.
+pub record AreMoved (q m m' s : List ℕ) (read again : SourceFile) : Type 0 where
+  -- items
+  pub places : again.places.items ≡ map (moved_place (shifted_by q m m')) read.places.items
+  -- use trees, by their places in the texts without returns; where a text has none, these are the places
+  pub starts : List ℕ
+  pub old_starts : read.use_trees.items ≡ map (place_in (with_body q m s)) starts
+  pub new_starts : again.use_trees.items ≡ map (place_in (with_body q m' s)) (map (shifted_by (with_feeds q) (with_feeds m) (with_feeds m')) starts)
+
+-- Whatever is typed inside a body, items and use trees stand where they stood, but for those behind the body, which move with the text.
+abbrev pub PlacesMove : Type 0
+PlacesMove = (edition : EditionYear) (q m m' s : List ℕ) (read again : SourceFile) → IsTyped edition (with_feeds q) (with_feeds m) (with_feeds m') (with_feeds s)
+    → IsSourceFile edition (with_body q m s) read → IsSourceFile edition (with_body q m' s) again → AreMoved q m m' s read again
+
+-- Whether braces are a body (`Laws.IsBody`) is seen in the places of the file that was read.
+abbrev pub BodyIsTold : Type 0
+BodyIsTold = (edition : EditionYear) (q m s old : List ℕ) (read : SourceFile) → with_feeds old ≡ with_body q m s → IsSourceFile edition old read
+    → has_body_at (place_in old (length q)) read.places.items ≡ has_body (length q) (found_in edition (with_body q m s)).spans
