@@ -1010,7 +1010,9 @@ def all_items(items):
 
 
 def placeless(items):
-    return [{**item, 'children': placeless(item['children']), 'column': None, 'line': None, 'range': None} for item in items]
+    """The outline of a file without a text, which does not tell what an impl is of."""
+    return [{**item, 'children': placeless(item['children']), 'column': None, 'line': None, 'range': None,
+             'path': None if item['kind'] == 'impl' else item['path']} for item in items]
 
 
 # What the reader of items tells; `itemtree check` tells more.
@@ -1028,7 +1030,7 @@ def check_text(server, program, path, file, cfg):
     """What is told of a text, beside what the other commands print of it."""
     got = server.ask({'shows': told_of(file)})
     outline, imports, problems, page = json.loads(got)['shows']
-    items = json.loads(output(program, 'outline', '--json', *cfg, path))['items']
+    items = json.loads(output(program, 'outline', '--json', '--no-members', *cfg, path))['items']
     tell(outline == items and written(outline) in got, f'the outline of {path}', written(outline), written(items))
     lines, wanted = ''.join(import_line(path, told) for told in imports), output(program, 'imports', *cfg, path)
     tell(lines == wanted and all(list(told) == sorted(told) for told in imports), f'the imports of {path}', lines, wanted)

@@ -90,7 +90,7 @@ impl Action {
                 is_json,
             } => {
                 let text = if *is_json {
-                    outline_json(alloc, source, options, *depth)?
+                    outline_json(alloc, source, options, *depth, *has_members)?
                 } else {
                     outline(alloc, source, options, *depth, *has_members)?
                 };

@@ -49,9 +49,10 @@ IsOutline o depth has_members s out =
     × (out ≡ outline_text s (reading_in o has_members s) o.edition.reserved.items t.places.items (choice o depth) (rows t.tree))
 
 -- their objects, on one line
-abbrev pub IsJson : Options → Option ℕ → Source → List ℕ → Type 0
-IsJson o depth s out =
-    (t : SourceTree) × HasTree o s.text t × (out ≡ json_line s o.edition.reserved.items t.places.items (choice o depth) t.tree)
+abbrev pub IsJson : Options → Option ℕ → Bool → Source → List ℕ → Type 0
+IsJson o depth has_members s out =
+    (t : SourceTree) × HasTree o s.text t
+    × (out ≡ json_line s (reading_in o has_members s) o.edition.reserved.items t.places.items (choice o depth) t.tree)
 
 -- the places of the items and of the use trees
 abbrev pub all_places : SourceTree → FilePlaces

@@ -118,8 +118,8 @@ pub fn outline(
     Ok(text)
 }
 
-/// `itemtree outline --json`: one JSON object on one line, with an object for each item, or for those in fewer than so
-/// many others.
+/// `itemtree outline --json`: one JSON object on one line, with an object for each item and each member of one, or for those in
+/// fewer than so many items; with or without members.
 ///
 /// Its errors are those of `source_tree`.
 #[tactic(auto, using(source_tree::proofs::Refused::no_memory))]
@@ -128,15 +128,18 @@ pub fn outline_json(
     source: Source<'_>,
     options: &Options,
     depth: Option<usize>,
+    has_members: bool,
 ) -> Result<String, SourceError>
-    ensures text { IfOk result (λ out. spec.IsJson options.now depth (source_view source.entry) (string_bytes out)) }
+    ensures text { let json = spec.IsJson options.now depth has_members (source_view source.entry) in
+        IfOk result (λ out. json (string_bytes out)) }
     ensures refused { IfErr result (spec.HasNoTree options.now source.entry.text.now) }
 {
     let file = read(alloc, source.text, options)?;
     let choice = options.choice(depth);
+    let members = options.members(has_members);
     let edition = &options.edition;
     let (places, tree) = (&file.places, &file.tree);
-    let text = source_listing::outline_json(alloc, source, places, tree, edition, choice)?;
+    let text = source_listing::outline_json(alloc, source, places, tree, edition, members, choice)?;
     Ok(text)
 }
 

@@ -4,6 +4,7 @@ use Rattle.std.specs.List.{flat_map}
 use Rattle.std.specs.Option.{option_map_or}
 use Rattle.serde_json.specs.Data.{Data}
 use Rattle.serde_json.specs.View.{items_of}
+use Rattle.std.specs.Prelude.{option_map}
 use Rattle.item_tree.specs.Layout.{node_at}
 use Rattle.item_tree.specs.Node.{Node, leaf, parent, Forest, empty, more, nodes, Unfolding}
 use Rattle.item_tree.specs.Shown.{StandFor}
@@ -11,87 +12,88 @@ use Rattle.item_rows.specs.Rows.{is_file_enabled}
 use Rattle.item_tree.specs.Walk.{children, children_at}
 use Rattle.item_tree.proofs.Walking.{flat_map_of_id}
 use Rattle.rust_items.specs.declared.source_file.ItemPlace.{ItemPlace}
+use Rattle.listed_members.specs.Listed.{Reading, header_of, members_of}
 use Rattle.source_listing.specs.Lines.{Choice, Source, is_chosen}
-use Rattle.source_listing.specs.Places.{spot_of}
-use Rattle.source_listing.specs.Objects.{ItemView, item_in, object_form, own_objects, node_objects, forest_objects, tree_objects}
+use Rattle.source_listing.specs.Places.{place_of, spot_at}
+use Rattle.source_listing.specs.Objects.{ItemView, item_in, item_entry, member_objects, object_form, whole_object, own_objects, node_objects, forest_objects, tree_objects}
+use Rattle.source_listing.specs.declared.finder.Spot.{Spot}
 use Rattle.hir_input.specs.declared.edition.Edition.{Edition}
-use Rattle.source_listing.specs.declared.finder.Finder.{Finder}
 use Rattle.source_listing.specs.declared.lines.Printer.{Printer}
-use Rattle.source_listing.specs.Inner.{IsPrinterOf, IsSameFinder, file_of, item_at, objects_at, places_of, reserved_of}
+use Rattle.source_listing.specs.Inner.{IsPrinterOf, file_of, item_at, objects_at, places_of, reserved_of}
 use Rattle.source_listing.proofs.Printers.{file_is}
 
-module _ (s : Source) (reserved : List (List ℕ)) (places : List ItemPlace) (c : Choice) where
-  forest_is : (level : ℕ) (a : Bool) (f : Forest) → flat_map (node_objects s reserved places c level a) (nodes f) ≡ forest_objects s reserved places c level a f
+module _ (s : Source) (x : Reading) (reserved : List (List ℕ)) (places : List ItemPlace) (c : Choice) where
+  forest_is : (level : ℕ) (a : Bool) (f : Forest) → flat_map (node_objects s x reserved places c level a) (nodes f) ≡ forest_objects s x reserved places c level a f
   forest_is level a empty = refl
-  forest_is level a (more n f) = ap (λ ds. node_objects s reserved places c level a n ++ ds) (forest_is level a f)
+  forest_is level a (more n f) = ap (λ ds. node_objects s x reserved places c level a n ++ ds) (forest_is level a f)
 
   -- the objects of ids that stand for a forest
   pub ids_objects : (u : Unfolding) (level : ℕ) (a : Bool) (is : List ℕ) (f : Forest) → StandFor u is f
-      → flat_map (objects_at s reserved places c u level a) is ≡ forest_objects s reserved places c level a f
-  ids_objects u level a is f e = flat_map_of_id u (node_objects s reserved places c level a) is (nodes f) e ∙ forest_is level a f
+      → flat_map (objects_at s x reserved places c u level a) is ≡ forest_objects s x reserved places c level a f
+  ids_objects u level a is f e = flat_map_of_id u (node_objects s x reserved places c level a) is (nodes f) e ∙ forest_is level a f
 
   node_is : (level : ℕ) (a : Bool) (n : Node)
-      → node_objects s reserved places c level a n ≡ own_objects s reserved places c level (item_in a n) (forest_objects s reserved places c (level + 1) (item_in a n).is_active (children n))
+      → node_objects s x reserved places c level a n ≡ own_objects s x reserved places c level (item_in a n) (forest_objects s x reserved places c (level + 1) (item_in a n).is_active (children n))
   node_is level a (leaf h l) = refl
   node_is level a (parent h t f) = refl
 
-  one_objects : (u : Unfolding) (level : ℕ) (a : Bool) (is : List ℕ) (o : Option Node) (x : ItemView) → x ∷ [] ≡ option_map_or (λ n. item_in a n ∷ []) o [] → StandFor u is (option_map_or children o empty)
-      → option_map_or (node_objects s reserved places c level a) o [] ≡ own_objects s reserved places c level x (flat_map (objects_at s reserved places c u (level + 1) x.is_active) is)
-  one_objects u level a is None x e f = absurd (cc)
-  one_objects u level a is (Some n) x e f =
-      let e : item_in a n ≡ x = cc in
-      node_is level a n ∙ ap (λ x. own_objects s reserved places c level x (forest_objects s reserved places c (level + 1) x.is_active (children n))) e
-      ∙ ap (own_objects s reserved places c level x) (sym (ids_objects u (level + 1) x.is_active is (children n) f))
+  one_objects : (u : Unfolding) (level : ℕ) (a : Bool) (is : List ℕ) (o : Option Node) (y : ItemView) → y ∷ [] ≡ option_map_or (λ n. item_in a n ∷ []) o [] → StandFor u is (option_map_or children o empty)
+      → option_map_or (node_objects s x reserved places c level a) o [] ≡ own_objects s x reserved places c level y (flat_map (objects_at s x reserved places c u (level + 1) y.is_active) is)
+  one_objects u level a is None y e f = absurd (cc)
+  one_objects u level a is (Some n) y e f =
+      let e : item_in a n ≡ y = cc in
+      node_is level a n ∙ ap (λ y. own_objects s x reserved places c level y (forest_objects s x reserved places c (level + 1) y.is_active (children n))) e
+      ∙ ap (own_objects s x reserved places c level y) (sym (ids_objects u (level + 1) y.is_active is (children n) f))
 
   -- the object of an item is around those of its children
-  pub item_objects : (u : Unfolding) (level : ℕ) (a : Bool) (i : ℕ) (is : List ℕ) (x : ItemView) → x ∷ [] ≡ item_at u a i → StandFor u is (children_at u i)
-      → objects_at s reserved places c u level a i ≡ own_objects s reserved places c level x (flat_map (objects_at s reserved places c u (level + 1) x.is_active) is)
-  item_objects u level a i is x e f = one_objects u level a is (node_at u.forest i) x e f
+  pub item_objects : (u : Unfolding) (level : ℕ) (a : Bool) (i : ℕ) (is : List ℕ) (y : ItemView) → y ∷ [] ≡ item_at u a i → StandFor u is (children_at u i)
+      → objects_at s x reserved places c u level a i ≡ own_objects s x reserved places c level y (flat_map (objects_at s x reserved places c u (level + 1) y.is_active) is)
+  item_objects u level a i is y e f = one_objects u level a is (node_at u.forest i) y e f
 
-  unlisted_own : (level : ℕ) (x y : ItemView) (ds : List Data) → y ≡ x → is_chosen c level x.is_active ≡ false → own_objects s reserved places c level y ds ≡ []
-  unlisted_own level x y ds e f = rw (e, f) refl
+  unlisted_own : (level : ℕ) (y z : ItemView) (ds : List Data) → z ≡ y → is_chosen c level y.is_active ≡ false → own_objects s x reserved places c level z ds ≡ []
+  unlisted_own level y z ds e f = rw (e, f) refl
 
-  unlisted : (level : ℕ) (a : Bool) (o : Option Node) (x : ItemView) → x ∷ [] ≡ option_map_or (λ n. item_in a n ∷ []) o [] → is_chosen c level x.is_active ≡ false
-      → option_map_or (node_objects s reserved places c level a) o [] ≡ []
-  unlisted level a None x e f = refl
-  unlisted level a (Some n) x e f =
-      let e : item_in a n ≡ x = cc in
-      node_is level a n ∙ unlisted_own level x (item_in a n) (forest_objects s reserved places c (level + 1) (item_in a n).is_active (children n)) e f
+  unlisted : (level : ℕ) (a : Bool) (o : Option Node) (y : ItemView) → y ∷ [] ≡ option_map_or (λ n. item_in a n ∷ []) o [] → is_chosen c level y.is_active ≡ false
+      → option_map_or (node_objects s x reserved places c level a) o [] ≡ []
+  unlisted level a None y e f = refl
+  unlisted level a (Some n) y e f =
+      let e : item_in a n ≡ y = cc in
+      node_is level a n ∙ unlisted_own level y (item_in a n) (forest_objects s x reserved places c (level + 1) (item_in a n).is_active (children n)) e f
 
   -- an item that is not chosen has none
-  pub item_unlisted : (u : Unfolding) (level : ℕ) (a : Bool) (i : ℕ) (x : ItemView) → x ∷ [] ≡ item_at u a i → is_chosen c level x.is_active ≡ false
-      → objects_at s reserved places c u level a i ≡ []
-  item_unlisted u level a i x e f = unlisted level a (node_at u.forest i) x e f
+  pub item_unlisted : (u : Unfolding) (level : ℕ) (a : Bool) (i : ℕ) (y : ItemView) → y ∷ [] ≡ item_at u a i → is_chosen c level y.is_active ≡ false
+      → objects_at s x reserved places c u level a i ≡ []
+  item_unlisted u level a i y e f = unlisted level a (node_at u.forest i) y e f
 
-  own_chosen : (level : ℕ) (x : ItemView) (ds : List Data) → is_chosen c level x.is_active ≡ true
-      → own_objects s reserved places c level x ds ≡ object_form reserved x (spot_of s.text places x.id) (items_of ds) ∷ []
-  own_chosen level x ds e = rw e refl
+  own_chosen : (level : ℕ) (y : ItemView) (ds : List Data) → is_chosen c level y.is_active ≡ true
+      → own_objects s x reserved places c level y ds ≡ whole_object s x reserved places c level y (place_of y.id places) ds ∷ []
+  own_chosen level y ds e = rw e refl
 
   -- the object of an item that is chosen, pushed behind others
-  pub object_adds : (u : Unfolding) (level : ℕ) (a : Bool) (i : ℕ) (is : List ℕ) (x : ItemView) (ds : List Data) (d : Data) (before after : List Data)
-      → x ∷ [] ≡ item_at u a i → StandFor u is (children_at u i) → is_chosen c level x.is_active ≡ true
-      → ds ≡ flat_map (objects_at s reserved places c u (level + 1) x.is_active) is → d ≡ object_form reserved x (spot_of s.text places x.id) (items_of ds)
-      → after ≡ before ++ d ∷ [] → after ≡ before ++ objects_at s reserved places c u level a i
-  object_adds u level a i is x ds d before after e f t g h p =
+  pub object_adds : (u : Unfolding) (level : ℕ) (a : Bool) (i : ℕ) (is : List ℕ) (y : ItemView) (d : Data) (before after : List Data)
+      → y ∷ [] ≡ item_at u a i → StandFor u is (children_at u i) → is_chosen c level y.is_active ≡ true
+      → d ≡ whole_object s x reserved places c level y (place_of y.id places) (flat_map (objects_at s x reserved places c u (level + 1) y.is_active) is)
+      → after ≡ before ++ d ∷ [] → after ≡ before ++ objects_at s x reserved places c u level a i
+  object_adds u level a i is y d before after e f t h p =
       p ∙ ap (λ d. before ++ d ∷ []) h
-      ∙ ap (λ xs. before ++ xs) (sym (own_chosen level x ds t) ∙ ap (own_objects s reserved places c level x) g ∙ sym (item_objects u level a i is x e f))
+      ∙ ap (λ xs. before ++ xs) (sym (own_chosen level y (flat_map (objects_at s x reserved places c u (level + 1) y.is_active) is) t) ∙ sym (item_objects u level a i is y e f))
+
+  -- what is made of an item that stands there is its object
+  pub object_is : (u : Unfolding) (level : ℕ) (is : List ℕ) (y : ItemView) (place : Option ItemPlace) (spot : Option Spot) (members inner : List Data) (d : Data)
+      → place ≡ place_of y.id places → spot ≡ option_map (spot_at s.text) place → members ≡ member_objects s.text reserved c level (members_of x place y.is_active)
+      → inner ≡ members ++ flat_map (objects_at s x reserved places c u (level + 1) y.is_active) is
+      → d ≡ object_form y.is_active spot (item_entry reserved (header_of x y.id.kind place) y) (items_of inner)
+      → d ≡ whole_object s x reserved places c level y (place_of y.id places) (flat_map (objects_at s x reserved places c u (level + 1) y.is_active) is)
+  object_is u level is y place spot members inner d e f g h k = rw (k, h, g, f, e) refl
 
 -- ---- under printers
 
--- the objects of ids by a printer whose places were looked up
-pub objects_kept : (p : Printer) (f : Finder) (c : Choice) (u : Unfolding) (level : ℕ) (a : Bool) (is : List ℕ) (ds : List Data) → IsSameFinder p.finder f
-    → ds ≡ flat_map (objects_at (record { path = p.path.now; text = f.lines }) (reserved_of p) f.places.all.now c u level a) is
-    → ds ≡ flat_map (objects_at (file_of p) (reserved_of p) (places_of p) c u level a) is
-objects_kept p f c u level a is ds h e =
-    e ∙ ap (λ text. flat_map (objects_at (record { path = p.path.now; text = text }) (reserved_of p) f.places.all.now c u level a) is) h.0
-    ∙ ap (λ places. flat_map (objects_at (file_of p) (reserved_of p) places c u level a) is) h.1
-
--- and of all ids by one that is made for a file
-pub objects_are : (s : Source) (places : List ItemPlace) (edition : Edition) (p : Printer) (c : Choice) (u : Unfolding) (a : Bool) (is : List ℕ) (ds : List Data) → IsPrinterOf s places edition p
-    → StandFor u is u.forest → a ≡ is_file_enabled u → ds ≡ flat_map (objects_at (file_of p) (reserved_of p) (places_of p) c u 0 a) is → ds ≡ tree_objects s edition.reserved.items places c u
-objects_are s places edition p c u a is ds h f t e =
-    e ∙ ids_objects (file_of p) (reserved_of p) (places_of p) c u 0 a is u.forest f
-    ∙ ap (λ b. forest_objects (file_of p) (reserved_of p) (places_of p) c 0 b u.forest) t
-    ∙ ap (λ file. tree_objects file (reserved_of p) (places_of p) c u) (file_is s places edition p h)
-    ∙ ap (λ (x : Edition). tree_objects s x.reserved.items (places_of p) c u) h.1
-    ∙ ap (λ ps. tree_objects s edition.reserved.items ps c u) h.2.1
+-- of all ids by a printer that is made for a file
+pub objects_are : (s : Source) (places : List ItemPlace) (edition : Edition) (p : Printer) (x : Reading) (c : Choice) (u : Unfolding) (a : Bool) (is : List ℕ) (ds : List Data) → IsPrinterOf s places edition p
+    → StandFor u is u.forest → a ≡ is_file_enabled u → ds ≡ flat_map (objects_at (file_of p) x (reserved_of p) (places_of p) c u 0 a) is → ds ≡ tree_objects s x edition.reserved.items places c u
+objects_are s places edition p x c u a is ds h f t e =
+    e ∙ ids_objects (file_of p) x (reserved_of p) (places_of p) c u 0 a is u.forest f
+    ∙ ap (λ b. forest_objects (file_of p) x (reserved_of p) (places_of p) c 0 b u.forest) t
+    ∙ ap (λ file. tree_objects file x (reserved_of p) (places_of p) c u) (file_is s places edition p h)
+    ∙ ap (λ (z : Edition). tree_objects s x z.reserved.items (places_of p) c u) h.1
+    ∙ ap (λ ps. tree_objects s x edition.reserved.items ps c u) h.2.1

@@ -1,7 +1,8 @@
 -- What is listed holds no float.
 use Rattle.std.proofs.Common.{◌≡◌, ℕ, ◌+◌, Bool, true, false, ◌||◌, if◌then◌else◌, List, [], ◌∷◌, ◌++◌, Option, Some, None, option_map, refl}
+use Rattle.std.specs.Prelude.{filter, map}
 use Rattle.std.specs.List.{flat_map}
-use Rattle.serde_json.specs.Data.{Data, Items}
+use Rattle.serde_json.specs.Data.{Data, Items, no_items}
 use Rattle.serde_json.specs.View.{items_of}
 use Rattle.serde_json.specs.Written.{has_float, items_have_float}
 use Rattle.def_collector.specs.Declarations.{Declared, declared_name, declared_imports, declarations}
@@ -15,13 +16,14 @@ use Rattle.item_tree.specs.Node.{Node, leaf, parent, Forest, empty, more, node_a
 use Rattle.item_rows.specs.Rows.{Subject, no_subject, used, called, is_file_enabled}
 use Rattle.rust_items.specs.declared.log.Problem.{Problem}
 use Rattle.rust_items.specs.declared.source_file.ItemPlace.{ItemPlace}
+use Rattle.listed_members.specs.Listed.{Listed, Reading, header_of, members_of}
 use Rattle.source_listing.specs.declared.finder.Spot.{Spot}
 use Rattle.source_listing.specs.ImportObjects.{alias_form, import_form, import_object, seen_objects, import_objects}
 use Rattle.source_listing.specs.Uses.{FilePlaces}
 use Rattle.source_listing.specs.Imports.{of_declared, spots_of_any}
 use Rattle.source_listing.specs.Lines.{Choice, Source, is_chosen}
-use Rattle.source_listing.specs.Places.{spot_of}
-use Rattle.source_listing.specs.Objects.{ItemView, item_in, name_form, subject_form, visibility_form, line_form, column_form, range_form, object_form, file_form, own_objects, node_objects, forest_objects, tree_objects, problem_objects}
+use Rattle.source_listing.specs.Places.{place_of, spot_at}
+use Rattle.source_listing.specs.Objects.{Entry, ItemView, item_in, name_form, header_form, subject_form, visibility_form, line_form, column_form, range_form, object_form, item_entry, member_entry, member_spot, member_object, member_objects, file_form, whole_object, own_objects, node_objects, forest_objects, tree_objects, problem_objects}
 
 -- ---- lists
 
@@ -46,6 +48,10 @@ one_none : (b : Bool) (d : Data) → has_float d ≡ false → items_have_float 
 one_none false d e = refl
 one_none true d e = or_none (has_float d) false e refl
 
+map_none : {A : Type 0} (each : A → Data) (xs : List A) → ((x : A) → has_float (each x) ≡ false) → items_have_float (items_of (map each xs)) ≡ false
+map_none each [] h = refl
+map_none each (x ∷ xs) h = or_none (has_float (each x)) (items_have_float (items_of (map each xs))) (h x) (map_none each xs h)
+
 flat_none : {A : Type 0} (each : A → List Data) (xs : List A) → ((x : A) → items_have_float (items_of (each x)) ≡ false) → items_have_float (items_of (flat_map each xs)) ≡ false
 flat_none each [] h = refl
 flat_none each (x ∷ xs) h = both_none (each x) (flat_map each xs) (h x) (flat_none each xs h)
@@ -56,10 +62,14 @@ name_none : (o : Option (List ℕ)) → has_float (name_form o) ≡ false
 name_none None = refl
 name_none (Some name) = refl
 
-subject_none : (reserved : List (List ℕ)) (x : Subject) → has_float (subject_form reserved x) ≡ false
-subject_none reserved no_subject = refl
-subject_none reserved (used tree) = refl
-subject_none reserved (called path) = refl
+header_none : (header : List ℕ) → has_float (header_form header) ≡ false
+header_none [] = refl
+header_none (b ∷ bs) = refl
+
+subject_none : (reserved : List (List ℕ)) (header : List ℕ) (x : Subject) → has_float (subject_form reserved header x) ≡ false
+subject_none reserved header no_subject = header_none header
+subject_none reserved header (used tree) = refl
+subject_none reserved header (called path) = refl
 
 visibility_none : (reserved : List (List ℕ)) (o : Option RawVisibility) → has_float (visibility_form reserved o) ≡ false
 visibility_none reserved None = refl
@@ -87,30 +97,42 @@ alias_none reserved (Some alias) = refl
 
 -- ---- outlines
 
-object_none : (reserved : List (List ℕ)) (x : ItemView) (spot : Option Spot) (ds : Items) → items_have_float ds ≡ false → has_float (object_form reserved x spot ds) ≡ false
-object_none reserved x spot ds e = rw (e, column_none spot, line_none spot, name_none x.name, subject_none reserved x.subject, range_none spot, visibility_none reserved x.visibility) refl
+object_none : (is_active : Bool) (spot : Option Spot) (e : Entry) (ds : Items) → has_float e.id ≡ false → has_float e.name ≡ false → has_float e.path ≡ false → has_float e.visibility ≡ false → items_have_float ds ≡ false
+    → has_float (object_form is_active spot e ds) ≡ false
+object_none is_active spot e ds i n p v h = rw (h, column_none spot, i, line_none spot, n, p, range_none spot, v) refl
 
-module _ (s : Source) (reserved : List (List ℕ)) (places : List ItemPlace) (c : Choice) where
-  own_none : (level : ℕ) (x : ItemView) (ds : List Data) → items_have_float (items_of ds) ≡ false → items_have_float (items_of (own_objects s reserved places c level x ds)) ≡ false
-  own_none level x ds e =
-      one_none (is_chosen c level x.is_active) (object_form reserved x (spot_of s.text places x.id) (items_of ds)) (object_none reserved x (spot_of s.text places x.id) (items_of ds) e)
+member_none : (text : List ℕ) (reserved : List (List ℕ)) (m : Listed) → has_float (member_object text reserved m) ≡ false
+member_none text reserved m =
+    object_none m.is_active (Some (member_spot text m)) (member_entry reserved m) no_items refl refl refl (visibility_none reserved (Some m.visibility)) refl
+
+module _ (s : Source) (x : Reading) (reserved : List (List ℕ)) (places : List ItemPlace) (c : Choice) where
+  at_none : (level : ℕ) (i : ItemView) (place : Option ItemPlace) (ds : List Data) → items_have_float (items_of ds) ≡ false → has_float (whole_object s x reserved places c level i place ds) ≡ false
+  at_none level i place ds e =
+      let members = member_objects s.text reserved c level (members_of x place i.is_active) in
+      let none : items_have_float (items_of members) ≡ false = map_none (member_object s.text reserved) (filter (λ m. is_chosen c (level + 1) m.is_active) (members_of x place i.is_active)) (member_none s.text reserved) in
+      object_none i.is_active (option_map (spot_at s.text) place) (item_entry reserved (header_of x i.id.kind place) i) (items_of (members ++ ds)) refl (name_none i.name) (subject_none reserved (header_of x i.id.kind place) i.subject) (visibility_none reserved i.visibility)
+      (both_none members ds none e)
+
+  own_none : (level : ℕ) (i : ItemView) (ds : List Data) → items_have_float (items_of ds) ≡ false → items_have_float (items_of (own_objects s x reserved places c level i ds)) ≡ false
+  own_none level i ds e =
+      one_none (is_chosen c level i.is_active) (whole_object s x reserved places c level i (place_of i.id places) ds) (at_none level i (place_of i.id places) ds e)
 
   mutual
-    node_none : (level : ℕ) (a : Bool) (n : Node) → items_have_float (items_of (node_objects s reserved places c level a n)) ≡ false
+    node_none : (level : ℕ) (a : Bool) (n : Node) → items_have_float (items_of (node_objects s x reserved places c level a n)) ≡ false
     node_none level a (leaf h l) = own_none level (item_in a (leaf h l)) [] refl
-    node_none level a (parent h t f) = own_none level (item_in a (parent h t f)) (forest_objects s reserved places c (level + 1) (item_in a (parent h t f)).is_active f) (forest_none (level + 1) (item_in a (parent h t f)).is_active f)
+    node_none level a (parent h t f) = own_none level (item_in a (parent h t f)) (forest_objects s x reserved places c (level + 1) (item_in a (parent h t f)).is_active f) (forest_none (level + 1) (item_in a (parent h t f)).is_active f)
 
-    forest_none : (level : ℕ) (a : Bool) (f : Forest) → items_have_float (items_of (forest_objects s reserved places c level a f)) ≡ false
+    forest_none : (level : ℕ) (a : Bool) (f : Forest) → items_have_float (items_of (forest_objects s x reserved places c level a f)) ≡ false
     forest_none level a empty = refl
-    forest_none level a (more n f) = both_none (node_objects s reserved places c level a n) (forest_objects s reserved places c level a f) (node_none level a n) (forest_none level a f)
+    forest_none level a (more n f) = both_none (node_objects s x reserved places c level a n) (forest_objects s x reserved places c level a f) (node_none level a n) (forest_none level a f)
 
   -- the values of an outline hold no float
-  pub no_float_in_outline : (u : Unfolding) → items_have_float (items_of (tree_objects s reserved places c u)) ≡ false
+  pub no_float_in_outline : (u : Unfolding) → items_have_float (items_of (tree_objects s x reserved places c u)) ≡ false
   no_float_in_outline u = forest_none 0 (is_file_enabled u) u.forest
 
   -- nor does the object of a file
-  pub file_none : (u : Unfolding) → has_float (file_form s.path (items_of (tree_objects s reserved places c u))) ≡ false
-  file_none u = or_none (items_have_float (items_of (tree_objects s reserved places c u))) false (no_float_in_outline u) refl
+  pub file_none : (u : Unfolding) → has_float (file_form s.path (items_of (tree_objects s x reserved places c u))) ≡ false
+  file_none u = or_none (items_have_float (items_of (tree_objects s x reserved places c u))) false (no_float_in_outline u) refl
 
 -- ---- problems
 

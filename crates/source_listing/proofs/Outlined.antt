@@ -1,13 +1,15 @@
 -- Lines of outlines that are pushed one after another.
 use Rattle.std.proofs.Common.{◌≡◌, ℕ, ◌+◌, List, [], ◌∷◌, ◌++◌, ap, ◌∙◌}
-use Rattle.std.specs.Prelude.{filter}
+use Rattle.std.specs.Prelude.{filter, map}
 use Rattle.std.specs.List.{flat_map}
 use Rattle.std.proofs.lemmas.Grind.{flat_map-append}
+use Rattle.std.proofs.lemmas.List.{map-append}
 use Rattle.std.proofs.lemmas.List.Elements.{filter-append}
 use Rattle.item_rows.specs.Rows.{RowView}
 use Rattle.rust_items.specs.declared.source_file.ItemPlace.{ItemPlace}
 use Rattle.listed_members.specs.Listed.{Listed, Reading}
 use Rattle.source_listing.specs.Lines.{Source, Choice, is_chosen, is_listed}
+use Rattle.source_listing.specs.Objects.{member_object, member_objects}
 use Rattle.source_listing.specs.Outlines.{member_line, member_lines, outline_text, whole_lines}
 
 -- the lines of one more item
@@ -23,3 +25,10 @@ pub one_more_member : (s : Source) (reserved : List (List ℕ)) (c : Choice) (le
 one_more_member s reserved c level ms m =
     ap (flat_map (member_line s reserved level)) (filter-append (λ x. is_chosen c (level + 1) x.is_active) ms (m ∷ []))
     ∙ flat_map-append (member_line s reserved level) (filter (λ x. is_chosen c (level + 1) x.is_active) ms) (filter (λ x. is_chosen c (level + 1) x.is_active) (m ∷ []))
+
+-- the same of their objects
+pub one_more_object : (text : List ℕ) (reserved : List (List ℕ)) (c : Choice) (level : ℕ) (ms : List Listed) (m : Listed)
+    → member_objects text reserved c level (ms ++ m ∷ []) ≡ member_objects text reserved c level ms ++ member_objects text reserved c level (m ∷ [])
+one_more_object text reserved c level ms m =
+    ap (map (member_object text reserved)) (filter-append (λ x. is_chosen c (level + 1) x.is_active) ms (m ∷ []))
+    ∙ map-append (member_object text reserved) (filter (λ x. is_chosen c (level + 1) x.is_active) ms) (filter (λ x. is_chosen c (level + 1) x.is_active) (m ∷ []))

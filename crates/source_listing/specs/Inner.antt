@@ -1,5 +1,5 @@
 -- For the crate's own functions.
-use Rattle.std.specs.Prelude.{◌≡◌, ◌==◌, ◌&&◌, if◌then◌else◌, ℕ, Bool, true, false, List, [], ◌∷◌, Option, Some, None, option_copied, option_map, string_bytes}
+use Rattle.std.specs.Prelude.{◌≡◌, ◌==◌, ◌&&◌, if◌then◌else◌, ℕ, Bool, true, false, List, [], ◌∷◌, codes, Option, Some, None, option_copied, option_map, string_bytes}
 use Rattle.std.specs.Borrow.{Bor}
 use Rattle.std.specs.HashMap.{get, HashMap}
 use Rattle.std.specs.List.{find}
@@ -7,7 +7,7 @@ use Rattle.std.specs.Option.{option_or}
 use Rattle.std.specs.Str.{bytes_eq}
 use Rattle.std.specs.declared.hash.BuildHasherDefault.{BuildHasherDefault}
 use Rattle.std.specs.declared.hash.FoldHasher.{FoldHasher}
-use Rattle.serde_json.specs.Data.{Data}
+use Rattle.serde_json.specs.Data.{Data, boolean, string, array, Items, Members, no_members, member, put}
 use Rattle.hir_input.specs.declared.edition.Edition.{Edition}
 use Rattle.hir_input.specs.declared.ids.FileAstId.{FileAstId}
 use Rattle.item_tree.specs.Node.{Node, leaf, parent, node_ast, Unfolding}
@@ -16,9 +16,11 @@ use Rattle.item_tree.specs.Walk.{of_id}
 use Rattle.item_rows.specs.Views.{subject_view}
 use Rattle.rust_ids.specs.Ids.{kind_place}
 use Rattle.rust_items.specs.declared.source_file.ItemPlace.{ItemPlace}
+use Rattle.listed_members.specs.Listed.{Reading}
 use Rattle.source_listing.specs.declared.json.Item as code_item
 use Rattle.source_listing.specs.declared.lines.Printer.{Printer}
 use Rattle.source_listing.specs.declared.finder.Finder.{Finder}
+use Rattle.source_listing.specs.declared.finder.Spot.{Spot}
 use Rattle.source_listing.specs.declared.repeated.Named as code_named
 use Rattle.source_listing.specs.declared.repeated.Key as code_key
 use Rattle.source_listing.specs.contracts.repeated.KeyPartialEq.TheImpl as keys
@@ -26,7 +28,7 @@ use Rattle.source_listing.specs.declared.uses.UseTrees as code_trees
 use Rattle.source_listing.specs.declared.uses.TreeFinder.{TreeFinder}
 use Rattle.source_listing.specs.Changed.{Side}
 use Rattle.source_listing.specs.Lines.{Choice, Source}
-use Rattle.source_listing.specs.Objects.{ItemView, item_in, node_objects}
+use Rattle.source_listing.specs.Objects.{Entry, ItemView, column_form, item_in, line_form, node_objects, range_form}
 use Rattle.source_listing.specs.Places.{AreDistinct}
 use Rattle.source_listing.specs.Repeated.{Named, leaf_named, node_named}
 use Rattle.source_listing.specs.Uses.{FilePlaces, placed, Trees}
@@ -69,8 +71,19 @@ abbrev pub item_at : Unfolding → Bool → ℕ → List ItemView
 item_at u is_active i = of_id u [] (λ n. item_in is_active n ∷ []) i
 
 -- the objects of the item of an id
-abbrev pub objects_at : Source → List (List ℕ) → List ItemPlace → Choice → Unfolding → ℕ → Bool → ℕ → List Data
-objects_at s reserved places c u level is_active i = of_id u [] (node_objects s reserved places c level is_active) i
+abbrev pub objects_at : Source → Reading → List (List ℕ) → List ItemPlace → Choice → Unfolding → ℕ → Bool → ℕ → List Data
+objects_at s x reserved places c u level is_active i = of_id u [] (node_objects s x reserved places c level is_active) i
+
+-- the members of an object that tell what it is
+abbrev pub entry_members : Entry → Members
+entry_members e =
+    member (codes "id") e.id (member (codes "kind") (string e.kind) (member (codes "name") e.name (member (codes "path") e.path (member (codes "visibility") e.visibility no_members))))
+
+-- and those that tell where it stands, whether a cfg disables it, and what is in it
+abbrev pub placed_members : Bool → Option Spot → Items → Members → Members
+placed_members is_active spot inner ms =
+    put (codes "active") (boolean is_active) (put (codes "children") (array inner)
+    (put (codes "column") (column_form spot) (put (codes "line") (line_form spot) (put (codes "range") (range_form spot) ms))))
 
 -- ---- imports by the ids of items
 

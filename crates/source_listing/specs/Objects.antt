@@ -1,5 +1,5 @@
 -- The objects of an outline, and of problems.
-use Rattle.std.specs.Prelude.{ℕ, ◌+◌, Bool, ◌&&◌, if◌then◌else◌, List, [], ◌∷◌, ◌++◌, codes, map, Option, Some, None}
+use Rattle.std.specs.Prelude.{ℕ, ◌+◌, Bool, ◌&&◌, if◌then◌else◌, List, [], ◌∷◌, ◌++◌, codes, filter, map, Option, Some, None, option_map}
 use Rattle.serde_json.specs.Data.{Data, unsigned, null, boolean, number, string, array, object, Items, no_items, item, no_members, member}
 use Rattle.serde_json.specs.View.{items_of}
 use Rattle.serde_json.specs.Written.{compact_text}
@@ -16,11 +16,13 @@ use Rattle.line_index.specs.declared.Position.{Position}
 use Rattle.line_index.specs.Positions.{position_of}
 use Rattle.rust_items.specs.declared.log.Problem.{Problem}
 use Rattle.rust_items.specs.declared.source_file.ItemPlace.{ItemPlace}
+use Rattle.source_rows.specs.Labels.{member_word}
+use Rattle.listed_members.specs.Listed.{Listed, Reading, header_of, members_of}
 use Rattle.source_problems.specs.declared.problem.SourceProblemKind.{SourceProblemKind}
 use Rattle.source_problems.specs.Problems.{told_kind}
 use Rattle.source_listing.specs.declared.finder.Spot.{Spot}
 use Rattle.source_listing.specs.Lines.{Choice, Source, is_chosen, message, short_tree, word}
-use Rattle.source_listing.specs.Places.{spot_of}
+use Rattle.source_listing.specs.Places.{place_of, spot_at}
 
 -- an item, and whether no cfg disables it, nor an item that it stands in, nor the file
 pub record ItemView : Type 0 where
@@ -42,11 +44,16 @@ abbrev pub name_form : Option (List ℕ) → Data
 name_form None = null
 name_form (Some name) = string name
 
--- a use tree in short, or the path of a macro
-abbrev pub subject_form : List (List ℕ) → Subject → Data
-subject_form reserved no_subject = null
-subject_form reserved (used tree) = string (short_tree reserved tree)
-subject_form reserved (called path) = string (shown_path reserved path)
+-- the header of an impl; other items have none
+abbrev pub header_form : List ℕ → Data
+header_form [] = null
+header_form (b ∷ bs) = string (b ∷ bs)
+
+-- what an item without a name is told by: a use tree in short, the path of a macro, or the header of an impl
+abbrev pub subject_form : List (List ℕ) → List ℕ → Subject → Data
+subject_form reserved header no_subject = header_form header
+subject_form reserved header (used tree) = string (short_tree reserved tree)
+subject_form reserved header (called path) = string (shown_path reserved path)
 
 abbrev pub visibility_form : List (List ℕ) → Option RawVisibility → Data
 visibility_form reserved None = null
@@ -68,29 +75,75 @@ abbrev pub range_form : Option Spot → Data
 range_form None = null
 range_form (Some spot) = array (item (count_form spot.range.start) (item (count_form spot.range.end) no_items))
 
--- ---- objects, whose members are in the order of their keys
+-- ---- objects
 
-abbrev pub object_form : List (List ℕ) → ItemView → Option Spot → Items → Data
-object_form reserved x spot children =
+-- what an item or a member is
+pub record Entry : Type 0 where
+  pub id : Data
+  pub kind : List ℕ
+  pub name : Data
+  pub path : Data
+  pub visibility : Data
+
+-- an item with this header
+abbrev pub item_entry : List (List ℕ) → List ℕ → ItemView → Entry
+item_entry reserved header i = record {
+  id = string (shown_id i.id);
+  kind = word i.id.kind;
+  name = name_form i.name;
+  path = subject_form reserved header i.subject;
+  visibility = visibility_form reserved i.visibility;
+}
+
+-- a member, for which a tree has no id
+abbrev pub member_entry : List (List ℕ) → Listed → Entry
+member_entry reserved m = record {
+  id = null;
+  kind = member_word m.kind;
+  name = string m.name;
+  path = null;
+  visibility = visibility_form reserved (Some m.visibility);
+}
+
+-- the object of what stands there, which a cfg disables or not, around others; the members of an object are in the order of their keys
+abbrev pub object_form : Bool → Option Spot → Entry → Items → Data
+object_form is_active spot e inner =
     object
-    (member (codes "active") (boolean x.is_active)
-    (member (codes "children") (array children)
+    (member (codes "active") (boolean is_active)
+    (member (codes "children") (array inner)
     (member (codes "column") (column_form spot)
-    (member (codes "id") (string (shown_id x.id))
-    (member (codes "kind") (string (word x.id.kind))
+    (member (codes "id") e.id
+    (member (codes "kind") (string e.kind)
     (member (codes "line") (line_form spot)
-    (member (codes "name") (name_form x.name)
-    (member (codes "path") (subject_form reserved x.subject)
+    (member (codes "name") e.name
+    (member (codes "path") e.path
     (member (codes "range") (range_form spot)
-    (member (codes "visibility") (visibility_form reserved x.visibility) no_members))))))))))
+    (member (codes "visibility") e.visibility no_members))))))))))
+
+-- where a member of a text stands, and its bytes
+abbrev pub member_spot : List ℕ → Listed → Spot
+member_spot text m = record { position = position_of text m.at; range = m.range }
+
+abbrev pub member_object : List ℕ → List (List ℕ) → Listed → Data
+member_object text reserved m = object_form m.is_active (Some (member_spot text m)) (member_entry reserved m) no_items
+
+-- the objects of the listed members of an item in so many others
+abbrev pub member_objects : List ℕ → List (List ℕ) → Choice → ℕ → List Listed → List Data
+member_objects text reserved c level ms = map (member_object text reserved) (filter (λ m. is_chosen c (level + 1) m.is_active) ms)
 
 abbrev pub file_form : List ℕ → Items → Data
 file_form path items = object (member (codes "items") (array items) (member (codes "path") (string path) no_members))
 
-module _ (s : Source) (reserved : List (List ℕ)) (places : List ItemPlace) (c : Choice) where
-  -- the object of an item in so many others, if it is listed; what stands in an item that is not listed is not listed either
+module _ (s : Source) (x : Reading) (reserved : List (List ℕ)) (places : List ItemPlace) (c : Choice) where
+  -- the object of an item that stands there, around those of its listed members and then these
+  abbrev pub whole_object : ℕ → ItemView → Option ItemPlace → List Data → Data
+  whole_object level i place inner =
+      object_form i.is_active (option_map (spot_at s.text) place) (item_entry reserved (header_of x i.id.kind place) i)
+      (items_of (member_objects s.text reserved c level (members_of x place i.is_active) ++ inner))
+
+  -- the same by its id, if it is listed; what stands in an item that is not listed is not listed either
   abbrev pub own_objects : ℕ → ItemView → List Data → List Data
-  own_objects level x children = if is_chosen c level x.is_active then object_form reserved x (spot_of s.text places x.id) (items_of children) ∷ [] else []
+  own_objects level i inner = if is_chosen c level i.is_active then whole_object level i (place_of i.id places) inner ∷ [] else []
 
   -- those of a node and of a forest
   abbrev mutual

@@ -1,5 +1,5 @@
 //! Where items stand in a text.
-ghost use Rattle.std.specs.Prelude.{◌≡◌};
+ghost use Rattle.std.specs.Prelude.{◌≡◌, option_map};
 ghost use Rattle.source_listing.specs.Inner.{IsFinderOf, IsSameFinder};
 ghost use Rattle.source_listing.specs.Places as spec;
 
@@ -43,18 +43,27 @@ impl<'a> Finder<'a> {
         }
     }
 
-    /// Where the item of an id stands: at its name, or where it begins.
-    pub(crate) fn find(&mut self, id: FileAstId) -> Option<Spot>
-        requires { spec.AreDistinct self.old.places.all.now }
-        ensures spot { result ≡ spec.spot_of self.old.lines self.old.places.all.now id }
+    /// Where an item stands: at its name, or where it begins.
+    pub(crate) fn spot(&mut self, place: Option<ItemPlace>) -> Option<Spot>
+        ensures spot { result ≡ option_map (spec.spot_at self.old.lines) place }
         ensures same { IsSameFinder self.old self.new }
     {
-        match self.places.find(id) {
+        match place {
             Some(place) => Some(Spot {
                 position: self.lines.position(stands_at(place)),
                 range: place.range,
             }),
             None => None,
         }
+    }
+
+    /// Where the item of an id stands.
+    pub(crate) fn find(&mut self, id: FileAstId) -> Option<Spot>
+        requires { spec.AreDistinct self.old.places.all.now }
+        ensures spot { result ≡ spec.spot_of self.old.lines self.old.places.all.now id }
+        ensures same { IsSameFinder self.old self.new }
+    {
+        let place = self.places.find(id);
+        self.spot(place)
     }
 }

@@ -17,8 +17,9 @@ use def_collector::{Declaration, Declares, collect};
 use hir_input::Edition;
 use import_lister::Listed;
 use item_tree::{ImportAlias, ImportKind, ItemTree};
+use json_object::{with, with_text};
 use rust_items::ItemPlace;
-use serde_json::{Value, json};
+use serde_json::{Map, Value};
 use std::alloc::{AllocError, Global};
 
 /// The word of a kind of import.
@@ -61,11 +62,13 @@ fn import_value(
         IfOk result (λ value. view value ≡ form) }
 {
     let alias = alias_value(alloc, edition, &import.alias)?;
-    let (column, line) = (column_value(spot), line_value(spot));
-    let kind = import_word(import.kind);
     let path = import.path.display(edition);
     let path = path.to_string(alloc)?;
-    json!(in alloc; {"alias": alias, "column": column, "kind": kind, "line": line, "path": path})
+    let members = with(alloc, Map::new(alloc), "path", Value::String(path))?;
+    let members = with(alloc, members, "line", line_value(spot))?;
+    let members = with_text(alloc, members, "kind", import_word(import.kind))?;
+    let members = with(alloc, members, "column", column_value(spot))?;
+    Ok(Value::Object(with(alloc, members, "alias", alias)?))
 }
 
 /// Adds the object of an import, whose use tree is one of these.

@@ -1,26 +1,32 @@
 //! Outlines as JSON.
-ghost use Rattle.std.specs.Prelude.{◌≡◌, ◌+◌, ◌<◌, ◌^◌, ◌++◌, ◌∷◌, [], false, codes, map, IfOk, OnOk, option_copied, string_bytes};
+ghost use Rattle.std.specs.Prelude.{◌≡◌, ◌+◌, ◌<◌, ◌^◌, ◌++◌, ◌∷◌, [], false, codes, map, IfOk, OnOk, option_copied, option_map, string_bytes};
 ghost use Rattle.std.specs.List.{flat_map, sum_by};
-ghost use Rattle.serde_json.specs.Data.{string};
-ghost use Rattle.serde_json.specs.View.{items_view, view};
+ghost use Rattle.serde_json.specs.Data.{object as object_of};
+ghost use Rattle.serde_json.specs.View.{items_view, members_view, view};
 ghost use Rattle.serde_json.specs.Written.{compact_text, has_float};
 ghost use Rattle.item_rows.specs.Views.{subject_view};
 ghost use Rattle.item_tree.specs.Shown.{IsContained};
 ghost use Rattle.item_tree.specs.Walk.{AreContained, count_at};
-ghost use Rattle.source_listing.specs.Inner.{IsSameFile, file_of, item_at, item_view, objects_at, places_of, reserved_of};
+ghost use Rattle.listed_members.specs.Listed.{header_of, members_of};
+ghost use Rattle.listed_members.specs.Views.{listed_view, reading_view};
+ghost use Rattle.source_listing.specs.Inner.{IsSameFile, entry_members, file_of, item_at, item_view, objects_at, placed_members, places_of, reserved_of};
 ghost use Rattle.source_listing.specs.Objects as spec;
-ghost use Rattle.source_listing.specs.Places.{AreDistinct};
+ghost use Rattle.source_listing.specs.Outlines.{reading};
+ghost use Rattle.source_listing.specs.Places.{AreDistinct, place_of, spot_at};
 ghost use Rattle.source_listing.specs.Views.{choice_view, source_view};
 
 use crate::finder::Spot;
 use crate::lines::{Choice, Printer, Source, word};
 use crate::subjects::push_short_tree;
 use def_collector::{name_at, visibility_at};
-use hir_input::{Edition, FileAstId, Name};
+use hir_input::{CfgOptions, Edition, FileAstId, Name};
 use item_rows::{Subject, is_enabled, is_file_enabled, subject_at};
 use item_tree::{ItemTree, ModItemId, RawVisibility, VisibilityExplicitness};
+use json_object::{Members, of_text, with, with_text};
+use listed_members::{ListedMember, Reading};
 use rust_items::ItemPlace;
-use serde_json::{Number, Value, json};
+use serde_json::{Map, Value, json};
+use source_rows::member_word;
 use std::alloc::{AllocError, Global};
 use tree_walk::children;
 
@@ -34,6 +40,14 @@ pub(crate) struct Item<'tree> {
     is_active: bool,
 }
 
+/// What is listed, and how.
+#[derive(Clone, Copy)]
+struct Listing<'a> {
+    tree: &'a ItemTree,
+    reading: Reading<'a>,
+    choice: Choice,
+}
+
 /// How many items others stand in, and whether no cfg disables these.
 #[derive(Clone, Copy)]
 struct Around {
@@ -41,40 +55,59 @@ struct Around {
     is_active: bool,
 }
 
+/// Where an item is, and where that stands in the text.
+#[derive(Clone, Copy)]
+struct Stand {
+    place: Option<ItemPlace>,
+    spot: Option<Spot>,
+}
+
+impl Printer<'_> {
+    fn stand(&mut self, id: FileAstId) -> Stand
+        requires { AreDistinct (places_of self.old) }
+        ensures place { result.place ≡ place_of id (places_of self.old) }
+        ensures spot { result.spot ≡ option_map (spot_at (file_of self.old).text) result.place }
+        ensures same { IsSameFile self.old self.new }
+    {
+        let place = self.finder.places.find(id);
+        let spot = self.finder.spot(place);
+        Stand { place, spot }
+    }
+}
+
 // ---- members
-
-fn count_value(count: usize) -> Value
-    ensures { view result ≡ spec.count_form count }
-{
-    Value::Number(Number::from(count))
-}
-
-fn text_value(alloc: Global, text: &str) -> Result<Value, AllocError>
-    ensures { IfOk result (λ value. view value ≡ string text.now) }
-{
-    Ok(Value::String(String::from_str(alloc, text)?))
-}
 
 fn name_value(alloc: Global, name: Option<&Name>) -> Result<Value, AllocError>
     ensures { IfOk result (λ value. view value ≡ spec.name_form (option_copied name.entry)) }
 {
     match name {
         None => Ok(Value::Null),
-        Some(name) => text_value(alloc, name.text()),
+        Some(name) => Value::try_from_str(alloc, name.text()),
     }
+}
+
+/// The header of an impl; other items have none.
+fn header_value(alloc: Global, header: &str) -> Result<Value, AllocError>
+    ensures { IfOk result (λ value. view value ≡ spec.header_form header.now) }
+{
+    if header.is_empty() {
+        return Ok(Value::Null);
+    }
+    Value::try_from_str(alloc, header)
 }
 
 /// What an item is told by if it has no name.
 fn subject_value(
     alloc: Global,
     edition: &Edition,
+    header: &str,
     subject: Subject<'_>,
 ) -> Result<Value, AllocError>
-    ensures { let form = spec.subject_form edition.now.reserved.items (subject_view subject.entry) in
+    ensures { let form = spec.subject_form edition.now.reserved.items header.now (subject_view subject.entry) in
         IfOk result (λ value. view value ≡ form) }
 {
     match subject {
-        Subject::Nothing => Ok(Value::Null),
+        Subject::Nothing => header_value(alloc, header),
         Subject::Use(tree) => {
             let mut text = String::new(alloc);
             push_short_tree(edition, tree, &mut text)?;
@@ -100,10 +133,10 @@ fn visibility_value(
     match visibility {
         None | Some(RawVisibility::PubSelf(VisibilityExplicitness::Implicit)) => Ok(Value::Null),
         Some(RawVisibility::PubSelf(VisibilityExplicitness::Explicit)) => {
-            text_value(alloc, "pub(self)")
+            Value::try_from_str(alloc, "pub(self)")
         }
-        Some(RawVisibility::Public) => text_value(alloc, "pub"),
-        Some(RawVisibility::PubCrate) => text_value(alloc, "pub(crate)"),
+        Some(RawVisibility::Public) => Value::try_from_str(alloc, "pub"),
+        Some(RawVisibility::PubCrate) => Value::try_from_str(alloc, "pub(crate)"),
         Some(RawVisibility::Module(path, _)) => {
             let path = path.display(edition);
             let text = format!(in alloc; "pub(in {path})")?;
@@ -117,7 +150,7 @@ pub(crate) fn line_value(spot: Option<Spot>) -> Value
 {
     match spot {
         None => Value::Null,
-        Some(spot) => count_value(spot.position.line),
+        Some(spot) => Value::from(spot.position.line),
     }
 }
 
@@ -126,7 +159,7 @@ pub(crate) fn column_value(spot: Option<Spot>) -> Value
 {
     match spot {
         None => Value::Null,
-        Some(spot) => count_value(spot.position.column),
+        Some(spot) => Value::from(spot.position.column),
     }
 }
 
@@ -144,29 +177,132 @@ fn range_value(alloc: Global, spot: Option<Spot>) -> Result<Value, AllocError>
 
 // ---- objects
 
-/// The object of an item, around those of the items in it.
-fn object(
+/// The members of an item's object that tell what it is.
+fn item_members(
     alloc: Global,
     edition: &Edition,
     item: &Item<'_>,
-    spot: Option<Spot>,
-    children: Vec<Value>,
-) -> Result<Value, AllocError>
-    ensures { let form = spec.object_form edition.now.reserved.items (item_view item.now) spot in
-        IfOk result (λ object. view object ≡ form (items_view children.items)) }
+    header: &str,
+) -> Result<Members, AllocError>
+    ensures { let entry = spec.item_entry edition.now.reserved.items header.now (item_view item.now) in
+        IfOk result (λ ms. members_view ms.entries ≡ entry_members entry) }
 {
-    let active = item.is_active;
-    let (line, column) = (line_value(spot), column_value(spot));
-    let id = item.id.to_string(alloc)?;
-    let kind = word(item.id.kind);
-    let name = name_value(alloc, item.name)?;
-    let path = subject_value(alloc, edition, item.subject)?;
-    let range = range_value(alloc, spot)?;
     let visibility = visibility_value(alloc, edition, item.visibility)?;
-    json!(in alloc; {
-        "active": active, "children": children, "column": column, "id": id, "kind": kind, "line": line, "name": name,
-        "path": path, "range": range, "visibility": visibility
-    })
+    let members = with(alloc, Map::new(alloc), "visibility", visibility)?;
+    let path = subject_value(alloc, edition, header, item.subject)?;
+    let members = with(alloc, members, "path", path)?;
+    let name = name_value(alloc, item.name)?;
+    let members = with(alloc, members, "name", name)?;
+    let members = with_text(alloc, members, "kind", word(item.id.kind))?;
+    with(
+        alloc,
+        members,
+        "id",
+        Value::String(item.id.to_string(alloc)?),
+    )
+}
+
+/// The same of a member, for which a tree has no id.
+fn member_members(
+    alloc: Global,
+    edition: &Edition,
+    member: &ListedMember,
+) -> Result<Members, AllocError>
+    ensures { let entry = spec.member_entry edition.now.reserved.items (listed_view member.now) in
+        IfOk result (λ ms. members_view ms.entries ≡ entry_members entry) }
+{
+    let visibility = visibility_value(alloc, edition, Some(&member.visibility))?;
+    let members = with(alloc, Map::new(alloc), "visibility", visibility)?;
+    let members = with(alloc, members, "path", Value::Null)?;
+    let members = with_text(alloc, members, "name", member.name.text())?;
+    let members = with_text(alloc, members, "kind", member_word(member.kind))?;
+    with(alloc, members, "id", Value::Null)
+}
+
+/// The object of what stands there, with these members and around these objects.
+fn object(
+    alloc: Global,
+    members: Members,
+    spot: Option<Spot>,
+    is_active: bool,
+    inner: Vec<Value>,
+) -> Result<Value, AllocError>
+    ensures { let members = placed_members is_active spot (items_view inner.items) (members_view members.entries) in
+        IfOk result (λ object. view object ≡ object_of members) }
+{
+    let members = with(alloc, members, "range", range_value(alloc, spot)?)?;
+    let members = with(alloc, members, "line", line_value(spot))?;
+    let members = with(alloc, members, "column", column_value(spot))?;
+    let members = with(alloc, members, "children", Value::Array(inner))?;
+    let members = with(alloc, members, "active", Value::Bool(is_active))?;
+    Ok(Value::Object(members))
+}
+
+/// The object of a member.
+fn member_object(
+    alloc: Global,
+    printer: &mut Printer<'_>,
+    member: &ListedMember,
+) -> Result<Value, AllocError>
+    ensures object { let object = spec.member_object (file_of printer.old).text (reserved_of printer.old) (listed_view member.now) in
+        IfOk result (λ value. view value ≡ object) }
+    ensures same { IsSameFile printer.old printer.new }
+{
+    let spot = Spot {
+        position: printer.finder.lines.position(member.at),
+        range: member.range,
+    };
+    let members = member_members(alloc, printer.edition, member)?;
+    object(
+        alloc,
+        members,
+        Some(spot),
+        member.is_active,
+        Vec::new(alloc),
+    )
+}
+
+/// Adds the object of a member of an item in so many others, if that is chosen.
+fn push_member(
+    alloc: Global,
+    printer: &mut Printer<'_>,
+    choice: Choice,
+    level: usize,
+    member: &ListedMember,
+    out: &mut Vec<Value>,
+) -> Result<(), AllocError>
+    ensures objects { let objects = spec.member_objects (file_of printer.old).text (reserved_of printer.old) (choice_view choice) level in
+        OnOk result (map view out.new.items ≡ map view out.old.items ++ objects (listed_view member.now ∷ [])) }
+    ensures same { IsSameFile printer.old printer.new }
+{
+    if !choice.takes_inside(level, member.is_active) {
+        return Ok(());
+    }
+    let object = member_object(alloc, printer, member)?;
+    out.push(object)?;
+    Ok(())
+}
+
+/// The objects of the chosen members of an item that is there, in so many others.
+#[tactic(auto, using(crate::proofs::Outlined::one_more_object))]
+fn member_values(
+    alloc: Global,
+    printer: &mut Printer<'_>,
+    listing: Listing<'_>,
+    place: Option<ItemPlace>,
+    level: usize,
+    is_active: bool,
+) -> Result<Vec<Value>, AllocError>
+    ensures objects { let objects = spec.member_objects (file_of printer.old).text (reserved_of printer.old) (choice_view listing.entry.choice) level in
+        IfOk result (λ values. map view values.items ≡ objects (members_of (reading_view listing.entry.reading) place is_active)) }
+    ensures same { IsSameFile printer.old printer.new }
+{
+    let members = listing.reading.members(alloc, place, is_active)?;
+    let mut values = Vec::new(alloc);
+    for member in &members {
+        push_member(alloc, printer, listing.choice, level, member, &mut values)?;
+    }
+    Ok(values)
 }
 
 fn item_of(tree: &ItemTree, id: ModItemId, is_active: bool) -> Item<'_>
@@ -182,61 +318,80 @@ fn item_of(tree: &ItemTree, id: ModItemId, is_active: bool) -> Item<'_>
     }
 }
 
-/// The objects of items, those that are chosen.
-#[cycle(read)]
-fn objects(
+/// The object of an item that stands there, around these.
+fn item_object(
     alloc: Global,
-    printer: &mut Printer<'_>,
-    tree: &ItemTree,
-    ids: &[ModItemId],
-    around: Around,
-    choice: Choice,
-) -> Result<Vec<Value>, AllocError>
-    requires distinct { AreDistinct (places_of printer.old) }
-    requires contained { AreContained tree.now ids.now }
-    requires fits { around.level + sum_by (count_at tree.now) ids.now < 2 ^ 64 }
-    ensures objects { let at = objects_at (file_of printer.old) (reserved_of printer.old) (places_of printer.old) in
-        let at = at (choice_view choice) tree.now around.level around.is_active in
-        IfOk result (λ objects. map view objects.items ≡ flat_map at ids.now) }
-    ensures same { IsSameFile printer.old printer.new }
+    edition: &Edition,
+    reading: Reading<'_>,
+    item: &Item<'_>,
+    stand: Stand,
+    inner: Vec<Value>,
+) -> Result<Value, AllocError>
+    ensures { let header = header_of (reading_view reading.entry) item.now.id.kind stand.place in
+        let entry = spec.item_entry edition.now.reserved.items header (item_view item.now) in
+        IfOk result (λ object. view object ≡ spec.object_form item.now.is_active stand.spot entry (items_view inner.items)) }
 {
-    let mut objects = Vec::new(alloc);
-    for id in ids {
-        push_object(alloc, printer, tree, *id, around, choice, &mut objects)?;
-    }
-    Ok(objects)
+    let header = reading.header(alloc, item.id.kind, stand.place)?;
+    let members = item_members(alloc, edition, item, &header)?;
+    object(alloc, members, stand.spot, item.is_active, inner)
 }
 
-/// The object of an item, if that is chosen: what stands in an item that is not chosen is not chosen either.
+/// Adds the objects of items, those that are chosen.
+#[cycle(read)]
+fn push_objects(
+    alloc: Global,
+    printer: &mut Printer<'_>,
+    listing: Listing<'_>,
+    ids: &[ModItemId],
+    around: Around,
+    out: &mut Vec<Value>,
+) -> Result<(), AllocError>
+    requires distinct { AreDistinct (places_of printer.old) }
+    requires contained { AreContained listing.tree.now ids.now }
+    requires fits { around.level + sum_by (count_at listing.tree.now) ids.now < 2 ^ 64 }
+    ensures objects { let at = objects_at (file_of printer.old) (reading_view listing.entry.reading) (reserved_of printer.old) (places_of printer.old) in
+        let at = at (choice_view listing.entry.choice) listing.entry.tree.now around.level around.is_active in
+        OnOk result (map view out.new.items ≡ map view out.old.items ++ flat_map at ids.now) }
+    ensures same { IsSameFile printer.old printer.new }
+{
+    for id in ids {
+        push_object(alloc, printer, listing, *id, around, out)?;
+    }
+    Ok(())
+}
+
+/// Adds the object of an item, if that is chosen: what stands in an item that is not chosen is not chosen either.
 #[cycle(read)]
 fn push_object(
     alloc: Global,
     printer: &mut Printer<'_>,
-    tree: &ItemTree,
+    listing: Listing<'_>,
     id: ModItemId,
     around: Around,
-    choice: Choice,
     out: &mut Vec<Value>,
 ) -> Result<(), AllocError>
     requires distinct { AreDistinct (places_of printer.old) }
-    requires contained { IsContained tree.now id }
-    requires fits { around.level + count_at tree.now id < 2 ^ 64 }
-    ensures objects { let at = objects_at (file_of printer.old) (reserved_of printer.old) (places_of printer.old) in
-        let at = at (choice_view choice) tree.now around.level around.is_active in
+    requires contained { IsContained listing.tree.now id }
+    requires fits { around.level + count_at listing.tree.now id < 2 ^ 64 }
+    ensures objects { let at = objects_at (file_of printer.old) (reading_view listing.entry.reading) (reserved_of printer.old) (places_of printer.old) in
+        let at = at (choice_view listing.entry.choice) listing.entry.tree.now around.level around.is_active in
         OnOk result (map view out.new.items ≡ map view out.old.items ++ at id) }
     ensures same { IsSameFile printer.old printer.new }
 {
-    let item = item_of(tree, id, around.is_active);
-    if !choice.takes(around.level, item.is_active) {
+    let item = item_of(listing.tree, id, around.is_active);
+    if !listing.choice.takes(around.level, item.is_active) {
         return Ok(());
     }
-    let spot = printer.finder.find(item.id);
+    let stand = printer.stand(item.id);
+    let (level, is_active) = (around.level, item.is_active);
+    let mut inner = member_values(alloc, printer, listing, stand.place, level, is_active)?;
     let below = Around {
-        level: around.level + 1,
-        is_active: item.is_active,
+        level: level + 1,
+        is_active,
     };
-    let children = objects(alloc, printer, tree, children(tree, id), below, choice)?;
-    let object = object(alloc, printer.edition, &item, spot, children)?;
+    let ids = children(listing.tree, id);
+    push_objects(alloc, printer, listing, ids, below, &mut inner)?;
+    let object = item_object(alloc, printer.edition, listing.reading, &item, stand, inner)?;
     out.push(object)?;
     Ok(())
 }
@@ -244,7 +399,8 @@ fn push_object(
 fn file_value(alloc: Global, path: &str, items: Vec<Value>) -> Result<Value, AllocError>
     ensures { IfOk result (λ file. view file ≡ spec.file_form path.now (items_view items.items)) }
 {
-    json!(in alloc; {"items": items, "path": path})
+    let members = of_text(alloc, "path", path)?;
+    Ok(Value::Object(with(alloc, members, "items", Value::Array(items))?))
 }
 
 /// A value on one line.
@@ -258,9 +414,13 @@ fn line_of(alloc: Global, value: &Value) -> Result<String, AllocError>
 }
 
 /// The chosen items of a file's tree as values, each an object with its `id`, the word of its `kind`, its `name`, the `path` of
-/// a use, where `{..}` stands for a list, or of the macro of a macro call, its `visibility` as it was written, the `line` and the `column` at which it stands, its bytes with its attributes as a `range`
-/// (where they begin and where they end), whether no cfg disables it (`active`), and the objects of the items in it as
-/// `children`. What an item has not is null; names are without `r#`.
+/// a use, where `{..}` stands for a list, or of the macro of a macro call, where an impl has its type and its trait, as
+/// `Display for Circle`, its `visibility` as it was written, the `line` and the `column` at which it stands, its bytes with its
+/// attributes as a `range` (where they begin and where they end), whether no cfg disables it (`active`), and as `children` the
+/// objects of its members and then those of the items in it. What an item has not is null; names are without `r#`.
+///
+/// If cfgs are given for the members, those with a name are listed as far as they are chosen, as the reader reads them. The tree
+/// has none, so their `id` is null.
 ///
 /// The places are those that the reader gave with the syntax of the tree. The only error is want of memory.
 #[tactic(auto, using(item_tree::proofs::Walking::ids_contained, item_tree::proofs::Walking::ids_count))]
@@ -270,19 +430,39 @@ pub fn outline_items(
     places: &[ItemPlace],
     tree: &ItemTree,
     edition: &Edition,
+    members: Option<&CfgOptions>,
     choice: Choice,
 ) -> Result<Vec<Value>, AllocError>
     requires { AreDistinct places.now }
-    ensures { let objects = spec.tree_objects (source_view source.entry) edition.now.reserved.items places.now in
+    ensures { let s = source_view source.entry in
+        let objects = spec.tree_objects s (reading s edition.now.year (option_copied members.entry)) edition.now.reserved.items places.now in
         IfOk result (λ items. map view items.items ≡ objects (choice_view choice) tree.now) }
 {
-    let mut printer = Printer::new(source, places, edition);
+    let reading = Reading {
+        text: source.text,
+        edition: edition.year,
+        options: members,
+    };
+    let listing = Listing {
+        tree,
+        reading,
+        choice,
+    };
     let top = Around {
         level: 0,
         is_active: is_file_enabled(tree),
     };
-    let ids = tree.top_level_items();
-    objects(alloc, &mut printer, tree, ids, top, choice)
+    let mut printer = Printer::new(source, places, edition);
+    let mut items = Vec::new(alloc);
+    push_objects(
+        alloc,
+        &mut printer,
+        listing,
+        tree.top_level_items(),
+        top,
+        &mut items,
+    )?;
+    Ok(items)
 }
 
 /// The chosen items of a file's tree as one JSON object on one line: the file's `path`, and its `items`, as `outline_items`
@@ -295,13 +475,15 @@ pub fn outline_json(
     places: &[ItemPlace],
     tree: &ItemTree,
     edition: &Edition,
+    members: Option<&CfgOptions>,
     choice: Choice,
 ) -> Result<String, AllocError>
     requires { AreDistinct places.now }
-    ensures { let line = spec.json_line (source_view source.entry) edition.now.reserved.items places.now in
+    ensures { let s = source_view source.entry in
+        let line = spec.json_line s (reading s edition.now.year (option_copied members.entry)) edition.now.reserved.items places.now in
         IfOk result (λ text. string_bytes text ≡ line (choice_view choice) tree.now) }
 {
-    let items = outline_items(alloc, source, places, tree, edition, choice)?;
+    let items = outline_items(alloc, source, places, tree, edition, members, choice)?;
     let file = file_value(alloc, source.path, items)?;
     line_of(alloc, &file)
 }

@@ -6,9 +6,10 @@ ghost use Rattle.source_listing.specs.Objects.{problem_at, problem_objects};
 ghost use Rattle.source_listing.specs.Views.{source_view};
 
 use crate::lines::{Source, push_place};
+use json_object::{of_text, with};
 use line_index::{LineIndex, Position};
 use rust_items::Problem;
-use serde_json::{Value, json};
+use serde_json::Value;
 use source_problems::{SourceProblem, SourceProblemKind};
 use std::alloc::{AllocError, Global};
 
@@ -61,9 +62,9 @@ fn problem_value(
 ) -> Result<Value, AllocError>
     ensures { IfOk result (λ value. view value ≡ problem_at position kind) }
 {
-    let (column, line) = (position.column, position.line);
-    let message = message(kind);
-    json!(in alloc; {"column": column, "line": line, "message": message})
+    let members = of_text(alloc, "message", message(kind))?;
+    let members = with(alloc, members, "line", Value::from(position.line))?;
+    Ok(Value::Object(with(alloc, members, "column", Value::from(position.column))?))
 }
 
 /// What the reader of items tells of a text as values, each an object with the `line` and the `column` at which it stands, and a `message` that

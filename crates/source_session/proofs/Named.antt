@@ -25,9 +25,10 @@ use Rattle.item_tree_request.specs.Outputs.{Knows}
 use Rattle.decl_index.specs.declared.entry.Entry.{Entry}
 use Rattle.source_session.specs.Inner.{AreUnfloating, Knowing}
 use Rattle.decl_index.specs.Lookup.{has_name}
+use Rattle.source_listing.specs.Outlines.{reading}
 use Rattle.source_listing.proofs.NoFloats.{no_float_in_outline, no_float_in_imports, no_float_in_problems}
 use Rattle.source_session.specs.Sessions.{Session}
-use Rattle.source_session.specs.Shown.{text_bytes, text_places, all_places, text_problems, tree_of, all_items, outline_form, imports_form, problems_form, id_form, found_in, found_form, IsFound}
+use Rattle.source_session.specs.Shown.{text_bytes, text_places, all_places, text_problems, tree_of, all_items, pathless, outline_form, imports_form, problems_form, id_form, found_in, found_form, IsFound}
 use Rattle.source_session.specs.Texts.{text_in}
 
 -- ---- crates
@@ -73,7 +74,8 @@ if_ok P Q (Err e) more h = tt
 
 pub no_float_outline : (u : Session) (krate : Crate) (file : HirFileId) → has_float (outline_form u krate file) ≡ false
 no_float_outline u krate file =
-    let t = text_in u.texts file.0 in no_float_in_outline (record { path = []; text = text_bytes t }) u.edition.1 (text_places t) all_items (tree_of u krate file)
+    let t = text_in u.texts file.0 in
+    let s = pathless (text_bytes t) in no_float_in_outline s (reading s u.edition.0 None) u.edition.1 (text_places t) all_items (tree_of u krate file)
 
 pub no_float_imports : (u : Session) (krate : Crate) (file : HirFileId) → has_float (imports_form u krate file) ≡ false
 no_float_imports u krate file = let t = text_in u.texts file.0 in no_float_in_imports (text_bytes t) u.edition.1 (all_places t) (tree_of u krate file).forest

@@ -18,8 +18,9 @@ use Rattle.decl_index.specs.Lookup.{has_name}
 use Rattle.rust_items.specs.declared.source_file.ItemPlace.{ItemPlace}
 use Rattle.rust_items.specs.declared.log.Problem.{Problem}
 use Rattle.source_listing.specs.ImportObjects.{import_objects}
-use Rattle.source_listing.specs.Lines.{Choice}
+use Rattle.source_listing.specs.Lines.{Choice, Source}
 use Rattle.source_listing.specs.Objects.{count_form, tree_objects, problem_objects}
+use Rattle.source_listing.specs.Outlines.{reading}
 use Rattle.source_listing.specs.Uses.{FilePlaces, placed}
 use Rattle.source_session.specs.declared.show.LineShow.{LineShow}
 use Rattle.source_session.specs.declared.show.LineShow.TheVariants.{Table, Outline, ImportPlaces, Problems, Find}
@@ -53,11 +54,16 @@ tree_of u krate file = unfolding_at u.table (File file) krate.0
 abbrev pub all_items : Choice
 all_items = record { depth = None; only_active = false }
 
--- the objects of a file's items, of which the path is no part
+-- a file, of whose objects the path is no part
+abbrev pub pathless : List ℕ → Source
+pathless text = record { path = []; text = text }
+
+-- the objects of a file's items, without members
 abbrev pub outline_form : Session → Crate → HirFileId → Data
 outline_form u krate file =
     let t = text_in u.texts file.0 in
-    array (items_of (tree_objects (record { path = []; text = text_bytes t }) u.edition.1 (text_places t) all_items (tree_of u krate file)))
+    let s = pathless (text_bytes t) in
+    array (items_of (tree_objects s (reading s u.edition.0 None) u.edition.1 (text_places t) all_items (tree_of u krate file)))
 
 -- the objects of its imports
 abbrev pub imports_form : Session → Crate → HirFileId → Data

@@ -91,11 +91,11 @@ impl Session {
                     path: "",
                     text: text.text.as_str(),
                 };
-                outline_items(alloc, source, &text.places, tree, &self.edition, choice)?
+                outline_items(alloc, source, &text.places, tree, &self.edition, None, choice)?
             }
             None => {
                 let source = Source { path: "", text: "" };
-                outline_items(alloc, source, &[], tree, &self.edition, choice)?
+                outline_items(alloc, source, &[], tree, &self.edition, None, choice)?
             }
         };
         Ok(Value::Array(items))

@@ -1,20 +1,38 @@
-use Rattle.std.proofs.Common.{◌∷◌, [], map, ap, ◌∙◌, rules}
+use Rattle.std.proofs.Common.{◌++◌, ◌+◌, ◌∷◌, [], map, ap, ◌∙◌, rules}
+use Rattle.std.specs.List.{flat_map}
 use Rattle.std.proofs.lemmas.List.{map-append}
-use Rattle.serde_json.specs.View.{items_view, view}
-use Rattle.source_listing.specs.Inner.{file_of, item_view, places_of, reserved_of}
-use Rattle.source_listing.specs.Objects.{object_form}
+use Rattle.serde_json.specs.View.{items_of, view}
+use Rattle.listed_members.specs.Listed.{header_of, members_of}
+use Rattle.listed_members.specs.Views.{reading_view}
+use Rattle.source_listing.specs.Inner.{file_of, item_view, objects_at, places_of, reserved_of}
+use Rattle.source_listing.specs.Objects.{item_entry, member_objects, object_form}
 use Rattle.source_listing.specs.Views.{choice_view}
-use Rattle.source_listing.proofs.Nested.{object_adds, objects_kept}
+use Rattle.source_listing.proofs.Nested.{object_adds, object_is}
+use Rattle.source_listing.proofs.Printers.{Setting, same_through, setting_same}
 use Rattle.source_listing.proofs.json.+read.Goals as goal
 
 pub push_object-returns-clause-objects : goal.push_object-returns-clause-objects
 push_object-returns-clause-objects t c =
     let p = c.args.printer.now in
-    let x = item_view c.item_of-item.result in
-    let ds = c.in_ok-children.children.items in
-    let form = c.in_ok-object.ensures ∙ ap (λ edition. object_form edition.now.reserved.items x c.find-spot.result (items_view ds)) c.in_ok-children.ensures.same.1
-    ∙ ap (λ spot. object_form (reserved_of p) x spot (items_view ds)) c.find-spot.ensures.spot in
-    object_adds (file_of p) (reserved_of p) (places_of p) (choice_view c.args.choice) c.args.tree.now c.args.around.level c.args.around.is_active c.args.id c.children.result.now x (map view ds) (view c.in_ok-object.object)
-    (map view c.args.out.now.items) (map view c.push.new.self.items) c.item_of-item.ensures c.children.ensures.stand (search rules)
-    (objects_kept p c.find-spot.new.self (choice_view c.args.choice) c.args.tree.now _ _ c.children.result.now (map view ds) c.find-spot.ensures.same c.in_ok-children.ensures.objects) form
+    let x = reading_view c.args.listing.reading in
+    let choice = choice_view c.args.listing.choice in
+    let u = c.args.listing.tree.now in
+    let level = c.args.around.level in
+    let is = c.children-ids.result.now in
+    let y = item_view c.item_of-item.result in
+    let place = c.stand-stand.result.place in
+    let spot = c.stand-stand.result.spot in
+    let members = map view c.in_ok-inner.inner.items in
+    let inner = map view c.push_objects.new.out.items in
+    let here = c.stand-stand.ensures.same in
+    let behind = same_through p c.stand-stand.new.self c.member_values.new.printer here c.in_ok-inner.ensures.same in
+    let last = same_through p c.member_values.new.printer c.push_objects.new.printer behind c.in_ok-push_objects.ensures.same in
+    let are_members = c.in_ok-inner.ensures.objects ∙ ap (λ (t : Setting). member_objects t.file.text t.reserved choice level (members_of x place y.is_active)) (setting_same p c.stand-stand.new.self here) in
+    let are_inner = c.in_ok-push_objects.ensures.objects
+    ∙ ap (λ (t : Setting). members ++ flat_map (objects_at t.file x t.reserved t.places choice u (level + 1) y.is_active) is) (setting_same p c.member_values.new.printer behind) in
+    let is_object = c.in_ok-object.ensures
+    ∙ ap (λ (t : Setting). object_form y.is_active spot (item_entry t.reserved (header_of x y.id.kind place) y) (items_of inner)) (setting_same p c.push_objects.new.printer last) in
+    object_adds (file_of p) x (reserved_of p) (places_of p) choice u level c.args.around.is_active c.args.id is y (view c.in_ok-object.object) (map view c.args.out.now.items) (map view c.push.new.self.items)
+    c.item_of-item.ensures c.children-ids.ensures.stand (search rules)
+    (object_is (file_of p) x (reserved_of p) (places_of p) choice u level is y place spot members inner (view c.in_ok-object.object) c.stand-stand.ensures.place c.stand-stand.ensures.spot are_members are_inner is_object)
     (ap (map view) c.in_ok-push.ensures.items ∙ map-append view c.args.out.now.items (c.in_ok-object.object ∷ []))

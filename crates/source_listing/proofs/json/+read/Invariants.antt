@@ -1,19 +1,20 @@
-use Rattle.std.proofs.Common.{◌≡◌, ◌+◌, ◌*◌, map, take}
+use Rattle.std.proofs.Common.{◌≡◌, ◌+◌, ◌++◌, ◌*◌, map, take}
 use Rattle.std.specs.List.{sum_by, flat_map}
 use Rattle.serde_json.specs.View.{view}
 use Rattle.item_tree.specs.Walk.{count_at}
+use Rattle.listed_members.specs.Views.{reading_view}
 use Rattle.source_listing.specs.Inner.{IsSameFile, file_of, objects_at, places_of, reserved_of}
 use Rattle.source_listing.specs.Views.{choice_view}
 use Rattle.source_listing.proofs.json.+read.Given as goal
 
-abbrev pub decreases-objects : goal.decreases-objects
-decreases-objects l = 2 * sum_by (count_at l.tree.now) l.ids.now + 1
+abbrev pub decreases-push_objects : goal.decreases-push_objects
+decreases-push_objects l = 2 * sum_by (count_at l.listing.tree.now) l.ids.now + 1
 
 abbrev pub decreases-push_object : goal.decreases-push_object
-decreases-push_object l = 2 * count_at l.tree.now l.id
+decreases-push_object l = 2 * count_at l.listing.tree.now l.id
 
-abbrev pub invariant-objects-loop-id : goal.invariant-objects-loop-id
-invariant-objects-loop-id l = record {
-  objects : map view l.objects.items ≡ flat_map (objects_at (file_of l.fn.printer) (reserved_of l.fn.printer) (places_of l.fn.printer) (choice_view l.choice) l.tree l.around.level l.around.is_active) (take l.id-index l.ids);
-  same : IsSameFile l.fn.printer l.printer;
+abbrev pub invariant-push_objects-loop-id : goal.invariant-push_objects-loop-id
+invariant-push_objects-loop-id l = let p = l.fn.printer in let x = l.listing in record {
+  objects : map view l.out.items ≡ map view l.fn.out.items ++ flat_map (objects_at (file_of p) (reading_view x.reading) (reserved_of p) (places_of p) (choice_view x.choice) x.tree.now l.around.level l.around.is_active) (take l.id-index l.ids);
+  same : IsSameFile p l.printer;
 }

@@ -1,7 +1,9 @@
 use Rattle.std.proofs.Common.{◌≡◌, ◌++◌, codes, ap, subst, ◌∙◌, string_bytes, IfOk}
+use Rattle.std.specs.Prelude.{option_copied}
 use Rattle.serde_json.specs.View.{items_of}
 use Rattle.serde_json.specs.Written.{compact_text, has_float}
 use Rattle.source_listing.specs.Objects.{file_form}
+use Rattle.source_listing.specs.Outlines.{reading}
 use Rattle.source_listing.specs.Views.{choice_view, source_view}
 use Rattle.source_listing.proofs.NoFloats.{file_none}
 use Rattle.source_listing.proofs.json.outline_json.Goals as goal
@@ -9,8 +11,9 @@ use Rattle.source_listing.proofs.json.outline_json.Goals as goal
 pub line_of-requires : goal.line_of-requires
 line_of-requires c =
     let s = source_view c.args.source in
+    let edition = c.args.edition.now in
     ap has_float (c.in_ok-file.ensures ∙ ap (λ ds. file_form s.path (items_of ds)) c.in_ok-items.ensures)
-    ∙ file_none s c.args.edition.now.reserved.items c.args.places.now (choice_view c.args.choice) c.args.tree.now
+    ∙ file_none s (reading s edition.year (option_copied c.args.members)) edition.reserved.items c.args.places.now (choice_view c.args.choice) c.args.tree.now
 
 pub returns : goal.returns
 returns c =
