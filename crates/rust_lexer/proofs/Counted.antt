@@ -1,6 +1,6 @@
--- Which tokens of a text count, step by step.
+-- Which tokens of a text count, and which are not ended, step by step.
 use Rattle.std.proofs.Common.{◌≡◌, ℕ, zero, suc, ◌+◌, ◌==◌, ◌||◌, ◌&&◌, Bool, true, false, List, [], ◌∷◌, ◌++◌, length, take, drop, refl, ap, ◌∙◌, sym, subst, ⊎_elim, arith, None, append_assoc, length-append, ◌-◌}
-use Rattle.std.specs.Prelude.{nat_le, slice_index, if◌then◌else◌}
+use Rattle.std.specs.Prelude.{nat_le, not, slice_index, if◌then◌else◌}
 use Rattle.std.specs.List.{filter, list_any}
 use Rattle.std.proofs.lemmas.List.{take_at, drop_at}
 use Rattle.std.proofs.lemmas.Bool.{cases_Bool}
@@ -15,20 +15,25 @@ use Rattle.rust_lexer.specs.Comment.{block, block_style, line_style}
 use Rattle.rust_lexer.specs.Quoted.{closed, unclosed}
 use Rattle.rust_lexer.specs.Cut.{cut, first_cut}
 use Rattle.rust_lexer.specs.Piece.{Piece}
+use Rattle.rust_lexer.specs.Terminated.{is_terminated}
 use Rattle.rust_lexer.specs.Tokens.{piece, is_significant, is_significant_kind, tokens_from, whole}
 
 pub when : {P : Type 0} (t : Bool) → (t ≡ true → P) → (t ≡ false → P) → P
 when t on off = ⊎_elim on off (cases_Bool t)
 
--- the tokens that count
+-- a token that counts, or is not ended
+abbrev pub is_kept : Piece → Bool
+is_kept t = is_significant t || not (is_terminated t)
+
+-- those of a text
 pub counted : ℕ → ℕ → List ℕ → List Piece
-counted left at z = filter is_significant (tokens_from left at z)
+counted left at z = filter is_kept (tokens_from left at z)
 
 pub counted_nil : (at : ℕ) → counted 0 at [] ≡ []
 unfolding counted
 counted_nil at = refl
 
-pub counted_is : (at : ℕ) (z : List ℕ) → counted 0 at z ≡ filter is_significant (tokens_from 0 at z)
+pub counted_is : (at : ℕ) (z : List ℕ) → counted 0 at z ≡ filter is_kept (tokens_from 0 at z)
 unfolding counted
 counted_is at z = refl
 
@@ -40,17 +45,17 @@ counted-drop (suc n) at (b ∷ z) =
     let e : suc at + length (take n z) ≡ at + suc (length (take n z)) = omega arith in counted-drop n (suc at) z ∙ ap (λ k. counted 0 k (drop n z)) e
 
 -- a first token that does not count, and one that does
-passed : (at b : ℕ) (y : List ℕ) (k : TokenKind) (n : ℕ) → first_cut b y ≡ cut k n → is_significant_kind k ≡ false → counted 0 at (b ∷ y) ≡ counted (whole (cut k n) y) (suc at) y
+passed : (at b : ℕ) (y : List ℕ) (k : TokenKind) (n : ℕ) → first_cut b y ≡ cut k n → is_kept (piece (cut k n) at b y) ≡ false → counted 0 at (b ∷ y) ≡ counted (whole (cut k n) y) (suc at) y
 unfolding counted
 passed at b y k n one other =
-    let P : Cut → Type 0 = λ c. filter is_significant (piece c at b y ∷ tokens_from (whole c y) (suc at) y) ≡ counted (whole (cut k n) y) (suc at) y in
+    let P : Cut → Type 0 = λ c. filter is_kept (piece c at b y ∷ tokens_from (whole c y) (suc at) y) ≡ counted (whole (cut k n) y) (suc at) y in
     let here : P (cut k n) = rw other refl in
     subst P (sym one) here
 
 taken : (at b : ℕ) (y : List ℕ) (k : TokenKind) (n : ℕ) → first_cut b y ≡ cut k n → is_significant_kind k ≡ true → counted 0 at (b ∷ y) ≡ piece (cut k n) at b y ∷ counted (whole (cut k n) y) (suc at) y
 unfolding counted
 taken at b y k n one counts =
-    let P : Cut → Type 0 = λ c. filter is_significant (piece c at b y ∷ tokens_from (whole c y) (suc at) y) ≡ piece (cut k n) at b y ∷ counted (whole (cut k n) y) (suc at) y in
+    let P : Cut → Type 0 = λ c. filter is_kept (piece c at b y ∷ tokens_from (whole c y) (suc at) y) ≡ piece (cut k n) at b y ∷ counted (whole (cut k n) y) (suc at) y in
     let here : P (cut k n) = rw counts refl in
     subst P (sym one) here
 
@@ -159,6 +164,15 @@ and_false false = refl
 not_closed : (n m : ℕ) → unclosed n ≡ closed m → ⊥
 not_closed n m h = let e : false ≡ true = ap (λ x. x.is_closed) h in cc
 
+-- where the count begins does not matter
+closed_from : (s : Bool) (d n : ℕ) (z : List ℕ) → (block s d (suc n) z).is_closed ≡ (block s d n z).is_closed
+closed_from s d n [] = refl
+closed_from true d n (b ∷ z) = closed_from false d (suc n) z
+closed_from false d n (b ∷ z) =
+    when (b == 42 && slice_index z 0 == 47)
+    (λ e. when (d == 0) (λ f. rw (e, f) refl) (λ f. rw (e, f) (closed_from true (d - 1) (suc n) z)))
+    (λ e. when (b == 47 && slice_index z 0 == 42) (λ f. rw (e, f) (closed_from true (d + 1) (suc n) z)) (λ f. rw (e, f) (closed_from false d (suc n) z)))
+
 -- what is closed is closed whatever stands behind
 abbrev Goes : List ℕ → List ℕ → Type 0
 Goes z rest = (s : Bool) (d n m : ℕ) → block s d n z ≡ closed m → block s d n (z ++ rest) ≡ closed m
@@ -190,7 +204,10 @@ comment_step at z rest shut style w =
     star_cut (z ++ 42 ∷ 47 ∷ rest) ∙ ap (λ s. cut (kind.BlockComment s) (block false 0 1 (z ++ 42 ∷ 47 ∷ rest)).len) (style_comment z rest ∙ style)
     ∙ ap (λ (x : Extent). cut k x.len) far ∙ ap (λ n. cut k n) long in
     let place : suc at + length y ≡ at + length z + 4 = omega (arith, long) in
-    passed at 47 (42 ∷ (z ++ 42 ∷ 47 ∷ rest)) k (length y) is_cut refl
+    let text : take (whole (cut k (length y)) (y ++ rest)) (y ++ rest) ≡ y = ap (λ n. take n (y ++ rest)) (whole_at k y rest (whole_front rest w)) ∙ take_at y rest (length y) refl in
+    let ended : is_kept (piece (cut k (length y)) at 47 (y ++ rest)) ≡ false =
+    ap (λ l. not (block false 0 0 (drop 2 (47 ∷ l))).is_closed) text ∙ ap not (sym (closed_from false 0 0 (z ++ 42 ∷ 47 ∷ [])) ∙ ap (λ x. x.is_closed) shut) in
+    passed at 47 (42 ∷ (z ++ 42 ∷ 47 ∷ rest)) k (length y) is_cut (subst (λ l. is_kept (piece (cut k (length y)) at 47 l) ≡ false) same ended)
     ∙ ap (λ l. counted (whole (cut k (length y)) l) (suc at) l) (sym same)
     ∙ ap (λ n. counted n (suc at) (y ++ rest)) (whole_at k y rest (whole_front rest w))
     ∙ behind_first (suc at) y rest

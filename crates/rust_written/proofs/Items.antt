@@ -36,9 +36,9 @@ use Rattle.rust_written.proofs.Leaves.{Reads, blocked_reads, value_reads, struct
 
 -- ---- what is read in a turn
 
--- a turn reads this item, takes these words, and finds these rows
+-- a turn reads this item, takes these words, and finds these rows and no problem
 abbrev pub Turns : ℕ → ItemView → List Row → List Word → Found → Tokens → Type 0
-Turns left item rs ws f ts = (f' : Found) × (turn left f ts ≡ (Some item, (f', behind ws ts))) × (f'.rows ≡ f.rows ++ rs)
+Turns left item rs ws f ts = (f' : Found) × (turn left f ts ≡ (Some item, (f', behind ws ts))) × (f'.rows ≡ f.rows ++ rs) × (f'.problems ≡ f.problems)
 
 flaw_rows : (is_ended is_nameless : Bool) (start : ℕ) (f : Found) → (and_flaw is_ended is_nameless start f).rows ≡ f.rows
 flaw_rows true true start f = refl
@@ -47,6 +47,15 @@ flaw_rows false is_nameless start f = refl
 
 rows_if : (e : Bool) (depth start end : ℕ) (body : Option TextRange) (k : AstIdKind) (n : List ℕ) (range : Option TextRange) (f : Found) → (and_item depth start end body k n range e f).rows ≡ f.rows ++ row depth k n ∷ []
 rows_if e depth start end body k n range f = flaw_rows e (is_none range && needs_name k) start (and_row (row depth k n) (span_of start end body range) f)
+
+flaw_problems : (is_nameless : Bool) (start : ℕ) (f : Found) → is_nameless ≡ false → (and_flaw true is_nameless start f).problems ≡ f.problems
+flaw_problems true start f e = absurd cc
+flaw_problems false start f e = refl
+
+-- nothing is wrong with an item that has its end and the name that it needs
+no_flaw : (depth start end : ℕ) (body : Option TextRange) (k : AstIdKind) (n : List ℕ) (range : Option TextRange) (f : Found) → (is_none range && needs_name k) ≡ false
+    → (and_item depth start end body k n range true f).problems ≡ f.problems
+no_flaw depth start end body k n range f e = flaw_problems (is_none range && needs_name k) start (and_row (row depth k n) (span_of start end body range) f) e
 
 -- the front of an item of a kind that holds no items
 abbrev IsLeafHead : Head → Type 0
@@ -78,9 +87,10 @@ leaf_turns left v h w n item k ws f ts i e fronts reads =
       and_leaf (depth_of left) (at ts) rest.past l f,
       turn_behind left (front_at (at ts) v h) f ts us e fronts
           ∙ leaf_by_head left h (front_at (at ts) v h) f us i
-          ∙ leaf_found_is (depth_of left) (front_at (at ts) v h) l f us rest reads.3
+          ∙ leaf_found_is (depth_of left) (front_at (at ts) v h) l f us rest reads.4
           ∙ ap (λ r. (Some item, (and_leaf (depth_of left) (at ts) rest.past l f, r))) (sym (behind_append (front_words v) (trees.word w ∷ ws) ts)),
       rows_if true (depth_of left) (at ts) rest.past reads.1 k n reads.0 f,
+      no_flaw (depth_of left) (at ts) rest.past reads.1 k n reads.0 f reads.3,
     )
 
 -- ---- the first word of an item
@@ -236,6 +246,13 @@ parent_rows e depth start end m inner f =
     ap (λ l. l ++ inner.rows) (rows_if e depth start end None kind.Module m.hashed m.range f)
     ∙ append_assoc f.rows (row depth kind.Module m.hashed ∷ []) inner.rows
 
+parent_problems : (depth start end : ℕ) (m : NameRead) (inner f : Found) → (is_none m.range && needs_name kind.Module) ≡ false → inner.problems ≡ []
+    → (and_parent depth start end kind.Module m true inner f).problems ≡ f.problems
+parent_problems depth start end m inner f e none =
+    ap (λ l. l ++ inner.problems) (no_flaw depth start end None kind.Module m.hashed m.range f e)
+    ∙ ap (λ l. f.problems ++ l) none
+    ∙ append-nil f.problems
+
 file_turns : (left : ℕ) (v : Front) (n : List ℕ) (f : Found) (ts : Tokens) → length ts.left ≤ most → IsItem left (file_module v n) → Begins (item_words (file_module v n)) ts
     → Turns left (item_view (file_module v n)) (item_rows (depth_of left) (file_module v n)) (item_words (file_module v n)) f ts
 file_turns left v n f ts few is begun =
@@ -248,6 +265,7 @@ file_turns left v n f ts few is begun =
       module_turn left v n (mark 59 ∷ []) true no_block nothing_found f ts (bumped vs) (bumped vs) few is.0 is.1 begun (eaten 59 vs (ap (λ (c : ℕ). c == 59) shown.1.1.0.symbol_is)) refl
           ∙ ap (λ r. (Some (item_view (file_module v n)), (found, r))) (sym (behind_name v (codes "mod") n (mark 59 ∷ []) ts)),
       parent_rows true (depth_of left) (at ts) (bumped vs).past name nothing_found f,
+      parent_problems (depth_of left) (at ts) (bumped vs).past name nothing_found f refl refl,
     )
 
 -- ---- lists of items
@@ -277,14 +295,14 @@ one_turn : (ends : Tokens → Bool) (reader : Finder (Option ItemView)) (n : ℕ
     → finding_from ends reader (suc n) done f ts ≡ finding_from ends reader n (done ++ i ∷ []) f' us
 one_turn ends reader n done i f f' ts us e t b = rw (e, t, b) refl
 
--- items are found one after another
+-- items are found one after another, and no problem
 abbrev pub Finds : Bool → ℕ → List ItemView → List Row → List Word → Found → Tokens → Type 0
 Finds is_top left is rs ws f ts = (n : ℕ) (done : List ItemView) → length ts.left ≤ n
-    → (f' : Found) × (finding_from (is_list_end is_top) (turn left) n done f ts ≡ (done ++ is, (f', behind ws ts))) × (f'.rows ≡ f.rows ++ rs)
+    → (f' : Found) × (finding_from (is_list_end is_top) (turn left) n done f ts ≡ (done ++ is, (f', behind ws ts))) × (f'.rows ≡ f.rows ++ rs) × (f'.problems ≡ f.problems)
 
 no_item : (is_top : Bool) (left : ℕ) (f : Found) (ts : Tokens) → is_list_end is_top ts ≡ true → Finds is_top left [] [] [] f ts
 no_item is_top left f ts e n done l =
-    (f, finding_stop (is_list_end is_top) (turn left) n done f ts e ∙ ap (λ d. (d, (f, ts))) (sym (append-nil done)), sym (append-nil f.rows))
+    (f, finding_stop (is_list_end is_top) (turn left) n done f ts e ∙ ap (λ d. (d, (f, ts))) (sym (append-nil done)), sym (append-nil f.rows), refl)
 
 one_item : (is_top : Bool) (left : ℕ) (i : ItemView) (is : List ItemView) (rs qs : List Row) (x : List ℕ) (ws vs : List Word) (f : Found) (ts : Tokens) → Begins ws ts → Shows (trees.word x) ts → 0 < length ws → Turns left i rs ws f ts
     → ((f' : Found) → Finds is_top left is qs vs f' (behind ws ts)) → Finds is_top left (i ∷ is) (rs ++ qs) (ws ++ vs) f ts
@@ -300,6 +318,7 @@ one_item is_top left i is rs qs x ws vs f ts b s some t more (suc n) done l =
           ∙ ap (λ d. (d, (rest.0, behind vs us))) (append_assoc done (i ∷ []) is)
           ∙ ap (λ r. (done ++ i ∷ is, (rest.0, r))) (sym (behind_append ws vs ts)),
       rest.2 ∙ ap (λ l. l ++ qs) t.2 ∙ append_assoc f.rows rs qs,
+      rest.3 ∙ t.3,
     )
 
 some_behind : (vs : List Word) (w : Word) (ws : List Word) → 0 < length (vs ++ w ∷ ws)
@@ -374,6 +393,7 @@ listed_turns left v n is f ts deep few m a begun found =
           ∙ ap (λ r. (Some (item_view (module_of v n is)), (all, r))) rest,
       parent_rows true (depth_of (suc left)) (at ts) (bumped end).past name list.0 f
           ∙ ap (λ l. f.rows ++ row (depth_of (suc left)) kind.Module n ∷ l) (list.2 ∙ ap (λ d. rows d is) (deeper left deep)),
+      parent_problems (depth_of (suc left)) (at ts) (bumped end).past name list.0 f refl list.3,
     )
 
 mutual

@@ -1,6 +1,6 @@
 -- Items that hold no items.
 use Rattle.std.proofs.Common.{◌≤◌, length, ◌≡◌, ℕ, ◌==◌, ◌||◌, Bool, true, false, Option, Some, None, List, [], ◌∷◌, ◌++◌, codes, refl, ap, ◌∙◌, sym, arith}
-use Rattle.std.specs.Prelude.{is_some}
+use Rattle.std.specs.Prelude.{◌&&◌, is_none, is_some}
 use Rattle.std.specs.Str.{bytes_eq}
 use Rattle.hir_input.specs.declared.ids.AstIdKind.{AstIdKind}
 use Rattle.hir_input.specs.declared.ids.AstIdKind.TheVariants as kind
@@ -23,6 +23,7 @@ use Rattle.rust_cursor.specs.Elements.{most}
 use Rattle.rust_paths.specs.UseTrees.{use_tree}
 use Rattle.rust_paths.specs.UseTrees as use_spec
 use Rattle.rust_leaves.specs.Kinds.{node, use_read, use_declaration}
+use Rattle.rust_items.specs.Items.{needs_name}
 use Rattle.rust_written.specs.UseTrees.{UseTree, use_words, use_view, IsUse}
 use Rattle.rust_written.proofs.Uses.{IsUseEnd, found_at, use_reads}
 use Rattle.rust_round.specs.Words.{Word}
@@ -78,10 +79,10 @@ values_end t ts h g b = value_ends (ended t) ts (value_semicolon t ts h g b)
 
 -- ---- a leaf
 
--- behind its front, an item without items is read as this, and these words are taken
+-- behind its front, an item without items is read as this, with the name that it needs, and these words are taken
 abbrev pub Reads : Head → Front → ℕ → ItemView → AstIdKind → List ℕ → List Word → Tokens → Type 0
 Reads h v start item kind n ws ts =
-    (range : Option TextRange) × (body : Option TextRange) × (starts : List ℕ)
+    (range : Option TextRange) × (body : Option TextRange) × (starts : List ℕ) × ((is_none range && needs_name kind) ≡ false)
     × (leaf (front_at start v h) ts ≡ (Some (record { item = item; kind = kind; name = n; named = range; body = body; is_ended = true; too_deep = None; use_trees = starts }), behind ws ts))
 
 -- ---- functions, unions, enums and traits
@@ -119,23 +120,24 @@ blocked_reads functions v n h b start ts m i j g f s begun e =
       (named_at n ts).range,
       (rest_is block ws (bumped ts)).braces,
       [],
+      refl,
       ap (λ r. (Some r.0, r.1)) (function_reads (front_view v) (named_at n ts) block ws ts (bumped ts) (named_reads n ts m s) (no_inner h b (bumped ts) f begun) ends),
     )
 blocked_reads unions v n h b start ts m i j g f s begun e =
     let ws = trees_words h ++ braced b in
     let block = block_behind h (bumped ts) in
     let ends = block_ends h b (bumped ts) i j g begun e in
-    ((named_at n ts).range, (rest_is block ws (bumped ts)).braces, [], ap (λ r. (Some r.0, r.1)) (block_reads union_kind (front_view v) (named_at n ts) block ws ts (bumped ts) (named_reads n ts m s) ends))
+    ((named_at n ts).range, (rest_is block ws (bumped ts)).braces, [], refl, ap (λ r. (Some r.0, r.1)) (block_reads union_kind (front_view v) (named_at n ts) block ws ts (bumped ts) (named_reads n ts m s) ends))
 blocked_reads enums v n h b start ts m i j g f s begun e =
     let ws = trees_words h ++ braced b in
     let block = block_behind h (bumped ts) in
     let ends = block_ends h b (bumped ts) i j g begun e in
-    ((named_at n ts).range, (rest_is block ws (bumped ts)).braces, [], ap (λ r. (Some r.0, r.1)) (block_reads enum_kind (front_view v) (named_at n ts) block ws ts (bumped ts) (named_reads n ts m s) ends))
+    ((named_at n ts).range, (rest_is block ws (bumped ts)).braces, [], refl, ap (λ r. (Some r.0, r.1)) (block_reads enum_kind (front_view v) (named_at n ts) block ws ts (bumped ts) (named_reads n ts m s) ends))
 blocked_reads traits v n h b start ts m i j g f s begun e =
     let ws = trees_words h ++ braced b in
     let block = block_behind h (bumped ts) in
     let ends = block_ends h b (bumped ts) i j g begun e in
-    ((named_at n ts).range, (rest_is block ws (bumped ts)).braces, [], ap (λ r. (Some r.0, r.1)) (block_reads trait_kind (front_view v) (named_at n ts) block ws ts (bumped ts) (named_reads n ts m s) ends))
+    ((named_at n ts).range, (rest_is block ws (bumped ts)).braces, [], refl, ap (λ r. (Some r.0, r.1)) (block_reads trait_kind (front_view v) (named_at n ts) block ws ts (bumped ts) (named_reads n ts m s) ends))
 
 -- ---- impls
 
@@ -160,6 +162,7 @@ impl_reads ms h b start ts i j is p begun e =
       None,
       (rest_is block ws ts).braces,
       [],
+      refl,
       ap (λ r. (Some r.0, r.1)) (impl_steps (is_some h.of_trait) block ws ts (trait_is h (trees_words b ++ close_of curly ∷ []) ts i is begun) (no_inner t b ts p begun) (impl_block_ends t b ts i j is.goes begun e)),
     )
 
@@ -193,16 +196,16 @@ pub value_reads : (k : ValueKind) (v : Front) (n : List ℕ) (t : Trees) (start 
 unfolding leaf
 value_reads aliases v n t start ts m i g u s b =
     let ends = values_end t (bumped ts) i g b in
-    ((named_at n ts).range, None, [], ap (λ r. (Some r.0, r.1)) (alias_steps (front_view v) (named_at n ts) (ended t) ts (bumped ts) (named_reads n ts m s) ends))
+    ((named_at n ts).range, None, [], refl, ap (λ r. (Some r.0, r.1)) (alias_steps (front_view v) (named_at n ts) (ended t) ts (bumped ts) (named_reads n ts m s) ends))
 value_reads statics v n t start ts m i g u s b =
     let ends = values_end t (bumped ts) i g b in
     let no_word = no_eat (codes "mut") n ts s.word_is (not_mut n m) in
-    ((named_at n ts).range, None, [], ap (λ r. (Some r.0, r.1)) (static_steps (front_view v) (named_at n ts) (ended t) ts (bumped ts) no_word (named_reads n ts m s) ends))
+    ((named_at n ts).range, None, [], refl, ap (λ r. (Some r.0, r.1)) (static_steps (front_view v) (named_at n ts) (ended t) ts (bumped ts) no_word (named_reads n ts m s) ends))
 value_reads constants v n t start ts m i g u s b =
     let ends = values_end t (bumped ts) i g b in
     let first : Shows (first_of t (mark 59)) (bumped ts) = shows_first t (mark 59) [] (bumped ts) b in
     let no_word = no_eat (codes "_") (trees.text_of (first_of t (mark 59))) (bumped ts) first.word_is u in
-    ((named_at n ts).range, None, [], ap (λ r. (Some r.0, r.1)) (const_steps (front_view v) (named_at n ts) (ended t) ts (bumped ts) (named_reads n ts m s) no_word ends))
+    ((named_at n ts).range, None, [], refl, ap (λ r. (Some r.0, r.1)) (const_steps (front_view v) (named_at n ts) (ended t) ts (bumped ts) (named_reads n ts m s) no_word ends))
 
 -- ---- structs
 
@@ -215,7 +218,7 @@ struct_reads : (v : Front) (n : List ℕ) (shape : FieldsView) (block : Option T
     → Ends item_end block ws (bumped ts) → Reads heads.Struct v start (struct_item (named_by v n ws) shape) kind.Struct n (trees.word n ∷ ws) ts
 unfolding leaf
 struct_reads v n shape block ws start ts m s f ends =
-    ((named_at n ts).range, (rest_is block ws (bumped ts)).braces, [], ap (λ r. (Some r.0, r.1)) (struct_steps (front_view v) (named_at n ts) shape block ws ts (bumped ts) (named_reads n ts m s) f ends))
+    ((named_at n ts).range, (rest_is block ws (bumped ts)).braces, [], refl, ap (λ r. (Some r.0, r.1)) (struct_steps (front_view v) (named_at n ts) shape block ws ts (bumped ts) (named_reads n ts m s) f ends))
 
 -- the braces that a struct ends with
 abbrev struct_block : Option Trees → Shape → Tokens → Option Tokens
@@ -272,6 +275,7 @@ used_reads v t start ts h l b =
       None,
       None,
       read.0,
+      refl,
       ap (λ r. (Some r.0, r.1)) (use_steps (front_view v) found true ts us (bumped us) read.1 (eaten us last))
           ∙ ap (λ k. (Some (use_read [] (front_view v) found true), k)) (sym (behind_append (use_words t) (mark 59 ∷ []) ts)),
     )

@@ -1,16 +1,18 @@
 -- A text that spells items is read as these.
-use Rattle.std.proofs.Common.{◌≡◌, ◌<◌, ◌≤◌, ℕ, true, false, Option, Some, None, List, [], ◌∷◌, length, refl, ap, ◌∙◌, subst, arith}
+use Rattle.std.proofs.Common.{◌≡◌, ◌<◌, ◌≤◌, ℕ, Bool, true, false, Option, Some, None, List, [], ◌∷◌, ◌++◌, codes, length, refl, ap, ◌∙◌, subst, arith}
+use Rattle.std.specs.Prelude.{map}
 use Rattle.std.specs.List.{filter}
 use Rattle.std.proofs.lemmas.List.Sums.{length-filter, count_by-le-length}
 use Rattle.hir_input.specs.Syntax.{items_from, source_file}
 use Rattle.hir_input.specs.declared.edition.EditionYear.{EditionYear}
 use Rattle.rust_lexer.specs.Piece.{Piece}
 use Rattle.rust_lexer.specs.declared.kind.TokenKind.{TokenKind}
+use Rattle.rust_lexer.specs.Terminated.{is_closed}
 use Rattle.rust_lexer.specs.Tokens.{is_significant, tokens}
 use Rattle.rust_lexer.specs.declared.kind.DocStyle.TheVariants.{Inner}
 use Rattle.rust_lexer.proofs.Laws.{tokens_few}
-use Rattle.rust_cursor.specs.Tokens.{Tokens, tokens_of}
-use Rattle.rust_cursor.specs.Words.{symbol, kind, is_empty}
+use Rattle.rust_cursor.specs.Tokens.{Tokens, last_unended, tokens_of}
+use Rattle.rust_cursor.specs.Words.{symbol, kind, is_empty, bumped}
 use Rattle.rust_cursor.specs.Elements.{most}
 use Rattle.rust_cursor.specs.Extents.{goes_on}
 use Rattle.rust_metas.specs.Attributes.{inner_attributes, is_behind, is_doc, is_attribute}
@@ -19,13 +21,16 @@ use Rattle.rust_items.specs.declared.log.ProblemKind.TheVariants as problem
 use Rattle.rust_items.specs.Found.{Found, nothing_found, and_problem_at}
 use Rattle.rust_items.specs.Ids.{with_ids}
 use Rattle.rust_items.specs.Items.{finding, finding_from, is_list_end, turn}
-use Rattle.rust_items.specs.LineEnds.{with_feeds}
+use Rattle.rust_items.specs.LineEnds.{with_feeds, place_in, moved_problem}
 use Rattle.rust_items.specs.SourceFiles.{read_of, found_in, items_in}
 use Rattle.rust_round.specs.Words.{Word, Spells, IsCutOff, AreTokens}
+use Rattle.rust_round.specs.Trees.{Trees, mark, open_mark, close_mark, curly, open_of, close_of, trees_words}
 use Rattle.rust_round.specs.Trees as trees
-use Rattle.rust_round.proofs.Again.{tokens_again}
+use Rattle.rust_round.specs.Impls.{header_trees}
+use Rattle.rust_round.proofs.Again.{tokens_again, ends_closed, last_ended}
 use Rattle.rust_round.proofs.Begins.{Begins, behind, begins, over, AreSome}
-use Rattle.rust_written.specs.Written.{Items, no_more, also, words, views, rows}
+use Rattle.rust_written.specs.Written.{Front, front_words, impl_front, block_word, value_word, Shape, unit_shape, tuple_shape, record_shape, struct_trees, struct_words, Item, Items, blocked, valued, structure, implemented, file_module, module_of, used, no_more, also, braced, ended, item_words, words, views, rows}
+use Rattle.rust_written.specs.UseTrees.{use_words}
 use Rattle.rust_written.specs.Laws.{Writes, ReadAgain}
 use Rattle.rust_written.proofs.Fronts.{inner_none, inner_empty}
 use Rattle.rust_written.proofs.Items.{item_first, finds_reads}
@@ -75,6 +80,66 @@ ends_list : (ts : Tokens) → is_empty ts ≡ true → is_list_end true ts ≡ t
 unfolding is_list_end
 ends_list ts e = rw e refl
 
+-- the last token of a text, if it is not ended, stays while words are taken
+unended_bumped : (ts : Tokens) → (bumped ts).unended ≡ ts.unended
+unfolding bumped
+unended_bumped ts = refl
+
+unended_behind : (ws : List Word) (ts : Tokens) → (behind ws ts).unended ≡ ts.unended
+unended_behind [] ts = refl
+unended_behind (w ∷ ws) ts = unended_behind ws (bumped ts) ∙ unended_bumped ts
+
+text_unended : (edition : EditionYear) (text : List ℕ) → (tokens_of edition text).unended ≡ last_unended None (tokens text)
+unfolding tokens_of
+text_unended edition text = refl
+
+-- ---- the last word
+
+closed_append : (b : Bool) (ws vs : List Word) → ends_closed b (ws ++ vs) ≡ ends_closed (ends_closed b ws) vs
+closed_append b [] vs = refl
+closed_append b (w ∷ ws) vs = closed_append (is_closed w.kind w.text) ws vs
+
+-- words whose last one is ended
+abbrev AreClosed : List Word → Type 0
+AreClosed ws = (b : Bool) → ends_closed b ws ≡ true
+
+closed_behind : (ws vs : List Word) → AreClosed vs → AreClosed (ws ++ vs)
+closed_behind ws vs e b = closed_append b ws vs ∙ e (ends_closed b ws)
+
+closed_braces : (b : Trees) → AreClosed (braced b)
+closed_braces b = closed_behind (open_of curly ∷ trees_words b) (close_of curly ∷ []) (λ _. refl)
+
+closed_block : (t b : Trees) → AreClosed (trees_words t ++ braced b)
+closed_block t b = closed_behind (trees_words t) (braced b) (closed_braces b)
+
+closed_end : (t : Trees) → AreClosed (ended t)
+closed_end t = closed_behind (trees_words t) (mark 59 ∷ []) (λ _. refl)
+
+closed_struct : (g : Option Trees) (s : Shape) → AreClosed (struct_words g s)
+closed_struct g (unit_shape w) = closed_end (struct_trees g (unit_shape w))
+closed_struct g (tuple_shape fs w) = closed_end (struct_trees g (tuple_shape fs w))
+closed_struct g (record_shape w b) = closed_block (struct_trees g (record_shape w b)) b
+
+closed_front : (v : Front) (w : Word) (ws : List Word) → AreClosed ws → AreClosed (front_words v ++ w ∷ ws)
+closed_front v w ws e = closed_behind (front_words v) (w ∷ ws) (λ b. e (is_closed w.kind w.text))
+
+closed_named : (v : Front) (w n : Word) (ws : List Word) → AreClosed ws → AreClosed (front_words v ++ w ∷ n ∷ ws)
+closed_named v w n ws e = closed_front v w (n ∷ ws) (λ b. e (is_closed n.kind n.text))
+
+closed_item : (i : Item) → AreClosed (item_words i)
+closed_item (blocked k v n h b) = closed_named v (trees.word (block_word k)) (trees.word n) (trees_words h ++ braced b) (closed_block h b)
+closed_item (valued k v n t) = closed_named v (trees.word (value_word k)) (trees.word n) (ended t) (closed_end t)
+closed_item (structure v n g s) = closed_named v (trees.word (codes "struct")) (trees.word n) (struct_words g s) (closed_struct g s)
+closed_item (implemented ms h b) = closed_front (impl_front ms) (trees.word (codes "impl")) (trees_words (header_trees h) ++ braced b) (closed_block (header_trees h) b)
+closed_item (file_module v n) = closed_named v (trees.word (codes "mod")) (trees.word n) (mark 59 ∷ []) (λ _. refl)
+closed_item (used v t) = closed_front v (trees.word (codes "use")) (use_words t ++ mark 59 ∷ []) (closed_behind (use_words t) (mark 59 ∷ []) (λ _. refl))
+closed_item (module_of v n is) =
+    closed_named v (trees.word (codes "mod")) (trees.word n) (open_mark 123 ∷ (words is ++ close_mark 125 ∷ [])) (closed_behind (open_mark 123 ∷ words is) (close_mark 125 ∷ []) (λ _. refl))
+
+closed_items : (is : Items) → ends_closed true (words is) ≡ true
+closed_items no_more = refl
+closed_items (also i is) = closed_append true (item_words i) (words is) ∙ ap (λ b. ends_closed b (words is)) (closed_item i true) ∙ closed_items is
+
 -- ---- a text
 
 no_attributes : (is : Items) (ts : Tokens) → Begins (words is) ts → is_empty (behind (words is) ts) ≡ true → inner_attributes ts ≡ ([], ts)
@@ -93,10 +158,15 @@ record IsReadOf (edition : EditionYear) (is : Items) (text : List ℕ) : Type 0 
   pub attributes : inner_attributes (tokens_of edition text) ≡ ([], tokens_of edition text)
   pub items : items_in edition text ≡ items_from (views is)
   pub rows : (found_in edition text).rows ≡ rows 0 is
+  pub problems : (found_in edition text).problems ≡ []
 
 same_rows : (at : Option ℕ) (f : Found) → (and_problem_at problem.Unterminated at f).rows ≡ f.rows
 same_rows None f = refl
 same_rows (Some n) f = refl
+
+same_problems : (at : Option ℕ) (f : Found) → at ≡ None → (and_problem_at problem.Unterminated at f).problems ≡ f.problems
+same_problems None f e = refl
+same_problems (Some n) f e = absurd cc
 
 read_text : (edition : EditionYear) (is : Items) (text : List ℕ) → Writes is text → IsReadOf edition is (with_feeds text)
 unfolding items_in found_in
@@ -111,10 +181,13 @@ read_text edition is text w =
     let end = behind (words is) ts in
     let found = finds_reads is true 128 nothing_found ts (omega arith) few w.are b.0 (ends_list end b.1) (end_goes_on end b.1) most [] few in
     let all = all_turns edition feeds none ∙ found.1 in
+    let unended : end.unended ≡ None =
+    unended_behind (words is) ts ∙ text_unended edition feeds ∙ last_ended (words is) feeds w.plain w.spells (closed_items is) in
     record {
       attributes = none;
       items = ap (λ r. items_from r.0) all;
       rows = same_rows (read_of edition feeds).1.1.unended (read_of edition feeds).1.0 ∙ ap (λ r. r.1.0.rows) all ∙ found.2;
+      problems = same_problems (read_of edition feeds).1.1.unended (read_of edition feeds).1.0 (ap (λ r. r.1.1.unended) all ∙ unended) ∙ ap (λ r. r.1.0.problems) all ∙ found.3;
     }
 
 pub read_again : ReadAgain
@@ -124,4 +197,5 @@ read_again edition is text file w s =
       ids = s.ids;
       are_ids = subst (λ l. AreIds l s.ids) r.rows s.are_ids;
       syntax = s.syntax ∙ ap (λ a. source_file a.0 (with_ids (items_in edition (with_feeds text)) s.ids).0) r.attributes ∙ ap (λ l. source_file [] (with_ids l s.ids).0) r.items;
+      problems = s.problems ∙ ap (map (moved_problem (place_in text))) r.problems;
     }

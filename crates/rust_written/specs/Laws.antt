@@ -22,11 +22,12 @@ pub record Writes (is : Items) (text : List ℕ) : Type 0 where
   pub spells : Spells (words is) (with_feeds text)
   pub short : length (with_feeds text) ≤ most
 
--- a text that spells items is read as exactly these, with the ids that they are to have
+-- a text that spells items is read as exactly these, with the ids that they are to have, and no problem is told
 pub record IsRead (is : Items) (file : SourceFile) : Type 0 where
   pub ids : List FileAstId
   pub are_ids : AreIds (rows 0 is) ids
   pub syntax : syntax_view file.syntax ≡ source_file [] (with_ids (items_from (views is)) ids).0
+  pub problems : file.problems.items ≡ []
 
 abbrev pub ReadAgain : Type 0
 ReadAgain = (edition : EditionYear) (is : Items) (text : List ℕ) (file : SourceFile) → Writes is text → IsSourceFile edition text file → IsRead is file
