@@ -76,7 +76,7 @@ module _ {A B C D : Type 0} (R : C → D → Type 0) (f : A → C) (g : B → D)
 
 -- ---- a text
 
-counted : {ts us : Tokens} → LeadsTo ts us → (n : ℕ) × (left_behind n ts ≡ us)
+pub counted : {ts us : Tokens} → LeadsTo ts us → (n : ℕ) × (left_behind n ts ≡ us)
 counted here = (0, refl)
 counted (further p) = let c = counted p in (suc c.0, c.1)
 

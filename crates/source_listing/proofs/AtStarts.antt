@@ -18,7 +18,8 @@ use Rattle.rust_cursor.proofs.Leads.{LeadsTo, here, further, through, when, bump
 use Rattle.rust_paths.specs.Paths.{use_path}
 use Rattle.rust_paths.specs.UseTrees.{Found, begun, begun_list, values, all_starts, bare, listed, star_or_list, tree_behind, tree_with, tree_at, element_with, list, comma_from, behind_comma, rename, use_tree}
 use Rattle.rust_paths.proofs.Leads.{use_path_leads, rename_leads}
-use Rattle.source_listing.specs.Told.{nodes_of, kept_nodes, left_behind, IsReadAt, AreToldFor}
+use Rattle.rust_items.proofs.UsesTold.{counted}
+use Rattle.source_listing.specs.Told.{nodes_of, kept_nodes, IsReadAt, AreToldFor}
 
 -- ---- lists side by side
 
@@ -70,10 +71,6 @@ record IsFound (ts : Tokens) (start : ℕ) (t : Tree) : Type 0 where
 
 later : {ts us : Tokens} → LeadsTo ts us → (start : ℕ) (t : Tree) → IsFound us start t → IsFound ts start t
 later p start t f = record { from = f.from; leads = through p f.leads; depth = f.depth; first = f.first; kept = f.kept }
-
-counted : {ts us : Tokens} → LeadsTo ts us → (n : ℕ) × (left_behind n ts ≡ us)
-counted here = (0, refl)
-counted (further p) = let c = counted p in (suc c.0, c.1)
 
 read_at : (ts : Tokens) (start : ℕ) (t : Tree) → IsFound ts start t → IsReadAt ts start t
 read_at ts start t f =
