@@ -99,6 +99,14 @@ data SameRead {A : Type 0} (b : Bodies) (e e' : Tokens) (p q : A × Tokens) : Ty
   went : Gone b e → SameRead b e e' p q
   read : q.0 ≡ p.0 → Goes b e.past e'.past p.1 q.1 → SameRead b e e' p q
 
+by_read : {A P : Type 0} {b : Bodies} {e e' : Tokens} {p q : A × Tokens} → SameRead b e e' p q → (Gone b e → P) → (q.0 ≡ p.0 → Goes b e.past e'.past p.1 q.1 → P) → P
+by_read (went g) lost kept = lost g
+by_read (read v g) lost kept = kept v g
+
+goes_beyond : (b : Bodies) {end end' : ℕ} {ts us vs ws : Tokens} → Beside b ts us → Goes b end end' vs ws → Goes b end end' (beyond ts.past vs) (beyond us.past ws)
+goes_beyond b {ts = ts} {us = us} h (beside m) = beside (beyond_beside b ts us _ _ h m)
+goes_beyond b {ts = ts} {us = us} h (over o) = over (over_on o (beyond_leads ts.past _) (beyond_leads us.past _))
+
 module _ (b : Bodies) (n : NewBehind b) (e e' : Tokens) (ends : Beside b e e') where
   -- what is read behind the attributes
   attributes_go : {A : Type 0} (ts us : Tokens) (p q : A × Tokens) → Beside b ts us → (Gone b e → SameRead b e e' p q) → (AreOver e.past e'.past (outer_attributes ts).1 (outer_attributes us).1 → SameRead b e e' p q)
@@ -133,27 +141,11 @@ module _ (b : Bodies) (n : NewBehind b) (e e' : Tokens) (ends : Beside b e e') w
   fields_from zero done done' ts us d g = same d
   fields_from (suc k) done done' ts us d (over o) = rw (over_ends e.past ts (behind_at e.past _ _ o.old), over_ends e'.past us (behind_at e'.past _ _ o.new)) (same d)
   fields_from (suc k) done done' ts us d (beside h) =
-      when (are_over e.past ts) (λ t. rw (over_same ts us h, t) (same d)) (λ t. rw (over_same ts us h, t) (by (field_read ts us h)))
-    where
-      more : List (Option Visibility)
-      more = done ++ (field e.past ts).0 ∷ []
-
-      more' : List (Option Visibility)
-      more' = done' ++ (field e'.past us).0 ∷ []
-
-      next : Tokens
-      next = beyond ts.past (field e.past ts).1
-
-      next' : Tokens
-      next' = beyond us.past (field e'.past us).1
-
-      go : Goes b e.past e'.past (field e.past ts).1 (field e'.past us).1 → Goes b e.past e'.past next next'
-      go (beside m) = beside (beyond_beside b ts us _ _ h m)
-      go (over o) = over (over_on o (beyond_leads ts.past _) (beyond_leads us.past _))
-
-      by : SameRead b e e' (field e.past ts) (field e'.past us) → Same b e (turns_from (are_over e.past) (one (field e.past)) k more next).0 (turns_from (are_over e'.past) (one (field e'.past)) k more' next').0
-      by (went g) = into g
-      by (read v g) = fields_from k more more' next next' (ap (λ l. l ++ (field e'.past us).0 ∷ []) d ∙ ap (λ o. done ++ o ∷ []) v) (go g)
+      when (are_over e.past ts) (λ t. rw (over_same ts us h, t) (same d))
+      (λ t. rw (over_same ts us h, t)
+      (by_read (field_read ts us h) (λ g. into g)
+      (λ v g. fields_from k (done ++ (field e.past ts).0 ∷ []) (done' ++ (field e'.past us).0 ∷ []) (beyond ts.past (field e.past ts).1) (beyond us.past (field e'.past us).1)
+      (ap (λ l. l ++ (field e'.past us).0 ∷ []) d ∙ ap (λ o. done ++ o ∷ []) v) (goes_beyond b h g))))
 
   same_fields : (ts us : Tokens) → Beside b ts us → Same b e (fields e.past ts).0 (fields e'.past us).0
   unfolding fields turns
@@ -177,7 +169,7 @@ module _ (b : Bodies) (n : NewBehind b) (e e' : Tokens) (ends : Beside b e e') w
 -- from where a struct's header ends on, which ends before its braces, if it ends with some
 abbrev pub header_rest : Option Tokens → Tokens → Tokens
 header_rest None ts = ts
-header_rest (Some block) ts = block
+header_rest (Some opened) ts = opened
 
 -- the fields of both are the same, or the one header goes into the braces
 pub data SameFields (b : Bodies) (o : Option Tokens) (es : Tokens) (f f' : FieldsView) : Type 0 where
@@ -205,5 +197,5 @@ item_gone b end l (block t before some close) g =
     let later = behind_at (suc b.opening.at) t.past t.left g.over in
     record {
       gone = gone_on (gone_on g (bumped_leads t)) (takes_leads close);
-      free = λ s e z. let same : t ≡ s = cc in let here : at t ≡ b.opening.at = ap at same ∙ z in absurd (omega arith);
+      free = λ s e z. let equal : t ≡ s = cc in let there : at t ≡ b.opening.at = ap at equal ∙ z in absurd (omega arith);
     }
