@@ -14,12 +14,6 @@ pub mod Bodiless
 pub mod UntilFields
 pub mod UntilLeaves
 pub mod UntilItems
-pub mod NearFronts
-pub mod NearLeaves
-pub mod NearItems
-pub mod NearTurns
-pub mod Inner
-pub mod Alone
 pub mod Within
 pub mod Told
 pub mod Moving

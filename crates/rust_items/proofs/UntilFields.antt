@@ -74,7 +74,7 @@ over_on {end} {end'} o p q = record { old = over_leads end p o.old; new = over_l
 
 lower : (low low' past : ℕ) (left : List Piece) → low' ≤ low → AreBehind low past left → AreBehind low' past left
 lower low low' past [] l h = omega arith
-lower low low' past (t ∷ left) l h = let first : low ≤ past = h.0 in (omega arith, lower low low' (end_of t) left l h.1)
+lower low low' past (t ∷ left) l h = let first : low ≤ past = h.0.0 in let begins : low ≤ t.at = h.0.1 in ((omega arith, omega arith), lower low low' (end_of t) left l h.1)
 
 -- both headers end before the `{`, or the one behind it
 data Lies (b : Bodies) (e e' : Tokens) : Type 0 where
