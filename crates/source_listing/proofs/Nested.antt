@@ -89,10 +89,11 @@ module _ (s : Source) (x : Reading) (reserved : List (List ℕ)) (places : List 
 -- ---- under printers
 
 -- of all ids by a printer that is made for a file
-pub objects_are : (s : Source) (places : List ItemPlace) (edition : Edition) (p : Printer) (x : Reading) (c : Choice) (u : Unfolding) (a : Bool) (is : List ℕ) (ds : List Data) → IsPrinterOf s places edition p
-    → StandFor u is u.forest → a ≡ is_file_enabled u → ds ≡ flat_map (objects_at (file_of p) x (reserved_of p) (places_of p) c u 0 a) is → ds ≡ tree_objects s x edition.reserved.items places c u
-objects_are s places edition p x c u a is ds h f t e =
-    e ∙ ids_objects (file_of p) x (reserved_of p) (places_of p) c u 0 a is u.forest f
+pub objects_are : (s : Source) (places : List ItemPlace) (edition : Edition) (p : Printer) (x : Reading) (c : Choice) (u : Unfolding) (a : Bool) (is : List ℕ) (none ds : List Data) → IsPrinterOf s places edition p
+    → StandFor u is u.forest → a ≡ is_file_enabled u → none ≡ [] → ds ≡ none ++ flat_map (objects_at (file_of p) x (reserved_of p) (places_of p) c u 0 a) is → ds ≡ tree_objects s x edition.reserved.items places c u
+objects_are s places edition p x c u a is none ds h f t g e =
+    e ∙ ap (λ xs. xs ++ flat_map (objects_at (file_of p) x (reserved_of p) (places_of p) c u 0 a) is) g
+    ∙ ids_objects (file_of p) x (reserved_of p) (places_of p) c u 0 a is u.forest f
     ∙ ap (λ b. forest_objects (file_of p) x (reserved_of p) (places_of p) c 0 b u.forest) t
     ∙ ap (λ file. tree_objects file x (reserved_of p) (places_of p) c u) (file_is s places edition p h)
     ∙ ap (λ (z : Edition). tree_objects s x z.reserved.items (places_of p) c u) h.1

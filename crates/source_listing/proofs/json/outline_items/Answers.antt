@@ -1,4 +1,4 @@
-use Rattle.std.proofs.Common.{map}
+use Rattle.std.proofs.Common.{ap, map}
 use Rattle.std.specs.Prelude.{option_copied}
 use Rattle.serde_json.specs.View.{view}
 use Rattle.source_listing.specs.Outlines.{reading}
@@ -11,4 +11,5 @@ returns c =
     let s = source_view c.args.source in
     let edition = c.args.edition.now in
     objects_are s c.args.places.now edition c.new-printer.result (reading s edition.year (option_copied c.args.members)) (choice_view c.args.choice) c.args.tree.now c.is_file_enabled.result c.top_level_items.result.now
-    (map view c.push_objects.new.out.items) c.new-printer.ensures c.top_level_items.ensures.stand c.is_file_enabled.ensures c.in_ok-push_objects.ensures.objects
+    (map view c.new-items.result.items) (map view c.push_objects.new.out.items) c.new-printer.ensures c.top_level_items.ensures.stand c.is_file_enabled.ensures (ap (map view) c.new-items.ensures.items)
+    c.in_ok-push_objects.ensures.objects
