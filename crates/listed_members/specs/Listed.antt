@@ -72,7 +72,7 @@ members_of x p is_active = members_by x.options x.edition x.text p is_active
 
 -- what an impl is told by: the type, or the trait and the type
 abbrev pub impl_header : EditionYear → List ℕ → AstIdKind → Option ItemPlace → List ℕ
-impl_header edition text kind.Impl (Some p) = header edition (text_at text p.range)
+impl_header edition text kind.Impl (Some p) = header edition text p.range p.body
 impl_header edition text _ _ = []
 
 abbrev pub header_of : Reading → AstIdKind → Option ItemPlace → List ℕ

@@ -6,7 +6,7 @@ ghost use Rattle.listed_members.specs.Views.{listed_view, reading_view};
 use crate::listed::{Around, ListedMember, listed_members};
 use hir_input::{AstIdKind, CfgOptions, EditionYear};
 use rust_items::ItemPlace;
-use source_rows::{header, text_at};
+use source_rows::header;
 use std::alloc::{AllocError, Global};
 
 /// A text of an edition, and the cfgs that are set, where members are asked for.
@@ -30,7 +30,7 @@ impl Reading<'_> {
     {
         match (kind, place) {
             (AstIdKind::Impl, Some(place)) => {
-                header(alloc, text_at(self.text, place.range), self.edition)
+                header(alloc, self.text, self.edition, place.range, place.body)
             }
             _ => Ok(String::new(alloc)),
         }

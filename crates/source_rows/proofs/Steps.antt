@@ -1,18 +1,17 @@
 -- Steps of what is done in turns.
 use Rattle.std.proofs.Common.{◌≡◌, ◌<◌, ◌≤◌, ◌+◌, ℕ, suc, true, false, List, [], ◌∷◌, ◌++◌, length, map, drop, get_or, refl, ap, sym, ◌∙◌, arith, append_assoc, append-nil}
-use Rattle.std.specs.Prelude.{◌||◌, Bool, nat_le}
+use Rattle.std.specs.Prelude.{Option, Bool, nat_le}
 use Rattle.std.proofs.Math.Seq.{drop-cons}
 use Rattle.std.proofs.lemmas.Bool.Decides.{nat_tests}
 use Rattle.hir_input.specs.declared.edition.EditionYear.{EditionYear}
 use Rattle.rust_lexer.specs.Piece.{Piece}
-use Rattle.rust_lexer.specs.Symbol.{symbol_of}
 use Rattle.rust_cursor.specs.Tokens.{Tokens}
-use Rattle.rust_cursor.specs.Words.{by_first, rest, word_by, symbol, word, text, is_empty, bumped}
+use Rattle.rust_cursor.specs.Words.{symbol, text, is_empty, bumped}
+use Rattle.rust_cursor.proofs.Nesting.{not_first}
 use Rattle.source_skeleton.specs.declared.kept.Hole.{Hole}
 use Rattle.source_rows.specs.declared.items.Part as code_part
 use Rattle.rust_items.specs.declared.source_file.ItemPlace.{ItemPlace}
-use Rattle.source_rows.specs.Headers.{gap, ends_before, spaced}
-use Rattle.source_rows.specs.Inner.{is_end}
+use Rattle.source_rows.specs.Headers.{gap, is_over, reach_behind, spaced, spaced_from}
 use Rattle.source_rows.specs.Labels.{Around}
 use Rattle.source_rows.specs.Parts.{Part, still_open, parts_of, behind, parts_from}
 use Rattle.source_rows.specs.Rows.{outside, begun}
@@ -20,31 +19,26 @@ use Rattle.source_rows.specs.Views.{part_view}
 
 -- ---- headers
 
-over : (done : List ℕ) (before : ℕ) (left : List Piece) → (by_first true (λ _. false) left || ends_before done (by_first 0 symbol_of left) (by_first [] (λ t. word_by t.kind t.text) left)) ≡ true → spaced done before left ≡ done
-over done before [] e = refl
-over done before (t ∷ ts) e = rw e refl
+stop_from : (is_cut : Bool) (reach : ℕ) (done : List ℕ) (before : ℕ) (ts : Tokens) (left : List Piece) → is_over is_cut reach done ts ≡ true → spaced_from is_cut reach done before ts left ≡ done
+stop_from is_cut reach done before ts [] e = refl
+stop_from is_cut reach done before ts (t ∷ more) e = rw e refl
 
-pub spaced_stop : (done : List ℕ) (before : ℕ) (ts : Tokens) → is_end done ts ≡ true → spaced done before ts.left ≡ done
-unfolding symbol word is_empty
-spaced_stop done before ts e = over done before ts.left e
+pub spaced_stop : (is_cut : Bool) (reach : ℕ) (done : List ℕ) (before : ℕ) (ts : Tokens) → is_over is_cut reach done ts ≡ true → spaced is_cut reach done before ts ≡ done
+spaced_stop is_cut reach done before ts e = stop_from is_cut reach done before ts ts.left e
 
-further : (done : List ℕ) (before : ℕ) (left : List Piece) → (by_first true (λ _. false) left || ends_before done (by_first 0 symbol_of left) (by_first [] (λ t. word_by t.kind t.text) left)) ≡ false
-    → spaced done before left ≡ spaced (done ++ (gap before (by_first 0 symbol_of left) ++ by_first [] (λ t. t.text) left)) (by_first 0 symbol_of left) (rest left)
-further done before [] e = absurd cc
-further done before (t ∷ ts) e = rw e refl
+more_from : (is_cut : Bool) (reach : ℕ) (done : List ℕ) (before past : ℕ) (left : List Piece) (u : Option ℕ) (y : EditionYear) → (let here : Tokens = record { past = past; left = left; unended = u; edition = y } in
+    is_over is_cut reach done here ≡ false → spaced is_cut reach done before here ≡ spaced is_cut (reach_behind reach here) (done ++ (gap before here ++ text here)) (symbol here) (bumped here))
+unfolding is_empty bumped
+more_from is_cut reach done before past [] u y e = absurd cc
+more_from is_cut reach done before past (t ∷ ts) u y e = rw e refl
 
-pub spaced_more : (done : List ℕ) (before : ℕ) (ts : Tokens) → is_end done ts ≡ false → spaced done before ts.left ≡ spaced (done ++ (gap before (symbol ts) ++ text ts)) (symbol ts) (bumped ts).left
-unfolding symbol word text is_empty bumped
-spaced_more done before ts e = further done before ts.left e
-
-going : (left : List Piece) (test : Bool) → (by_first true (λ _. false) left || test) ≡ false → by_first true (λ _. false) left ≡ false
-going [] test e = absurd cc
-going (t ∷ ts) test e = refl
+pub spaced_more : (is_cut : Bool) (reach : ℕ) (done : List ℕ) (before : ℕ) (ts : Tokens) → is_over is_cut reach done ts ≡ false
+    → spaced is_cut reach done before ts ≡ spaced is_cut (reach_behind reach ts) (done ++ (gap before ts ++ text ts)) (symbol ts) (bumped ts)
+spaced_more is_cut reach done before ts e = more_from is_cut reach done before ts.past ts.left ts.unended ts.edition e
 
 -- a header that is not over has a token
-pub end_some : (done : List ℕ) (ts : Tokens) → is_end done ts ≡ false → is_empty ts ≡ false
-unfolding symbol word is_empty
-end_some done ts e = going ts.left _ e
+pub end_some : (is_cut : Bool) (reach : ℕ) (done : List ℕ) (ts : Tokens) → is_over is_cut reach done ts ≡ false → is_empty ts ≡ false
+end_some is_cut reach done ts e = not_first (is_empty ts) _ e
 
 -- ---- lists
 

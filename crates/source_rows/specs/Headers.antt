@@ -1,39 +1,63 @@
 -- What items without a name are called by: what stands behind the words that begin them.
-use Rattle.std.specs.Prelude.{ℕ, Bool, ◌==◌, ◌&&◌, ◌||◌, not, if◌then◌else◌, List, [], ◌∷◌, ◌++◌, length, codes}
+use Rattle.std.specs.Prelude.{ℕ, Bool, true, false, ◌==◌, ◌&&◌, ◌||◌, not, if◌then◌else◌, List, [], ◌∷◌, ◌++◌, length, codes, nat_lt, Option, Some, None}
 use Rattle.std.specs.Str.{bytes_eq}
 use Rattle.hir_input.specs.declared.edition.EditionYear.{EditionYear}
 use Rattle.rust_lexer.specs.Piece.{Piece}
-use Rattle.rust_lexer.specs.Symbol.{symbol_of}
-use Rattle.rust_cursor.specs.Tokens.{tokens_of}
-use Rattle.rust_cursor.specs.Words.{word_by}
+use Rattle.rust_cursor.specs.Tokens.{Tokens, tokens_of}
+use Rattle.rust_cursor.specs.Words.{symbol, word, text, is_empty, is_at_open, bumped}
+use Rattle.rust_cursor.specs.Brackets.{behind_tree}
 use Rattle.rust_cursor.specs.Angles.{behind_angles}
 use Rattle.rust_leaves.specs.Fronts.{front}
+use Rattle.rust_paths.specs.declared.names.TextRange.{TextRange}
+use Rattle.source_rows.specs.Labels.{text_at}
 
 -- no blank stands behind `<`, `(`, `[`, `&`, `!` and `:`
 abbrev pub clings_behind : ℕ → Bool
 clings_behind c = c == 60 || (c == 40 || (c == 91 || (c == 38 || (c == 33 || c == 58))))
 
--- nor before `<`, `>`, `)`, `(`, `]`, `,` and `:`
+-- nor before `<`, `>`, `)`, `(`, `]`, `,`, `;` and `:`
 abbrev pub clings_before : ℕ → Bool
-clings_before c = c == 60 || (c == 62 || (c == 41 || (c == 40 || (c == 93 || (c == 44 || c == 58)))))
+clings_before c = c == 60 || (c == 62 || (c == 41 || (c == 40 || (c == 93 || (c == 44 || (c == 59 || c == 58))))))
 
--- what stands between two tokens of these symbols
-abbrev pub gap : ℕ → ℕ → List ℕ
-gap before after = if clings_behind before || clings_before after then [] else 32 ∷ []
+-- the `!` of a macro call comes next
+abbrev pub is_call : Tokens → Bool
+is_call ts = symbol ts == 33 && is_at_open (bumped ts)
 
--- a header, of which this is done, ends before a token of this symbol or word: before `{`, `;`, `=`, `where`, and a `!` that is not its first token
-abbrev pub ends_before : List ℕ → ℕ → List ℕ → Bool
-ends_before done symbol word =
-    symbol == 123 || (symbol == 59 || (symbol == 61 || ((symbol == 33 && not (length done == 0)) || bytes_eq word (codes "where"))))
+-- what stands between a token of this symbol and the next
+abbrev pub gap : ℕ → Tokens → List ℕ
+gap before ts = if clings_behind before || (clings_before (symbol ts) || is_call ts) then [] else 32 ∷ []
 
-abbrev pub is_header_end : List ℕ → Piece → Bool
-is_header_end done t = ends_before done (symbol_of t) (word_by t.kind t.text)
+-- what can follow a header, of which this is done: `{`, `;`, `=`, and a `!` that is not its first token
+abbrev pub can_follow : List ℕ → ℕ → Bool
+can_follow done c = c == 123 || (c == 59 || (c == 61 || (c == 33 && not (length done == 0))))
 
--- the texts of tokens behind others, the last of which has this symbol
-abbrev pub spaced : List ℕ → ℕ → List Piece → List ℕ
-spaced done before [] = done
-spaced done before (t ∷ ts) = if is_header_end done t then done else spaced (done ++ (gap before (symbol_of t) ++ t.text)) (symbol_of t) ts
+-- A header ends before `where`; and before what can follow it, but for that of an impl whose braces are known: those are not among its tokens.
+abbrev pub ends_before : Bool → List ℕ → Tokens → Bool
+ends_before is_cut done ts = bytes_eq (word ts) (codes "where") || (not is_cut && can_follow done (symbol ts))
 
--- the header of an item, which this is the text of
-unfoldable pub header : EditionYear → List ℕ → List ℕ
-header edition item = spaced [] 60 (behind_angles (front (tokens_of edition item)).1).left
+-- it is over: what comes next ends it, and does not stand in brackets, which reach up to this place
+abbrev pub is_over : Bool → ℕ → List ℕ → Tokens → Bool
+is_over is_cut reach done ts = if is_empty ts then true else (if nat_lt ts.past reach then false else ends_before is_cut done ts)
+
+-- up to where brackets reach behind the next token
+abbrev pub reach_behind : ℕ → Tokens → ℕ
+reach_behind reach ts = if nat_lt ts.past reach then reach else (behind_tree ts).past
+
+-- the texts of tokens behind others, the last of which has this symbol; at most as many as a token is in this list
+abbrev pub spaced_from : Bool → ℕ → List ℕ → ℕ → Tokens → List Piece → List ℕ
+spaced_from is_cut reach done before ts [] = done
+spaced_from is_cut reach done before ts (_ ∷ more) =
+    if is_over is_cut reach done ts then done
+    else spaced_from is_cut (reach_behind reach ts) (done ++ (gap before ts ++ text ts)) (symbol ts) (bumped ts) more
+
+abbrev pub spaced : Bool → ℕ → List ℕ → ℕ → Tokens → List ℕ
+spaced is_cut reach done before ts = spaced_from is_cut reach done before ts ts.left
+
+-- the header of an item, which this is the text of, or what of it stands before its braces
+unfoldable pub header_in : Bool → EditionYear → List ℕ → List ℕ
+header_in is_cut edition item = spaced is_cut 0 [] 60 (behind_angles (front (tokens_of edition item)).1)
+
+-- the header of an item that stands there in a text; if it is an impl whose braces are known, they are these
+abbrev pub header : EditionYear → List ℕ → TextRange → Option TextRange → List ℕ
+header edition text range None = header_in false edition (text_at text range)
+header edition text range (Some braces) = header_in true edition (text_at text (record { start = range.start; end = braces.start }))

@@ -3,4 +3,3 @@ pub mod Headers
 pub mod Parts
 pub mod Rows
 pub mod Views
-pub mod Inner

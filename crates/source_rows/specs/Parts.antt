@@ -63,10 +63,15 @@ member_parts edition text path s = map (member_part text path) (members_in editi
 
 -- ---- items
 
+-- the braces of an impl alone
+abbrev pub impl_braces : AstIdKind → Option TextRange → Option TextRange
+impl_braces kind.Impl body = body
+impl_braces _ body = None
+
 -- an item's name as it is written; without one, its header
-abbrev pub name_of : EditionYear → List ℕ → TextRange → Option TextRange → List ℕ
-name_of edition text range None = header edition (text_at text range)
-name_of edition text range (Some name) = text_at text name
+abbrev pub name_of : EditionYear → List ℕ → ItemPlace → Option TextRange → List ℕ
+name_of edition text s None = header edition text s.range (impl_braces s.id.kind s.body)
+name_of edition text s (Some name) = text_at text name
 
 -- the braces of a function alone
 abbrev pub fn_body : AstIdKind → Option TextRange → Option TextRange
@@ -83,7 +88,7 @@ item_part path s = record {
 }
 
 abbrev pub item_path : EditionYear → List ℕ → List Around → ItemPlace → List ℕ
-item_path edition text around s = path_of around ++ name_of edition text s.range s.name
+item_path edition text around s = path_of around ++ name_of edition text s s.name
 
 -- an item, and behind it its members
 abbrev pub parts_of : EditionYear → List ℕ → List Around → ItemPlace → List Part

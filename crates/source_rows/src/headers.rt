@@ -1,13 +1,14 @@
 //! What items without a name are called by.
 
-ghost use Rattle.std.specs.Prelude.{◌≡◌, ◌++◌, IfOk, OnOk, string_bytes};
-ghost use Rattle.rust_cursor.specs.Words.{symbol, text};
+ghost use Rattle.std.specs.Prelude.{◌≡◌, ◌++◌, [], IfOk, OnOk, string_bytes};
+ghost use Rattle.rust_cursor.specs.Words.{text};
 ghost use Rattle.source_rows.specs.Headers as spec;
-ghost use Rattle.source_rows.specs.Inner as inner;
 
+use crate::labels::text_at;
 use hir_input::EditionYear;
 use rust_cursor::Cursor;
 use rust_leaves::take_front;
+use rust_members::TextRange;
 use std::alloc::{AllocError, Global};
 
 fn clings_behind(symbol: u8) -> bool
@@ -19,59 +20,130 @@ fn clings_behind(symbol: u8) -> bool
 fn clings_before(symbol: u8) -> bool
     ensures { result ≡ spec.clings_before symbol }
 {
-    matches!(symbol, b'<' | b'>' | b')' | b'(' | b']' | b',' | b':')
+    matches!(
+        symbol,
+        b'<' | b'>' | b')' | b'(' | b']' | b',' | b';' | b':'
+    )
+}
+
+/// Whether the `!` of a macro call comes next.
+fn is_call(cursor: &Cursor<'_>) -> bool
+    ensures { result ≡ spec.is_call cursor.now }
+{
+    if cursor.symbol() != b'!' {
+        return false;
+    }
+    let mut behind = cursor.ahead();
+    behind.bump();
+    behind.is_at_open()
 }
 
 /// Adds the text of the next token, behind one of this symbol.
 fn push_token(out: &mut String, before: u8, cursor: &Cursor<'_>) -> Result<(), AllocError>
-    ensures { OnOk result (string_bytes out.new ≡ string_bytes out.old ++ (spec.gap before (symbol cursor.now) ++ text cursor.now)) }
+    ensures { OnOk result (string_bytes out.new ≡ string_bytes out.old ++ (spec.gap before cursor.now ++ text cursor.now)) }
 {
-    if clings_behind(before) || clings_before(cursor.symbol()) {
+    if clings_behind(before) || clings_before(cursor.symbol()) || is_call(cursor) {
         return out.push_str(cursor.text());
     }
     out.push_str(" ")?;
     out.push_str(cursor.text())
 }
 
-/// Whether a header ends before the next token.
-fn is_end(out: &str, cursor: &Cursor<'_>) -> bool
-    ensures { result ≡ inner.is_end out.now cursor.now }
+/// Whether this symbol can follow a header, of which this is done.
+fn can_follow(out: &str, symbol: u8) -> bool
+    ensures { result ≡ spec.can_follow out.now symbol }
+{
+    match symbol {
+        b'{' | b';' | b'=' => true,
+        b'!' => !out.is_empty(),
+        _ => false,
+    }
+}
+
+fn ends_before(is_cut: bool, out: &str, cursor: &Cursor<'_>) -> bool
+    ensures { result ≡ spec.ends_before is_cut out.now cursor.now }
+{
+    if cursor.word() == "where" {
+        return true;
+    }
+    !is_cut && can_follow(out, cursor.symbol())
+}
+
+/// Whether a header, of which this is done, is over, where brackets reach up to a place.
+fn is_over(is_cut: bool, reach: usize, out: &str, cursor: &Cursor<'_>) -> bool
+    ensures { result ≡ spec.is_over is_cut reach out.now cursor.now }
 {
     if cursor.is_empty() {
         return true;
     }
-    let symbol = cursor.symbol();
-    if symbol == b'{' || symbol == b';' || symbol == b'=' {
-        return true;
+    cursor.past() >= reach && ends_before(is_cut, out, cursor)
+}
+
+/// Up to where brackets reach behind the next token.
+fn reach_behind(reach: usize, cursor: &Cursor<'_>) -> usize
+    ensures { result ≡ spec.reach_behind reach cursor.now }
+{
+    if cursor.past() < reach {
+        return reach;
     }
-    if symbol == b'!' && !out.is_empty() {
-        return true;
-    }
-    cursor.word() == "where"
+    let mut behind = cursor.ahead();
+    behind.pass_tree();
+    behind.past()
 }
 
 #[tactic(auto, using(crate::proofs::Steps::spaced_stop, crate::proofs::Steps::spaced_more))]
-fn spaced(alloc: Global, cursor: &mut Cursor<'_>) -> Result<String, AllocError>
-    ensures { IfOk result (λ out. string_bytes out ≡ inner.header_of cursor.old) }
+fn spaced(alloc: Global, is_cut: bool, cursor: &mut Cursor<'_>) -> Result<String, AllocError>
+    ensures { IfOk result (λ out. string_bytes out ≡ spec.spaced is_cut 0 [] 60 cursor.old) }
 {
     let mut out = String::new(alloc);
     let mut before = b'<';
-    'tokens: while !is_end(&out, cursor) {
+    let mut reach = 0;
+    'tokens: while !is_over(is_cut, reach, &out, cursor) {
         push_token(&mut out, before, cursor)?;
         before = cursor.symbol();
+        reach = reach_behind(reach, cursor);
         cursor.bump();
     }
     Ok(out)
 }
 
-/// The header of an item, of which this is the text: what stands behind the words that begin it and their generics, up to
-/// its braces, its `where` or its `=`, as `Display for Circle` of an impl. The only error is want of memory.
-#[tactic(auto, unfolding(crate::specs::Headers::header))]
-pub fn header(alloc: Global, item: &str, edition: EditionYear) -> Result<String, AllocError>
-    ensures { IfOk result (λ out. string_bytes out ≡ spec.header edition item.now) }
+#[tactic(auto, unfolding(crate::specs::Headers::header_in))]
+fn header_in(
+    alloc: Global,
+    is_cut: bool,
+    item: &str,
+    edition: EditionYear,
+) -> Result<String, AllocError>
+    ensures { IfOk result (λ out. string_bytes out ≡ spec.header_in is_cut edition item.now) }
 {
     let mut cursor = Cursor::new(item, edition);
     let _front = take_front(alloc, &mut cursor)?;
     cursor.pass_angles();
-    spaced(alloc, &mut cursor)
+    spaced(alloc, is_cut, &mut cursor)
+}
+
+/// The header of an item that stands in this range of a text: what stands behind the words that begin it and their generics, as
+/// `Display for Circle` of an impl.
+///
+/// The braces are those of an impl, if they are known: its header ends there or at its `where`. Any other also ends at a `{`, a
+/// `;`, a `=` and a `!` that is not its first token. The only error is want of memory.
+pub fn header(
+    alloc: Global,
+    text: &str,
+    edition: EditionYear,
+    range: TextRange,
+    braces: Option<TextRange>,
+) -> Result<String, AllocError>
+    ensures { IfOk result (λ out. string_bytes out ≡ spec.header edition text.now range braces) }
+{
+    match braces {
+        Some(braces) => {
+            let front = TextRange {
+                start: range.start,
+                end: braces.start,
+            };
+            header_in(alloc, true, text_at(text, front), edition)
+        }
+        None => header_in(alloc, false, text_at(text, range), edition),
+    }
 }

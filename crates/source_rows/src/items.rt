@@ -128,6 +128,15 @@ pub fn members_in(
     }
 }
 
+fn impl_braces(kind: AstIdKind, body: Option<TextRange>) -> Option<TextRange>
+    ensures { result ≡ spec.impl_braces kind body }
+{
+    match kind {
+        AstIdKind::Impl => body,
+        _ => None,
+    }
+}
+
 fn push_name(
     alloc: Global,
     text: &str,
@@ -135,13 +144,14 @@ fn push_name(
     item: &ItemPlace,
     out: &mut String,
 ) -> Result<(), AllocError>
-    ensures { let name = spec.name_of edition text.now item.now.range item.now.name in
+    ensures { let name = spec.name_of edition text.now item.now item.now.name in
         OnOk result (string_bytes out.new ≡ string_bytes out.old ++ name) }
 {
     match item.name {
         Some(name) => out.push_str(text_at(text, name)),
         None => {
-            let header = header(alloc, text_at(text, item.range), edition)?;
+            let braces = impl_braces(item.id.kind, item.body);
+            let header = header(alloc, text, edition, item.range, braces)?;
             out.push_str(&header)
         }
     }

@@ -6,6 +6,6 @@ use Rattle.source_rows.proofs.headers.spaced.Goals as goal
 
 pub tokens-smaller : goal.tokens-smaller
 tokens-smaller c =
-    let some = end_some _ c.tokens.cursor (sym c.is_end.ensures ∙ c.tokens-test.true) in
+    let some = end_some _ _ _ c.tokens.cursor (sym c.is_over.ensures ∙ c.tokens-test.true) in
     let less = shorter c.tokens.cursor some in
     subst (λ (us : Tokens). length us.left < length c.tokens.cursor.left) (sym c.bump.ensures) (omega (arith, less))
