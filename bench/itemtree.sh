@@ -24,4 +24,5 @@ best() {
 
 best 'ctags' ctags --languages=Rust -f "$work/ctags.out" -R "$folder"
 best 'itemtree tags' "$program" tags -o "$work/tags.out" "$folder"
+best 'tags --no-members' "$program" tags --no-members -o "$work/tags.out" "$folder"
 best 'itemtree outline' "$program" outline "$folder"

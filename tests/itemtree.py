@@ -71,6 +71,16 @@ def check_vim(folder):
     tell(got.split() == ['5'], 'vim -t Circle', got, '5\n')
 
 
+def check_ctags(folder):
+    """The tags of a file are those of Universal Ctags, where there is nothing in it in which docs/ITEMTREE.md says that they differ."""
+    if shutil.which('ctags') is None or 'Universal Ctags' not in run('ctags --version', folder):
+        print('itemtree: Universal Ctags is not here, so no tags are compared with its own')
+        return
+    wanted = run('ctags --kinds-Rust=-c --excmd=number -f - tagged.rs', folder)
+    got = run("itemtree tags -o - tagged.rs | grep -v '^!_TAG'", folder)
+    tell(got == wanted, 'the tags of Universal Ctags', got, wanted)
+
+
 def check_request(folder):
     """The program over JSON answers a request with the page that `itemtree page` writes."""
     wanted = run('itemtree page known.rs', folder)
@@ -115,6 +125,7 @@ def main():
         check_long_line(folder)
         check_closed_pipe(folder)
         check_vim(folder)
+        check_ctags(folder)
         check_progress(folder)
         check_request(folder)
     print(f'itemtree: {passed} passed, {failed} failed')

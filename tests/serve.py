@@ -1044,7 +1044,7 @@ def check_text(server, program, path, file, cfg):
 
 
 def check_names(server, program, outlines, paths):
-    """Each name is found at exactly the items that have it, and where `itemtree find` finds it."""
+    """Each name is found at exactly the items that have it, and where `itemtree find --no-members` finds it."""
     wanted = collections.defaultdict(list)
     for file, outline in enumerate(outlines):
         for item in all_items(outline):
@@ -1055,7 +1055,7 @@ def check_names(server, program, outlines, paths):
         tell([entry['file'] for entry in got] == [entry['file'] for entry in entries] and all(list(entry) == sorted(entry) for entry in got)
              and sorted(map(written, got)) == sorted(map(written, entries)), f'find {name}', got, entries)
     for name in ('f', 'area', 'Circle'):
-        lines = output(program, 'find', name, *paths).splitlines()
+        lines = output(program, 'find', '--no-members', name, *paths).splitlines()
         tell(len(lines) == len(wanted[name]), f'find {name}, and itemtree find', lines, wanted[name])
     got = server.ask({'shows': [{'show': 'find', 'name': 'nowhere'}]})
     tell(json.loads(got)['shows'] == [[]], 'find nowhere', got)

@@ -26,6 +26,10 @@ fn flag<'a>(alloc: Global, name: &'static str, help: &'static str) -> Arg<'a> {
         .help(help)
 }
 
+fn no_members<'a>(alloc: Global) -> Arg<'a> {
+    flag(alloc, "no-members", "Leave out the members of items")
+}
+
 fn option<'a>(
     alloc: Global,
     name: &'static str,
@@ -96,7 +100,6 @@ fn outline<'a>(alloc: Global) -> Result<Command<'a>, Error> {
         "json",
         "Write a JSON object for each file, on a line of its own",
     );
-    let no_members = flag(alloc, "no-members", "Leave out the members of items");
     let command = on_files(
         alloc,
         "outline",
@@ -104,7 +107,7 @@ fn outline<'a>(alloc: Global) -> Result<Command<'a>, Error> {
     )?
     .arg(depth)?
     .arg(json)?
-    .arg(no_members)?
+    .arg(no_members(alloc))?
     .arg(files(alloc))?;
     Ok(command)
 }
@@ -151,12 +154,13 @@ fn find<'a>(alloc: Global) -> Result<Command<'a>, Error> {
     let name = Arg::new(alloc, "name")
         .value_name("NAME")
         .required(true)
-        .help("a::b::f from a file's top; f or ::b::f at any depth");
+        .help("a::b::f from a file's top; f or ::b::f at any depth; T::f of an impl of T too");
     let command = on_files(
         alloc,
         "find",
         "Tells where a path of names is declared; status 1 where nowhere",
     )?
+    .arg(no_members(alloc))?
     .arg(name)?
     .arg(files(alloc))?;
     Ok(command)
@@ -174,6 +178,7 @@ fn tags<'a>(alloc: Global) -> Result<Command<'a>, Error> {
         "tags",
         "Writes a tags file, by which editors jump to names",
     )?
+    .arg(no_members(alloc))?
     .arg(output)?
     .arg(files(alloc))?;
     Ok(command)

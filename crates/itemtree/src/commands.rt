@@ -68,9 +68,11 @@ enum Action {
     Find {
         path: String,
         is_anywhere: bool,
+        has_members: bool,
     },
     Tags {
         lines: Vec<String>,
+        has_members: bool,
     },
     Check,
 }
@@ -99,17 +101,21 @@ impl Action {
             Action::Page { has_ids } => Ok((page(alloc, source.text, options, *has_ids)?, true)),
             Action::Imports => Ok((imports(alloc, source, options)?, true)),
             Action::Duplicates => Ok((duplicates(alloc, source, options)?, true)),
-            Action::Find { path, is_anywhere } => {
+            Action::Find {
+                path,
+                is_anywhere,
+                has_members,
+            } => {
                 let query = Query {
                     path: path.as_str(),
                     is_anywhere: *is_anywhere,
                     only_active: options.only_active,
                 };
-                Ok((find(alloc, source, options, query)?, true))
+                Ok((find(alloc, source, options, query, *has_members)?, true))
             }
-            Action::Tags { lines } => {
+            Action::Tags { lines, has_members } => {
                 let before = lines.len();
-                if let Err(error) = push_tags(alloc, source, options, lines) {
+                if let Err(error) = push_tags(alloc, source, options, *has_members, lines) {
                     lines.truncate(before);
                     return Err(error);
                 }
@@ -212,14 +218,22 @@ impl Run<'_> {
 
 /// A path of names, with two colons before each, and whether it may begin in any module: a name alone, and a path with two
 /// colons in front, may.
-fn path_of_names(alloc: Global, words: &str) -> Result<Action, AllocError> {
+fn path_of_names(alloc: Global, words: &str, has_members: bool) -> Result<Action, AllocError> {
     let mut path = String::from_str(alloc, "::")?;
     let (is_anywhere, names) = match words.strip_prefix("::") {
         Some(names) => (true, names),
         None => (!words.contains("::"), words),
     };
     path.push_str(names)?;
-    Ok(Action::Find { path, is_anywhere })
+    Ok(Action::Find {
+        path,
+        is_anywhere,
+        has_members,
+    })
+}
+
+fn has_members(matches: &ArgMatches<'_>) -> bool {
+    !matches.get_flag("no-members")
 }
 
 fn action_of(alloc: Global, name: &str, matches: &ArgMatches<'_>) -> Result<Action, AllocError> {
@@ -227,7 +241,7 @@ fn action_of(alloc: Global, name: &str, matches: &ArgMatches<'_>) -> Result<Acti
         "outline" => {
             let depth = matches.get_one::<usize>("depth");
             let is_json = matches.get_flag("json");
-            let has_members = !matches.get_flag("no-members");
+            let has_members = has_members(matches);
             Ok(Action::Outline {
                 depth,
                 has_members,
@@ -240,10 +254,14 @@ fn action_of(alloc: Global, name: &str, matches: &ArgMatches<'_>) -> Result<Acti
         }
         "imports" if matches.get_flag("duplicates") => Ok(Action::Duplicates),
         "imports" => Ok(Action::Imports),
-        "find" => path_of_names(alloc, matches.get_str("name").unwrap_or("")),
+        "find" => {
+            let words = matches.get_str("name").unwrap_or("");
+            path_of_names(alloc, words, has_members(matches))
+        }
         "tags" => {
             let lines = Vec::new(alloc);
-            Ok(Action::Tags { lines })
+            let has_members = has_members(matches);
+            Ok(Action::Tags { lines, has_members })
         }
         _ => Ok(Action::Check),
     }
@@ -259,7 +277,7 @@ fn finish(run: Run<'_>, matches: &ArgMatches<'_>) -> Result<u8, Failure> {
         ..
     } = run;
     match action {
-        Action::Tags { lines } => {
+        Action::Tags { lines, .. } => {
             write_tags(rt, matches.get_str("output").unwrap_or("tags"), lines)?;
             Ok(status)
         }

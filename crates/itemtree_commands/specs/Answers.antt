@@ -66,15 +66,17 @@ AreImports o s out = (t : SourceTree) × HasTree o s.text t × (out ≡ import_l
 abbrev pub AreRepeated : Options → Source → List ℕ → Type 0
 AreRepeated o s out = (t : SourceTree) × HasTree o s.text t × (out ≡ repeated_lines s o.edition.reserved.items (all_places t) t.tree.forest)
 
--- the lines of the items that are looked for
-abbrev pub AreFound : Options → Query → Source → List ℕ → Type 0
-AreFound o q s out =
-    (t : SourceTree) × HasTree o s.text t × (out ≡ found_lines s o.edition.reserved.items t.places.items q (rows t.tree))
+-- the lines of the items that are looked for, and of their members
+abbrev pub AreFound : Options → Bool → Query → Source → List ℕ → Type 0
+AreFound o has_members q s out =
+    (t : SourceTree) × HasTree o s.text t
+    × (out ≡ found_lines s (reading_in o has_members s) o.edition.reserved.items t.places.items q (rows t.tree))
 
 -- tags behind others
-abbrev pub AddsTags : Options → Source → List (List ℕ) → List (List ℕ) → Type 0
-AddsTags o s old new =
-    (t : SourceTree) × HasTree o s.text t × (new ≡ old ++ tags s t.places.items (choice o None) (rows t.tree))
+abbrev pub AddsTags : Options → Bool → Source → List (List ℕ) → List (List ℕ) → Type 0
+AddsTags o has_members s old new =
+    (t : SourceTree) × HasTree o s.text t
+    × (new ≡ old ++ tags s.path (reading_in o has_members s) t.places.items (choice o None) (rows t.tree))
 
 -- the debug page, with or without the lines of ids
 abbrev pub if_ids : Bool → List ℕ → List ℕ

@@ -10,6 +10,7 @@ ghost use Rattle.source_tree.specs.Trees.{HasOwnIds, IsUnread};
 
 use hir_input::{CfgOptions, Edition, Name};
 use item_tree::CrateData;
+use listed_members::Reading;
 use source_listing::{Choice, Query, Side, Source, without_ids};
 use source_problems::source_problems;
 use source_tree::{SourceError, SourceTree, source_file, source_tree};
@@ -172,7 +173,8 @@ pub fn page(
     Ok(page)
 }
 
-/// `itemtree find`: a line for each item that is looked for; empty where there is none.
+/// `itemtree find`: a line for each item that is looked for and each member of one, with or without members; empty where there
+/// is none.
 ///
 /// Its errors are those of `source_tree`.
 #[tactic(auto, using(source_tree::proofs::Refused::no_memory))]
@@ -181,21 +183,17 @@ pub fn find(
     source: Source<'_>,
     options: &Options,
     query: Query<'_>,
+    has_members: bool,
 ) -> Result<String, SourceError>
-    ensures text { let found = spec.AreFound options.now (query_view query.entry) (source_view source.entry) in
+    ensures text { let found = spec.AreFound options.now has_members (query_view query.entry) (source_view source.entry) in
         IfOk result (λ out. found (string_bytes out)) }
     ensures refused { IfErr result (spec.HasNoTree options.now source.entry.text.now) }
 {
     let file = read(alloc, source.text, options)?;
+    let members = options.members(has_members);
     let edition = &options.edition;
-    let text = source_listing::found_lines(
-        alloc,
-        source,
-        &file.places,
-        &file.tree,
-        edition,
-        query,
-    )?;
+    let (places, tree) = (&file.places, &file.tree);
+    let text = source_listing::found_lines(alloc, source, places, tree, edition, members, query)?;
     Ok(text)
 }
 
@@ -245,8 +243,8 @@ pub fn duplicates(
     Ok(text)
 }
 
-/// `itemtree tags`: adds the tags of the file. The tags before stay as they are, also at an error, where some of those of the
-/// file may stand behind them.
+/// `itemtree tags`: adds the tags of the file, with or without those of members. The tags before stay as they are, also at an
+/// error, where some of those of the file may stand behind them.
 ///
 /// Its errors are those of `source_tree`.
 #[tactic(auto, using(source_tree::proofs::Refused::no_memory, source_listing::proofs::Begins::begin_itself))]
@@ -254,16 +252,23 @@ pub fn push_tags(
     alloc: Global,
     source: Source<'_>,
     options: &Options,
+    has_members: bool,
     tags: &mut Vec<String>,
 ) -> Result<(), SourceError>
-    ensures tags { let added = spec.AddsTags options.now (source_view source.entry) in
+    ensures tags { let added = spec.AddsTags options.now has_members (source_view source.entry) in
         OnOk result (added (map string_bytes tags.old.items) (map string_bytes tags.new.items)) }
     ensures kept { IsBeginOf tags.old.items tags.new.items }
     ensures refused { IfErr result (spec.HasNoTree options.now source.entry.text.now) }
 {
     let file = read(alloc, source.text, options)?;
     let choice = options.choice(None);
-    source_listing::push_tags(alloc, source, &file.places, &file.tree, choice, tags)?;
+    let reading = Reading {
+        text: source.text,
+        edition: options.edition.year,
+        options: options.members(has_members),
+    };
+    let (places, tree) = (&file.places, &file.tree);
+    source_listing::push_tags(alloc, source.path, reading, places, tree, choice, tags)?;
     Ok(())
 }
 

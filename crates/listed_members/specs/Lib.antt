@@ -1,3 +1,4 @@
 pub mod Enabled
+pub mod Types
 pub mod Listed
 pub mod Views

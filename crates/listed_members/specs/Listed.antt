@@ -18,6 +18,7 @@ use Rattle.source_rows.specs.Headers.{header}
 use Rattle.source_rows.specs.Labels.{text_at}
 use Rattle.source_rows.specs.Parts.{has_members, members_in}
 use Rattle.listed_members.specs.Enabled.{any_disables}
+use Rattle.listed_members.specs.Types.{type_name}
 
 -- a text of an edition, and the cfgs that are set, where members are asked for
 pub record Reading : Type 0 where
@@ -77,3 +78,11 @@ impl_header edition text _ _ = []
 
 abbrev pub header_of : Reading → AstIdKind → Option ItemPlace → List ℕ
 header_of x k p = impl_header x.edition x.text k p
+
+-- the name of the type that an impl is of
+abbrev pub impl_type : EditionYear → List ℕ → AstIdKind → Option ItemPlace → Option (List ℕ)
+impl_type edition text kind.Impl (Some p) = type_name edition (text_at text p.range)
+impl_type edition text _ _ = None
+
+abbrev pub type_name_of : Reading → AstIdKind → Option ItemPlace → Option (List ℕ)
+type_name_of x k p = impl_type x.edition x.text k p

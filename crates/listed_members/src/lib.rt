@@ -5,6 +5,7 @@
 mod enabled;
 mod listed;
 mod reading;
+mod types;
 
 pub use listed::ListedMember;
 pub use reading::Reading;

@@ -4,7 +4,8 @@ ghost use Rattle.listed_members.specs.Listed as spec;
 ghost use Rattle.listed_members.specs.Views.{listed_view, reading_view};
 
 use crate::listed::{Around, ListedMember, listed_members};
-use hir_input::{AstIdKind, CfgOptions, EditionYear};
+use crate::types::type_name;
+use hir_input::{AstIdKind, CfgOptions, EditionYear, Name};
 use rust_items::ItemPlace;
 use source_rows::header;
 use std::alloc::{AllocError, Global};
@@ -33,6 +34,25 @@ impl Reading<'_> {
                 header(alloc, self.text, self.edition, place.range, place.body)
             }
             _ => Ok(String::new(alloc)),
+        }
+    }
+
+    /// The name of the type that an impl is of, without `r#`: the last name of its path, as `Circle` of
+    /// `impl<T> Display for geo::Circle<T>`. There is none of a type that is no path, of an item of another kind, and where the
+    /// place is not known. The place is the one that the reader gave with the text; the only error is want of memory.
+    pub fn type_name(
+        self,
+        alloc: Global,
+        kind: AstIdKind,
+        place: Option<ItemPlace>,
+    ) -> Result<Option<Name>, AllocError>
+        ensures { IfOk result (λ name. name ≡ spec.type_name_of (reading_view self.entry) kind place) }
+    {
+        match (kind, place) {
+            (AstIdKind::Impl, Some(place)) => {
+                type_name(alloc, text_at(self.text, place.range), self.edition)
+            }
+            _ => Ok(None),
         }
     }
 

@@ -4,6 +4,7 @@ pub mod Nested
 pub mod NoFloats
 pub mod Pushed
 pub mod Outlined
+pub mod Tagged
 pub mod Imported
 pub mod Repeats
 pub mod Printers

@@ -1,11 +1,15 @@
 -- Where a path of names is declared.
 use Rattle.std.specs.Prelude.{ℕ, Bool, not, ◌&&◌, ◌||◌, if◌then◌else◌, List, [], ◌++◌, codes, filter, nat_eq, Option, Some, None, is_some}
 use Rattle.std.specs.List.{flat_map, ends_with}
+use Rattle.std.specs.Option.{option_or}
 use Rattle.std.specs.Str.{bytes_eq}
 use Rattle.item_rows.specs.Rows.{RowView}
+use Rattle.listed_members.specs.Listed.{Listed, Reading, members_of, type_name_of}
 use Rattle.rust_items.specs.declared.source_file.ItemPlace.{ItemPlace}
-use Rattle.source_listing.specs.Lines.{Source, name_text, word}
-use Rattle.source_listing.specs.Places.{item_place, spot_of}
+use Rattle.source_rows.specs.Labels.{member_word}
+use Rattle.source_listing.specs.Lines.{Source, name_text, place_at, word}
+use Rattle.source_listing.specs.Outlines.{stand_text}
+use Rattle.source_listing.specs.Places.{place_of}
 
 -- what is looked for: names with two colons before each, from the top on or anywhere, with or without what a cfg disables
 pub record Query : Type 0 where
@@ -24,19 +28,48 @@ own_segment (Some name) = segment name
 abbrev pub item_path : RowView → List ℕ
 item_path r = flat_map segment r.scope ++ own_segment r.name
 
+-- what the members of an item stand in: its name, or that of an impl's type
+abbrev pub holder : Reading → RowView → Option ItemPlace → Option (List ℕ)
+holder x r place = option_or r.name (type_name_of x r.id.kind place)
+
+-- the names of the modules that an item stands in, what members of it stand in, and the name of one
+abbrev pub path_inside : RowView → Option (List ℕ) → List ℕ → List ℕ
+path_inside r around name = flat_map segment r.scope ++ own_segment around ++ segment name
+
 abbrev pub is_path : Query → List ℕ → Bool
 is_path q path = if q.is_anywhere then ends_with nat_eq path q.path else bytes_eq path q.path
 
-abbrev pub is_shown : Query → RowView → Bool
-is_shown q r = not q.only_active || r.is_active
+abbrev pub is_shown : Query → Bool → Bool
+is_shown q is_active = not q.only_active || is_active
 
 -- what has no name is never found
 abbrev pub is_found : Query → RowView → Bool
-is_found q r = is_some r.name && (is_shown q r && is_path q (item_path r))
+is_found q r = is_some r.name && (is_shown q r.is_active && is_path q (item_path r))
+
+abbrev pub is_member_found : Query → RowView → Option (List ℕ) → Listed → Bool
+is_member_found q r around m = is_shown q m.is_active && is_path q (path_inside r around m.name)
 
 -- the place of an item, the word of its kind and its name
-abbrev pub found_line : Source → List (List ℕ) → List ItemPlace → RowView → List ℕ
-found_line s reserved places r = item_place s.path (spot_of s.text places r.id) ++ word r.id.kind ++ name_text reserved r.name ++ codes "\n"
+abbrev pub found_line : Source → List (List ℕ) → Option ItemPlace → RowView → List ℕ
+found_line s reserved place r = stand_text s place ++ word r.id.kind ++ name_text reserved r.name ++ codes "\n"
 
-abbrev pub found_lines : Source → List (List ℕ) → List ItemPlace → Query → List RowView → List ℕ
-found_lines s reserved places q rs = flat_map (found_line s reserved places) (filter (is_found q) rs)
+abbrev pub if_found : Source → List (List ℕ) → Query → Option ItemPlace → RowView → List ℕ
+if_found s reserved q place r = if is_found q r then found_line s reserved place r else []
+
+-- the same of a member
+abbrev pub found_member : Source → List (List ℕ) → Listed → List ℕ
+found_member s reserved m = place_at s m.at ++ member_word m.kind ++ name_text reserved (Some m.name) ++ codes "\n"
+
+unfoldable pub found_members : Source → List (List ℕ) → Query → RowView → Option (List ℕ) → List Listed → List ℕ
+found_members s reserved q r around ms = flat_map (found_member s reserved) (filter (is_member_found q r around) ms)
+
+-- the line of an item and those of its members, where they are looked for
+abbrev pub found_at : Source → Reading → List (List ℕ) → Query → RowView → Option ItemPlace → List ℕ
+found_at s x reserved q r place =
+    if_found s reserved q place r ++ found_members s reserved q r (holder x r place) (members_of x place r.is_active)
+
+abbrev pub whole_found : Source → Reading → List (List ℕ) → List ItemPlace → Query → RowView → List ℕ
+whole_found s x reserved places q r = found_at s x reserved q r (place_of r.id places)
+
+abbrev pub found_lines : Source → Reading → List (List ℕ) → List ItemPlace → Query → List RowView → List ℕ
+found_lines s x reserved places q rs = flat_map (whole_found s x reserved places q) rs

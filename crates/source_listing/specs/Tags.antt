@@ -1,15 +1,19 @@
 -- Lines of a tags file.
-use Rattle.std.specs.Prelude.{ℕ, Bool, ◌/◌, ◌%◌, ◌==◌, ◌||◌, nat_lt, if◌then◌else◌, List, [], ◌∷◌, ◌++◌, codes, decimal, encode_utf8, filter, Option, Some, None, option_map}
+use Rattle.std.specs.Prelude.{ℕ, Bool, ◌+◌, ◌/◌, ◌%◌, ◌==◌, ◌||◌, nat_lt, if◌then◌else◌, List, [], ◌∷◌, ◌++◌, codes, decimal, encode_utf8, filter, Option, Some, None, option_map, option_to_list}
 use Rattle.std.specs.List.{flat_map}
 use Rattle.std.specs.Str.{chars}
 use Rattle.hir_input.specs.declared.ids.AstIdKind.{AstIdKind}
 use Rattle.hir_input.specs.declared.ids.AstIdKind.TheVariants as kind
 use Rattle.hir_input.specs.Id.{hex_digit}
 use Rattle.item_rows.specs.Rows.{RowView}
+use Rattle.line_index.specs.Positions.{position_of}
+use Rattle.listed_members.specs.Listed.{Listed, Reading, members_of}
 use Rattle.rust_items.specs.declared.source_file.ItemPlace.{ItemPlace}
-use Rattle.source_listing.specs.Lines.{Choice, Source, is_listed}
-use Rattle.source_listing.specs.Places.{spot_of}
-use Rattle.source_listing.specs.Search.{segment}
+use Rattle.rust_members.specs.declared.member.MemberKind.{MemberKind}
+use Rattle.rust_members.specs.declared.member.MemberKind.TheVariants as member
+use Rattle.source_listing.specs.Lines.{Choice, is_chosen, is_listed}
+use Rattle.source_listing.specs.Places.{place_of, stands_at}
+use Rattle.source_listing.specs.Search.{holder, segment}
 
 -- the letter of a kind, as Universal Ctags has it; items of the other kinds have no tag
 abbrev pub letter : AstIdKind → Option (List ℕ)
@@ -26,10 +30,28 @@ letter kind.TypeAlias = Some (codes "t")
 letter kind.Union = Some (codes "s")
 letter _ = None
 
--- the modules that an item stands in
-abbrev pub scope_field : List (List ℕ) → List ℕ
-scope_field [] = []
-scope_field (name ∷ names) = codes "\tmodule:" ++ name ++ flat_map segment names
+-- the same of a member; constants, which Universal Ctags passes over, have that of items
+abbrev pub member_letter : MemberKind → Option (List ℕ)
+member_letter member.Function = Some (codes "P")
+member_letter member.Constant = Some (codes "C")
+member_letter member.TypeAlias = Some (codes "t")
+member_letter member.MacroCall = None
+member_letter member.Variant = Some (codes "e")
+member_letter member.Field = Some (codes "m")
+
+-- what members stand in, if that has a name; without one they stand in modules alone
+abbrev pub scope_word : AstIdKind → Option (List ℕ) → List ℕ
+scope_word kind.Enum (Some name) = codes "enum"
+scope_word kind.Impl (Some name) = codes "implementation"
+scope_word kind.Struct (Some name) = codes "struct"
+scope_word kind.Trait (Some name) = codes "interface"
+scope_word kind.Union (Some name) = codes "struct"
+scope_word _ _ = codes "module"
+
+-- what a tag stands in: the word for the innermost, and the names from the outermost on
+abbrev pub scope_field : List ℕ → List (List ℕ) → List ℕ
+scope_field word [] = []
+scope_field word (name ∷ names) = codes "\t" ++ word ++ codes ":" ++ name ++ flat_map segment names
 
 -- what Universal Ctags writes for a control character or a backslash in the path of a file, behind a backslash
 abbrev pub escaped : ℕ → List ℕ
@@ -48,26 +70,46 @@ path_char c = if is_escaped c then 92 ∷ escaped c else encode_utf8 c
 abbrev pub written_path : List ℕ → List ℕ
 written_path path = flat_map path_char (chars path)
 
--- name, file, line, letter and modules
-abbrev pub tag_text : List ℕ → List ℕ → ℕ → List ℕ → List (List ℕ) → List ℕ
-tag_text name path line letter scope = name ++ codes "\t" ++ path ++ codes "\t" ++ decimal line ++ codes ";\"\t" ++ letter ++ scope_field scope ++ codes "\n"
+-- name, file, line, letter, and what it stands in
+abbrev pub tag_text : List ℕ → List ℕ → ℕ → List ℕ → List ℕ → List (List ℕ) → List ℕ
+tag_text name path line letter word scope = name ++ codes "\t" ++ path ++ codes "\t" ++ decimal line ++ codes ";\"\t" ++ letter ++ scope_field word scope ++ codes "\n"
+
+abbrev pub line_at : List ℕ → ℕ → ℕ
+line_at text at = (position_of text at).line
 
 abbrev pub tag_of : List ℕ → List (List ℕ) → Option (List ℕ) → Option (List ℕ) → Option ℕ → Option (List ℕ)
-tag_of path scope (Some name) (Some letter) (Some line) = Some (tag_text name path line letter scope)
+tag_of path scope (Some name) (Some letter) (Some line) = Some (tag_text name path line letter (codes "module") scope)
 tag_of path scope _ _ _ = None
 
 -- an item has a tag if it has a name, and its kind a letter; the path of the file is written so
-abbrev pub tag : List ℕ → List ℕ → List ItemPlace → RowView → Option (List ℕ)
-tag path text places r = tag_of path r.scope r.name (letter r.id.kind) (option_map (λ spot. spot.position.line) (spot_of text places r.id))
+abbrev pub tag : List ℕ → List ℕ → Option ItemPlace → RowView → Option (List ℕ)
+tag path text place r = tag_of path r.scope r.name (letter r.id.kind) (option_map (λ p. line_at text (stands_at p)) place)
+
+-- a member of an item, which is called so for its members, has one if its kind has a letter
+abbrev pub member_tag : List ℕ → List ℕ → RowView → Option (List ℕ) → Listed → Option (List ℕ)
+member_tag path text r name m =
+    option_map (λ l. tag_text m.name path (line_at text m.at) l (scope_word r.id.kind name) (r.scope ++ option_to_list name)) (member_letter m.kind)
 
 abbrev pub if_any : Option (List ℕ) → List (List ℕ)
 if_any None = []
 if_any (Some text) = text ∷ []
 
+-- the tags of the listed members of an item
+unfoldable pub member_tags : List ℕ → List ℕ → Choice → RowView → Option (List ℕ) → List Listed → List (List ℕ)
+member_tags path text c r name ms = flat_map (λ m. if_any (member_tag path text r name m)) (filter (λ m. is_chosen c (r.level + 1) m.is_active) ms)
+
+-- the tag of an item, and behind it those of its listed members
+abbrev pub tags_at : List ℕ → List ℕ → Reading → Choice → RowView → Option ItemPlace → List (List ℕ)
+tags_at path text x c r place =
+    if_any (tag path text place r) ++ member_tags path text c r (holder x r place) (members_of x place r.is_active)
+
+abbrev pub whole_tags : List ℕ → List ℕ → Reading → List ItemPlace → Choice → RowView → List (List ℕ)
+whole_tags path text x places c r = tags_at path text x c r (place_of r.id places)
+
 -- the tags of the listed items, in their order
-abbrev pub tags_under : List ℕ → List ℕ → List ItemPlace → Choice → List RowView → List (List ℕ)
-tags_under path text places c rs = flat_map (λ r. if_any (tag path text places r)) (filter (is_listed c) rs)
+abbrev pub tags_under : List ℕ → List ℕ → Reading → List ItemPlace → Choice → List RowView → List (List ℕ)
+tags_under path text x places c rs = flat_map (whole_tags path text x places c) (filter (is_listed c) rs)
 
 -- those of a file
-abbrev pub tags : Source → List ItemPlace → Choice → List RowView → List (List ℕ)
-tags s places c rs = tags_under (written_path s.path) s.text places c rs
+abbrev pub tags : List ℕ → Reading → List ItemPlace → Choice → List RowView → List (List ℕ)
+tags path x places c rs = tags_under (written_path path) x.text x places c rs

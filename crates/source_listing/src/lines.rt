@@ -4,7 +4,6 @@ ghost use Rattle.item_rows.specs.Views.{row_view};
 ghost use Rattle.source_listing.specs.Inner.{IsPrinterOf, IsSameFile, file_of, places_of, reserved_of};
 ghost use Rattle.source_listing.specs.Lines as spec;
 ghost use Rattle.source_listing.specs.Places.{AreDistinct, item_place, place_text, spot_of};
-ghost use Rattle.source_listing.specs.Search.{found_line};
 ghost use Rattle.source_listing.specs.Views.{choice_view, source_view};
 
 use crate::finder::{Finder, Spot};
@@ -197,18 +196,5 @@ impl Printer<'_> {
     {
         let spot = self.finder.find(id);
         push_spot(self.path, spot, out)
-    }
-
-    /// The place, the kind and the name of an item.
-    pub(crate) fn push_found(&mut self, row: &Row<'_>, out: &mut String) -> Result<(), AllocError>
-        requires { AreDistinct (places_of self.old) }
-        ensures text { let line = found_line (file_of self.old) (reserved_of self.old) (places_of self.old) in
-            OnOk result (string_bytes out.new ≡ string_bytes out.old ++ line (row_view row.now)) }
-        ensures same { IsSameFile self.old self.new }
-    {
-        self.push_place_of(row.id, out)?;
-        out.push_str(word(row.id.kind))?;
-        push_name(self.edition, row.name, out)?;
-        out.push_str("\n")
     }
 }

@@ -36,7 +36,7 @@ fn push_kind(kind: AstIdKind, header: &str, out: &mut String) -> Result<(), Allo
 }
 
 impl Printer<'_> {
-    fn push_at(&mut self, at: usize, out: &mut String) -> Result<(), AllocError>
+    pub(crate) fn push_at(&mut self, at: usize, out: &mut String) -> Result<(), AllocError>
         ensures text { OnOk result (string_bytes out.new ≡ string_bytes out.old ++ place_at (file_of self.old) at) }
         ensures same { IsSameFile self.old self.new }
     {
@@ -45,7 +45,11 @@ impl Printer<'_> {
     }
 
     /// Where an item stands.
-    fn push_stand(&mut self, place: Option<ItemPlace>, out: &mut String) -> Result<(), AllocError>
+    pub(crate) fn push_stand(
+        &mut self,
+        place: Option<ItemPlace>,
+        out: &mut String,
+    ) -> Result<(), AllocError>
         ensures text { OnOk result (string_bytes out.new ≡ string_bytes out.old ++ spec.stand_text (file_of self.old) place) }
         ensures same { IsSameFile self.old self.new }
     {

@@ -1,21 +1,24 @@
 //! Lines of a tags file, by which editors jump to names.
-ghost use Rattle.std.specs.Prelude.{◌≡◌, ◌<◌, ◌++◌, ◌∷◌, [], IfOk, OnOk, map, option_map, string_bytes};
+ghost use Rattle.std.specs.Prelude.{◌≡◌, ◌<◌, ◌++◌, ◌∷◌, [], IfOk, OnOk, map, option_copied, option_map, option_to_list, string_bytes};
 ghost use Rattle.hir_input.specs.Id.{hex_digit as hex_digit_of};
 ghost use Rattle.item_rows.specs.Rows as rows;
 ghost use Rattle.item_rows.specs.Views.{row_view};
+ghost use Rattle.listed_members.specs.Views.{listed_view, reading_view};
 ghost use Rattle.source_listing.specs.Ends.{IsBeginOf};
 ghost use Rattle.source_listing.specs.Inner.{IsSameFinder};
 ghost use Rattle.source_listing.specs.Places.{AreDistinct};
 ghost use Rattle.source_listing.specs.Tags as spec;
-ghost use Rattle.source_listing.specs.Views.{choice_view, source_view};
+ghost use Rattle.source_listing.specs.Views.{choice_view};
 
-use crate::finder::Finder;
-use crate::lines::{Choice, Source};
-use crate::search::push_scope;
+use crate::finder::{Finder, stands_at};
+use crate::lines::Choice;
+use crate::search::{holder, push_scope};
 use hir_input::{AstIdKind, Name};
 use item_rows::{Row, item_rows};
 use item_tree::ItemTree;
+use listed_members::{ListedMember, Reading};
 use rust_items::ItemPlace;
+use rust_members::MemberKind;
 use std::alloc::{AllocError, Global};
 
 /// The letter of a kind.
@@ -40,15 +43,44 @@ fn letter(kind: AstIdKind) -> Option<&'static str>
     }
 }
 
-/// The modules that an item stands in.
-fn push_modules(scope: &[&Name], out: &mut String) -> Result<(), AllocError>
-    ensures { let modules = spec.scope_field (map (λ n. n.now) scope.now) in
-        OnOk result (string_bytes out.new ≡ string_bytes out.old ++ modules) }
+/// The letter of a member's kind.
+fn member_letter(kind: MemberKind) -> Option<&'static str>
+    ensures { option_map (λ s. s.now) result ≡ spec.member_letter kind }
+{
+    match kind {
+        MemberKind::Function => Some("P"),
+        MemberKind::Constant => Some("C"),
+        MemberKind::TypeAlias => Some("t"),
+        MemberKind::MacroCall => None,
+        MemberKind::Variant => Some("e"),
+        MemberKind::Field => Some("m"),
+    }
+}
+
+/// The word for what members stand in.
+fn scope_word(kind: AstIdKind, name: Option<&Name>) -> &'static str
+    ensures { result.now ≡ spec.scope_word kind (option_copied name.entry) }
+{
+    match (kind, name) {
+        (AstIdKind::Enum, Some(_)) => "enum",
+        (AstIdKind::Impl, Some(_)) => "implementation",
+        (AstIdKind::Struct | AstIdKind::Union, Some(_)) => "struct",
+        (AstIdKind::Trait, Some(_)) => "interface",
+        _ => "module",
+    }
+}
+
+/// What a tag stands in: the word for the innermost, and the names.
+fn push_scope_field(word: &str, scope: &[&Name], out: &mut String) -> Result<(), AllocError>
+    ensures { let field = spec.scope_field word.now (map (λ n. n.now) scope.now) in
+        OnOk result (string_bytes out.new ≡ string_bytes out.old ++ field) }
 {
     let Some((first, rest)) = scope.split_first() else {
         return Ok(());
     };
-    out.push_str("\tmodule:")?;
+    out.push_str("\t")?;
+    out.push_str(word)?;
+    out.push_str(":")?;
     out.push_str(first.text())?;
     push_scope(rest, out)
 }
@@ -118,15 +150,16 @@ fn tag_text(
     path: &str,
     line: usize,
     letter: &str,
+    word: &str,
     scope: &[&Name],
 ) -> Result<String, AllocError>
-    ensures { let tag = spec.tag_text name.now path.now line letter.now (map (λ n. n.now) scope.now) in
+    ensures { let tag = spec.tag_text name.now path.now line letter.now word.now (map (λ n. n.now) scope.now) in
         IfOk result (λ text. string_bytes text ≡ tag) }
 {
     let mut tag = String::new(alloc);
     let name = name.text();
     write!(tag, "{name}\t{path}\t{line};\"\t{letter}")?;
-    push_modules(scope, &mut tag)?;
+    push_scope_field(word, scope, &mut tag)?;
     tag.push_str("\n")?;
     Ok(tag)
 }
@@ -137,9 +170,9 @@ fn tag(
     finder: &mut Finder<'_>,
     path: &str,
     row: &Row<'_>,
+    place: Option<ItemPlace>,
 ) -> Result<Option<String>, AllocError>
-    requires { AreDistinct finder.old.places.all.now }
-    ensures tag { let tag = spec.tag path.now finder.old.lines finder.old.places.all.now (row_view row.now) in
+    ensures tag { let tag = spec.tag path.now finder.old.lines place (row_view row.now) in
         IfOk result (λ made. option_map string_bytes made ≡ tag) }
     ensures same { IsSameFinder finder.old finder.new }
 {
@@ -149,26 +182,175 @@ fn tag(
     let Some(letter) = letter(row.id.kind) else {
         return Ok(None);
     };
-    let Some(spot) = finder.find(row.id) else {
+    let Some(place) = place else {
         return Ok(None);
     };
-    let tag = tag_text(alloc, name, path, spot.position.line, letter, &row.scope)?;
+    let line = finder.lines.position(stands_at(place)).line;
+    let tag = tag_text(alloc, name, path, line, letter, "module", &row.scope)?;
     Ok(Some(tag))
 }
 
-/// Adds the tag of an item, if it is chosen and has one.
+/// The modules around an item, and what its members stand in.
+fn names_around<'a>(
+    alloc: Global,
+    row: &Row<'a>,
+    name: Option<&'a Name>,
+) -> Result<Vec<&'a Name>, AllocError>
+    ensures { let names = map (λ n. n.now) row.now.scope.items ++ option_to_list (option_copied name.entry) in
+        IfOk result (λ v. map (λ n. n.now) v.items ≡ names) }
+{
+    let mut names = Vec::from_slice(alloc, &row.scope)?;
+    if let Some(name) = name {
+        names.push(name)?;
+    }
+    Ok(names)
+}
+
+/// The tag of a member of an item, which is called so for its members, if it has one.
+fn member_tag(
+    alloc: Global,
+    finder: &mut Finder<'_>,
+    path: &str,
+    row: &Row<'_>,
+    name: Option<&Name>,
+    member: &ListedMember,
+) -> Result<Option<String>, AllocError>
+    ensures tag { let tag = spec.member_tag path.now finder.old.lines (row_view row.now) (option_copied name.entry) in
+        IfOk result (λ made. option_map string_bytes made ≡ tag (listed_view member.now)) }
+    ensures same { IsSameFinder finder.old finder.new }
+{
+    let Some(letter) = member_letter(member.kind) else {
+        return Ok(None);
+    };
+    let line = finder.lines.position(member.at).line;
+    let word = scope_word(row.id.kind, name);
+    let names = names_around(alloc, row, name)?;
+    let tag = tag_text(alloc, &member.name, path, line, letter, word, &names)?;
+    Ok(Some(tag))
+}
+
+/// Adds a tag, if there is one.
 #[tactic(auto, using(crate::proofs::Begins::begin_itself, crate::proofs::Begins::begin_one_more))]
+fn push_if_any(tag: Option<String>, tags: &mut Vec<String>) -> Result<(), AllocError>
+    ensures tags { let added = spec.if_any (option_map string_bytes tag) in
+        OnOk result (map string_bytes tags.new.items ≡ map string_bytes tags.old.items ++ added) }
+    ensures kept { IsBeginOf tags.old.items tags.new.items }
+{
+    let Some(tag) = tag else {
+        return Ok(());
+    };
+    tags.push(tag)?;
+    Ok(())
+}
+
+/// Adds the tag of an item, if it has one.
+#[tactic(auto, using(crate::proofs::Begins::begin_itself))]
 fn push_tag(
+    alloc: Global,
+    finder: &mut Finder<'_>,
+    path: &str,
+    row: &Row<'_>,
+    place: Option<ItemPlace>,
+    tags: &mut Vec<String>,
+) -> Result<(), AllocError>
+    ensures tags { let added = spec.if_any (spec.tag path.now finder.old.lines place (row_view row.now)) in
+        OnOk result (map string_bytes tags.new.items ≡ map string_bytes tags.old.items ++ added) }
+    ensures kept { IsBeginOf tags.old.items tags.new.items }
+    ensures same { IsSameFinder finder.old finder.new }
+{
+    let tag = tag(alloc, finder, path, row, place)?;
+    push_if_any(tag, tags)
+}
+
+/// Adds the tag of a member, if it is chosen and has one.
+#[tactic(auto, unfolding(crate::specs::Tags::member_tags), using(crate::proofs::Begins::begin_itself))]
+fn push_member_tag(
     alloc: Global,
     finder: &mut Finder<'_>,
     path: &str,
     choice: Choice,
     row: &Row<'_>,
+    name: Option<&Name>,
+    member: &ListedMember,
+    tags: &mut Vec<String>,
+) -> Result<(), AllocError>
+    ensures tags { let all = spec.member_tags path.now finder.old.lines (choice_view choice) in
+        let all = all (row_view row.now) (option_copied name.entry) in
+        OnOk result (map string_bytes tags.new.items ≡ map string_bytes tags.old.items ++ all (listed_view member.now ∷ [])) }
+    ensures kept { IsBeginOf tags.old.items tags.new.items }
+    ensures same { IsSameFinder finder.old finder.new }
+{
+    if !choice.takes_inside(row.level, member.is_active) {
+        return Ok(());
+    }
+    let tag = member_tag(alloc, finder, path, row, name, member)?;
+    push_if_any(tag, tags)
+}
+
+/// Adds the tags of the chosen members of an item.
+#[tactic(auto, using(crate::proofs::Tagged::no_member, crate::proofs::Tagged::one_more_member, crate::proofs::Begins::begin_itself, crate::proofs::Begins::begin_later))]
+fn push_member_tags(
+    alloc: Global,
+    finder: &mut Finder<'_>,
+    path: &str,
+    choice: Choice,
+    row: &Row<'_>,
+    name: Option<&Name>,
+    members: &[ListedMember],
+    tags: &mut Vec<String>,
+) -> Result<(), AllocError>
+    ensures tags { let all = spec.member_tags path.now finder.old.lines (choice_view choice) in
+        let all = all (row_view row.now) (option_copied name.entry) in
+        OnOk result (map string_bytes tags.new.items ≡ map string_bytes tags.old.items ++ all (map listed_view members.now)) }
+    ensures kept { IsBeginOf tags.old.items tags.new.items }
+    ensures same { IsSameFinder finder.old finder.new }
+{
+    for member in members {
+        push_member_tag(alloc, finder, path, choice, row, name, member, tags)?;
+    }
+    Ok(())
+}
+
+/// Adds the tag of an item, and those of its chosen members.
+#[tactic(auto, using(crate::proofs::Begins::begin_later))]
+fn push_whole(
+    alloc: Global,
+    finder: &mut Finder<'_>,
+    path: &str,
+    reading: Reading<'_>,
+    choice: Choice,
+    row: &Row<'_>,
     tags: &mut Vec<String>,
 ) -> Result<(), AllocError>
     requires { AreDistinct finder.old.places.all.now }
-    ensures tags { let all = spec.tags_under path.now finder.old.lines finder.old.places.all.now in
-        let added = all (choice_view choice) (row_view row.now ∷ []) in
+    ensures tags { let all = spec.whole_tags path.now finder.old.lines (reading_view reading.entry) in
+        let added = all finder.old.places.all.now (choice_view choice) (row_view row.now) in
+        OnOk result (map string_bytes tags.new.items ≡ map string_bytes tags.old.items ++ added) }
+    ensures kept { IsBeginOf tags.old.items tags.new.items }
+    ensures same { IsSameFinder finder.old finder.new }
+{
+    let place = finder.places.find(row.id);
+    push_tag(alloc, finder, path, row, place, tags)?;
+    let members = reading.members(alloc, place, row.is_active)?;
+    let type_name = reading.type_name(alloc, row.id.kind, place)?;
+    let name = holder(row.name, &type_name);
+    push_member_tags(alloc, finder, path, choice, row, name, &members, tags)
+}
+
+/// Adds the tag of an item and those of its members, if the item is chosen.
+#[tactic(auto, using(crate::proofs::Begins::begin_itself))]
+fn push_chosen(
+    alloc: Global,
+    finder: &mut Finder<'_>,
+    path: &str,
+    reading: Reading<'_>,
+    choice: Choice,
+    row: &Row<'_>,
+    tags: &mut Vec<String>,
+) -> Result<(), AllocError>
+    requires { AreDistinct finder.old.places.all.now }
+    ensures tags { let all = spec.tags_under path.now finder.old.lines (reading_view reading.entry) in
+        let added = all finder.old.places.all.now (choice_view choice) (row_view row.now ∷ []) in
         OnOk result (map string_bytes tags.new.items ≡ map string_bytes tags.old.items ++ added) }
     ensures kept { IsBeginOf tags.old.items tags.new.items }
     ensures same { IsSameFinder finder.old finder.new }
@@ -176,38 +358,36 @@ fn push_tag(
     if !choice.lists(row) {
         return Ok(());
     }
-    let Some(tag) = tag(alloc, finder, path, row)? else {
-        return Ok(());
-    };
-    tags.push(tag)?;
-    Ok(())
+    push_whole(alloc, finder, path, reading, choice, row, tags)
 }
 
-/// Adds the tags of a file: for each chosen item with a name of a kind that has a letter its name, the file, the line, the
-/// letter and the modules that it stands in, as Universal Ctags writes them, in the order of the items. A control character or
-/// a backslash in the path stands behind a backslash, as Universal Ctags has it too.
+/// Adds the tags of a file: for each chosen item with a name of a kind that has a letter, and for each chosen member with a
+/// name where members are asked for, its name, the file, the line, the letter and what it stands in, as Universal Ctags writes
+/// them, in the order of the items, each before its members. A member stands in its item, and one of an impl in the type, if
+/// that is a path. A control character or a backslash in the path stands behind a backslash, as Universal Ctags has it too.
 ///
 /// The tags before stay as they are, also at an error, where some of those of the file may stand behind them. The places are
 /// those that the reader gave with the syntax of the tree. The only error is want of memory.
-#[tactic(auto, using(crate::proofs::Pushed::one_more_tag, crate::proofs::Begins::begin_itself, crate::proofs::Begins::begin_later))]
+#[tactic(auto, using(crate::proofs::Tagged::one_more, crate::proofs::Begins::begin_itself, crate::proofs::Begins::begin_later))]
 pub fn push_tags(
     alloc: Global,
-    source: Source<'_>,
+    path: &str,
+    reading: Reading<'_>,
     places: &[ItemPlace],
     tree: &ItemTree,
     choice: Choice,
     tags: &mut Vec<String>,
 ) -> Result<(), AllocError>
     requires { AreDistinct places.now }
-    ensures tags { let added = spec.tags (source_view source.entry) places.now (choice_view choice) in
+    ensures tags { let added = spec.tags path.now (reading_view reading.entry) places.now (choice_view choice) in
         OnOk result (map string_bytes tags.new.items ≡ map string_bytes tags.old.items ++ added (rows.rows tree.now)) }
     ensures kept { IsBeginOf tags.old.items tags.new.items }
 {
-    let mut finder = Finder::new(source.text, places);
-    let path = written_path(alloc, source.path)?;
+    let mut finder = Finder::new(reading.text, places);
+    let written = written_path(alloc, path)?;
     let rows = item_rows(alloc, tree)?;
     for row in &rows {
-        push_tag(alloc, &mut finder, &path, choice, row, tags)?;
+        push_chosen(alloc, &mut finder, &written, reading, choice, row, tags)?;
     }
     Ok(())
 }

@@ -1,14 +1,15 @@
 use Rattle.std.proofs.Common.{◌≡◌, ◌++◌, map, take, string_bytes}
 use Rattle.item_rows.specs.Views.{row_view}
+use Rattle.listed_members.specs.Views.{reading_view}
 use Rattle.source_listing.specs.Ends.{IsBeginOf}
 use Rattle.source_listing.specs.Tags as spec
 use Rattle.source_listing.specs.Inner.{IsFinderOf}
-use Rattle.source_listing.specs.Views.{choice_view, source_view}
+use Rattle.source_listing.specs.Views.{choice_view}
 use Rattle.source_listing.proofs.tags.push_tags.Given as goal
 
 abbrev pub invariant-loop-row : goal.invariant-loop-row
 invariant-loop-row l = record {
-  tags : map string_bytes l.tags.items ≡ map string_bytes l.initial.tags.items ++ spec.tags (source_view l.fn.source) l.fn.places (choice_view l.fn.choice) (map row_view (take l.row-index l.row-items));
+  tags : map string_bytes l.tags.items ≡ map string_bytes l.initial.tags.items ++ spec.tags l.fn.path (reading_view l.fn.reading) l.fn.places (choice_view l.fn.choice) (map row_view (take l.row-index l.row-items));
   kept : IsBeginOf l.initial.tags.items l.tags.items;
-  is : IsFinderOf l.fn.source.text.now l.fn.places l.finder;
+  is : IsFinderOf l.fn.reading.text.now l.fn.places l.finder;
 }

@@ -1,0 +1,30 @@
+-- Tags that are pushed one after another.
+use Rattle.std.proofs.Common.{◌≡◌, ℕ, ◌+◌, List, [], ◌∷◌, ◌++◌, Option, refl, ap, ◌∙◌}
+use Rattle.std.specs.Prelude.{filter}
+use Rattle.std.specs.List.{flat_map}
+use Rattle.std.proofs.lemmas.Grind.{flat_map-append}
+use Rattle.std.proofs.lemmas.List.Elements.{filter-append}
+use Rattle.item_rows.specs.Rows.{RowView}
+use Rattle.rust_items.specs.declared.source_file.ItemPlace.{ItemPlace}
+use Rattle.listed_members.specs.Listed.{Listed, Reading}
+use Rattle.source_listing.specs.Lines.{Choice, is_chosen, is_listed}
+use Rattle.source_listing.specs.Tags.{if_any, member_tag, member_tags, tags_under, whole_tags}
+
+-- the tags of one more item
+pub one_more : (path text : List ℕ) (x : Reading) (places : List ItemPlace) (c : Choice) (rs : List RowView) (r : RowView)
+    → tags_under path text x places c (rs ++ r ∷ []) ≡ tags_under path text x places c rs ++ tags_under path text x places c (r ∷ [])
+one_more path text x places c rs r =
+    ap (flat_map (whole_tags path text x places c)) (filter-append (is_listed c) rs (r ∷ []))
+    ∙ flat_map-append (whole_tags path text x places c) (filter (is_listed c) rs) (filter (is_listed c) (r ∷ []))
+
+-- the same of members
+pub one_more_member : (path text : List ℕ) (c : Choice) (r : RowView) (name : Option (List ℕ)) (ms : List Listed) (m : Listed)
+    → member_tags path text c r name (ms ++ m ∷ []) ≡ member_tags path text c r name ms ++ member_tags path text c r name (m ∷ [])
+unfolding member_tags
+one_more_member path text c r name ms m =
+    ap (flat_map (λ x. if_any (member_tag path text r name x))) (filter-append (λ x. is_chosen c (r.level + 1) x.is_active) ms (m ∷ []))
+    ∙ flat_map-append (λ x. if_any (member_tag path text r name x)) (filter (λ x. is_chosen c (r.level + 1) x.is_active) ms) (filter (λ x. is_chosen c (r.level + 1) x.is_active) (m ∷ []))
+
+pub no_member : (path text : List ℕ) (c : Choice) (r : RowView) (name : Option (List ℕ)) → member_tags path text c r name [] ≡ []
+unfolding member_tags
+no_member path text c r name = refl

@@ -1,0 +1,14 @@
+use Rattle.std.proofs.Common.{◌≡◌, ◌++◌, map, take, string_bytes}
+use Rattle.std.specs.Prelude.{option_copied}
+use Rattle.item_rows.specs.Views.{row_view}
+use Rattle.listed_members.specs.Views.{listed_view}
+use Rattle.source_listing.specs.Search.{found_members}
+use Rattle.source_listing.specs.Inner.{IsSameFile, file_of, reserved_of}
+use Rattle.source_listing.specs.Views.{query_view}
+use Rattle.source_listing.proofs.lines.Printer.push_found_members.Given as goal
+
+abbrev pub invariant-loop-member : goal.invariant-loop-member
+invariant-loop-member l = record {
+  text : string_bytes l.out ≡ string_bytes l.fn.out ++ found_members (file_of l.fn.self) (reserved_of l.fn.self) (query_view l.fn.query) (row_view l.fn.row) (option_copied l.fn.around) (map listed_view (take l.member-index l.fn.members));
+  same : IsSameFile l.fn.self l.self;
+}

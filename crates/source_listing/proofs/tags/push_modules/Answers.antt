@@ -1,9 +1,0 @@
-use Rattle.std.proofs.Common.{rules, string_bytes}
-use Rattle.std.proofs.lemmas.Result.{on_ok_weaker}
-use Rattle.source_listing.proofs.Pushed.{modules_pushed}
-use Rattle.source_listing.proofs.tags.push_modules.Goals as goal
-
-pub returns : goal.returns
-returns c =
-    on_ok_weaker c.push_scope.result (modules_pushed (λ n. n.now) c.args.scope.now c.in-Some.first.now c.in-Some.rest.now (string_bytes c.args.out.now) (string_bytes c.push_str.new.self) (string_bytes c.push_str-2.new.self) (string_bytes c.push_scope.new.path)
-    (search rules) (search rules) (search rules)) c.push_scope.ensures
