@@ -18,12 +18,12 @@ use Rattle.rust_lexer.proofs.Whole.{plain_is, filter_moved}
 use Rattle.rust_cursor.specs.Elements.{most, beyond}
 use Rattle.rust_cursor.specs.Tokens.{Tokens, tokens_of}
 use Rattle.rust_cursor.specs.Words.{by_first, at, is_empty}
-use Rattle.rust_ranges.proofs.High.{tokens_proper}
+use Rattle.rust_cursor.proofs.High.{tokens_proper}
 use Rattle.rust_cursor.proofs.Laid.{IsLaid, behind, at_behind, taken_behind, tokens_laid}
 use Rattle.rust_cursor.proofs.Leads.{LeadsTo, here, further, when, bumped_leads}
-use Rattle.rust_ranges.proofs.Near.{Ending, Near, near, is_last, are_ended}
-use Rattle.rust_ranges.proofs.NearUntil.{more_left}
-use Rattle.rust_ranges.specs.Parts.{ended, IsPart, tokens_behind}
+use Rattle.rust_cursor.proofs.Near.{Ending, Near, near, is_last, are_ended}
+use Rattle.rust_cursor.proofs.NearUntil.{more_left}
+use Rattle.rust_ranges.proofs.Parts.{ended, IsPart, tokens_behind}
 use Rattle.rust_items.specs.Found.{Found, nothing_found}
 use Rattle.rust_items.specs.SourceFiles.{read_of}
 use Rattle.rust_ranges.proofs.Inner.{no_inner, turn_none}
@@ -37,7 +37,7 @@ use Rattle.rust_items.proofs.Places.{turn_found}
 abbrev pub part_in : EditionYear → Option ℕ → List ℕ → List ℕ → Stop → List ℕ → Ending
 part_in edition u q w o y = record { by = length q; behind = filter is_significant (tokens_from 0 (length q + suc (length w)) y); unended = u }
 
-left_is : (edition : EditionYear) (u : Option ℕ) (q w : List ℕ) (o : Stop) (y : List ℕ) → IsPart q w o y
+left_is : (edition : EditionYear) (u : Option ℕ) (q w : List ℕ) (o : Stop) (y : List ℕ) → IsPart w o y
     → (tokens_behind edition u q (w ++ stop o ∷ y)).left ≡ map (moved (length q)) (tokens_of edition (ended w o)).left ++ (part_in edition u q w o y).behind
 unfolding tokens_of
 left_is edition u q w o y p =
@@ -52,7 +52,7 @@ left_is edition u q w o y p =
 near_of : (b : Ending) (us : Tokens) → are_ended us.left ≡ true → Near b (record { past = us.past + b.by; left = map (moved b.by) us.left ++ b.behind; unended = b.unended; edition = us.edition }) us
 near_of b us e = near us.past us.left us.unended us.edition e
 
-part_near : (edition : EditionYear) (u : Option ℕ) (q w : List ℕ) (o : Stop) (y : List ℕ) → IsPart q w o y → are_ended (tokens_of edition (ended w o)).left ≡ true
+part_near : (edition : EditionYear) (u : Option ℕ) (q w : List ℕ) (o : Stop) (y : List ℕ) → IsPart w o y → are_ended (tokens_of edition (ended w o)).left ≡ true
     → Near (part_in edition u q w o y) (tokens_behind edition u q (w ++ stop o ∷ y)) (tokens_of edition (ended w o))
 unfolding tokens_of
 part_near edition u q w o y p e =
@@ -69,6 +69,7 @@ pub record StandsAlone (edition : EditionYear) (b : Ending) (text : List ℕ) (b
   pub read : read_of edition text ≡ (option_to_list r.0, (found, left))
   pub same : FoundNear b before r.1.0 found
   pub none : left.left ≡ []
+  pub attrs : (inner_attributes (tokens_of edition text)).0 ≡ []
 
 most_is : most ≡ suc (suc 18446744073709551613)
 unfolding most
@@ -114,7 +115,7 @@ last_symbol opening at = refl
 last_symbol closing at = refl
 last_symbol semicolon at = refl
 
-part_ended : (edition : EditionYear) (q w : List ℕ) (o : Stop) (y : List ℕ) → IsPart q w o y → is_last (stop o) ≡ true → are_ended (tokens_of edition (ended w o)).left ≡ true
+part_ended : (edition : EditionYear) (q w : List ℕ) (o : Stop) (y : List ℕ) → IsPart w o y → is_last (stop o) ≡ true → are_ended (tokens_of edition (ended w o)).left ≡ true
 unfolding tokens_of
 part_ended edition q w o y p e =
     let x = ended w o in
@@ -164,20 +165,23 @@ alone {m = m} edition b text f ts us is some h laid (at_end t a) sound ends =
       read = ap (λ (t : Tokens). items true 128 nothing_found (inner_attributes t).1) (sym is) ∙ ap (λ (p : List MetaView × Tokens). items true 128 nothing_found p.1) (no_inner us begins) ∙ one_item nothing_found us some a.none far ∙ ap (λ i. (option_to_list i, (r'.1.0, r'.1.1))) t.value;
       same = t.found;
       none = a.none;
+      attrs = ap (λ (t : Tokens). (inner_attributes t).0) (sym is) ∙ ap (λ (p : List MetaView × Tokens). p.0) (no_inner us begins);
     }
 
+-- what is asked of an item that begins here, in a text that ends there
+pub record IsOwn (n : ℕ) (b : Ending) (f : Found) (ts : Tokens) : Type 0 where
+  pub laid : IsLaid n ts
+  pub sound : is_sound (at ts) ((turn 128 f ts).0, (turn 128 f ts).1.0) ≡ true
+  pub ends : length (turn 128 f ts).1.1.left ≡ length b.behind
+
 -- Where an item begins, from the end of q on, and is ended with this part of the text, that part alone is exactly this item.
-pub item_alone : (n : ℕ) (edition : EditionYear) (u : Option ℕ) (q w : List ℕ) (o : Stop) (y : List ℕ) (f : Found) → IsPart q w o y → is_last (stop o) ≡ true
-    → (let ts = tokens_behind edition u q (w ++ stop o ∷ y) in
-    let r = turn 128 f ts in
-    IsLaid n ts → is_sound (at ts) (r.0, r.1.0) ≡ true → length r.1.1.left ≡ length (part_in edition u q w o y).behind
-    → StandsAlone edition (part_in edition u q w o y) (ended w o) f r)
-item_alone n edition u q w o y f p e laid sound ends =
+pub item_alone : (n : ℕ) (edition : EditionYear) (u : Option ℕ) (q w : List ℕ) (o : Stop) (y : List ℕ) (f : Found) (ts : Tokens) → IsPart w o y → is_last (stop o) ≡ true → tokens_behind edition u q (w ++ stop o ∷ y) ≡ ts
+    → IsOwn n (part_in edition u q w o y) f ts → StandsAlone edition (part_in edition u q w o y) (ended w o) f (turn 128 f ts)
+item_alone n edition u q w o y f ts p e is own =
     let b = part_in edition u q w o y in
-    let ts = tokens_behind edition u q (w ++ stop o ∷ y) in
     let us = tokens_of edition (ended w o) in
     let m = length (ended w o) in
     let last = part_ended edition q w o y p e in
-    let h = part_near edition u q w o y p last in
-    let given : Given n m ts us = record { laid = laid; short = tokens_laid edition (ended w o); proper = tokens_proper edition (ended w o) } in
-    alone edition b (ended w o) f ts us refl (ended_some us last) h given.short (turn_ends n m 127 b f f nothing_found ts us given h (start_near b f)) sound ends
+    let h : Near b ts us = subst (λ (t : Tokens). Near b t us) is (part_near edition u q w o y p last) in
+    let given : Given n m ts us = record { laid = own.laid; short = tokens_laid edition (ended w o); proper = tokens_proper edition (ended w o) } in
+    alone edition b (ended w o) f ts us refl (ended_some us last) h given.short (turn_ends n m 127 b f f nothing_found ts us given h (start_near b f)) own.sound own.ends

@@ -38,7 +38,7 @@ is_wordless (kinds.LineComment _) = true
 is_wordless (kinds.BlockComment _) = true
 is_wordless _ = false
 
-record IsQuiet (us : Tokens) : Type 0 where
+pub record IsQuiet (us : Tokens) : Type 0 where
   word : word us ≡ []
   raw : is_raw (kind us) ≡ false
   name : has_name us ≡ false
@@ -69,6 +69,10 @@ mark_kind kinds.Punct b c n e = refl
 mark_kind (kinds.LineComment s) b c n e = refl
 mark_kind (kinds.BlockComment s) b c n e = refl
 mark_kind _ b c n e = absurd (let same : 0 ≡ c = eqb-true 0 c e in let no : (0 == 0) ≡ false = subst (λ (z : ℕ). (z == 0) ≡ false) (sym same) n in cc)
+
+symbol_first : (c : ℕ) (left : List Piece) → (c == 0) ≡ false → (by_first 0 symbol_of left == c) ≡ true → by_first false (λ t. is_wordless t.kind) left ≡ true
+symbol_first c [] n e = absurd (let same : 0 ≡ c = eqb-true 0 c e in let no : (0 == 0) ≡ false = subst (λ (z : ℕ). (z == 0) ≡ false) (sym same) n in cc)
+symbol_first c (t ∷ left) n e = mark_kind t.kind _ c n e
 
 mark_first : (left : List Piece) → (by_first 0 symbol_of left == 35) ≡ true → by_first false (λ t. is_wordless t.kind) left ≡ true
 mark_first [] e = absurd cc
@@ -102,14 +106,23 @@ one_style (Some Outer) e = absurd cc
 one_style None e = absurd cc
 
 -- no outer attribute, no word, and none of these symbols
-record IsMute (us : Tokens) : Type 0 where
-  quiet : IsQuiet us
-  outer : is_behind Outer us ≡ true
+pub record IsMute (us : Tokens) : Type 0 where
+  pub quiet : IsQuiet us
+  pub outer : is_behind Outer us ≡ true
   colon : (symbol us == 58) ≡ false
   dollar : (symbol us == 36) ≡ false
 
 other : (c d e : ℕ) → c ≡ d → (d == e) ≡ false → (c == e) ≡ false
 other c d e p q = ap (λ z. z == e) p ∙ q
+
+symbol_no_doc : (us : Tokens) (c : ℕ) → (symbol us == c) ≡ true → (c == 0) ≡ false → is_doc Outer us ≡ false
+unfolding is_doc symbol kind
+symbol_no_doc us c e n =
+    when (is_doc Outer us)
+    (λ f. let none = doc_symbol Outer us.left f in
+    let same : 0 ≡ c = eqb-true 0 c (ap (λ k. k == c) (sym none) ∙ e) in
+    absurd (let no : (0 == 0) ≡ false = subst (λ (z : ℕ). (z == 0) ≡ false) (sym same) n in cc))
+    (λ f. f)
 
 doc_mute : (us : Tokens) → is_doc Inner us ≡ true → IsMute us
 unfolding is_behind is_attribute is_doc symbol kind
@@ -121,6 +134,13 @@ doc_mute us e =
       colon = other _ 0 58 none refl;
       dollar = other _ 0 36 none refl;
     }
+
+-- nor does one at another symbol, if no attribute begins there
+pub symbol_mute : (us : Tokens) (c : ℕ) → (symbol us == c) ≡ true → (c == 0) ≡ false → (c == 58) ≡ false → (c == 36) ≡ false → is_attribute Outer us ≡ false → IsMute us
+unfolding is_behind symbol
+symbol_mute us c e n colon dollar a =
+    let is : symbol us ≡ c = eqb-true (symbol us) c e in
+    record { quiet = quiet us (symbol_first c us.left n e); outer = rw (symbol_no_doc us c e n, a) refl; colon = other _ c 58 is colon; dollar = other _ c 36 is dollar }
 
 mark_mute : (us : Tokens) → is_doc Inner us ≡ false → is_attribute Inner us ≡ true → is_doc Outer us ≡ false → IsMute us
 unfolding is_behind is_attribute symbol
@@ -175,11 +195,12 @@ unfolding leaf invocation
 leaf_mute us m = rw (path_mute us m) refl
 
 -- no item begins there
-pub turn_none : (left : ℕ) (f : Found) (us : Tokens) → is_behind Inner us ≡ false → (turn left f us).0 ≡ None
+pub item_none : (left : ℕ) (f : Found) (us : Tokens) → IsMute us → (turn left f us).0 ≡ None
 unfolding turn leaf_turn
-turn_none left f us e =
-    let m = mute us e in
-    when (is_at_end us) (λ g. rw g refl) (λ g. rw (g, front_mute us m, leaf_mute us m) refl)
+item_none left f us m = when (is_at_end us) (λ g. rw g refl) (λ g. rw (g, front_mute us m, leaf_mute us m) refl)
+
+pub turn_none : (left : ℕ) (f : Found) (us : Tokens) → is_behind Inner us ≡ false → (turn left f us).0 ≡ None
+turn_none left f us e = item_none left f us (mute us e)
 
 -- and where none begins, there are no inner attributes
 pub no_inner : (us : Tokens) → is_behind Inner us ≡ true → inner_attributes us ≡ ([], us)

@@ -8,5 +8,13 @@ pub mod NearFields
 pub mod NearLeaves
 pub mod NearItems
 pub mod NearTurns
+pub mod Parts
 pub mod Inner
 pub mod Alone
+pub mod Feeds
+pub mod Seats
+pub mod Fresh
+pub mod Plain
+pub mod Tops
+pub mod Ranges
+pub mod Examples

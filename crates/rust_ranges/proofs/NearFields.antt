@@ -13,10 +13,10 @@ use Rattle.rust_cursor.specs.Elements.{most, beyond, turns_from, turns, one}
 use Rattle.rust_cursor.proofs.Nesting.{shorter}
 use Rattle.rust_cursor.proofs.Laid.{IsLaid, behind}
 use Rattle.rust_cursor.proofs.Leads.{LeadsTo, here, further, through, when, bumped_leads, eat_leads, behind_angles_leads, reached_leads, beyond_leads}
-use Rattle.rust_ranges.proofs.Near.{Ending, Near, Gone, Onward, into, on, onward_leads, fewer, symbol_same, end_same, past_same, after_symbol}
-use Rattle.rust_ranges.proofs.NearPassing.{behind_angles_near, reached_near, beyond_near}
-use Rattle.rust_ranges.proofs.NearTexts.{BlockNear, no_block, block}
-use Rattle.rust_ranges.proofs.NearUntil.{by_kept, eat_until, more_left}
+use Rattle.rust_cursor.proofs.Near.{Ending, Near, Gone, Onward, into, on, onward_leads, fewer, symbol_same, end_same, past_same, after_symbol}
+use Rattle.rust_cursor.proofs.NearPassing.{behind_angles_near, reached_near, beyond_near}
+use Rattle.rust_cursor.proofs.NearTexts.{BlockNear, no_block, block}
+use Rattle.rust_cursor.proofs.NearUntil.{by_kept, eat_until, more_left}
 use Rattle.rust_paths.specs.Visibilities.{visibility}
 use Rattle.rust_paths.proofs.Leads.{visibility_leads}
 use Rattle.rust_ranges.proofs.NearPaths.{visibility_until}

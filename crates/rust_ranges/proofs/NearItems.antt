@@ -36,6 +36,7 @@ use Rattle.rust_items.specs.Found.{Found, Finder, nothing_found, and_problem, an
 use Rattle.rust_items.specs.Items.{span_of, and_flaw, and_item, and_leaf, leaf_found, leaf_turn, finding_from, finding, is_list_end, BlockRead, block_of, as_extern, extern_kept, extern_found, unmatched, extern_turn, extern_inside, inside, turn}
 use Rattle.rust_items.specs.LineEnds.{moved_span, moved_problem}
 use Rattle.rust_items.proofs.Leads.{function_leaf, trait_leaf, union_leaf, enum_leaf, struct_leaf, impl_leaf, crate_leaf, use_leaf, const_leaf, static_leaf, type_alias_leaf, macro_def_leaf, macro_rules_leaf, call_end_leads, named_leads, named_or_leads, renamed_leads, behind_others_leads, front_takes}
+use Rattle.rust_ranges.specs.Laws.{is_unfinished}
 use Rattle.rust_ranges.proofs.NearFronts.{FrontNear, front_until, behind_others_near}
 use Rattle.rust_ranges.proofs.NearLeaves.{some_on, LeafNear, Given, given_on, Ends, passes, before_end, at_end, SomeLeaf, no_leaf, one_leaf, leaf_ended, LeafEnds, leaf_ends, item_end_fewer, impl_end_fewer, macro_end_fewer, value_end_fewer, call_end_fewer}
 use Rattle.rust_items.proofs.Places.{Finds, extern_turn_found}
@@ -244,10 +245,6 @@ leaf_leads h ts = by h.head
     by _ = when (is_some (path ts).0 && is_called (path ts).1) (λ e. rw e (through (path_leads ts) (further (call_end_leads _)))) (λ e. rw e here)
 
 -- an item, that was not left unfinished at this place
-abbrev pub is_unfinished : ProblemKind → Bool
-is_unfinished problem.Unfinished = true
-is_unfinished _ = false
-
 abbrev pub is_sound : ℕ → Option ItemView × Found → Bool
 is_sound start r = is_some r.0 && not (list_any (λ p. is_unfinished p.kind && p.at == start) r.1.problems)
 

@@ -17,15 +17,15 @@ use Rattle.rust_cursor.specs.Reader.{Reader}
 use Rattle.rust_cursor.specs.Tokens.{Tokens, end_of}
 use Rattle.rust_cursor.specs.Words.{by_first, rest, symbol, word, text, bumped, is_empty, eat, eat_word, is_at_open}
 use Rattle.rust_cursor.proofs.Enclosed.{item_enclosed}
-use Rattle.rust_ranges.proofs.High.{height, Held, are_proper, proper_on, taken_high}
+use Rattle.rust_cursor.proofs.High.{height, Held, are_proper, proper_on, taken_high}
 use Rattle.rust_lexer.specs.Piece.{Piece}
 use Rattle.rust_cursor.proofs.Nesting.{shorter}
 use Rattle.rust_cursor.proofs.Laid.{IsLaid, behind}
 use Rattle.rust_cursor.proofs.Leads.{LeadsTo, here, further, through, Forwards, when, HasBlock, no_block as no_block_at, block as block_at, taken_block, bumped_leads, eat_leads, eat_word_leads, reached_leads, behind_angles_leads, taken_leads_on, turns_leads}
-use Rattle.rust_ranges.proofs.Near.{both_true, Ending, Near, Gone, Onward, into, on, gone_on, by_next, onward_leads, bumped_onward, fewer, symbol_same, word_same, text_same, open_same, at_same, past_same, taken_same, word_test, after_word, after_symbol}
-use Rattle.rust_ranges.proofs.NearPassing.{behind_angles_near, reached_near}
-use Rattle.rust_ranges.proofs.NearTexts.{BlockNear, no_block, block, SameText, taken_outcome, taken_until, taken_fewer}
-use Rattle.rust_ranges.proofs.NearUntil.{UntilBy, UpTo, Kept, gone, kept, by_kept, cond_until, pass_until, then_until, elements_until, eat_until, eat_word_until, AtEnd, Outcome, lost, stays, comes, more_left, map_outcome, then_outcome, eat_outcome, eat_fewer}
+use Rattle.rust_cursor.proofs.Near.{both_true, Ending, Near, Gone, Onward, into, on, gone_on, by_next, onward_leads, bumped_onward, fewer, symbol_same, word_same, text_same, open_same, at_same, past_same, taken_same, word_test, after_word, after_symbol}
+use Rattle.rust_cursor.proofs.NearPassing.{behind_angles_near, reached_near}
+use Rattle.rust_cursor.proofs.NearTexts.{BlockNear, no_block, block, SameText, taken_outcome, taken_until, taken_fewer}
+use Rattle.rust_cursor.proofs.NearUntil.{UntilBy, UpTo, Kept, gone, kept, by_kept, cond_until, pass_until, then_until, elements_until, eat_until, eat_word_until, AtEnd, Outcome, lost, stays, comes, more_left, map_outcome, then_outcome, eat_outcome, eat_fewer}
 use Rattle.rust_paths.specs.declared.names.TextRange.{TextRange}
 use Rattle.rust_paths.specs.Names.{Placed, as_name}
 use Rattle.rust_paths.specs.Paths.{path}

@@ -26,7 +26,8 @@ use Rattle.rust_items.specs.Items.{span_of, needs_name, and_item, leaf_turn, Blo
 use Rattle.rust_items.proofs.Leads.{named_leads, front_start}
 use Rattle.rust_ranges.proofs.NearFronts.{FrontNear, front_until}
 use Rattle.rust_ranges.proofs.NearLeaves.{NameNear, named_until, Given, given_on, Ends, passes, before_end, at_end}
-use Rattle.rust_ranges.proofs.NearItems.{FoundNear, problem_near, item_near, all_near, flat, FoundAlike, ends_long, TurnLong, block_ends, leaf_leads, is_unfinished, is_sound, flawed, found_leads, leaf_turn_ends, leaf_turn_fewer, extern_inside_fewer, block_fewer, extern_inside_ends, front_leads}
+use Rattle.rust_ranges.specs.Laws.{is_unfinished}
+use Rattle.rust_ranges.proofs.NearItems.{FoundNear, problem_near, item_near, all_near, flat, FoundAlike, ends_long, TurnLong, block_ends, leaf_leads, is_sound, flawed, found_leads, leaf_turn_ends, leaf_turn_fewer, extern_inside_fewer, block_fewer, extern_inside_ends, front_leads}
 use Rattle.rust_items.proofs.Places.{Finds, FindsIn, turn_with_found, inside_found, extern_inside_found, unless_found}
 
 -- ---- items that hold others

@@ -2,7 +2,7 @@
 use Rattle.std.specs.Prelude.{◌≡◌, ℕ, false, List, [], ◌∷◌, ◌++◌, length, slice_index, Option}
 use Rattle.std.specs.List.{filter}
 use Rattle.hir_input.specs.declared.edition.EditionYear.{EditionYear}
-use Rattle.rust_lexer.specs.Alone.{Stop, stop, overhang, EndsAlone, is_fence}
+use Rattle.rust_lexer.specs.Alone.{Stop, stop, EndsAlone, is_fence}
 use Rattle.rust_lexer.specs.Bytes.{is_continuation}
 use Rattle.rust_lexer.specs.Tokens.{has_mark, is_shebang, is_significant, tokens_from}
 use Rattle.rust_cursor.specs.Tokens.{Tokens}
@@ -17,9 +17,8 @@ pub record IsPlain (text : List ℕ) : Type 0 where
   pub shebang : is_shebang (tokens_from 0 0 text) ≡ false
   pub fence : is_fence text ≡ false
 
--- A part of a text that begins where a token does and ends with a `;` or a brace that is one, and what is behind it.
-pub record IsPart (q w : List ℕ) (o : Stop) (y : List ℕ) : Type 0 where
-  pub begins : overhang 0 q (w ++ stop o ∷ y) ≡ 0
+-- A part of a text that ends with a `;` or a brace that is a token, and what is behind it.
+pub record IsPart (w : List ℕ) (o : Stop) (y : List ℕ) : Type 0 where
   pub ends : EndsAlone w o
   pub behind : is_continuation (slice_index y 0) ≡ false
   pub plain : IsPlain (ended w o)
