@@ -91,7 +91,15 @@ impl Session {
                     path: "",
                     text: text.text.as_str(),
                 };
-                outline_items(alloc, source, &text.places, tree, &self.edition, None, choice)?
+                outline_items(
+                    alloc,
+                    source,
+                    &text.places,
+                    tree,
+                    &self.edition,
+                    None,
+                    choice,
+                )?
             }
             None => {
                 let source = Source { path: "", text: "" };
