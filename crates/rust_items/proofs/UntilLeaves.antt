@@ -217,7 +217,7 @@ module _ (b : Bodies) (plain : BeginPlain b) (end : ℕ) (attrs : List MetaView)
 
   structure_until : LeafUntil b (some_read (structure attrs v ts)) (some_read (structure attrs v us))
   unfolding structure
-  structure_until = by (struct_fields_same b plain.new_behind x (named us).1 (item_end x).1 (item_end (named us).1).1 (item_end x).0.block (item_end (named us).1).0.block n.rest r.rest r.value)
+  structure_until = by (struct_fields_same b plain.new_behind x (named us).1 (item_end x).1 (item_end (named us).1).1 (item_end x).0.block (item_end (named us).1).0.block n.rest r.rest r.value.block)
     where
       x : Tokens
       x = (named ts).1
