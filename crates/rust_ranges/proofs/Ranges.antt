@@ -31,7 +31,6 @@ use Rattle.rust_items.specs.LineEnds.{with_feeds, place_in, moved_range, moved_s
 use Rattle.rust_items.specs.Places.{Telling, IsNameIn, IsBodyIn, ArePlaces, nothing, placed}
 use Rattle.rust_items.specs.SourceFiles.{places, behind_attributes, found_in, items_in, read_of, IsFile, IsSourceFile}
 use Rattle.rust_items.proofs.Places.{Span, row_kind, place_kind, place_span, AreFound, items_found, turn_found}
-use Rattle.rust_items.proofs.UntilItems.{found_rows, found_spans}
 use Rattle.rust_ranges.specs.Laws.{ends_items, EndsOwn, is_unfinished, is_unfinished_at, text_at, EndsItself, without_ids, Bytes, bytes_of, further_on, IsItem, IsAtTop, RangeAlone}
 use Rattle.rust_ranges.proofs.Parts.{ended, IsPlain, IsPart, tokens_behind}
 use Rattle.rust_ranges.proofs.Alone.{part_in, StandsAlone, IsOwn, item_alone}
@@ -42,7 +41,7 @@ use Rattle.rust_cursor.proofs.Near.{both_true, Ending, is_last}
 use Rattle.rust_ranges.proofs.NearItems.{is_sound, place_on}
 use Rattle.rust_ranges.proofs.Plain.{plain_text}
 use Rattle.rust_ranges.proofs.Seats.{from, IsClean, HasPlace, IsLeft, all_left, left_on, year_is}
-use Rattle.rust_ranges.proofs.Tops.{Keeps, turn_is, turn_strict, IsTurned, IsFound, places_spans, without_again, same_first, found_keeps, file_turned, rows_spans}
+use Rattle.rust_ranges.proofs.Tops.{Keeps, turn_is, turn_strict, IsTurned, IsFound, places_spans, without_again, same_first, found_keeps, file_turned, rows_spans, same_rows, same_spans}
 
 -- ---- one turn of a text
 
@@ -243,10 +242,10 @@ module _ (edition : EditionYear) (by : Ending) (v : List ℕ) (f : Found) (r : O
   alone_spans : map place_span alone.places.items ≡ map (moved_span place) stands.found.spans
   alone_spans =
       let many = is.are_ids.as_many in
-      let rows = ap length (found_rows edition v) in
+      let rows = ap length (same_rows edition v) in
       let count = rows_spans edition v in
       let moved = length-map (read_of edition v).1.0.spans (moved_span place) in
-      ap (map place_span) (is.places ∙ ap (λ (l : List Span). places is.ids (map (moved_span place) l)) (found_spans edition v))
+      ap (map place_span) (is.places ∙ ap (λ (l : List Span). places is.ids (map (moved_span place) l)) (same_spans edition v))
       ∙ places_spans is.ids (map (moved_span place) (read_of edition v).1.0.spans) (omega arith) ∙ ap (map (moved_span place)) read_spans
 
   alone_in : AreIn (length v) stands.found.spans

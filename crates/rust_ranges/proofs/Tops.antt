@@ -34,7 +34,7 @@ use Rattle.rust_items.specs.Places.{Telling, held, ArePlaces, nothing, placed}
 use Rattle.rust_items.specs.SourceFiles.{places, behind_attributes, found_in, items_in, read_of, IsFile}
 use Rattle.rust_items.proofs.Leads.{front_start}
 use Rattle.rust_items.proofs.Places.{Span, row_kind, place_kind, place_span, unnumbered, adds_use_trees, adds_problem_at, adds_item, AreFound, turn_found, items_found}
-use Rattle.rust_items.proofs.UntilItems.{found_rows, found_spans}
+use Rattle.rust_items.proofs.UntilItems.{Rows, found_rows}
 use Rattle.rust_ranges.specs.Laws.{item_count, items_count, at_top, without_ids, IsAtTop}
 
 -- ---- how many there are
@@ -469,6 +469,13 @@ items_are : (edition : EditionYear) (x : List ℕ) → items_in edition x ≡ it
 unfolding items_in
 items_are edition x = refl
 
+-- what is found of a whole text are the rows and the spans that were read
+pub same_rows : (edition : EditionYear) (x : List ℕ) → (found_in edition x).rows ≡ (read_of edition x).1.0.rows
+same_rows edition x = ap (λ (r : Rows). r.0) (found_rows edition x)
+
+pub same_spans : (edition : EditionYear) (x : List ℕ) → (found_in edition x).spans ≡ (read_of edition x).1.0.spans
+same_spans edition x = ap (λ (r : Rows). r.1.0) (found_rows edition x)
+
 pub file_turned : (edition : EditionYear) (x : List ℕ) (place : ℕ → ℕ) (file : SourceFile) (i : ItemView) (ps : List ItemPlace) → IsFile edition x place file → IsAtTop file i ps → IsTurned (tokens_of edition x) place (read_of edition x).1.0 i ps
 file_turned edition x place file i ps is (k, low, at) =
     let start = behind_attributes edition x in
@@ -476,8 +483,8 @@ file_turned edition x place file i ps is (k, low, at) =
     let laid = (behind (length x) leads (tokens_laid edition x)).laid in
     let listed = all_turned nothing_found start in
     let tops = tops_of (length x) (tokens_of edition x) place listed.turns laid leads in
-    let spans : (found_in edition x).spans ≡ tops.spans = found_spans edition x ∙ tops.are in
-    let many : length is.ids ≡ length (read_of edition x).1.0.rows = is.are_ids.as_many ∙ ap length (found_rows edition x) in
+    let spans : (found_in edition x).spans ≡ tops.spans = same_spans edition x ∙ tops.are in
+    let many : length is.ids ≡ length (read_of edition x).1.0.rows = is.are_ids.as_many ∙ ap length (same_rows edition x) in
     let count = tops.rows in
     let all : at_top (items_of (syntax_view file.syntax)) file.places.items ≡ Tops (length x) (tokens_of edition x) place listed.new is.ids tops.spans =
     ap (λ (v : SyntaxView). at_top (items_of v) file.places.items) is.syntax
