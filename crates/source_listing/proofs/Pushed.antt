@@ -1,5 +1,5 @@
 -- Texts that are pushed one after another.
-use Rattle.std.proofs.Common.{◌≡◌, ℕ, List, [], ◌∷◌, ◌++◌, map, ap, codes, ◌∙◌, append_assoc, Option, refl}
+use Rattle.std.proofs.Common.{◌≡◌, ℕ, List, [], ◌∷◌, ◌++◌, map, ap, codes, ◌∙◌, append_assoc, Option}
 use Rattle.std.specs.Prelude.{filter}
 use Rattle.std.specs.List.{flat_map}
 use Rattle.std.proofs.lemmas.Grind.{flat_map-append}
@@ -20,10 +20,6 @@ seven_pushed o p i v w n s e o1 o2 o3 o4 o5 o6 o7 a b c d f g h = rw (h, g, f, d
 pub one_more_found : (s : Source) (x : Reading) (reserved : List (List ℕ)) (places : List ItemPlace) (q : Query) (rs : List RowView) (r : RowView)
     → found_lines s x reserved places q (rs ++ r ∷ []) ≡ found_lines s x reserved places q rs ++ found_lines s x reserved places q (r ∷ [])
 one_more_found s x reserved places q rs r = flat_map-append (whole_found s x reserved places q) rs (r ∷ [])
-
-pub no_found_member : (s : Source) (reserved : List (List ℕ)) (q : Query) (r : RowView) (around : Option (List ℕ)) → found_members s reserved q r around [] ≡ []
-unfolding found_members
-no_found_member s reserved q r around = refl
 
 -- the same of a member alone
 pub one_more_found_member : (s : Source) (reserved : List (List ℕ)) (q : Query) (r : RowView) (around : Option (List ℕ)) (ms : List Listed) (m : Listed)

@@ -1,8 +1,9 @@
 -- Tags that are pushed one after another.
-use Rattle.std.proofs.Common.{◌≡◌, ℕ, ◌+◌, List, [], ◌∷◌, ◌++◌, Option, refl, ap, ◌∙◌}
+use Rattle.std.proofs.Common.{◌≡◌, ℕ, ◌+◌, ◌<◌, List, [], ◌∷◌, ◌++◌, Option, length, take, get_or, map, ap, sym, ◌∙◌, append_assoc}
 use Rattle.std.specs.Prelude.{filter}
 use Rattle.std.specs.List.{flat_map}
 use Rattle.std.proofs.lemmas.Grind.{flat_map-append}
+use Rattle.std.proofs.lemmas.List.{take_more, map-append}
 use Rattle.std.proofs.lemmas.List.Elements.{filter-append}
 use Rattle.item_rows.specs.Rows.{RowView}
 use Rattle.rust_items.specs.declared.source_file.ItemPlace.{ItemPlace}
@@ -25,6 +26,11 @@ one_more_member path text c r name ms m =
     ap (flat_map (λ x. if_any (member_tag path text r name x))) (filter-append (λ x. is_chosen c (r.level + 1) x.is_active) ms (m ∷ []))
     ∙ flat_map-append (λ x. if_any (member_tag path text r name x)) (filter (λ x. is_chosen c (r.level + 1) x.is_active) ms) (filter (λ x. is_chosen c (r.level + 1) x.is_active) (m ∷ []))
 
-pub no_member : (path text : List ℕ) (c : Choice) (r : RowView) (name : Option (List ℕ)) → member_tags path text c r name [] ≡ []
-unfolding member_tags
-no_member path text c r name = refl
+-- the tags of one more member, behind those of the ones before it
+pub member_pushed : {B : Type 0} (view : B → Listed) (path text again : List ℕ) (c : Choice) (r : RowView) (name : Option (List ℕ)) (xs : List B) (i : ℕ) (x : B) (o o1 o2 : List (List ℕ)) → i < length xs → x ≡ get_or xs i x → again ≡ text
+    → o1 ≡ o ++ member_tags path text c r name (map view (take i xs)) → o2 ≡ o1 ++ member_tags path again c r name (view x ∷ []) → o2 ≡ o ++ member_tags path text c r name (map view (take (i + 1) xs))
+member_pushed view path text again c r name xs i x o o1 o2 h e t d g =
+    g ∙ (λ k. d k ++ member_tags path (t k) c r name (view x ∷ []))
+    ∙ append_assoc o (member_tags path text c r name (map view (take i xs))) (member_tags path text c r name (view x ∷ []))
+    ∙ ap (λ (ys : List (List ℕ)). o ++ ys) (sym (one_more_member path text c r name (map view (take i xs)) (view x))
+    ∙ ap (member_tags path text c r name) (sym (map-append view (take i xs) (x ∷ [])) ∙ ap (λ y. map view (take i xs ++ y ∷ [])) e ∙ ap (map view) (sym (take_more xs i x h))))

@@ -210,7 +210,7 @@ impl Printer<'_> {
     }
 
     /// The lines of the members of an item that are looked for.
-    #[tactic(auto, using(crate::proofs::Pushed::no_found_member, crate::proofs::Pushed::one_more_found_member))]
+    #[tactic(auto, unfolding(crate::specs::Search::found_members), using(crate::proofs::Pushed::one_more_found_member))]
     fn push_found_members(
         &mut self,
         alloc: Global,

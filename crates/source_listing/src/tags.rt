@@ -288,7 +288,7 @@ fn push_member_tag(
 }
 
 /// Adds the tags of the chosen members of an item.
-#[tactic(auto, using(crate::proofs::Tagged::no_member, crate::proofs::Tagged::one_more_member, crate::proofs::Begins::begin_itself, crate::proofs::Begins::begin_later))]
+#[tactic(auto, unfolding(crate::specs::Tags::member_tags), using(crate::proofs::Begins::begin_itself))]
 fn push_member_tags(
     alloc: Global,
     finder: &mut Finder<'_>,
