@@ -7,7 +7,7 @@ use crate::listed::{Around, ListedMember, listed_members};
 use crate::types::type_name;
 use hir_input::{AstIdKind, CfgOptions, EditionYear, Name};
 use rust_items::ItemPlace;
-use source_rows::header;
+use source_rows::{header, text_at};
 use std::alloc::{AllocError, Global};
 
 /// A text of an edition, and the cfgs that are set, where members are asked for.
