@@ -66,7 +66,7 @@ def syntax(text, options):
 
 
 def outline(text, options):
-    return json.loads(run(['outline', '--json'], text, options))['items']
+    return json.loads(run(['outline', '--json', '--no-members'], text, options))['items']
 
 
 def part(value, steps):
@@ -151,7 +151,7 @@ def check_page(path):
 
 def places(folder):
     """The items of each file of a folder, by the file's name: id, name and places of each."""
-    done = subprocess.run([sys.argv[1], 'outline', '--json', folder], timeout=300, stdout=subprocess.PIPE)
+    done = subprocess.run([sys.argv[1], 'outline', '--json', '--no-members', folder], timeout=300, stdout=subprocess.PIPE)
     for line in done.stdout.splitlines():
         file = json.loads(line)
         items = walked(file['items'], 'children')
