@@ -33,4 +33,3 @@ pub mod NearUntil
 pub mod NearTexts
 pub mod Enclosed
 pub mod High
-pub mod Lockstep
