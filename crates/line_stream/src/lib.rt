@@ -8,8 +8,6 @@ mod laws;
 pub mod line;
 mod read;
 pub mod service;
-#[cfg(test)]
-mod tests;
 mod write;
 
 pub use conversation::serve;

@@ -2,7 +2,7 @@
 ghost use Rattle.std.specs.Prelude.{◌≡◌};
 ghost use Rattle.line_stream.specs.Lines.{Told};
 
-use crate::{Answer, Line, MOST_LINE, Service, StreamError, serve};
+use line_stream::{Answer, Line, MOST_LINE, Service, StreamError, serve};
 use std::alloc::Global;
 use std::io::{self, BufRead, BufReader, Read, Write};
 use std::test::Fail;
