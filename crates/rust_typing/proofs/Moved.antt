@@ -1,8 +1,6 @@
 -- Items and use trees stand where they stood, or are moved with the text.
-use Rattle.std.proofs.Common.{◌≡◌, ◌<◌, ◌≤◌, ℕ, suc, ◌+◌, ◌-◌, true, false, List, [], ◌∷◌, length, refl, ap, sym, subst, ◌∙◌, map, arith}
+use Rattle.std.proofs.Common.{◌≡◌, ◌<◌, ◌≤◌, ℕ, List, ◌∷◌, length, refl, ap, sym, subst, ◌∙◌, map, arith}
 use Rattle.hir_input.specs.declared.edition.EditionYear.{EditionYear}
-use Rattle.rust_lexer.proofs.Whole.{close_of}
-use Rattle.rust_cursor.specs.Tokens.{end_of}
 use Rattle.rust_cursor.proofs.Ordered.{close_some}
 use Rattle.rust_cursor.proofs.Places.{AreAlike, no_more, one_more, unmoved, moves}
 use Rattle.rust_items.specs.declared.source_file.SourceFile.{SourceFile}
@@ -10,7 +8,7 @@ use Rattle.rust_items.specs.LineEnds.{with_feeds, place_in}
 use Rattle.rust_items.specs.SourceFiles.{found_in, IsFile}
 use Rattle.rust_items.proofs.Moving.{files_moved}
 use Rattle.rust_typing.specs.Laws.{with_body, IsTyped}
-use Rattle.rust_typing.specs.Moved.{shifted_by, close_at, AreMoved, PlacesMove}
+use Rattle.rust_typing.specs.Moved.{shifted_by, AreMoved, PlacesMove}
 use Rattle.rust_typing.proofs.Texts.{IsMoved}
 use Rattle.rust_typing.proofs.Typing.{both_read, same_ids}
 use Rattle.rust_typing.proofs.Returns.{is_le, not_le, feeds_body, body_length, place_stays, place_moves}
