@@ -109,7 +109,9 @@ module _ (old typed : List ℕ) (items : List ItemPlace) (body range : TextRange
       let f' : IsSourceFile edition (with_body q m s) read = subst (λ (t : List ℕ). IsSourceFile edition t read) old_is f in
       let g' : IsSourceFile edition (with_body q m' s) again = subst (λ (t : List ℕ). IsSourceFile edition t again) new_is g in
       let t = typed_is edition read e f' in
+      let moved = places_move edition q m m' s read again t f' g' in
       record {
         syntax = typing_inside edition (with_feeds q) (with_feeds m) (with_feeds m') (with_feeds s) (with_body q m s) (with_body q m' s) read again (feeds_body q m s) (feeds_body q m' s) t f' g';
-        items = (places_move edition q m m' s read again t f' g').places ∙ ap (λ (k : ℕ → ℕ). map (moved_place k) read.places.items) (sym by_shift);
+        items = moved.places ∙ ap (λ (k : ℕ → ℕ). map (moved_place k) read.places.items) (sym by_shift);
+        use_trees = moved.use_trees ∙ ap (λ (k : ℕ → ℕ). map k read.use_trees.items) (sym by_shift);
       }

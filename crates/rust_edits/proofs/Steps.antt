@@ -1,6 +1,5 @@
 -- Steps of the functions.
-use Rattle.std.proofs.Common.{◌≡◌, ◌<◌, ◌==◌, ◌+◌, ℕ, zero, suc, true, Option, Some, None, List, [], ◌∷◌, ◌++◌, length, take, get_or, map, IfSome, refl, ap, sym, ◌∙◌, arith}
-use Rattle.std.proofs.lemmas.List.{take_more, map-append}
+use Rattle.std.proofs.Common.{◌≡◌, ◌<◌, ◌==◌, ℕ, zero, suc, true, Option, Some, None, List, [], ◌∷◌, length, get_or, IfSome, refl, ap, sym, ◌∙◌, arith}
 use Rattle.std.proofs.lemmas.Bool.Decides.{nat_tests}
 use Rattle.rust_cursor.proofs.Leads.{when}
 use Rattle.rust_paths.specs.declared.names.TextRange.{TextRange}
@@ -28,9 +27,3 @@ body_held items i item h e = by_some item.body (λ r b. held_at items i item r b
 pub some_so : {A : Type 0} {P Q : A → Type 0} (o : Option A) → ((a : A) → P a → Q a) → IfSome o P → IfSome o Q
 some_so None f h = tt
 some_so (Some a) f h = f a h
-
--- one more of a list
-pub one_more : {A B : Type 0} (f : A → B) (xs : List A) (i : ℕ) (x : A) (done : List B) (y : B) → i < length xs → x ≡ get_or xs i x → y ≡ f x → done ≡ map f (take i xs) → done ++ y ∷ [] ≡ map f (take (i + 1) xs)
-one_more f xs i x done y h e k d =
-    ap (λ zs. zs ++ y ∷ []) d ∙ ap (λ z. map f (take i xs) ++ z ∷ []) k ∙ sym (map-append f (take i xs) (x ∷ []))
-    ∙ ap (map f) (ap (λ z. take i xs ++ z ∷ []) e ∙ sym (take_more xs i x h))

@@ -56,8 +56,8 @@ fn shift_of(body: TextRange, range: TextRange, typed: &str, back: &str) -> Optio
 /// to be read.
 ///
 /// It is told where the items of the old text stand, the old text, the range in bytes, and what was typed in its place. If it
-/// answers, then what is read of the new text is the same but for body texts, with the same ids, and the items stand where the
-/// answer says. It takes as long as the body is long, and a search among the items.
+/// answers, then what is read of the new text is the same but for body texts, with the same ids, and items and use trees stand
+/// where the answer says. It takes as long as the body is long, and a search among the items.
 ///
 /// It says `None` if the range is not in the braces of a body, if what stood or stands between these does not stand alone (its braces
 /// match, no token of it takes the `}`, and no inner attribute begins it), and of a text that begins with a byte order mark, `-`, an

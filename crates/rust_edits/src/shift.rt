@@ -77,4 +77,24 @@ impl Shift {
         }
         Ok(Some(moved))
     }
+
+    /// Where the use trees of the old text begin in the new one. It answers for those of the old text.
+    ///
+    /// The only error is want of memory.
+    pub fn use_trees(
+        &self,
+        alloc: Global,
+        starts: &[usize],
+    ) -> Result<Option<Vec<usize>>, AllocError>
+        ensures { IfOk result (λ moved. IfSome moved (λ v. v.items ≡ map (place_by self.now) starts.now)) }
+    {
+        let mut moved = Vec::with_capacity(alloc, starts.len())?;
+        for start in starts {
+            let Some(start) = self.place(*start) else {
+                return Ok(None);
+            };
+            moved.push(start)?;
+        }
+        Ok(Some(moved))
+    }
 }
