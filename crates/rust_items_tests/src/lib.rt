@@ -1,4 +1,4 @@
-//! Tests of what only a call can show of the crates that the reader stands on: tokens, and words and places of a cursor. What a program
+//! Tests of what only a call can show of the crates about the reader: tokens, words and places of a cursor, and edits. What a program
 //! shows of texts is in `tests/reader`, and what else a call shows of the reader in `item_tree_tests`.
 //!
 //! They call what is public and stand in a crate of their own, so that no library is proved twice for its tests. No tree and no
@@ -7,5 +7,7 @@
 
 #[cfg(test)]
 mod calls;
+#[cfg(test)]
+mod edits;
 #[cfg(test)]
 mod tokens;

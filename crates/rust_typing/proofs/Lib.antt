@@ -3,4 +3,8 @@ pub mod Typing
 pub mod Returns
 pub mod Moved
 pub mod Told
+pub mod Begins
+pub mod BodyStarts
+pub mod Opened
+pub mod Full
 pub mod Examples

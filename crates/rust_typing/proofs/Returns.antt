@@ -1,13 +1,13 @@
 -- Returns of a text with braces in it, and the places that they move.
-use Rattle.std.proofs.Common.{◌≡◌, ◌<◌, ◌≤◌, ◌+◌, ◌-◌, ◌==◌, ℕ, zero, suc, Bool, true, false, List, [], ◌∷◌, ◌++◌, length, refl, ap, sym, ◌∙◌, arith, length-append}
+use Rattle.std.proofs.Common.{◌≡◌, ◌<◌, ◌≤◌, ◌+◌, ◌==◌, ℕ, suc, true, false, List, [], ◌∷◌, ◌++◌, length, refl, ap, ◌∙◌, arith, length-append}
 use Rattle.std.specs.Prelude.{nat_le, nat_lt, slice_index}
-use Rattle.std.specs.List.{prefix_len}
 use Rattle.std.proofs.lemmas.Bool.Decides.{nat_tests}
 use Rattle.rust_cursor.proofs.Leads.{when}
 use Rattle.rust_items.specs.LineEnds.{is_return, with_feeds, returns_from, place_in}
+use Rattle.std.proofs.lemmas.Bool.{and_parts}
 use Rattle.rust_items.proofs.LineEnds.{returns_count, prefix_short, below_none, before}
 use Rattle.rust_typing.specs.Laws.{with_body}
-use Rattle.rust_typing.specs.Moved.{shifted, shifted_by, close_at}
+use Rattle.rust_typing.specs.Moved.{shifted_by, close_at}
 
 pub is_le : (m n : ℕ) → m ≤ n → nat_le m n ≡ true
 is_le m n h = grind (arith, nat_tests)
@@ -117,3 +117,29 @@ place_moves q m m' s c some l =
     let k = close_at q m + (c + before c 1 s) in
     let there : nat_le k (length q) ≡ false = not_le k (length q) (omega arith) in
     rw (place_high q m s c some l, place_high q m' s c some l, there) (omega arith)
+
+-- ---- where the braces stand
+
+some_feed : (z : List ℕ) → (slice_index z 0 == 10) ≡ true → 0 < length (with_feeds z)
+some_feed [] e = absurd cc
+some_feed (b ∷ z) e = let other : (b == 13) ≡ false = grind (arith, nat_tests) in rw other (omega arith)
+
+-- all returns of a text stand before its end
+before_all : (at : ℕ) (z : List ℕ) → before (at + length (with_feeds z)) at z ≡ length (returns_from at z)
+before_all at [] = refl
+before_all at (b ∷ z) =
+    when (is_return b z)
+    (λ e. let some = some_feed z (and_parts (b == 13) (slice_index z 0 == 10) e).1 in
+    let here : nat_lt at (at + length (with_feeds z)) ≡ true = is_lt at (at + length (with_feeds z)) (omega arith) in
+    let rest = before_all at z in
+    rw (e, here) (omega (arith, rest)))
+    (λ e. let next : at + length (b ∷ with_feeds z) ≡ suc at + length (with_feeds z) = omega arith in
+    rw e (ap (λ n. before n (suc at) z) next ∙ before_all (suc at) z))
+
+-- the place of the `{`
+pub place_open : (q m s : List ℕ) → place_in (with_body q m s) (length (with_feeds q)) ≡ length q
+place_open q m s =
+    let end : length (with_feeds q) ≡ 0 + length (with_feeds q) = omega arith in
+    let all : before (length (with_feeds q)) 0 q ≡ length (returns_from 0 q) = ap (λ n. before n 0 q) end ∙ before_all 0 q in
+    let count = returns_count 0 q in
+    place_low q m s (length (with_feeds q)) (omega arith) ∙ omega (arith, all, count)

@@ -1,5 +1,5 @@
 -- Which braces are a body is told by the places of what was read.
-use Rattle.std.proofs.Common.{◌≡◌, ◌≤◌, ◌+◌, ℕ, List, ◌∷◌, ◌++◌, length, ap, subst, ◌∙◌, arith, length-append}
+use Rattle.std.proofs.Common.{◌≡◌, ◌+◌, ℕ, List, ◌∷◌, ◌++◌, length, ap, subst, ◌∙◌, arith, length-append}
 use Rattle.rust_items.specs.LineEnds.{with_feeds, place_in}
 use Rattle.rust_items.specs.SourceFiles.{found_in}
 use Rattle.rust_items.specs.Typed.{has_body, has_body_at}

@@ -24,14 +24,10 @@ shifted_by q m m' = shifted (length q) (close_at q m) (close_at q m')
 abbrev pub moved_place : (ℕ → ℕ) → ItemPlace → ItemPlace
 moved_place place p = record { id = p.id; range = moved_range place p.range; name = option_map (moved_range place) p.name; body = option_map (moved_range place) p.body }
 
--- Where what is read of two texts stands, that differ between the two braces of a body.
+-- where items and use trees stand that are read of two texts that differ between the two braces of a body
 pub record AreMoved (q m m' s : List ℕ) (read again : SourceFile) : Type 0 where
-  -- items
   pub places : again.places.items ≡ map (moved_place (shifted_by q m m')) read.places.items
-  -- use trees, by their places in the texts without returns; where a text has none, these are the places
-  pub starts : List ℕ
-  pub old_starts : read.use_trees.items ≡ map (place_in (with_body q m s)) starts
-  pub new_starts : again.use_trees.items ≡ map (place_in (with_body q m' s)) (map (shifted_by (with_feeds q) (with_feeds m) (with_feeds m')) starts)
+  pub use_trees : again.use_trees.items ≡ map (shifted_by q m m') read.use_trees.items
 
 -- Whatever is typed inside a body, items and use trees stand where they stood, but for those behind the body, which move with the text.
 abbrev pub PlacesMove : Type 0

@@ -2,6 +2,7 @@
 
 ghost use Rattle.rust_typing.specs.Laws.{TypingInside};
 ghost use Rattle.rust_typing.specs.Moved.{BodyIsTold, PlacesMove};
+ghost use Rattle.rust_typing.specs.Opened.{BodyOpens};
 
 // Typing inside a body changes no syntax but for its body texts.
 fn typing_inside()
@@ -16,4 +17,9 @@ fn places_move()
 // The braces of a body are told by the places of what was read.
 fn body_is_told()
     ensures { BodyIsTold }
+{}
+
+// The `{` of a body is a token.
+fn body_opens()
+    ensures { BodyOpens }
 {}

@@ -1,0 +1,4 @@
+pub mod Closed
+pub mod Bare
+pub mod Moves
+pub mod Steps

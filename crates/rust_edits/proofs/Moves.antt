@@ -1,0 +1,117 @@
+-- An edit inside a body moves what is read.
+use Rattle.std.proofs.Common.{◌≡◌, ◌+◌, ℕ, suc, true, List, ◌∷◌, ◌++◌, length, take, drop, IsUtf8, ap, sym, subst, ◌∙◌, map, arith, append_assoc, length-append}
+use Rattle.std.proofs.lemmas.List.{take_at, drop_at}
+use Rattle.std.proofs.lemmas.Str.{IsUtf8-append}
+use Rattle.hir_input.specs.declared.edition.EditionYear.{EditionYear}
+use Rattle.rust_paths.specs.declared.names.TextRange.{TextRange}
+use Rattle.rust_items.specs.declared.source_file.ItemPlace.{ItemPlace}
+use Rattle.rust_items.specs.declared.source_file.SourceFile.{SourceFile}
+use Rattle.rust_items.specs.LineEnds.{with_feeds}
+use Rattle.rust_items.specs.SourceFiles.{IsSourceFile}
+use Rattle.rust_items.specs.Typed.{has_body_at}
+use Rattle.rust_typing.specs.Laws.{with_body, IsBody, IsTyped}
+use Rattle.rust_typing.specs.Moved.{shifted, shifted_by, close_at, moved_place}
+use Rattle.rust_typing.proofs.Full.{feeds_full}
+use Rattle.rust_typing.proofs.Moved.{places_move}
+use Rattle.rust_typing.proofs.Opened.{body_opens}
+use Rattle.rust_typing.proofs.Returns.{feeds_body, place_open}
+use Rattle.rust_typing.proofs.Told.{body_is_told}
+use Rattle.rust_typing.proofs.Typing.{typing_inside}
+use Rattle.rust_edits.specs.declared.parts.Parts.{Parts}
+use Rattle.rust_edits.specs.declared.shift.Shift.{Shift}
+use Rattle.rust_edits.specs.Edits.{edited, place_by, Shifts}
+use Rattle.rust_edits.specs.Inner.{braced, is_alone, begins_bare, AreParts, IsShift}
+use Rattle.rust_edits.proofs.Closed.{alone_is}
+use Rattle.rust_edits.proofs.Bare.{IsBare, bare_is}
+
+-- ---- the texts
+
+body_is : (q a b c s : List ℕ) → q ++ 123 ∷ (a ++ (b ++ (c ++ 125 ∷ s))) ≡ with_body q (a ++ (b ++ c)) s
+body_is q a b c s = ap (λ (l : List ℕ). q ++ 123 ∷ l) (ap (λ (l : List ℕ). a ++ l) (sym (append_assoc b c (125 ∷ s))) ∙ sym (append_assoc a (b ++ c) (125 ∷ s)))
+
+edited_is : (old q a b c s : List ℕ) (range : TextRange) (typed : List ℕ) → old ≡ q ++ 123 ∷ (a ++ (b ++ (c ++ 125 ∷ s))) → suc (length q) + length a ≡ range.start → range.start + length b ≡ range.end
+    → edited old range typed ≡ with_body q (a ++ (typed ++ c)) s
+edited_is old q a b c s range typed whole starts ends =
+    let front = q ++ 123 ∷ a in
+    let back = c ++ 125 ∷ s in
+    let first : old ≡ front ++ (b ++ back) = whole ∙ sym (append_assoc q (123 ∷ a) (b ++ back)) in
+    let second : old ≡ (front ++ b) ++ back = first ∙ sym (append_assoc front b back) in
+    let long = length-append q (123 ∷ a) in
+    let longer = length-append front b in
+    ap (λ (l : List ℕ). l ++ (typed ++ drop range.end old)) (ap (take range.start) first ∙ take_at front (b ++ back) range.start (omega (arith, long, starts)))
+    ∙ ap (λ (l : List ℕ). front ++ (typed ++ l)) (ap (drop range.end) second ∙ drop_at (front ++ b) back range.end (omega (arith, long, longer, starts, ends)))
+    ∙ append_assoc q (123 ∷ a) (typed ++ back)
+    ∙ body_is q a typed c s
+
+-- ---- the shift
+
+shift_is : (s : Shift) (i j k : ℕ) → s.opening ≡ i → s.closing ≡ j → s.closing_new ≡ k → place_by s ≡ shifted i j k
+shift_is s i j k e f g = ap (λ (n : ℕ). shifted n s.closing s.closing_new) e ∙ ap (λ (n : ℕ). shifted i n s.closing_new) f ∙ ap (λ (n : ℕ). shifted i j n) g
+
+-- ---- an edit
+
+module _ (old typed : List ℕ) (items : List ItemPlace) (body range : TextRange) (p : Parts) (shift : Shift) (bare : begins_bare old ≡ true) (told : has_body_at body.start items ≡ true)
+    (parts : AreParts old body range p) (utf8 : IsUtf8 typed) (alone : is_alone (with_feeds (braced (p.front.now ++ (p.replaced.now ++ p.back.now)))) ≡ true)
+    (alone_new : is_alone (with_feeds (braced (p.front.now ++ (typed ++ p.back.now)))) ≡ true) (moves : IsShift body range (length typed) (length p.back.now) shift) where
+  q : List ℕ
+  q = p.before.now
+
+  m : List ℕ
+  m = p.front.now ++ (p.replaced.now ++ p.back.now)
+
+  m' : List ℕ
+  m' = p.front.now ++ (typed ++ p.back.now)
+
+  s : List ℕ
+  s = p.behind.now
+
+  old_is : old ≡ with_body q m s
+  unfolding q m s
+  old_is = parts.whole ∙ body_is p.before.now p.front.now p.replaced.now p.back.now p.behind.now
+
+  new_is : edited old range typed ≡ with_body q m' s
+  unfolding q m' s
+  new_is = edited_is old p.before.now p.front.now p.replaced.now p.back.now p.behind.now range typed parts.whole parts.starts parts.ends
+
+  by_shift : place_by shift ≡ shifted_by q m m'
+  unfolding q m m'
+  by_shift =
+      let opens = parts.opens in
+      let starts = parts.starts in
+      let ends = parts.ends in
+      let a = length-append p.front.now (p.replaced.now ++ p.back.now) in
+      let b = length-append p.replaced.now p.back.now in
+      let c = length-append p.front.now (typed ++ p.back.now) in
+      let d = length-append typed p.back.now in
+      shift_is shift (length p.before.now) (close_at p.before.now (p.front.now ++ (p.replaced.now ++ p.back.now))) (close_at p.before.now (p.front.now ++ (typed ++ p.back.now)))
+      (moves.opening ∙ sym opens) (moves.closing ∙ omega (arith, a, b, starts, ends)) (moves.closing_new ∙ omega (arith, c, d, starts))
+
+  typed_is : (edition : EditionYear) (read : SourceFile) → read.places.items ≡ items → IsSourceFile edition (with_body q m s) read → IsTyped edition (with_feeds q) (with_feeds m) (with_feeds m') (with_feeds s)
+  unfolding q m m'
+  typed_is edition read e f =
+      let one = alone_is (p.front.now ++ (p.replaced.now ++ p.back.now)) (IsUtf8-append _ _ parts.front_utf8 (IsUtf8-append _ _ parts.replaced_utf8 parts.back_utf8)) alone in
+      let two = alone_is (p.front.now ++ (typed ++ p.back.now)) (IsUtf8-append _ _ parts.front_utf8 (IsUtf8-append _ _ utf8 parts.back_utf8)) alone_new in
+      let front : IsBare (with_body (with_feeds q) (with_feeds m) (with_feeds s)) = subst IsBare (ap with_feeds old_is ∙ feeds_body q m s) (bare_is old bare) in
+      let here : has_body_at (length q) read.places.items ≡ true = ap (λ (n : ℕ). has_body_at n read.places.items) parts.opens ∙ ap (has_body_at body.start) e ∙ told in
+      let is : IsBody edition (with_feeds q) (with_feeds m) (with_feeds s) =
+      sym (body_is_told edition (with_feeds q) (with_feeds m) (with_feeds s) (with_body q m s) read (feeds_body q m s) f) ∙ ap (λ (n : ℕ). has_body_at n read.places.items) (place_open q m s) ∙ here in
+      record {
+        opens = record { full = feeds_full q parts.before_utf8; one = body_opens edition (with_feeds q) (with_feeds m) (with_feeds s) is front.0 front.1.0 front.1.1; plain = front.0; unfenced = front.1.0; bare = front.1.1 };
+        body = is;
+        alone = one.0;
+        alone_new = two.0;
+        begins = one.1;
+        begins_new = two.1;
+      }
+
+  pub edit_shifts : Shifts items old range typed shift
+  edit_shifts edition read again e f g =
+      let f' : IsSourceFile edition (with_body q m s) read = subst (λ (t : List ℕ). IsSourceFile edition t read) old_is f in
+      let g' : IsSourceFile edition (with_body q m' s) again = subst (λ (t : List ℕ). IsSourceFile edition t again) new_is g in
+      let t = typed_is edition read e f' in
+      let moved = places_move edition q m m' s read again t f' g' in
+      record {
+        syntax = typing_inside edition (with_feeds q) (with_feeds m) (with_feeds m') (with_feeds s) (with_body q m s) (with_body q m' s) read again (feeds_body q m s) (feeds_body q m' s) t f' g';
+        items = moved.places ∙ ap (λ (k : ℕ → ℕ). map (moved_place k) read.places.items) (sym by_shift);
+        use_trees = moved.use_trees ∙ ap (λ (k : ℕ → ℕ). map k read.use_trees.items) (sym by_shift);
+      }

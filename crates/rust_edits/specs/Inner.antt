@@ -1,0 +1,52 @@
+-- For the crate's own functions.
+use Rattle.std.specs.Prelude.{◌≡◌, ℕ, suc, ◌+◌, ◌-◌, Bool, true, false, not, ◌==◌, ◌&&◌, ◌||◌, nat_le, if◌then◌else◌, List, [], ◌∷◌, ◌++◌, length, slice_index, IsUtf8}
+use Rattle.rust_lexer.specs.Piece.{Piece}
+use Rattle.rust_lexer.specs.Symbol.{symbol_of}
+use Rattle.rust_lexer.specs.Tokens.{tokens}
+use Rattle.rust_paths.specs.declared.names.TextRange.{TextRange}
+use Rattle.rust_typing.specs.Laws.{first_plain}
+use Rattle.rust_edits.specs.declared.parts.Parts.{Parts}
+use Rattle.rust_edits.specs.declared.shift.Shift.{Shift}
+
+-- a text in braces
+abbrev pub braced : List ℕ → List ℕ
+braced m = 123 ∷ (m ++ 125 ∷ [])
+
+-- the braces that are open so many deep before these tokens are closed by a `}` at this place, and no sooner
+abbrev pub closes_at : ℕ → ℕ → List Piece → Bool
+closes_at last depth [] = false
+closes_at last depth (t ∷ ts) =
+    if symbol_of t == 123 then closes_at last (depth + 1) ts
+    else (if symbol_of t == 125 then (if nat_le depth 1 then t.at == last else closes_at last (depth - 1) ts) else closes_at last depth ts)
+
+-- no inner attribute stands behind the first token
+abbrev pub begins_plain : List Piece → Bool
+begins_plain [] = true
+begins_plain (t ∷ ts) = first_plain ts
+
+-- the braces of a text with braces around it stand alone, and it begins with no inner attribute
+abbrev pub is_alone : List ℕ → Bool
+is_alone w = closes_at (length w - 1) 0 (tokens w) && begins_plain (tokens w)
+
+-- a text clearly begins with neither a byte order mark, a shebang line nor frontmatter
+abbrev pub begins_bare : List ℕ → Bool
+begins_bare z =
+    if slice_index z 0 == 35 then slice_index z 1 == 91 || (slice_index z 1 == 33 && slice_index z 2 == 91)
+    else not (slice_index z 0 == 45 || (slice_index z 0 == 10 || (slice_index z 0 == 13 || slice_index z 0 == 239)))
+
+-- these are the parts of a text about a range in these braces
+pub record AreParts (text : List ℕ) (body range : TextRange) (p : Parts) : Type 0 where
+  pub whole : text ≡ p.before.now ++ 123 ∷ (p.front.now ++ (p.replaced.now ++ (p.back.now ++ 125 ∷ p.behind.now)))
+  pub opens : length p.before.now ≡ body.start
+  pub starts : suc (length p.before.now) + length p.front.now ≡ range.start
+  pub ends : range.start + length p.replaced.now ≡ range.end
+  pub before_utf8 : IsUtf8 p.before.now
+  pub front_utf8 : IsUtf8 p.front.now
+  pub replaced_utf8 : IsUtf8 p.replaced.now
+  pub back_utf8 : IsUtf8 p.back.now
+
+-- the shift of an edit in these braces, by how many bytes were typed, and how many stand between the range and the `}`
+pub record IsShift (body range : TextRange) (typed back : ℕ) (s : Shift) : Type 0 where
+  pub opening : s.opening ≡ body.start
+  pub closing : s.closing ≡ range.end + back
+  pub closing_new : s.closing_new ≡ range.start + typed + back

@@ -1,0 +1,90 @@
+//! Edits inside bodies.
+
+ghost use Rattle.std.specs.Prelude.{◌≡◌, true, IfOk, IfSome, length, slice_index};
+ghost use Rattle.rust_items.specs.Typed.{has_body_at};
+ghost use Rattle.rust_edits.specs.Edits as spec;
+ghost use Rattle.rust_edits.specs.Inner as inner;
+
+use crate::alone::may_stand;
+use crate::parts::{Parts, parts_of};
+use crate::shift::Shift;
+use rust_items::{ItemPlace, TextRange};
+use std::alloc::{AllocError, Global};
+
+/// The braces of the last item that begins up to a place, if it ends with braces.
+fn body_about(items: &[ItemPlace], at: usize) -> Option<TextRange>
+    ensures { IfSome result (λ body. has_body_at body.start items.now ≡ true) }
+{
+    let count = items.partition_point(|item| item.range.start <= at);
+    let item = items.get(count.checked_sub(1)?)?;
+    item.body
+}
+
+/// The byte at a place, or 0 past the end.
+fn byte(text: &str, at: usize) -> u8
+    ensures { result ≡ slice_index text.now at }
+{
+    let bytes = text.as_bytes();
+    if at < bytes.len() { bytes[at] } else { 0 }
+}
+
+/// Whether a text clearly begins with neither a byte order mark, a shebang line nor frontmatter.
+fn begins_bare(text: &str) -> bool
+    ensures { result ≡ inner.begins_bare text.now }
+{
+    match byte(text, 0) {
+        b'#' => byte(text, 1) == b'[' || byte(text, 1) == b'!' && byte(text, 2) == b'[',
+        b'-' | b'\n' | b'\r' | 0xEF => false,
+        _ => true,
+    }
+}
+
+fn shift_of(body: TextRange, range: TextRange, typed: &str, back: &str) -> Option<Shift>
+    ensures { IfSome result (λ shift. inner.IsShift body range (length typed.now) (length back.now) shift) }
+{
+    let closing = range.end.checked_add(back.len())?;
+    let typed_end = range.start.checked_add(typed.len())?;
+    let closing_new = typed_end.checked_add(back.len())?;
+    Some(Shift {
+        opening: body.start,
+        closing,
+        closing_new,
+    })
+}
+
+/// How the places of a text move when a range of it is replaced, if that is an edit inside a body; `None` says that the new text is
+/// to be read.
+///
+/// It is told where the items of the old text stand, the old text, the range in bytes, and what was typed in its place. If it
+/// answers, then what is read of the new text is the same but for body texts, with the same ids, and items and use trees stand
+/// where the answer says. It takes as long as the body is long, and a search among the items.
+///
+/// It says `None` if the range is not in the braces of a body, if what stood or stands between these does not stand alone (its braces
+/// match, no token of it takes the `}`, and no inner attribute begins it), and of a text that begins with a byte order mark, `-`, an
+/// end of a line, or a `#` before anything but an attribute. The only error is want of memory.
+pub fn edit_inside(
+    alloc: Global,
+    items: &[ItemPlace],
+    old: &str,
+    range: TextRange,
+    typed: &str,
+) -> Result<Option<Shift>, AllocError>
+    ensures { IfOk result (λ found. IfSome found (λ shift. spec.Shifts items.now old.now range typed.now shift)) }
+{
+    if !begins_bare(old) {
+        return Ok(None);
+    }
+    let Some(body) = body_about(items, range.start) else {
+        return Ok(None);
+    };
+    let Some(parts) = parts_of(old, body, range) else {
+        return Ok(None);
+    };
+    if !may_stand(alloc, parts.front, parts.replaced, parts.back)? {
+        return Ok(None);
+    }
+    if !may_stand(alloc, parts.front, typed, parts.back)? {
+        return Ok(None);
+    }
+    Ok(shift_of(body, range, typed, parts.back))
+}

@@ -1,0 +1,100 @@
+//! How places move with an edit between braces.
+
+ghost use Rattle.std.specs.Prelude.{◌≡◌, IfOk, IfSome, map, option_map};
+ghost use Rattle.rust_items.specs.LineEnds.{moved_range};
+ghost use Rattle.rust_typing.specs.Moved.{moved_place};
+ghost use Rattle.rust_edits.specs.Edits.{place_by};
+
+use rust_items::{ItemPlace, TextRange};
+use std::alloc::{AllocError, Global};
+
+/// How places move with an edit between braces: up to the `{` they stay, and behind the braces they are counted from the `}`.
+#[derive(Clone, Copy, Debug, PartialEq, Eq)]
+pub struct Shift {
+    /// The byte place of the `{`.
+    pub opening: usize,
+    /// That of the `}`.
+    pub closing: usize,
+    /// That of the `}` in the new text.
+    pub closing_new: usize,
+}
+
+impl Shift {
+    /// Where a place of the old text is in the new one. None stands between the braces, and none past what fits into memory.
+    pub fn place(&self, at: usize) -> Option<usize>
+        ensures { IfSome result (λ to. to ≡ place_by self.now at) }
+    {
+        if at <= self.opening {
+            return Some(at);
+        }
+        at.checked_sub(self.closing)?.checked_add(self.closing_new)
+    }
+
+    fn range(&self, range: TextRange) -> Option<TextRange>
+        ensures { IfSome result (λ to. to ≡ moved_range (place_by self.now) range) }
+    {
+        let start = self.place(range.start)?;
+        let end = self.place(range.end)?;
+        Some(TextRange { start, end })
+    }
+
+    fn some_range(&self, range: Option<TextRange>) -> Option<Option<TextRange>>
+        ensures { IfSome result (λ to. to ≡ option_map (moved_range (place_by self.now)) range) }
+    {
+        match range {
+            Some(range) => Some(Some(self.range(range)?)),
+            None => Some(None),
+        }
+    }
+
+    fn item(&self, item: ItemPlace) -> Option<ItemPlace>
+        ensures { IfSome result (λ to. to ≡ moved_place (place_by self.now) item) }
+    {
+        Some(ItemPlace {
+            id: item.id,
+            range: self.range(item.range)?,
+            name: self.some_range(item.name)?,
+            body: self.some_range(item.body)?,
+        })
+    }
+
+    /// Where the items of the old text stand in the new one; the ids are the same. It answers for the items of the old text.
+    ///
+    /// The only error is want of memory.
+    pub fn items(
+        &self,
+        alloc: Global,
+        items: &[ItemPlace],
+    ) -> Result<Option<Vec<ItemPlace>>, AllocError>
+        ensures { IfOk result (λ moved. IfSome moved (λ v. v.items ≡ map (moved_place (place_by self.now)) items.now)) }
+    {
+        let mut moved = Vec::with_capacity(alloc, items.len())?;
+        for item in items {
+            let Some(item) = self.item(*item) else {
+                return Ok(None);
+            };
+            moved.push(item)?;
+        }
+        Ok(Some(moved))
+    }
+
+    /// Where the use trees of the old text begin in the new one. It answers for those of the old text.
+    ///
+    /// The only error is want of memory.
+    pub fn use_trees(
+        &self,
+        alloc: Global,
+        starts: &[usize],
+    ) -> Result<Option<Vec<usize>>, AllocError>
+        ensures { IfOk result (λ moved. IfSome moved (λ v. v.items ≡ map (place_by self.now) starts.now)) }
+    {
+        let mut moved = Vec::with_capacity(alloc, starts.len())?;
+        for start in starts {
+            let Some(start) = self.place(*start) else {
+                return Ok(None);
+            };
+            moved.push(start)?;
+        }
+        Ok(Some(moved))
+    }
+}
