@@ -1,5 +1,5 @@
 -- Items and use trees stand where they stood, or are moved with the text.
-use Rattle.std.proofs.Common.{◌≡◌, ◌<◌, ◌≤◌, ℕ, List, ◌∷◌, length, refl, ap, sym, subst, ◌∙◌, map, arith}
+use Rattle.std.proofs.Common.{◌≡◌, ◌≤◌, ℕ, List, ◌∷◌, length, refl, ap, sym, subst, ◌∙◌, map, arith}
 use Rattle.std.specs.Prelude.{All}
 use Rattle.std.proofs.lemmas.List.Elements.{All-nil, All-append, All-head, All-tail, All-weaker}
 use Rattle.hir_input.specs.declared.edition.EditionYear.{EditionYear}
@@ -10,7 +10,7 @@ use Rattle.rust_cursor.proofs.Places.{AreAlike, no_more, one_more, unmoved, move
 use Rattle.rust_items.specs.declared.source_file.ItemPlace.{ItemPlace}
 use Rattle.rust_items.specs.declared.source_file.SourceFile.{SourceFile}
 use Rattle.rust_items.specs.LineEnds.{with_feeds, place_in}
-use Rattle.rust_items.specs.SourceFiles.{found_in, IsFile}
+use Rattle.rust_items.specs.SourceFiles.{IsFile}
 use Rattle.rust_items.proofs.FilePlaces.{text_found}
 use Rattle.rust_items.proofs.Moving.{files_moved}
 use Rattle.rust_items.proofs.UsesFound.{IsIn, UsesIn, no_uses, leaf_uses, holder_uses}
@@ -18,7 +18,7 @@ use Rattle.rust_typing.specs.Laws.{with_body, IsTyped}
 use Rattle.rust_typing.specs.Moved.{shifted_by, AreMoved, PlacesMove}
 use Rattle.rust_typing.proofs.Texts.{IsMoved}
 use Rattle.rust_typing.proofs.Typing.{both_read, same_ids}
-use Rattle.rust_typing.proofs.Returns.{is_le, not_le, feeds_body, body_length, place_stays, place_moves}
+use Rattle.rust_typing.proofs.Returns.{feeds_body, body_length, place_stays, place_moves}
 
 -- ---- places
 
