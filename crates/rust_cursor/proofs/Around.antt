@@ -20,12 +20,12 @@ use Rattle.rust_lexer.specs.Tokens.{is_significant, tokens}
 use Rattle.rust_lexer.proofs.Braces.{is_open_kind, is_close_kind, IsBracket, AreBrackets, tokens_brackets}
 use Rattle.rust_cursor.specs.Tokens.{Tokens, tokens_of}
 use Rattle.rust_cursor.specs.Reader.{Reader}
-use Rattle.rust_cursor.specs.Words.{opens, closes, is_open, is_close, word_by, by_first, rest, symbol, word, is_empty, is_at_open, is_at_end, bumped, is_glued, is_pair, eat, eat_pair}
+use Rattle.rust_cursor.specs.Words.{opens, closes, is_open, is_close, word_by, by_first, rest, symbol, word, is_empty, is_at_open, is_at_end, bumped, is_glued, is_pair, eat_pair}
 use Rattle.rust_cursor.specs.Nests.{opens_other, closes_other, braces_behind, others_behind, is_flat, is_mark, nest_behind}
 use Rattle.rust_cursor.specs.Brackets.{behind_closing, is_closing, closing, to_closing, behind_closed, behind_tree}
 use Rattle.rust_cursor.specs.Elements.{beyond, turns_from, turns, elements}
 use Rattle.rust_cursor.specs.Extents.{stops, ends, opened_behind, more, taking, taken, tree_text}
-use Rattle.rust_cursor.specs.Angles.{behind_field, closes_around, is_reached, is_closed, reaching, reached, behind_angles}
+use Rattle.rust_cursor.specs.Angles.{closes_around, is_reached, is_closed, reaching, reached, behind_angles}
 use Rattle.rust_cursor.proofs.Leads.{behind_closing_leads, bumped_leads, end_some, closing_leads, LeadsTo, here, further, through, Forwards, when, from_last, symbol_some, beyond_leads}
 use Rattle.rust_cursor.proofs.Steps.{closing_stop, closing_more}
 use Rattle.rust_cursor.proofs.Scans.{taking_stop, taking_end, taking_more}
@@ -581,10 +581,6 @@ angles_bar : Bars reaches.Angles
 unfolding is_reached
 angles_bar n ts e z f = rw (e, z, f) refl
 
-field_bar : Bars reaches.Field
-unfolding is_reached
-field_bar n ts e z f = rw (e, z, f) refl
-
 module _ (end c : ℕ) (r : Reach) (bars : Bars r) where
   no_bar : (n : Nest) (ts : Tokens) → is_reached r n ts ≡ false → is_empty ts ≡ false → n.braces ≡ 0 → closes_around n ts ≡ false
   no_bar n ts p e z = when (closes_around n ts) (λ f. let yes = bars n ts e z f in absurd cc) (λ f. f)
@@ -602,9 +598,6 @@ module _ (end c : ℕ) (r : Reach) (bars : Bars r) where
 pub behind_angles_within : (end c : ℕ) (ts : Tokens) → IsSound end ts → Within c (behind_angles ts) ts
 unfolding behind_angles
 behind_angles_within end c ts s = when (symbol ts == 60) (λ e. rw e (reached_within end c reaches.Angles angles_bar ts s)) (λ e. rw e here)
-
-pub behind_field_within : (end c : ℕ) (ts : Tokens) → IsSound end ts → Within c (behind_field ts) ts
-behind_field_within end c ts s = reached_within end c reaches.Field field_bar ts s
 
 -- the next token closes nothing that a tree stands in
 abbrev NoEnd : Nest → Tokens → Type 0
@@ -658,10 +651,6 @@ pub eat_pair_around : (c a b : ℕ) (ts : Tokens) → is_plain a ≡ true → is
 unfolding eat_pair
 eat_pair_around c a b ts f g = when (is_pair a b ts) (λ e. rw e (pair_around c a b ts f g e)) (λ e. rw e refl)
 
-pub eat_around : (c a : ℕ) (ts : Tokens) → is_plain a ≡ true → around c (eat a ts).1 ≡ around c ts
-unfolding eat
-eat_around c a ts f = when (symbol ts == a) (λ e. rw e (other_around c a ts f e)) (λ e. rw e refl)
-
 -- ---- the tokens of a text
 
 counted_braces : (ts : List Piece) → AreBrackets ts → AreBraces (filter is_significant ts)
@@ -682,16 +671,3 @@ counted_braces (t ∷ ts) h =
 pub tokens_sound : (edition : EditionYear) (text : List ℕ) → IsSound (length text) (tokens_of edition text)
 unfolding tokens_of
 tokens_sound edition text = record { laid = tokens_laid edition text; braces = counted_braces (tokens text) (tokens_brackets text) }
-
--- ---- round brackets
-
-pub round_opens : (ts : Tokens) → (symbol ts == 40) ≡ true → OpensAt (symbol ts)
-round_opens ts e = let is = eqb-true (symbol ts) 40 e in round (rw is refl) (rw is refl)
-
--- the bracket that closes it comes next
-pub closed_here : (ts : Tokens) → (symbol ts == 41) ≡ true → behind_closed 40 ts ≡ bumped ts
-unfolding behind_closed to_closing
-closed_here ts e =
-    let is = eqb-true (symbol ts) 41 e in
-    let other : (symbol ts == 125) ≡ false = rw is refl in
-    ap (behind_closing 40) (closing_stop 40 (deep 0 0) ts (shut_by_other 40 ts refl (rw is refl))) ∙ rw other refl

@@ -25,9 +25,9 @@ record Inside (j : ℕ) (ts all : Tokens) : Type 0 where
 abbrev Opened : Option Tokens → Nest → Tokens → Type 0
 Opened o n ts = (a : Tokens) → o ≡ Some a → (j : ℕ) → n.braces ≡ suc j → Inside j ts (around 123 (bumped a))
 
--- what is left of an item stands behind the `}` of its braces
+-- what is left of an item stands behind the `}` of its braces, which is there
 abbrev Encloses : ExcerptRead × Tokens → Type 0
-Encloses r = (a : Tokens) → r.0.block ≡ Some a → LeadsTo (around 123 (bumped a)) r.1
+Encloses r = (a : Tokens) → r.0.block ≡ Some a → LeadsTo (around 123 (bumped a)) r.1 × (is_empty (around 123 (bumped a)) ≡ false)
 
 pub item_open : (n : Nest) (ts : Tokens) → stops extents.Item n ts ≡ false → (n.braces == 0) ≡ true → (symbol ts == 125) ≡ false
 unfolding stops
@@ -40,7 +40,8 @@ item_ends is_call n ts q = when (n.braces == 0) (λ z. eqb-true n.braces 0 z) (�
 some_same : (a b : Tokens) → Some a ≡ Some b → a ≡ b
 some_same a b e = cc
 
-last_enclosed : (o : Option Tokens) (n : Nest) (ts : Tokens) → Opened o n ts → is_empty ts ≡ false → stops extents.Item n ts ≡ false → (nest_behind n ts).braces ≡ 0 → (a : Tokens) → block_at (opened_behind o n ts) ts ≡ Some a → LeadsTo (around 123 (bumped a)) (bumped ts)
+last_enclosed : (o : Option Tokens) (n : Nest) (ts : Tokens) → Opened o n ts → is_empty ts ≡ false → stops extents.Item n ts ≡ false → (nest_behind n ts).braces ≡ 0 → (a : Tokens) → block_at (opened_behind o n ts) ts ≡ Some a
+    → LeadsTo (around 123 (bumped a)) (bumped ts) × (is_empty (around 123 (bumped a)) ≡ false)
 last_enclosed o n ts h some p q a e =
     when (symbol ts == 125)
     (λ f. let other : (symbol ts == 123) ≡ false = grind (arith, nat_tests) in
@@ -51,7 +52,7 @@ last_enclosed o n ts h some p q a e =
     let is : o ≡ Some a = rw (f, deep_in) at e in
     let in_it = h a is 0 one in
     let here_shut = closing_stop 123 (deep 0 in_it.others) ts (shut_by_brace 123 in_it.others ts f) in
-    subst (λ (t : Tokens). LeadsTo t (bumped ts)) (sym here_shut ∙ in_it.is) (further here))
+    subst (λ (t : Tokens). LeadsTo t (bumped ts) × (is_empty t ≡ false)) (sym here_shut ∙ in_it.is) (further here, some))
     (λ f. absurd (let none = rw f at e in cc))
 
 brace_only : (k j : ℕ) (ts : Tokens) → (k ≡ 0 → (symbol ts == 125) ≡ false) → Shuts 123 k j ts → ⊥
@@ -110,14 +111,17 @@ block_left : {ts us : Tokens} {o : Option Tokens} (a : Tokens) → HasBlock ts u
 block_left a no_block e = absurd cc
 block_left {ts} a (block b before some behind) e = subst (λ (t : Tokens). LeadsTo ts t) (some_same b a e) before
 
--- braces from their `{` on are left of what was given, and what is left stands behind their `}`
+-- braces from their `{` on are left of what was given, their `}` is there, and what is left stands behind it
 pub record AreEnclosed (ts us block : Tokens) : Type 0 where
   pub before : LeadsTo ts block
+  pub closed : is_empty (around 123 (bumped block)) ≡ false
   pub behind : LeadsTo (around 123 (bumped block)) us
 
 enclosed : (before : Before) (ts a : Tokens) → (taken before extents.Item ts).0.block ≡ Some a → AreEnclosed ts (taken before extents.Item ts).1 a
 unfolding taken
-enclosed before ts a e = record { before = block_left a (taken_block before extents.Item ts) e; behind = taken_enclosed ts [] 0 None _ (λ a e. absurd cc) a e }
+enclosed before ts a e =
+    let both = taken_enclosed ts [] 0 None _ (λ a e. absurd cc) a e in
+    record { before = block_left a (taken_block before extents.Item ts) e; closed = both.1; behind = both.0 }
 
 pub item_enclosed : (ts a : Tokens) → (item_rest ts).0.block ≡ Some a → AreEnclosed ts (item_rest ts).1 a
 item_enclosed ts a e = enclosed befores.End ts a e

@@ -219,10 +219,6 @@ pub data HasBlock : Tokens → Tokens → Option Tokens → Type 0 where
   no_block : {ts us : Tokens} → HasBlock ts us None
   block : {ts us : Tokens} (b : Tokens) → LeadsTo ts b → is_empty b ≡ false → Takes (bumped b) us → HasBlock ts us (Some b)
 
-pub block_behind : {ts us vs : Tokens} {o : Option Tokens} → LeadsTo ts us → HasBlock us vs o → HasBlock ts vs o
-block_behind p no_block = no_block
-block_behind p (block b before some t) = block b (through p before) some t
-
 still_opened : (start ts : Tokens) (o : Option Tokens) → IsOpened start ts o → IsOpened start (bumped ts) o
 still_opened start ts None none = none
 still_opened start ts (Some a) (opened_at b before some behind) = opened_at b before some (through behind (bumped_leads ts))

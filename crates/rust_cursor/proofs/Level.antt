@@ -1,19 +1,17 @@
 -- Places from which spans are counted: they stand before the braces or behind them, as what is left does.
-use Rattle.std.proofs.Common.{◌≡◌, ◌≤◌, ◌<◌, ℕ, ◌+◌, ◌-◌, ◌==◌, false, Option, List, [], ◌∷◌, ◌++◌, length, refl, ap, ◌∙◌, sym, subst, arith}
+use Rattle.std.proofs.Common.{◌≡◌, ◌≤◌, ◌<◌, ℕ, ◌+◌, ◌-◌, ◌==◌, false, Option, List, [], ◌∷◌, length, refl, ap, arith}
 use Rattle.std.specs.Prelude.{nat_lt}
 use Rattle.std.proofs.lemmas.Bool.Decides.{nat_tests}
 use Rattle.rust_lexer.specs.Piece.{Piece}
 use Rattle.rust_lexer.specs.Symbol.{symbol_of}
 use Rattle.rust_cursor.specs.Tokens.{Tokens, end_of}
-use Rattle.rust_cursor.specs.Reader.{Reader, ◌>>=◌}
-use Rattle.rust_cursor.specs.Words.{symbol, at, bumped, is_at_end}
-use Rattle.rust_cursor.specs.Elements.{elements, one}
+use Rattle.rust_cursor.specs.Words.{symbol, at, bumped}
 use Rattle.rust_cursor.specs.Beside.{Bodies, Beside, ahead, behind}
-use Rattle.rust_cursor.proofs.Leads.{LeadsTo, Forwards, when}
-use Rattle.rust_cursor.proofs.Views.{before_at, behind_at, end_same}
-use Rattle.rust_cursor.proofs.Until.{over_leads, over_moved, Gone, gone_on, Until, gone, kept, UpTo, by_kept}
+use Rattle.rust_cursor.proofs.Leads.{LeadsTo, when, bumped_leads}
+use Rattle.rust_cursor.proofs.Parting.{Onward, into, on}
+use Rattle.rust_cursor.proofs.Views.{before_at, behind_at, next_ahead, not_brace}
+use Rattle.rust_cursor.proofs.Until.{over_leads, over_moved, Gone}
 use Rattle.rust_cursor.proofs.Settled.{Settled, still, within, settle}
-use Rattle.rust_cursor.proofs.Alike.{UntilBy, stayed, went, Same, by_same, Stays, lost, known, Follows, by_known, turns_by}
 
 -- A place before the braces, as what is left of both; or one behind them, as that is.
 pub data Level (b : Bodies) (a a' : ℕ) (ts us : Tokens) : Type 0 where
@@ -49,15 +47,12 @@ behind_on {b} {vs} ts us i (behind past r u u' j) p =
     let apart = b.apart in
     omega arith
 
-pub level_on : (b : Bodies) (a a' : ℕ) (ts us vs ws : Tokens) → Level b a a' ts us → LeadsTo ts vs → Beside b vs ws → Stays b (Level b a a') vs ws
+pub level_on : (b : Bodies) (a a' : ℕ) (ts us vs ws : Tokens) → Level b a a' ts us → LeadsTo ts vs → Beside b vs ws → Onward (Level b a a') (λ ts us. Gone b ts) vs ws
 level_on b a a' ts us vs ws (level_ahead e i h) p k =
     when (nat_lt b.opening.at vs.past)
-    (λ f. lost (ahead_on ts us i h p (grind (arith, nat_tests))))
-    (λ f. known (level_ahead e (grind (arith, nat_tests)) k))
-level_on b a a' ts us vs ws (level_behind c e e' i h) p k = known (level_behind c e e' (behind_on ts us i h p) k)
-
-pub level_follows : (b : Bodies) (a a' : ℕ) → Follows b (Level b a a')
-level_follows b a a' = record { beside = level_beside; onward = level_on b a a' }
+    (λ f. into (ahead_on ts us i h p (grind (arith, nat_tests))))
+    (λ f. on (level_ahead e (grind (arith, nat_tests)) k))
+level_on b a a' ts us vs ws (level_behind c e e' i h) p k = on (level_behind c e e' (behind_on ts us i h p) k)
 
 from_there : (m n d d' : ℕ) → (m + d') - (n + d') ≡ (m + d) - (n + d)
 from_there m n d d' = omega arith
@@ -85,29 +80,10 @@ end_level b a a' ts us (level_behind c e e' i (ahead past x r u u' j k)) f = let
 end_level b a a' ts us (level_behind c e e' i (behind past [] u u' j)) f = rw (e, e') (from_there past c b.by b.by_new)
 end_level b a a' ts us (level_behind c e e' i (behind past (t ∷ r) u u' j)) f = rw (e, e') (end_there t.at (length t.text) c b.by b.by_new)
 
--- ---- readers that count from there
-
-abbrev pub UpToAt : {A : Type 0} → Bodies → ℕ → ℕ → Reader A → Reader A → Type 0
-UpToAt b a a' m m' = (ts us : Tokens) → Level b a a' ts us → Until b (m ts) (m' us)
-
--- one that does not
-pub at_until : {A : Type 0} (b : Bodies) (a a' : ℕ) (m : Reader A) → UpTo b m → UpToAt b a a' m m
-at_until b a a' m u ts us h = u ts us (level_beside ts us h)
-
-pub bind_level : {A B : Type 0} (b : Bodies) (a a' : ℕ) (m m' : Reader A) (f f' : A → Reader B) → UpToAt b a a' m m' → Forwards m → ((x : A) → UpToAt b a a' (f x) (f' x)) → ((x : A) → Forwards (f x)) → UpToAt b a a' (m >>= f) (m' >>= f')
-bind_level b a a' m m' f f' first leads more on ts us h =
-    let x = (m ts).0 in
-    by_kept (first ts us h) (λ g. gone (gone_on g (on x (m ts).1)))
-    (λ k. by_known (level_on b a a' ts us (m ts).1 (m' us).1 h (leads ts) k.rest) (λ g. gone (gone_on g (on x (m ts).1)))
-    (λ l. subst (λ (y : _). Until b (f x (m ts).1) (f' y (m' us).1)) (sym k.value) (more x (m ts).1 (m' us).1 l)))
-
-pub elements_level : {A : Type 0} (b : Bodies) (a a' : ℕ) (m m' : Reader A) → UpToAt b a a' m m' → Forwards m → UpToAt b a a' (elements (one m)) (elements (one m'))
-elements_level {A = A} b a a' m m' each leads ts us h =
-    by_same (turns_by b (Level b a a') (level_follows b a a') Same both is_at_end (end_same b) (one m) (one m') (λ ts us h. one_by (each ts us h)) leads refl ts us h)
-  where
-    both : (xs xs' ys ys' : List A) → xs' ≡ xs → ys' ≡ ys → xs' ++ ys' ≡ xs ++ ys
-    both xs xs' ys ys' e f = ap (λ l. l ++ ys') e ∙ ap (λ l. xs ++ l) f
-
-    one_by : {p q : A × Tokens} → Until b p q → UntilBy Same b (p.0 ∷ [], p.1) (q.0 ∷ [], q.1)
-    one_by (gone g) = went g
-    one_by (kept k) = stayed (record { value = ap (λ x. x ∷ []) k.value; rest = k.rest })
+-- behind another token it is level too
+pub level_next : (b : Bodies) (a a' : ℕ) (ts us : Tokens) → Level b a a' ts us → (symbol ts == 123) ≡ false → Level b a a' (bumped ts) (bumped us)
+unfolding symbol bumped
+level_next b a a' ts us (level_ahead e i (ahead past [] r u u' j k)) f = let is : symbol_of b.opening ≡ 123 = b.opens in absurd (let no = rw is at f in cc)
+level_next b a a' ts us (level_ahead e i (ahead past (t ∷ x) r u u' j k)) f = level_ahead e (before_at b.opening.at (end_of t) x j.1) (next_ahead b past t x r u u' j.1 k)
+level_next b a a' ts us (level_ahead e i (behind past r u u' j)) f = let low = behind_at (end_of b.closing) past r j in let apart = b.apart in absurd (omega arith)
+level_next b a a' ts us (level_behind c e e' i h) f = level_behind c e e' (behind_on ts us i h (bumped_leads ts)) (not_brace b ts us h f)

@@ -2,7 +2,6 @@ pub mod Few
 pub mod Nesting
 pub mod Steps
 pub mod Turns
-pub mod Depth
 pub mod Scans
 pub mod Reaches
 pub mod Leads
@@ -12,8 +11,10 @@ pub mod Rests
 pub mod White
 pub mod Inside
 pub mod Begins
-pub mod Views
+pub mod Twins
 pub mod Tests
+pub mod Parting
+pub mod Views
 pub mod Braced
 pub mod Walk
 pub mod Passing
@@ -25,11 +26,10 @@ pub mod Alike
 pub mod Places
 pub mod Level
 pub mod TreeTexts
+pub mod Sides
 pub mod Around
 pub mod Near
-pub mod NearTests
 pub mod NearPassing
 pub mod NearUntil
 pub mod NearTexts
 pub mod Enclosed
-pub mod High

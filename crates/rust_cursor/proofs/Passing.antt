@@ -7,7 +7,6 @@ use Rattle.rust_lexer.specs.Piece.{Piece}
 use Rattle.rust_lexer.specs.Symbol.{symbol_of}
 use Rattle.rust_lexer.specs.Alone.{moved, braces_from}
 use Rattle.rust_cursor.specs.declared.cursor.nest.Before.{Before}
-use Rattle.rust_cursor.specs.declared.cursor.nest.Before.TheVariants as befores
 use Rattle.rust_cursor.specs.declared.cursor.nest.Nest.{Nest}
 use Rattle.rust_cursor.specs.declared.cursor.generics.Reach.{Reach}
 use Rattle.rust_cursor.specs.declared.cursor.generics.Reach.TheVariants as reaches
@@ -16,8 +15,8 @@ use Rattle.rust_cursor.specs.declared.cursor.texts.Extent.TheVariants as extents
 use Rattle.rust_cursor.specs.Tokens.{Tokens, end_of}
 use Rattle.rust_cursor.specs.Words.{is_open, symbol, is_empty, is_at_open, bumped}
 use Rattle.rust_cursor.specs.Nests.{braces_behind, begun, flat, flat_behind, is_mark, is_whole, nest_behind}
-use Rattle.rust_cursor.specs.Extents.{ExcerptRead, excerpt, stops, ends, opened_behind, block_at, taking, taken, more, item_rest}
-use Rattle.rust_cursor.specs.Angles.{begins_binder, is_lone_for, is_reached, is_closed, reaching, reached, behind_angles, behind_field, behind_header, is_trait_impl}
+use Rattle.rust_cursor.specs.Extents.{ExcerptRead, excerpt, stops, ends, opened_behind, block_at, taking, taken, more}
+use Rattle.rust_cursor.specs.Angles.{is_reached, is_closed, reaching, reached, behind_angles, behind_field, behind_header, is_trait_impl}
 use Rattle.rust_cursor.specs.Brackets.{is_closing, closing, to_closing, behind_closing, behind_closed, behind_tree}
 use Rattle.rust_cursor.specs.Elements.{beyond}
 use Rattle.rust_cursor.specs.Beside.{Bodies, AreOpen, Beside, ahead, behind}
@@ -25,8 +24,8 @@ use Rattle.rust_cursor.proofs.Leads.{when, symbol_some}
 use Rattle.rust_cursor.proofs.Steps.{closing_stop, closing_more, closing_some}
 use Rattle.rust_cursor.proofs.Scans.{taking_stop, taking_end, taking_more}
 use Rattle.rust_cursor.proofs.Reaches.{reaching_stop, reaching_end, reaching_more}
-use Rattle.rust_cursor.proofs.Views.{symbol_same, word_same, kind_same, empty_same, end_same, open_same, not_brace, other_symbol, brace_word, next_ahead, next_behind, next_none, taken_same, before_same}
-use Rattle.rust_cursor.proofs.Tests.{begins_same, stops_same, ends_same}
+use Rattle.rust_cursor.proofs.Views.{beside_twins, symbol_same, word_same, open_same, not_brace, next_ahead, next_behind, next_none, taken_same, before_same}
+use Rattle.rust_cursor.proofs.Tests.{stops_same, ends_same, closing_same, reached_same}
 use Rattle.rust_cursor.proofs.Braced.{tokens_at, symbol_at, some_at, bumped_at, inside_is, outside_is, Stays}
 use Rattle.rust_cursor.proofs.Nesting.{shorter}
 use Rattle.rust_cursor.proofs.Walk.{Walk, inner_by, walk_beside}
@@ -116,8 +115,8 @@ taking_walk e = record {
   deep_ends = ends_deep e;
   stops_inner = stops_inner e;
   ends_inner = ends_inner e;
-  stops_beside = λ b n ts us h. stops_same b e n ts us h;
-  ends_beside = λ b w n ts us s h. ends_same b e (is_mark w) n ts us s h;
+  stops_beside = λ b n ts us h. stops_same (beside_twins b) e n ts us h;
+  ends_beside = λ b w n ts us s h. ends_same (beside_twins b) e (is_mark w) n ts us s h;
   seen_stays = opened_stays e;
   seen_beside = λ b s s' n i t ts us a h. opened_beside b s.1.1 s'.1.1 n ts us a h;
   stopped_beside = λ b s s' n n' ts us a h. record { block = neither; rest = h };
@@ -131,32 +130,7 @@ taken_both b before e ts us h =
     walk_beside (taking_at e) (taking_step e) (stops e) (taking_ends e) (taking_stopped e) (taking_ended e) seen_of BothBeside TakenBeside (taking_walk e) b ts us
     ([], (0, None)) ([], (0, None)) (flat_behind before) 0 false neither h
 
-pub taken_beside : (b : Bodies) (before : Before) (e : Extent) (ts us : Tokens) → Beside b ts us → Beside b (taken before e ts).1 (taken before e us).1
-taken_beside b before e ts us h = (taken_both b before e ts us h).rest
-
-pub item_rest_beside : (b : Bodies) (ts us : Tokens) → Beside b ts us → Beside b (item_rest ts).1 (item_rest us).1
-item_rest_beside b ts us h = taken_beside b befores.End extents.Item ts us h
-
 -- ---- angle brackets
-
-binder_same : (b : Bodies) (ts us : Tokens) → Beside b ts us → begins_binder us ≡ begins_binder ts
-binder_same b ts us h =
-    when (symbol ts == 60)
-    (λ e. let n = not_brace b ts us h (other_symbol 60 ts e refl) in
-    rw (symbol_same b ts us h, kind_same b (bumped ts) (bumped us) n, symbol_same b (bumped ts) (bumped us) n) refl)
-    (λ e. rw (symbol_same b ts us h, e) refl)
-
-for_same : (b : Bodies) (ts us : Tokens) → Beside b ts us → is_lone_for us ≡ is_lone_for ts
-for_same b ts us h =
-    when (symbol ts == 123)
-    (λ e. let f : (symbol us == 123) ≡ true = rw (symbol_same b ts us h) e in rw (brace_word ts e, brace_word us f) refl)
-    (λ e. let n = not_brace b ts us h e in rw (binder_same b (bumped ts) (bumped us) n, word_same b ts us h) refl)
-
-reached_same : (b : Bodies) (r : Reach) (n : Nest) (ts us : Tokens) → Beside b ts us → is_reached r n us ≡ is_reached r n ts
-unfolding is_reached
-reached_same b reaches.Angles n ts us h = rw (begins_same b n ts us h, empty_same b ts us h, symbol_same b ts us h, end_same b ts us h) refl
-reached_same b reaches.Field n ts us h = rw (empty_same b ts us h, symbol_same b ts us h, end_same b ts us h) refl
-reached_same b reaches.Header n ts us h = rw (begins_same b n ts us h, for_same b ts us h, empty_same b ts us h, symbol_same b ts us h, word_same b ts us h) refl
 
 pub reached_none : (r : Reach) (n : Nest) (ts : Tokens) → is_empty ts ≡ true → is_reached r n ts ≡ true
 unfolding is_reached
@@ -215,7 +189,7 @@ reaching_walk r = record {
   deep_ends = λ w n ts d. closed_deep r n d;
   stops_inner = reached_inner r;
   ends_inner = λ w n i t ts. closed_inner r n i t;
-  stops_beside = λ b n ts us h. reached_same b r n ts us h;
+  stops_beside = λ b n ts us h. reached_same (beside_twins b) r n ts us h;
   ends_beside = λ b w n ts us s h. refl;
   seen_stays = λ s n ts d. refl;
   seen_beside = λ b s s' n i t ts us a h. tt;
@@ -242,10 +216,6 @@ is_trait_impl_same b ts us ts' us' h h' =
     rw (word_same b (behind_header ts) (behind_header us) k, before_same b (behind_header ts) (behind_header us) ts' us' k h') refl
 
 -- ---- brackets
-
-closing_same : (b : Bodies) (bracket : ℕ) (n : Nest) (ts us : Tokens) → Beside b ts us → is_closing bracket n us ≡ is_closing bracket n ts
-unfolding is_closing
-closing_same b bracket n ts us h = rw (empty_same b ts us h, symbol_same b ts us h) refl
 
 pub closing_none : (bracket : ℕ) (n : Nest) (ts : Tokens) → is_empty ts ≡ true → is_closing bracket n ts ≡ true
 unfolding is_closing
@@ -275,7 +245,7 @@ closing_walk bracket = record {
   deep_ends = λ w n ts d. refl;
   stops_inner = closing_inner bracket;
   ends_inner = λ w n i t ts. refl;
-  stops_beside = λ b n ts us h. closing_same b bracket n ts us h;
+  stops_beside = λ b n ts us h. closing_same (beside_twins b) bracket n ts us h;
   ends_beside = λ b w n ts us s h. refl;
   seen_stays = λ s n ts d. refl;
   seen_beside = λ b s s' n i t ts us a h. tt;

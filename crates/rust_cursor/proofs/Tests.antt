@@ -1,46 +1,43 @@
--- What is asked of tokens beside: where an item begins, and where a bracket or an item ends.
-use Rattle.std.proofs.Common.{◌≡◌, ◌≢◌, ◌==◌, Bool, true, false, length, refl, ◌∙◌, sym, arith}
+-- What is asked of tokens that look alike: where an item begins, where a walk goes on, and where it ends.
+use Rattle.std.proofs.Common.{◌≡◌, ◌≢◌, ℕ, ◌==◌, Bool, true, false, List, [], length, refl, ◌∙◌, sym, arith, codes}
+use Rattle.std.specs.Str.{bytes_eq}
 use Rattle.std.proofs.lemmas.Bool.Decides.{nat_tests}
+use Rattle.rust_cursor.specs.declared.cursor.generics.Reach.{Reach}
+use Rattle.rust_cursor.specs.declared.cursor.generics.Reach.TheVariants as reaches
 use Rattle.rust_cursor.specs.declared.cursor.nest.Before.{Before}
 use Rattle.rust_cursor.specs.declared.cursor.nest.Before.TheVariants as befores
 use Rattle.rust_cursor.specs.declared.cursor.nest.Nest.{Nest}
 use Rattle.rust_cursor.specs.declared.cursor.texts.Extent.{Extent}
 use Rattle.rust_cursor.specs.declared.cursor.texts.Extent.TheVariants as extents
+use Rattle.rust_cursor.specs.Angles.{begins_binder, is_lone_for, is_header_end, is_barred, is_reached}
+use Rattle.rust_cursor.specs.Brackets.{is_closing}
+use Rattle.rust_cursor.specs.Extents.{begins, begins_item, follows_const, begins_impl_or_const, begins_behind, begins_within, stops, ends, goes_on, more, has_blank, is_joined}
+use Rattle.rust_cursor.specs.Nests.{nest_behind}
 use Rattle.rust_cursor.specs.Tokens.{Tokens}
 use Rattle.rust_cursor.specs.Words.{symbol, word, bumped}
-use Rattle.rust_cursor.specs.Extents.{begins, begins_item, follows_const, begins_impl_or_const, begins_behind, begins_within, stops, ends, goes_on}
 use Rattle.rust_cursor.proofs.Begins.{none_begins}
 use Rattle.rust_cursor.proofs.Leads.{when}
-use Rattle.rust_cursor.specs.Beside.{Bodies, Beside}
-use Rattle.rust_cursor.proofs.Views.{symbol_same, word_same, empty_same, identifier_same, not_brace, pair_same, brace_word, brace_identifier}
+use Rattle.rust_cursor.proofs.Twins.{Twins, is_edge, symbol_same, word_same, kind_same, text_same, empty_same, end_same, identifier_same, doc_same, edge_word, edge_identifier, edge_test, after_word, after_symbol, pair_same}
 
 -- ---- where an item begins
 
-item_same : (b : Bodies) (ts us : Tokens) → Beside b ts us → Beside b (bumped ts) (bumped us) → begins_item us ≡ begins_item ts
+item_same : (b : Twins) (ts us : Tokens) → b.are ts us → b.are (bumped ts) (bumped us) → begins_item us ≡ begins_item ts
 unfolding begins_item
 item_same b ts us h n =
     rw (word_same b ts us h, symbol_same b (bumped ts) (bumped us) n, identifier_same b (bumped ts) (bumped us) n, word_same b (bumped ts) (bumped us) n) refl
 
-pub begins_item_same : (b : Bodies) (ts us : Tokens) → Beside b ts us → begins_item us ≡ begins_item ts
-unfolding begins_item
-begins_item_same b ts us h =
-    when (symbol ts == 123)
-    (λ e. let f : (symbol us == 123) ≡ true = rw (symbol_same b ts us h) e in rw (brace_word ts e, brace_word us f) refl)
-    (λ e. item_same b ts us h (not_brace b ts us h e))
-
-const_same : (b : Bodies) (ts us : Tokens) → Beside b ts us → follows_const us ≡ follows_const ts
+const_same : (b : Twins) (ts us : Tokens) → b.are ts us → follows_const us ≡ follows_const ts
 const_same b ts us h =
-    when (symbol ts == 123)
-    (λ e. let f : (symbol us == 123) ≡ true = rw (symbol_same b ts us h) e in
-    rw (brace_word ts e, brace_word us f, brace_identifier ts e, brace_identifier us f) refl)
-    (λ e. let n = not_brace b ts us h e in
+    when (is_edge (symbol ts))
+    (λ e. let f = edge_test b ts us h e in rw (edge_word ts e, edge_word us f, edge_identifier ts e, edge_identifier us f) refl)
+    (λ e. let n = b.next ts us h e in
     rw (word_same b ts us h, identifier_same b ts us h, identifier_same b (bumped ts) (bumped us) n, symbol_same b (bumped ts) (bumped us) n, pair_same b 58 58 (bumped ts) (bumped us) refl n) refl)
 
-impl_same : (b : Bodies) (ts us : Tokens) → Beside b ts us → Beside b (bumped ts) (bumped us) → begins_impl_or_const us ≡ begins_impl_or_const ts
+impl_same : (b : Twins) (ts us : Tokens) → b.are ts us → b.are (bumped ts) (bumped us) → begins_impl_or_const us ≡ begins_impl_or_const ts
 unfolding begins_impl_or_const
 impl_same b ts us h n = rw (const_same b (bumped ts) (bumped us) n, word_same b ts us h, word_same b (bumped ts) (bumped us) n) refl
 
-behind_same : (b : Bodies) (before : Before) (ts us : Tokens) → Beside b ts us → Beside b (bumped ts) (bumped us) → begins_behind before us ≡ begins_behind before ts
+behind_same : (b : Twins) (before : Before) (ts us : Tokens) → b.are ts us → b.are (bumped ts) (bumped us) → begins_behind before us ≡ begins_behind before ts
 behind_same b befores.End ts us h n = rw (symbol_same b ts us h, symbol_same b (bumped ts) (bumped us) n, impl_same b ts us h n) refl
 behind_same b befores.Angle ts us h n = impl_same b ts us h n
 behind_same b befores.Dash ts us h n = refl
@@ -48,27 +45,39 @@ behind_same b befores.Mark ts us h n = refl
 behind_same b befores.Hash ts us h n = refl
 behind_same b befores.Other ts us h n = refl
 
-within_same : (b : Bodies) (ts us : Tokens) → Beside b ts us → Beside b (bumped ts) (bumped us) → begins_within us ≡ begins_within ts
+within_same : (b : Twins) (ts us : Tokens) → b.are ts us → b.are (bumped ts) (bumped us) → begins_within us ≡ begins_within ts
 unfolding begins_within
 within_same b ts us h n = rw (word_same b ts us h, identifier_same b (bumped ts) (bumped us) n, word_same b (bumped ts) (bumped us) n, item_same b ts us h n) refl
 
--- no item begins at a brace
-pub brace_begins : (n : Nest) (ts : Tokens) → (symbol ts == 123) ≡ true → begins n ts ≡ false
-brace_begins n ts e =
-    let empty = brace_word ts e in
+edge_begins : (n : Nest) (ts : Tokens) → is_edge (symbol ts) ≡ true → begins n ts ≡ false
+edge_begins n ts e =
+    let empty = edge_word ts e in
     let other : symbol ts ≢ 35 = grind (arith, nat_tests) in
     let none : (length (word ts) == 0) ≡ true = rw empty refl in
     sym (none_begins n ts none other)
 
-pub begins_same : (b : Bodies) (n : Nest) (ts us : Tokens) → Beside b ts us → begins n us ≡ begins n ts
+pub begins_same : (b : Twins) (n : Nest) (ts us : Tokens) → b.are ts us → begins n us ≡ begins n ts
 begins_same b n ts us h =
-    when (symbol ts == 123)
-    (λ e. let f : (symbol us == 123) ≡ true = rw (symbol_same b ts us h) e in brace_begins n us f ∙ sym (brace_begins n ts e))
-    (λ e. let k = not_brace b ts us h e in rw (item_same b ts us h k, behind_same b n.before ts us h k, within_same b ts us h k) refl)
+    when (is_edge (symbol ts)) (λ e. edge_begins n us (edge_test b ts us h e) ∙ sym (edge_begins n ts e))
+    (λ e. let k = b.next ts us h e in rw (item_same b ts us h k, behind_same b n.before ts us h k, within_same b ts us h k) refl)
 
--- ---- where taking stops and ends
+no_item : (ts : Tokens) → word ts ≡ [] → begins_item ts ≡ false
+unfolding begins_item
+no_item ts e = rw e refl
 
-pub stops_same : (b : Bodies) (e : Extent) (n : Nest) (ts us : Tokens) → Beside b ts us → stops e n us ≡ stops e n ts
+pub begins_item_same : (b : Twins) (ts us : Tokens) → b.are ts us → begins_item us ≡ begins_item ts
+begins_item_same b ts us h =
+    when (is_edge (symbol ts)) (λ e. no_item us (edge_word us (edge_test b ts us h e)) ∙ sym (no_item ts (edge_word ts e)))
+    (λ e. item_same b ts us h (b.next ts us h e))
+
+-- ---- walks
+
+pub nest_same : (b : Twins) (n : Nest) (ts us : Tokens) → b.are ts us → nest_behind n us ≡ nest_behind n ts
+unfolding nest_behind
+nest_same b n ts us h =
+    rw (symbol_same b ts us h, b.glued ts us h, doc_same b ts us h, identifier_same b ts us h, word_same b ts us h, kind_same b ts us h, end_same b ts us h) refl
+
+pub stops_same : (b : Twins) (e : Extent) (n : Nest) (ts us : Tokens) → b.are ts us → stops e n us ≡ stops e n ts
 unfolding stops
 stops_same b extents.Tree n ts us h = rw (empty_same b ts us h, symbol_same b ts us h) refl
 stops_same b extents.Group n ts us h = rw (empty_same b ts us h, symbol_same b ts us h) refl
@@ -76,13 +85,55 @@ stops_same b extents.Value n ts us h = rw (empty_same b ts us h, symbol_same b t
 stops_same b extents.Item n ts us h = rw (empty_same b ts us h, symbol_same b ts us h, begins_same b n ts us h) refl
 stops_same b extents.Macro n ts us h = rw (empty_same b ts us h, symbol_same b ts us h, begins_same b n ts us h) refl
 
-goes_same : (b : Bodies) (ts us : Tokens) → Beside b ts us → goes_on us ≡ goes_on ts
+goes_same : (b : Twins) (ts us : Tokens) → b.are ts us → goes_on us ≡ goes_on ts
 goes_same b ts us h = rw (symbol_same b ts us h) refl
 
-pub ends_same : (b : Bodies) (e : Extent) (is_call : Bool) (n : Nest) (ts us : Tokens) → symbol us ≡ symbol ts → Beside b (bumped ts) (bumped us) → ends e is_call n us ≡ ends e is_call n ts
+pub ends_same : (b : Twins) (e : Extent) (is_call : Bool) (n : Nest) (ts us : Tokens) → symbol us ≡ symbol ts → b.are (bumped ts) (bumped us) → ends e is_call n us ≡ ends e is_call n ts
 unfolding ends
 ends_same b extents.Tree is_call n ts us s h = refl
 ends_same b extents.Group is_call n ts us s h = refl
 ends_same b extents.Value is_call n ts us s h = rw s refl
 ends_same b extents.Item is_call n ts us s h = rw (s, goes_same b (bumped ts) (bumped us) h) refl
 ends_same b extents.Macro is_call n ts us s h = rw s refl
+
+joined_same : (b : Twins) (last : ℕ) (ts us : Tokens) → b.are ts us → is_joined last us ≡ is_joined last ts
+unfolding is_joined
+joined_same b last ts us h = rw (symbol_same b ts us h, b.glued ts us h) refl
+
+pub more_same : (b : Twins) (e : Extent) (last : ℕ) (done : List ℕ) (ts us : Tokens) → b.are ts us → more e last done us ≡ more e last done ts
+unfolding more has_blank
+more_same b extents.Tree last done ts us h = rw (doc_same b ts us h, text_same b ts us h, joined_same b last ts us h) refl
+more_same b extents.Group last done ts us h = rw (doc_same b ts us h, text_same b ts us h) refl
+more_same b extents.Value last done ts us h = rw (doc_same b ts us h, text_same b ts us h) refl
+more_same b extents.Item last done ts us h = rw (doc_same b ts us h, text_same b ts us h) refl
+more_same b extents.Macro last done ts us h = rw (doc_same b ts us h, text_same b ts us h) refl
+
+pub closing_same : (b : Twins) (bracket : ℕ) (n : Nest) (ts us : Tokens) → b.are ts us → is_closing bracket n us ≡ is_closing bracket n ts
+unfolding is_closing
+closing_same b bracket n ts us h = rw (empty_same b ts us h, symbol_same b ts us h) refl
+
+-- ---- angle brackets
+
+binder_same : (b : Twins) (ts us : Tokens) → b.are ts us → begins_binder us ≡ begins_binder ts
+binder_same b ts us h =
+    when (symbol ts == 60)
+    (λ e. let n = after_symbol b 60 ts us refl h e in rw (symbol_same b ts us h, kind_same b (bumped ts) (bumped us) n, symbol_same b (bumped ts) (bumped us) n) refl)
+    (λ e. rw (symbol_same b ts us h, e) refl)
+
+pub lone_for_same : (b : Twins) (ts us : Tokens) → b.are ts us → is_lone_for us ≡ is_lone_for ts
+lone_for_same b ts us h =
+    when (bytes_eq (word ts) (codes "for"))
+    (λ e. rw (word_same b ts us h, e, binder_same b (bumped ts) (bumped us) (after_word b (codes "for") ts us refl h e)) refl)
+    (λ e. rw (word_same b ts us h, e) refl)
+
+header_same : (b : Twins) (n : Nest) (ts us : Tokens) → b.are ts us → is_header_end n us ≡ is_header_end n ts
+header_same b n ts us h = rw (lone_for_same b ts us h, symbol_same b ts us h, word_same b ts us h) refl
+
+barred_same : (b : Twins) (r : Reach) (n : Nest) (ts us : Tokens) → b.are ts us → is_barred r n us ≡ is_barred r n ts
+barred_same b reaches.Angles n ts us h = rw (begins_same b n ts us h, symbol_same b ts us h, end_same b ts us h) refl
+barred_same b reaches.Field n ts us h = rw (symbol_same b ts us h, end_same b ts us h) refl
+barred_same b reaches.Header n ts us h = rw (begins_same b n ts us h, header_same b n ts us h, symbol_same b ts us h) refl
+
+pub reached_same : (b : Twins) (r : Reach) (n : Nest) (ts us : Tokens) → b.are ts us → is_reached r n us ≡ is_reached r n ts
+unfolding is_reached
+reached_same b r n ts us h = rw (empty_same b ts us h, barred_same b r n ts us h) refl

@@ -6,32 +6,19 @@ use Rattle.rust_cursor.specs.declared.cursor.texts.Extent.TheVariants as extents
 use Rattle.rust_cursor.specs.Tokens.{Tokens}
 use Rattle.rust_cursor.specs.Words.{symbol, bumped}
 use Rattle.rust_cursor.specs.Nests.{is_mark, nest_behind}
-use Rattle.rust_cursor.specs.Extents.{ExcerptRead, stops, ends, more, has_blank, is_joined, taking, taken, tree_text}
+use Rattle.rust_cursor.specs.Extents.{ExcerptRead, stops, ends, more, taking, taken, tree_text}
 use Rattle.rust_cursor.specs.Beside.{Bodies, Beside}
 use Rattle.rust_cursor.proofs.Leads.{LeadsTo, here, when, taking_leads}
 use Rattle.rust_cursor.proofs.Scans.{taking_stop, taking_end, taking_more, taking_some}
 use Rattle.rust_cursor.proofs.Nesting.{shorter}
-use Rattle.rust_cursor.proofs.Views.{symbol_same, text_same, doc_same, glued_same}
-use Rattle.rust_cursor.proofs.Tests.{stops_same, ends_same}
-use Rattle.rust_cursor.proofs.Walk.{nest_same}
+use Rattle.rust_cursor.proofs.Views.{beside_twins, symbol_same}
+use Rattle.rust_cursor.proofs.Tests.{nest_same, stops_same, ends_same, more_same}
 use Rattle.rust_cursor.proofs.Until.{gone_on, gone, kept, UpTo, Onward, into, on, bumped_onward}
 use Rattle.rust_cursor.proofs.Alike.{UntilBy, went, stayed, by_stayed}
 
 -- the same text
 abbrev SameText : ExcerptRead → ExcerptRead → Type 0
 SameText r s = s.text ≡ r.text
-
-joined_same : (b : Bodies) (last : ℕ) (ts us : Tokens) → Beside b ts us → is_joined last us ≡ is_joined last ts
-unfolding is_joined
-joined_same b last ts us h = rw (symbol_same b ts us h, glued_same b ts us h) refl
-
-more_same : (b : Bodies) (e : Extent) (last : ℕ) (done : List ℕ) (ts us : Tokens) → Beside b ts us → more e last done us ≡ more e last done ts
-unfolding more has_blank
-more_same b extents.Tree last done ts us h = rw (doc_same b ts us h, text_same b ts us h, joined_same b last ts us h) refl
-more_same b extents.Group last done ts us h = rw (doc_same b ts us h, text_same b ts us h) refl
-more_same b extents.Value last done ts us h = rw (doc_same b ts us h, text_same b ts us h) refl
-more_same b extents.Item last done ts us h = rw (doc_same b ts us h, text_same b ts us h) refl
-more_same b extents.Macro last done ts us h = rw (doc_same b ts us h, text_same b ts us h) refl
 
 -- what is taken from a token on is left of what is behind it
 taken_on : (e : Extent) (done : List ℕ) (last : ℕ) (o : Option Tokens) (n : Nest) (ts : Tokens) → stops e n ts ≡ false → LeadsTo (bumped ts) (taking e done last o n ts).1
@@ -47,13 +34,13 @@ text_next : (b : Bodies) (e : Extent) (done : List ℕ) (last : ℕ) (o o' : Opt
 text_next b e done last o o' n ts us h p (into g) rest = went (gone_on g (taken_on e done last o n ts p))
 text_next b e done last o o' n ts us h p (on next) rest =
     let call = is_mark n.before in
-    let p' : stops e n us ≡ false = stops_same b e n ts us h ∙ p in
-    let same = nest_same b n ts us h in
-    let ends' : ends e call (nest_behind n us) us ≡ ends e call (nest_behind n ts) ts = ap (λ (k : Nest). ends e call k us) same ∙ ends_same b e call (nest_behind n ts) ts us (symbol_same b ts us h) next in
+    let p' : stops e n us ≡ false = stops_same (beside_twins b) e n ts us h ∙ p in
+    let same = nest_same (beside_twins b) n ts us h in
+    let ends' : ends e call (nest_behind n us) us ≡ ends e call (nest_behind n ts) ts = ap (λ (k : Nest). ends e call k us) same ∙ ends_same (beside_twins b) e call (nest_behind n ts) ts us (symbol_same b ts us h) next in
     when (ends e call (nest_behind n ts) ts)
-    (λ q. rw (taking_end e done last o n ts p q, taking_end e done last o' n us p' (ends' ∙ q), same, more_same b e last done ts us h)
+    (λ q. rw (taking_end e done last o n ts p q, taking_end e done last o' n us p' (ends' ∙ q), same, more_same (beside_twins b) e last done ts us h)
     (stayed (record { value = refl; rest = next })))
-    (λ q. rw (taking_more e done last o n ts p q, taking_more e done last o' n us p' (ends' ∙ q), same, more_same b e last done ts us h, symbol_same b ts us h)
+    (λ q. rw (taking_more e done last o n ts p q, taking_more e done last o' n us p' (ends' ∙ q), same, more_same (beside_twins b) e last done ts us h, symbol_same b ts us h)
     (rest (more e last done ts) (symbol ts) _ _ (nest_behind n ts) next))
 
 text_until : (b : Bodies) (e : Extent) (fuel : ℕ) (ts us : Tokens) → length ts.left < fuel → (done : List ℕ) (last : ℕ) (o o' : Option Tokens) (n : Nest) → Beside b ts us
@@ -61,7 +48,7 @@ text_until : (b : Bodies) (e : Extent) (fuel : ℕ) (ts us : Tokens) → length 
 text_until b e zero ts us below done last o o' n h = absurd (omega arith)
 text_until b e (suc fuel) ts us below done last o o' n h =
     when (stops e n ts)
-    (λ p. let p' : stops e n us ≡ true = stops_same b e n ts us h ∙ p in
+    (λ p. let p' : stops e n us ≡ true = stops_same (beside_twins b) e n ts us h ∙ p in
     rw (taking_stop e done last o n ts p, taking_stop e done last o' n us p') (stayed (record { value = refl; rest = h })))
     (λ p. let less = shorter ts (taking_some e n ts p) in
     text_next b e done last o o' n ts us h p (bumped_onward b ts us h) (text_until b e fuel (bumped ts) (bumped us) (omega arith)))

@@ -8,12 +8,13 @@ use Rattle.rust_lexer.specs.Piece.{Piece}
 use Rattle.rust_lexer.specs.Symbol.{symbol_of}
 use Rattle.rust_lexer.specs.Alone.{moved}
 use Rattle.rust_cursor.specs.Tokens.{Tokens, end_of}
-use Rattle.rust_cursor.specs.Words.{is_open, is_close, word_by, identifies, documents, by_first, symbol, word, kind, text, at, is_empty, is_at_open, is_at_end, is_at_identifier, is_at_doc, bumped, is_glued, is_pair}
+use Rattle.rust_cursor.specs.Words.{is_open, is_close, word_by, by_first, symbol, word, kind, text, at, is_empty, is_at_open, is_at_end, bumped, is_glued}
 use Rattle.rust_cursor.proofs.Leads.{when}
 use Rattle.rust_cursor.specs.Beside.{Bodies, AreBefore, AreBehind, AreOpen, Beside, ahead, behind}
+use Rattle.rust_cursor.proofs.Twins.{Twins, is_edge}
 
 -- a view of a token that asks not where it stands
-first_same : (b : Bodies) {A : Type 0} (default : A) (view : Piece → A) → ((d : ℕ) (t : Piece) → view (moved d t) ≡ view t) → (ts us : Tokens) → Beside b ts us
+pub first_same : (b : Bodies) {A : Type 0} (default : A) (view : Piece → A) → ((d : ℕ) (t : Piece) → view (moved d t) ≡ view t) → (ts us : Tokens) → Beside b ts us
     → by_first default view us.left ≡ by_first default view ts.left
 first_same b default view still ts us (ahead past [] r u u' i j) = refl
 first_same b default view still ts us (ahead past (t ∷ x) r u u' i j) = refl
@@ -48,17 +49,9 @@ pub end_same : (b : Bodies) (ts us : Tokens) → Beside b ts us → is_at_end us
 unfolding is_at_end
 end_same b ts us h = first_same b true is_close (λ d t. refl) ts us h
 
-pub identifier_same : (b : Bodies) (ts us : Tokens) → Beside b ts us → is_at_identifier us ≡ is_at_identifier ts
-unfolding is_at_identifier
-identifier_same b ts us h = first_same b false (λ t. identifies t.kind) (λ d t. refl) ts us h
-
 pub edition_same : (b : Bodies) (ts us : Tokens) → Beside b ts us → us.edition ≡ ts.edition
 edition_same b ts us (ahead past x r u u' i j) = refl
 edition_same b ts us (behind past r u u' i) = refl
-
-pub doc_same : (b : Bodies) (ts us : Tokens) → Beside b ts us → is_at_doc us ≡ is_at_doc ts
-unfolding is_at_doc
-doc_same b ts us h = first_same b false (λ t. documents t.kind) (λ d t. refl) ts us h
 
 glued_by : (m n d d' : ℕ) → (m + d' == n + d') ≡ (m + d == n + d)
 glued_by m n d d' = grind (arith, nat_tests)
@@ -104,17 +97,6 @@ not_brace b ts us (behind past (t ∷ r) u u' i) e = next_behind b (past + b.by)
 pub other_symbol : (c : ℕ) (ts : Tokens) → (symbol ts == c) ≡ true → (c == 123) ≡ false → (symbol ts == 123) ≡ false
 other_symbol c ts e f = grind (arith, nat_tests)
 
-pair_next : (b : Bodies) (c d : ℕ) (ts us : Tokens) → (c == 123) ≡ false → Beside b ts us → is_pair c d us ≡ is_pair c d ts
-unfolding is_pair
-pair_next b c d ts us f h =
-    when (symbol ts == c)
-    (λ e. let n = not_brace b ts us h (other_symbol c ts e f) in
-    rw (symbol_same b ts us h, glued_same b (bumped ts) (bumped us) n, symbol_same b (bumped ts) (bumped us) n) refl)
-    (λ e. rw (symbol_same b ts us h, e) refl)
-
-pub pair_same : (b : Bodies) (c d : ℕ) (ts us : Tokens) → (c == 123) ≡ false → Beside b ts us → is_pair c d us ≡ is_pair c d ts
-pair_same b c d ts us f h = pair_next b c d ts us f h
-
 none_here : (left : List Piece) → (by_first 0 symbol_of left == 123) ≡ true → by_first [] (λ t. word_by t.kind t.text) left ≡ []
 none_here [] e = refl
 none_here (t ∷ left) e = by t.kind t.text e
@@ -127,19 +109,6 @@ none_here (t ∷ left) e = by t.kind t.text e
 pub brace_word : (ts : Tokens) → (symbol ts == 123) ≡ true → word ts ≡ []
 unfolding symbol word
 brace_word ts e = none_here ts.left e
-
-brace_identifies : (left : List Piece) → (by_first 0 symbol_of left == 123) ≡ true → by_first false (λ t. identifies t.kind) left ≡ false
-brace_identifies [] e = refl
-brace_identifies (t ∷ left) e = by t.kind t.text e
-  where
-    by : (k : TokenKind) (z : List ℕ) → (symbol_of (record { kind = k; text = z; at = 0 }) == 123) ≡ true → identifies k ≡ false
-    by kinds.Ident z e = absurd cc
-    by kinds.RawIdent z e = absurd cc
-    by _ z e = refl
-
-pub brace_identifier : (ts : Tokens) → (symbol ts == 123) ≡ true → is_at_identifier ts ≡ false
-unfolding symbol is_at_identifier
-brace_identifier ts e = brace_identifies ts.left e
 
 -- ---- whether a token was taken
 
@@ -199,3 +168,11 @@ before_same b ts us ts' us' (behind past r u v i) (ahead past' x' r' u' v' i' j'
     let new = b.apart_new in
     higher_tests past' (past + b.by) past' (past + b.by_new) (omega arith) (omega arith)
 before_same b ts us ts' us' (behind past r u v i) (behind past' r' u' v' i') = lower_by past past' b.by b.by_new
+
+-- ---- tokens beside look alike
+
+pub no_brace : (c : ℕ) → is_edge c ≡ false → (c == 123) ≡ false
+no_brace c e = when (c == 123) (λ f. absurd (let no = rw f at e in cc)) (λ f. f)
+
+abbrev pub beside_twins : Bodies → Twins
+beside_twins b = record { are = Beside b; edition = edition_same b; first = λ A d v s ts us h. first_same b d v s ts us h; glued = glued_same b; next = λ ts us h e. not_brace b ts us h (no_brace (symbol ts) e) }

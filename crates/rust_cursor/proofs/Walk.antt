@@ -14,7 +14,8 @@ use Rattle.rust_cursor.specs.Nests.{behind_braces, nest_inside, nest_behind}
 use Rattle.rust_cursor.specs.Beside.{Bodies, AreOpen, Beside, ahead, behind}
 use Rattle.rust_cursor.proofs.Leads.{when}
 use Rattle.rust_cursor.proofs.Nesting.{shorter}
-use Rattle.rust_cursor.proofs.Views.{symbol_same, word_same, kind_same, end_same, identifier_same, doc_same, glued_same, next_ahead, next_behind}
+use Rattle.rust_cursor.proofs.Views.{beside_twins, symbol_same, next_ahead, next_behind}
+use Rattle.rust_cursor.proofs.Tests.{nest_same}
 use Rattle.rust_cursor.proofs.Braced.{tokens_at, symbol_at, some_at, bumped_at, inside_is, Deeper, enters, deeper_on, Walks, Stays, through}
 
 -- ---- nests that differ in what is counted for problems alone
@@ -31,11 +32,6 @@ alike n m b o f a w =
     ∙ ap (λ (k : ℕ). record { braces = n.braces; others = n.others; free = k; angles = m.angles; inner = i; is_torn = t; before = m.before }) f
     ∙ ap (λ (k : ℕ). record { braces = n.braces; others = n.others; free = n.free; angles = k; inner = i; is_torn = t; before = m.before }) a
     ∙ ap (λ (k : Before). record { braces = n.braces; others = n.others; free = n.free; angles = n.angles; inner = i; is_torn = t; before = k }) w
-
-pub nest_same : (b : Bodies) (n : Nest) (ts us : Tokens) → Beside b ts us → nest_behind n us ≡ nest_behind n ts
-unfolding nest_behind
-nest_same b n ts us h =
-    rw (symbol_same b ts us h, glued_same b ts us h, doc_same b ts us h, identifier_same b ts us h, word_same b ts us h, kind_same b ts us h, end_same b ts us h) refl
 
 nest_inner : (n : Nest) (i : ℕ) (t : Bool) (ts : Tokens)
     → nest_behind (inner_by n i t) ts ≡ inner_by (nest_behind n ts) (nest_behind (inner_by n i t) ts).inner (nest_behind (inner_by n i t) ts).is_torn
@@ -146,7 +142,7 @@ module _ {S R V : Type 0} (rest : S → Nest → Tokens → R) (step : S → Nes
       let m = nest_behind n ts in
       let m' = nest_behind (inner_by n i t) us in
       let stops' : stops (inner_by n i t) us ≡ stops n ts = w.stops_inner n i t us ∙ w.stops_beside b n ts us h in
-      let is : m' ≡ inner_by m (nest_behind (inner_by n i t) ts).inner (nest_behind (inner_by n i t) ts).is_torn = nest_same b (inner_by n i t) ts us h ∙ nest_inner n i t ts in
+      let is : m' ≡ inner_by m (nest_behind (inner_by n i t) ts).inner (nest_behind (inner_by n i t) ts).is_torn = nest_same (beside_twins b) (inner_by n i t) ts us h ∙ nest_inner n i t ts in
       let ends' : ends n.before m' us ≡ ends n.before m ts = ap (λ (k : Nest). ends n.before k us) is ∙ w.ends_inner n.before m _ _ us ∙ w.ends_beside b n.before m ts us (symbol_same b ts us h) next in
       when (stops n ts)
       (λ p. rw (w.stop s n ts p, w.stop s' (inner_by n i t) us (stops' ∙ p)) (w.stopped_beside b s s' n (inner_by n i t) ts us a h))

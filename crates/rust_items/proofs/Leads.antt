@@ -23,11 +23,12 @@ use Rattle.rust_paths.proofs.Leads.{placed_name_leads, placed_next, path_leads, 
 use Rattle.rust_metas.proofs.Leads.{outer_attributes_leads}
 use Rattle.rust_leaves.specs.declared.head.Head.{Head}
 use Rattle.rust_leaves.specs.declared.head.Head.TheVariants as heads
-use Rattle.rust_leaves.specs.Heads.{is_literal_kind, behind_abi, is_modifier, behind_modifier, behind_modifiers_from, behind_modifiers, head_by, behind_head, head, is_behind_others, behind_others_from, behind_others}
+use Rattle.rust_leaves.specs.Heads.{is_literal_kind, behind_abi, is_modifier, behind_modifier, behind_modifiers_from, behind_modifiers, head_by, behind_head, head, behind_others}
 use Rattle.rust_cursor.specs.Words.{is_at_end}
 use Rattle.rust_leaves.specs.Leaves.{LeafRead, range_to, name_read, named, named_or, alias, alias_if, renamed, impl_end, item_end, macro_end, value_end, semicolon_end, call_end}
 use Rattle.rust_leaves.specs.Kinds.{function, block_item, union_item, enumeration, trait_item, macro_def, type_alias, static_value, constant, structure, implementation, told_at, crate_item, use_declaration, macro_definition, is_called, invocation, leaf_by, leaf}
 use Rattle.rust_leaves.specs.Fronts.{FrontRead, front_behind, front}
+use Rattle.rust_leaves.proofs.AlikeFronts.{others_leads}
 use Rattle.rust_items.specs.Places.{id_of, name_of, held}
 use Rattle.rust_items.specs.Uses.{trees_in, written_trees}
 use Rattle.rust_items.proofs.Names.{IsToken, untold, told_behind, named_told, named_or_told}
@@ -81,10 +82,6 @@ modifiers_leads (suc n) ts = when (is_modifier ts) (λ e. rw e (through (behind_
 pub behind_modifiers_leads : (ts : Tokens) → LeadsTo ts (behind_modifiers ts)
 unfolding behind_modifiers
 behind_modifiers_leads ts = modifiers_leads _ ts
-
-pub others_leads : (n : ℕ) (ts : Tokens) → LeadsTo ts (behind_others_from n ts)
-others_leads zero ts = here
-others_leads (suc n) ts = when (is_behind_others ts) (λ e. rw e here) (λ e. rw e (through (behind_tree_leads ts) (others_leads n _)))
 
 pub behind_others_leads : (ts : Tokens) → LeadsTo ts (behind_others ts)
 unfolding behind_others

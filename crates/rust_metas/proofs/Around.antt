@@ -14,7 +14,7 @@ use Rattle.rust_lexer.specs.Piece.{Piece}
 use Rattle.rust_lexer.specs.Symbol.{symbol_of}
 use Rattle.rust_cursor.specs.Tokens.{Tokens}
 use Rattle.rust_cursor.specs.Reader.{Reader}
-use Rattle.rust_cursor.specs.Words.{by_first, symbol, word, kind, text, at, bumped, is_at_open, is_at_end}
+use Rattle.rust_cursor.specs.Words.{by_first, symbol, word, kind, text, at, is_empty, bumped, is_at_open, is_at_end}
 use Rattle.rust_cursor.specs.Brackets.{behind_closed, behind_tree}
 use Rattle.rust_cursor.specs.Elements.{elements, one}
 use Rattle.rust_cursor.specs.Extents.{begins_item}
@@ -22,13 +22,14 @@ use Rattle.rust_cursor.proofs.Leads.{LeadsTo, here, further, through, Forwards, 
 use Rattle.rust_cursor.proofs.Local.{both_true}
 use Rattle.rust_cursor.proofs.Around.{around, Within, same_within, is_plain, IsSound, sound_on, Remains, NoCloser, OpensAt, round, opens_at, opens_no_closer, not_end, plain_of, plain_upto, plain_around, other_around, word_symbol, entered_within, inside_within, tree_within, turns_within, elements_within, tree_text_within, to_around}
 use Rattle.rust_cursor.proofs.Enclosed.{AreEnclosed}
+use Rattle.rust_cursor.proofs.Near.{nothing}
 use Rattle.rust_paths.specs.Paths.{path}
 use Rattle.rust_paths.proofs.Leads.{path_leads}
 use Rattle.rust_paths.proofs.Around.{name_around, path_within}
 use Rattle.rust_metas.specs.Literals.{is_literal_kind, is_truth, is_literal, is_ended, style_by, value, documentation}
 use Rattle.rust_metas.specs.Conditions.{comma_from, behind_comma, is_word_kind, is_option_word, option_name, pair, named, if_named, ended, condition_with, conditions, condition}
 use Rattle.rust_metas.specs.Metas.{input, plain, is_call, member, meta_with, meta, doc}
-use Rattle.rust_metas.specs.Attributes.{behind_docs_from, behind_docs, behind_attribute, outer_attributes, deepest, is_style, is_doc, is_attribute, is_behind, bracketed, opened, one_attribute, attribute, attributes, inner_attributes}
+use Rattle.rust_metas.specs.Attributes.{behind_docs_from, behind_docs, behind_attribute, deepest, is_style, is_doc, is_attribute, is_behind, bracketed, opened, one_attribute, attribute, attributes, inner_attributes}
 use Rattle.rust_metas.proofs.Leads.{option_name_leads, if_named_leads, condition_with_leads, conditions_leads, condition_leads, member_leads, meta_leads, attribute_leads}
 
 -- ---- literals
@@ -46,7 +47,7 @@ unfolding kind symbol
 kind_symbol ts e = literal_first ts.left e
 
 -- a literal has no symbol
-literal_symbol : (ts : Tokens) → is_literal ts ≡ true → symbol ts ≡ 0
+pub literal_symbol : (ts : Tokens) → is_literal ts ≡ true → symbol ts ≡ 0
 unfolding is_literal is_truth
 literal_symbol ts e =
     when (is_literal_kind (kind ts)) (λ f. kind_symbol ts f)
@@ -196,7 +197,7 @@ doc_first style (t ∷ left) e = by style t.kind t.text e
     by Outer _ z e = absurd cc
     by Inner _ z e = absurd cc
 
-doc_symbol : (style : DocStyle) (ts : Tokens) → is_doc style ts ≡ true → symbol ts ≡ 0
+pub doc_symbol : (style : DocStyle) (ts : Tokens) → is_doc style ts ≡ true → symbol ts ≡ 0
 unfolding is_doc kind symbol
 doc_symbol style ts e = doc_first style ts.left e
 
@@ -270,16 +271,23 @@ unfolding attributes
 attributes_within end c style ts s =
     turns_within end c (is_behind style) (one (attribute style)) (attribute_leads style) (attribute_within end c style) (λ ts s e. attribute_no_closer style ts e) ts s
 
-pub outer_attributes_within : (end c : ℕ) → Remains end c outer_attributes
-unfolding outer_attributes
-outer_attributes_within end c = attributes_within end c Outer
-
-pub inner_attributes_within : (end c : ℕ) → Remains end c inner_attributes
+inner_attributes_within : (end c : ℕ) → Remains end c inner_attributes
 unfolding inner_attributes
 inner_attributes_within end c = attributes_within end c Inner
 
--- what is left of those of an item's own braces comes to what is left of the item
+-- what is left of those of an item's own braces comes to their `}`
+to_end : (end : ℕ) (ts us t : Tokens) → IsSound end ts → AreEnclosed ts us t → LeadsTo (inner_attributes (bumped t)).1 (around 123 (bumped t))
+to_end end ts us t s h = through (to_around 123 (inner_attributes (bumped t)).1) (inner_attributes_within end 123 (bumped t) (sound_on end (through h.before (bumped_leads t)) s))
+
+-- and to what is left of the item
 pub inner_within : (end : ℕ) (ts us t : Tokens) → IsSound end ts → AreEnclosed ts us t → LeadsTo (inner_attributes (bumped t)).1 us
-inner_within end ts us t s h =
-    let rest = (inner_attributes (bumped t)).1 in
-    through (to_around 123 rest) (through (inner_attributes_within end 123 (bumped t) (sound_on end (through h.before (bumped_leads t)) s)) h.behind)
+inner_within end ts us t s h = through (to_end end ts us t s h) h.behind
+
+-- so something is left
+pub inner_some : (end : ℕ) (ts us t : Tokens) → IsSound end ts → AreEnclosed ts us t → (inner_attributes (bumped t)).1.left ≡ [] → ⊥
+unfolding is_empty
+inner_some end ts us t s h e = none (around 123 (bumped t)).left (nothing (to_end end ts us t s h) e) h.closed
+  where
+    none : (left : List Piece) → left ≡ [] → by_first true (λ _. false) left ≡ false → ⊥
+    none [] e f = cc
+    none (t ∷ left) e f = cc

@@ -6,7 +6,8 @@ pub mod Naming
 pub mod Strings
 pub mod Texts
 pub mod Leads
-pub mod Until
-pub mod UntilMetas
-pub mod UntilAttributes
 pub mod Around
+pub mod Alike
+pub mod AlikeMetas
+pub mod AlikeAttributes
+pub mod UntilAttributes

@@ -1,21 +1,17 @@
 -- Paths and visibilities stay in the brackets that they stand in.
-use Rattle.std.proofs.Common.{◌≡◌, ◌==◌, ℕ, zero, suc, true, false, Option, Some, None, List, [], ◌∷◌, refl, ◌∙◌, sym, subst, codes}
+use Rattle.std.proofs.Common.{◌≡◌, ◌==◌, ℕ, zero, suc, true, false, Option, Some, None, List, [], ◌∷◌, refl, ◌∙◌, codes}
 use Rattle.std.specs.Str.{bytes_eq}
-use Rattle.std.proofs.lemmas.Bool.{eqb-true}
 use Rattle.hir_input.specs.declared.edition.EditionYear.{EditionYear}
 use Rattle.rust_lexer.specs.declared.kind.TokenKind.{TokenKind}
 use Rattle.rust_lexer.specs.declared.kind.TokenKind.TheVariants as kinds
 use Rattle.rust_lexer.specs.Piece.{Piece}
 use Rattle.rust_lexer.specs.Symbol.{symbol_of}
 use Rattle.rust_cursor.specs.Tokens.{Tokens}
-use Rattle.rust_cursor.specs.Brackets.{behind_closed}
 use Rattle.rust_cursor.specs.Words.{by_first, symbol, word, kind, text, bumped, eat_colons}
-use Rattle.rust_cursor.proofs.Leads.{LeadsTo, here, further, through, when, bumped_leads, eat_pair_leads}
+use Rattle.rust_cursor.proofs.Leads.{here, further, through, when, bumped_leads, eat_pair_leads}
 use Rattle.rust_cursor.proofs.Local.{both_true}
-use Rattle.rust_cursor.proofs.Around.{around, Within, same_within, IsSound, sound_on, Remains, inside_within, round_opens, closed_here, plain_around, other_around, word_symbol, pair_around, eat_pair_around, behind_angles_within}
-use Rattle.hir_input.specs.declared.ast.Visibility.{Visibility}
-use Rattle.rust_paths.specs.Visibilities.{path_scope, plain_scope, scope_of, scope, is_in, scoped, visibility}
-use Rattle.rust_paths.proofs.Leads.{segment_leads, path_leads}
+use Rattle.rust_cursor.proofs.Around.{around, same_within, sound_on, Remains, plain_around, other_around, word_symbol, pair_around, eat_pair_around, behind_angles_within}
+use Rattle.rust_paths.proofs.Leads.{segment_leads}
 use Rattle.rust_paths.specs.Names.{name_text, as_name, next_name, taken_with, name}
 use Rattle.rust_paths.specs.Paths.{is_raw, is_dollar_crate, named_word, other_segment, segment, is_colons, is_path_colons, more_from, more_segments, written_path, is_path_start, path}
 
@@ -49,7 +45,7 @@ raw_first (t ∷ left) e = by t.kind t.text e
     by kinds.RawIdent z e = refl
     by _ z e = absurd cc
 
-raw_symbol : (ts : Tokens) → is_raw (kind ts) ≡ true → symbol ts ≡ 0
+pub raw_symbol : (ts : Tokens) → is_raw (kind ts) ≡ true → symbol ts ≡ 0
 unfolding kind symbol
 raw_symbol ts e = raw_first ts.left e
 
@@ -102,57 +98,3 @@ written_within end c ts s =
 pub path_within : (end c : ℕ) → Remains end c path
 unfolding path
 path_within end c ts s = when (is_path_start false ts) (λ e. rw e (written_within end c ts s)) (λ e. rw e here)
-
--- ---- visibilities
-
-in_around : (c : ℕ) (ts : Tokens) → is_in ts ≡ true → around c (bumped (bumped ts)) ≡ around c (bumped ts)
-unfolding is_in
-in_around c ts e = word_around c (codes "in") (bumped ts) refl e
-
-scope_word : (ts : Tokens) (v : Visibility) → scope ts ≡ Some v → symbol (bumped ts) ≡ 0
-unfolding scope scope_of
-scope_word ts v e =
-    when (symbol (bumped (bumped ts)) == 41)
-    (λ f. let g = rw f at e in
-    when (bytes_eq (word (bumped ts)) (codes "crate")) (λ h. word_symbol (codes "crate") (bumped ts) refl h)
-    (λ h. let i = rw h at g in
-    when (bytes_eq (word (bumped ts)) (codes "super")) (λ j. word_symbol (codes "super") (bumped ts) refl j)
-    (λ j. let k = rw j at i in
-    when (bytes_eq (word (bumped ts)) (codes "self")) (λ l. word_symbol (codes "self") (bumped ts) refl l) (λ l. absurd (let no = rw l at k in cc)))))
-    (λ f. absurd (let no = rw f at e in cc))
-
-scope_closed : (ts : Tokens) (v : Visibility) → scope ts ≡ Some v → (symbol (bumped (bumped ts)) == 41) ≡ true
-unfolding scope
-scope_closed ts v e = when (symbol (bumped (bumped ts)) == 41) (λ f. f) (λ f. absurd (let no = rw f at e in cc))
-
--- in round brackets
-round_within : (end c : ℕ) (ts us : Tokens) → IsSound end ts → (symbol ts == 40) ≡ true → LeadsTo (bumped ts) us → Within 40 us (bumped ts) → Within c (behind_closed 40 us) ts
-round_within end c ts us s e p w =
-    let is = eqb-true (symbol ts) 40 e in
-    subst (λ (b : ℕ). Within c (behind_closed b us) ts) is (inside_within end c ts us s (round_opens ts e) p (subst (λ (b : ℕ). Within b us (bumped ts)) (sym is) w))
-
-plain_scope_within : (end c : ℕ) (o : Option Visibility) (ts : Tokens) → IsSound end ts → (symbol ts == 40) ≡ true → scope ts ≡ o → Within c (plain_scope o ts).1 ts
-plain_scope_within end c None ts s e f = here
-plain_scope_within end c (Some v) ts s e f =
-    let twice = bumped (bumped ts) in
-    subst (λ (t : Tokens). Within c t ts) (closed_here twice (scope_closed ts v f))
-    (round_within end c ts twice s e (bumped_leads (bumped ts)) (same_within 40 twice (bumped ts) (plain_around 40 (bumped ts) (scope_word ts v f))))
-
-path_scope_within : (end c : ℕ) (ts : Tokens) → IsSound end ts → (symbol ts == 40) ≡ true → is_in ts ≡ true → Within c (path_scope ts).1 ts
-path_scope_within end c ts s e f =
-    let twice = bumped (bumped ts) in
-    round_within end c ts (path twice).1 s e (further (path_leads twice)) (through (path_within end 40 twice (sound_on end (further (bumped_leads (bumped ts))) s)) (same_within 40 twice (bumped ts) (in_around 40 ts f)))
-
-scoped_within : (end c : ℕ) → Remains end c scoped
-unfolding scoped
-scoped_within end c ts s =
-    when (symbol ts == 40)
-    (λ e. rw e (when (is_in ts) (λ f. rw f (path_scope_within end c ts s e f)) (λ f. rw f (plain_scope_within end c (scope ts) ts s e refl))))
-    (λ e. rw e here)
-
-pub visibility_within : (end c : ℕ) → Remains end c visibility
-unfolding visibility
-visibility_within end c ts s =
-    when (bytes_eq (word ts) (codes "pub"))
-    (λ e. rw e (through (scoped_within end c (bumped ts) (sound_on end (bumped_leads ts) s)) (same_within c (bumped ts) ts (word_around c (codes "pub") ts refl e))))
-    (λ e. rw e here)

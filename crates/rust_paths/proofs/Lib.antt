@@ -3,6 +3,8 @@ pub mod Meant
 pub mod Steps
 pub mod Trees
 pub mod Leads
-pub mod Beside
-pub mod UntilTrees
 pub mod Around
+pub mod Alike
+pub mod Beside
+pub mod AlikeTrees
+pub mod UntilTrees

@@ -18,8 +18,8 @@ use Rattle.rust_lexer.proofs.Whole.{plain_is, filter_moved}
 use Rattle.rust_cursor.specs.Elements.{most, beyond}
 use Rattle.rust_cursor.specs.Tokens.{Tokens, tokens_of}
 use Rattle.rust_cursor.specs.Words.{by_first, at, is_empty}
-use Rattle.rust_cursor.proofs.High.{tokens_proper}
-use Rattle.rust_cursor.proofs.Laid.{IsLaid, behind, at_behind, taken_behind, tokens_laid}
+use Rattle.rust_cursor.proofs.Around.{tokens_sound}
+use Rattle.rust_cursor.proofs.Laid.{IsLaid, behind, at_behind, taken_behind}
 use Rattle.rust_cursor.proofs.Leads.{LeadsTo, here, further, when, bumped_leads}
 use Rattle.rust_cursor.proofs.Near.{Ending, Near, near, is_last, are_ended}
 use Rattle.rust_cursor.proofs.NearUntil.{more_left}
@@ -183,5 +183,5 @@ item_alone n edition u q w o y f ts p e is own =
     let m = length (ended w o) in
     let last = part_ended edition q w o y p e in
     let h : Near b ts us = subst (λ (t : Tokens). Near b t us) is (part_near edition u q w o y p last) in
-    let given : Given n m ts us = record { laid = own.laid; short = tokens_laid edition (ended w o); proper = tokens_proper edition (ended w o) } in
-    alone edition b (ended w o) f ts us refl (ended_some us last) h given.short (turn_ends n m 127 b f f nothing_found ts us given h (start_near b f)) own.sound own.ends
+    let given : Given n m ts us = record { laid = own.laid; short = tokens_sound edition (ended w o) } in
+    alone edition b (ended w o) f ts us refl (ended_some us last) h given.short.laid (turn_ends n m 127 b f f nothing_found ts us given h (start_near b f)) own.sound own.ends

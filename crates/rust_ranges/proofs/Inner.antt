@@ -13,10 +13,10 @@ use Rattle.rust_cursor.specs.Elements.{most, turns, turns_from, one}
 use Rattle.rust_cursor.specs.Tokens.{Tokens}
 use Rattle.rust_cursor.specs.Words.{by_first, word_by, symbol, word, kind, text, at, bumped, is_pair, is_at_end}
 use Rattle.rust_cursor.proofs.Leads.{when}
-use Rattle.rust_cursor.proofs.Near.{both_true}
+use Rattle.std.proofs.lemmas.Bool.{and_parts}
 use Rattle.rust_cursor.proofs.Turns.{turns_stop}
 use Rattle.rust_paths.specs.Names.{is_path_keyword, name_text, has_name}
-use Rattle.rust_ranges.proofs.NearFronts.{no_word_head, nothing_before}
+use Rattle.rust_leaves.proofs.AlikeFronts.{no_word_head, nothing_before}
 use Rattle.rust_paths.specs.Paths.{is_raw, is_dollar_crate, is_segment, is_colons, is_path_colons, is_path_start, path}
 use Rattle.rust_paths.specs.Visibilities.{visibility}
 use Rattle.rust_metas.specs.Attributes.{is_doc, is_style, is_attribute, is_behind, attribute, attributes, outer_attributes, inner_attributes}
@@ -145,9 +145,9 @@ symbol_mute us c e n colon dollar a =
 mark_mute : (us : Tokens) → is_doc Inner us ≡ false → is_attribute Inner us ≡ true → is_doc Outer us ≡ false → IsMute us
 unfolding is_behind is_attribute symbol
 mark_mute us d e o =
-    let both = both_true (symbol us == 35) (symbol (bumped us) == 33 && symbol (bumped (bumped us)) == 91) e in
+    let both = and_parts (symbol us == 35) (symbol (bumped us) == 33 && symbol (bumped (bumped us)) == 91) e in
     let is : symbol us ≡ 35 = eqb-true (symbol us) 35 both.0 in
-    let next : symbol (bumped us) ≡ 33 = eqb-true (symbol (bumped us)) 33 (both_true (symbol (bumped us) == 33) (symbol (bumped (bumped us)) == 91) both.1).0 in
+    let next : symbol (bumped us) ≡ 33 = eqb-true (symbol (bumped us)) 33 (and_parts (symbol (bumped us) == 33) (symbol (bumped (bumped us)) == 91) both.1).0 in
     record {
       quiet = quiet us (mark_first us.left both.0);
       outer = rw (o, is, next) refl;
@@ -164,7 +164,7 @@ unfolding is_attribute is_doc symbol kind
 mark_no_doc us e =
     when (is_doc Outer us)
     (λ f. let none = doc_symbol Outer us.left f in
-    let mark = (both_true (symbol us == 35) (symbol (bumped us) == 33 && symbol (bumped (bumped us)) == 91) e).0 in
+    let mark = (and_parts (symbol us == 35) (symbol (bumped us) == 33 && symbol (bumped (bumped us)) == 91) e).0 in
     absurd (let no = rw none at mark in cc))
     (λ f. f)
 

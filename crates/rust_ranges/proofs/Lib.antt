@@ -1,8 +1,5 @@
 pub mod NearPaths
 pub mod NearTrees
-pub mod HighPaths
-pub mod NearMetas
-pub mod HighMetas
 pub mod NearFronts
 pub mod NearFields
 pub mod NearLeaves

@@ -1,6 +1,6 @@
 -- The fields of a struct are the same in a text that ends with a `;` or a `}` and in a longer one, where the struct ends there or before.
-use Rattle.std.proofs.Common.{◌≡◌, ◌≤◌, ◌+◌, ◌==◌, ◌||◌, ℕ, zero, suc, Bool, true, false, Option, Some, None, List, [], ◌∷◌, ◌++◌, length, refl, ap, sym, ◌∙◌, arith}
 use Rattle.std.specs.Prelude.{if◌then◌else◌, not, nat_lt}
+use Rattle.std.proofs.Common.{◌≡◌, ◌≤◌, ◌+◌, ◌==◌, ◌||◌, ℕ, zero, suc, Bool, true, false, Option, Some, None, List, [], ◌∷◌, ◌++◌, length, refl, ap, sym, ◌∙◌, arith}
 use Rattle.std.proofs.lemmas.Bool.Decides.{nat_tests}
 use Rattle.hir_input.specs.declared.ast.Visibility.{Visibility}
 use Rattle.hir_input.specs.Syntax.{tuple_fields}
@@ -12,17 +12,20 @@ use Rattle.rust_cursor.specs.Angles.{behind_angles, behind_field}
 use Rattle.rust_cursor.specs.Elements.{most, beyond, turns_from, turns, one}
 use Rattle.rust_cursor.proofs.Nesting.{shorter}
 use Rattle.rust_cursor.proofs.Laid.{IsLaid, behind}
-use Rattle.rust_cursor.proofs.Leads.{LeadsTo, here, further, through, when, bumped_leads, eat_leads, behind_angles_leads, reached_leads, beyond_leads}
-use Rattle.rust_cursor.proofs.Near.{Ending, Near, Gone, Onward, into, on, onward_leads, fewer, symbol_same, end_same, past_same, after_symbol}
-use Rattle.rust_cursor.proofs.NearPassing.{behind_angles_near, reached_near, beyond_near}
+use Rattle.rust_cursor.proofs.Leads.{LeadsTo, here, further, through, when, bumped_leads, eat_leads, behind_angles_leads, beyond_leads}
+use Rattle.rust_cursor.proofs.Near.{Ending, Near, Gone, fewer, past_same, near_twins}
+use Rattle.rust_cursor.proofs.NearPassing.{behind_angles_near, reached_near, beyond_near, near_parting}
+use Rattle.rust_cursor.proofs.NearTexts.{near_enters, near_levels}
+use Rattle.rust_cursor.proofs.NearUntil.{more_left}
+use Rattle.rust_cursor.proofs.Parting.{Onward, into, on, onward_leads, by_kept, eat_until}
+use Rattle.rust_cursor.proofs.Twins.{symbol_same, end_same, after_symbol}
 use Rattle.rust_cursor.proofs.NearTexts.{BlockNear, no_block, block}
-use Rattle.rust_cursor.proofs.NearUntil.{by_kept, eat_until, more_left}
 use Rattle.rust_paths.specs.Visibilities.{visibility}
+use Rattle.rust_paths.proofs.Alike.{visibility_until}
 use Rattle.rust_paths.proofs.Leads.{visibility_leads}
-use Rattle.rust_ranges.proofs.NearPaths.{visibility_until}
 use Rattle.rust_metas.specs.Attributes.{outer_attributes}
+use Rattle.rust_metas.proofs.AlikeAttributes.{outer_attributes_until}
 use Rattle.rust_metas.proofs.Leads.{outer_attributes_leads}
-use Rattle.rust_ranges.proofs.NearMetas.{outer_attributes_until}
 use Rattle.rust_leaves.specs.Leaves.{is_before, field, are_over, fields, symbol_before, fields_at, struct_fields}
 use Rattle.rust_leaves.proofs.Fields.{type_leads, field_leads, not_before, over_ends, none_seen, symbol_is}
 
@@ -87,11 +90,11 @@ data Goes (n m end end' : ℕ) (b : Ending) (ts us : Tokens) : Type 0 where
   close : Near b ts us → Goes n m end end' b ts us
   over : AreOver n m end end' ts us → Goes n m end end' b ts us
 
-comma_near : (b : Ending) (ts us : Tokens) → Near b ts us → Onward b (eat 44 ts).1 (eat 44 us).1
-comma_near b ts us h = by_kept (eat_until b 44 refl ts us h) (λ g. into g) (λ k. on k.rest)
+comma_near : (b : Ending) (ts us : Tokens) → Near b ts us → Onward (Near b) (Gone b) (eat 44 ts).1 (eat 44 us).1
+comma_near b ts us h = by_kept (eat_until (near_parting b) 44 refl ts us h) (λ g. into g) (λ k. on k.rest)
 
-type_near : (b : Ending) (ts us : Tokens) → Near b ts us → Onward b (eat 44 (behind_field ts)).1 (eat 44 (behind_field us)).1
-type_near b ts us h = onward_leads (reached_near b reaches.Field ts us h) (eat_leads 44 _) (eat_leads 44 _) (λ k. comma_near b _ _ k)
+type_near : (b : Ending) (ts us : Tokens) → Near b ts us → Onward (Near b) (Gone b) (eat 44 (behind_field ts)).1 (eat 44 (behind_field us)).1
+type_near b ts us h = onward_leads (near_parting b) (reached_near b reaches.Field ts us h) (eat_leads 44 _) (eat_leads 44 _) (λ k. comma_near b _ _ k)
 
 record SameRead {A : Type 0} (n m end end' : ℕ) (b : Ending) (p q : A × Tokens) : Type 0 where
   value : q.0 ≡ p.0
@@ -111,7 +114,7 @@ module _ {n m : ℕ} (b : Ending) (xs ys e e' : Tokens) (hs : Headers n m b xs y
         past_short = in_order hs.laid_short hs.ends_short q (omega arith);
       }
 
-  goes : (ts us : Tokens) → LeadsTo xs ts → LeadsTo ys us → Onward b ts us → Goes n m e.past e'.past b ts us
+  goes : (ts us : Tokens) → LeadsTo xs ts → LeadsTo ys us → Onward (Near b) (Gone b) ts us → Goes n m e.past e'.past b ts us
   goes ts us p q (into g) = over (passed ts us p q g)
   goes ts us p q (on h) = close h
 
@@ -121,9 +124,9 @@ module _ {n m : ℕ} (b : Ending) (xs ys e e' : Tokens) (hs : Headers n m b xs y
   field_read : (ts us : Tokens) → LeadsTo xs ts → LeadsTo ys us → Near b ts us → SameRead n m e.past e'.past b (field e.past ts) (field e'.past us)
   unfolding field
   field_read ts us p q h =
-      by_kept (outer_attributes_until b ts us h)
+      by_kept (outer_attributes_until (near_parting b) (near_enters b) (near_levels b) ts us h)
       (λ g. behind_it (over_on (passed _ _ (through p (outer_attributes_leads ts)) (through q (outer_attributes_leads us)) g) (visibility_leads _) (visibility_leads _)))
-      (λ k. by_kept (visibility_until b _ _ k.rest)
+      (λ k. by_kept (visibility_until (near_parting b) _ _ k.rest)
       (λ g. behind_it (passed _ _ to to' g))
       (λ v. record {
         value = ap (λ t. if t then (visibility (outer_attributes us).1).0 else None) (before_both _ _ v.rest) ∙ ap (λ o. if is_before e.past (visibility (outer_attributes ts).1).1 then o else None) v.value;
@@ -143,7 +146,7 @@ module _ {n m : ℕ} (b : Ending) (xs ys e e' : Tokens) (hs : Headers n m b xs y
       }
 
   over_same : (ts us : Tokens) → Near b ts us → are_over e'.past us ≡ are_over e.past ts
-  over_same ts us h = ap (λ t. t || not (is_before e'.past us)) (end_same b ts us h) ∙ ap (λ t. is_at_end ts || not t) (before_both ts us h)
+  over_same ts us h = ap (λ t. t || not (is_before e'.past us)) (end_same (near_twins b) ts us h) ∙ ap (λ t. is_at_end ts || not t) (before_both ts us h)
 
   fields_from : (k : ℕ) (done done' : List (Option Visibility)) (ts us : Tokens) → LeadsTo xs ts → LeadsTo ys us → done' ≡ done → Goes n m e.past e'.past b ts us
       → (turns_from (are_over e'.past) (one (field e'.past)) k done' us).0 ≡ (turns_from (are_over e.past) (one (field e.past)) k done ts).0
@@ -171,11 +174,11 @@ module _ {n m : ℕ} (b : Ending) (xs ys e e' : Tokens) (hs : Headers n m b xs y
   fields_at_same has ts us p q (over o) = rw (not_before e.past ts o.past, not_before e'.past us o.past_short) refl
   fields_at_same has ts us p q (close h) =
       when (symbol_before e.past ts == 40)
-      (λ f. rw (symbols, f) (ap tuple_fields (same_fields (bumped ts) (bumped us) (through p (bumped_leads ts)) (through q (bumped_leads us)) (after_symbol b 40 ts us refl h (symbol_is e.past ts f)))))
+      (λ f. rw (symbols, f) (ap tuple_fields (same_fields (bumped ts) (bumped us) (through p (bumped_leads ts)) (through q (bumped_leads us)) (after_symbol (near_twins b) 40 ts us refl h (symbol_is e.past ts f)))))
       (λ f. rw (symbols, f) refl)
     where
       symbols : symbol_before e'.past us ≡ symbol_before e.past ts
-      symbols = ap (λ t. if t then symbol us else 0) (before_both ts us h) ∙ ap (λ s. if is_before e.past ts then s else 0) (symbol_same b ts us h)
+      symbols = ap (λ t. if t then symbol us else 0) (before_both ts us h) ∙ ap (λ s. if is_before e.past ts then s else 0) (symbol_same (near_twins b) ts us h)
 
   header_same : (has : Bool) → Near b xs ys → fields_at has e'.past (behind_angles ys) ≡ fields_at has e.past (behind_angles xs)
   header_same has h =

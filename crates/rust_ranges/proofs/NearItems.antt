@@ -1,34 +1,37 @@
 -- Items are the same in a text that ends with a `;` or a `}` and in a longer one, where they end there or before.
-use Rattle.std.proofs.Common.{◌≡◌, ◌≤◌, ◌<◌, ◌+◌, ◌==◌, ◌&&◌, ℕ, zero, suc, Bool, true, false, Option, Some, None, List, [], ◌∷◌, ◌++◌, length, refl, sym, ap, ◌∙◌, subst, arith, map, append_assoc, codes}
 use Rattle.std.specs.Prelude.{option_map, option_to_list, is_some, is_none, not}
 use Rattle.std.specs.List.{list_any}
+use Rattle.std.proofs.Common.{◌≡◌, ◌≤◌, ◌<◌, ◌+◌, ◌==◌, ◌&&◌, ℕ, zero, suc, Bool, true, false, Option, Some, None, List, [], ◌∷◌, ◌++◌, length, refl, sym, ap, ◌∙◌, subst, arith, map, append_assoc, codes}
+use Rattle.std.proofs.lemmas.List.{map-append}
+use Rattle.std.proofs.lemmas.Bool.Decides.{nat_tests}
 use Rattle.hir_input.specs.declared.ids.AstIdKind.{AstIdKind}
 use Rattle.hir_input.specs.Attr.{MetaView}
 use Rattle.hir_input.specs.Syntax.{ItemView}
-use Rattle.std.proofs.lemmas.List.{map-append}
-use Rattle.std.proofs.lemmas.Bool.Decides.{nat_tests}
+use Rattle.rust_ids.specs.Row.{Row}
 use Rattle.rust_cursor.specs.Elements.{most, beyond}
 use Rattle.rust_cursor.specs.Tokens.{Tokens}
 use Rattle.rust_cursor.specs.Words.{symbol, at, eat_word, bumped, is_at_end}
 use Rattle.rust_cursor.proofs.Laid.{IsLaid, behind}
 use Rattle.rust_cursor.proofs.Leads.{LeadsTo, here, further, through, when, bumped_leads, beyond_leads, eat_leads, eat_word_leads}
-use Rattle.rust_cursor.proofs.Near.{Ending, Near, fewer, by_next, bumped_onward, symbol_same, empty_same, end_same, at_same, past_same}
-use Rattle.rust_cursor.proofs.NearPassing.{beyond_near}
-use Rattle.rust_cursor.proofs.NearUntil.{Same, Kept, by_kept, AtEnd, Outcome, lost, stays, comes, eat_outcome, eat_fewer}
+use Rattle.rust_cursor.proofs.Near.{Ending, Near, fewer, bumped_onward, at_same, past_same, near_twins}
+use Rattle.rust_cursor.proofs.NearPassing.{beyond_near, near_parting}
+use Rattle.rust_cursor.proofs.NearTexts.{near_enters, near_levels}
+use Rattle.rust_cursor.proofs.NearUntil.{Kept, AtEnd, Outcome, lost, stays, comes, eat_outcome, eat_fewer}
+use Rattle.rust_cursor.proofs.Parting.{Same, by_next, by_kept}
+use Rattle.rust_cursor.proofs.Twins.{symbol_same, empty_same, end_same}
 use Rattle.rust_paths.specs.declared.names.TextRange.{TextRange}
-use Rattle.rust_ranges.proofs.NearTrees.{further_on}
-use Rattle.rust_metas.specs.Attributes.{inner_attributes}
-use Rattle.rust_metas.proofs.Leads.{inner_attributes_leads}
-use Rattle.rust_ranges.proofs.NearMetas.{inner_attributes_until}
-use Rattle.rust_ids.specs.Row.{Row}
-use Rattle.rust_leaves.specs.declared.head.Head.{Head}
-use Rattle.rust_leaves.specs.declared.head.Head.TheVariants as heads
-use Rattle.rust_leaves.specs.Fronts.{FrontRead, front}
 use Rattle.rust_paths.specs.Paths.{path}
 use Rattle.rust_paths.specs.UseTrees.{use_tree}
 use Rattle.rust_paths.proofs.Leads.{path_leads, use_tree_leads}
+use Rattle.rust_metas.specs.Attributes.{inner_attributes}
+use Rattle.rust_metas.proofs.Leads.{inner_attributes_leads}
+use Rattle.rust_metas.proofs.AlikeAttributes.{inner_attributes_until}
+use Rattle.rust_leaves.specs.declared.head.Head.{Head}
+use Rattle.rust_leaves.specs.declared.head.Head.TheVariants as heads
+use Rattle.rust_leaves.specs.Fronts.{FrontRead, front}
 use Rattle.rust_leaves.specs.Kinds.{function, trait_item, enumeration, union_item, macro_def, type_alias, static_value, constant, structure, implementation, crate_item, use_declaration, macro_definition, is_called, invocation, leaf_by, leaf}
 use Rattle.rust_leaves.specs.Leaves.{LeafRead, named, named_or, renamed}
+use Rattle.rust_leaves.proofs.AlikeFronts.{behind_others_onward}
 use Rattle.rust_items.specs.declared.log.Problem.{Problem}
 use Rattle.rust_items.specs.declared.log.ProblemKind.{ProblemKind}
 use Rattle.rust_items.specs.declared.log.ProblemKind.TheVariants as problem
@@ -36,10 +39,11 @@ use Rattle.rust_items.specs.Found.{Found, Finder, nothing_found, and_problem, an
 use Rattle.rust_items.specs.Items.{span_of, and_flaw, and_item, and_leaf, leaf_found, leaf_turn, finding_from, finding, is_list_end, BlockRead, block_of, as_extern, extern_kept, extern_found, unmatched, extern_turn, extern_inside, inside, turn}
 use Rattle.rust_items.specs.LineEnds.{moved_span, moved_problem}
 use Rattle.rust_items.proofs.Leads.{function_leaf, trait_leaf, union_leaf, enum_leaf, struct_leaf, impl_leaf, crate_leaf, use_leaf, const_leaf, static_leaf, type_alias_leaf, macro_def_leaf, macro_rules_leaf, call_end_leads, named_leads, named_or_leads, renamed_leads, behind_others_leads, front_takes}
-use Rattle.rust_ranges.specs.Laws.{is_unfinished}
-use Rattle.rust_ranges.proofs.NearFronts.{FrontNear, front_until, behind_others_near}
-use Rattle.rust_ranges.proofs.NearLeaves.{some_on, LeafNear, Given, given_on, Ends, passes, before_end, at_end, SomeLeaf, no_leaf, one_leaf, leaf_ended, LeafEnds, leaf_ends, item_end_fewer, impl_end_fewer, macro_end_fewer, value_end_fewer, call_end_fewer}
 use Rattle.rust_items.proofs.Places.{Finds, extern_turn_found}
+use Rattle.rust_ranges.specs.Laws.{is_unfinished}
+use Rattle.rust_ranges.proofs.NearTrees.{further_on}
+use Rattle.rust_ranges.proofs.NearFronts.{FrontNear, front_until}
+use Rattle.rust_ranges.proofs.NearLeaves.{some_on, LeafNear, Given, given_on, Ends, passes, before_end, at_end, SomeLeaf, no_leaf, one_leaf, leaf_ended, LeafEnds, leaf_ends, item_end_fewer, impl_end_fewer, macro_end_fewer, value_end_fewer, call_end_fewer}
 
 -- ---- what is found
 
@@ -148,7 +152,7 @@ TurnLong b turn = (n m : ℕ) (before f g : Found) (ts us : Tokens) → Given n 
 
 top_end : (is_top : Bool) (b : Ending) (ts us : Tokens) → Near b ts us → is_list_end is_top us ≡ is_list_end is_top ts
 unfolding is_list_end
-top_end is_top b ts us h = rw (empty_same b ts us h, symbol_same b ts us h) refl
+top_end is_top b ts us h = rw (empty_same (near_twins b) ts us h, symbol_same (near_twins b) ts us h) refl
 
 module _ (b : Ending) (turn : Finder (Option ItemView)) (t : TurnLong b turn) (finds : (end : ℕ) → Finds end turn) where
   pub list_leads : (n k : ℕ) (done : List ItemView) (f : Found) (ts : Tokens) → IsLaid n ts → LeadsTo ts (finding_from (is_list_end false) turn k done f ts).1.1
@@ -167,7 +171,7 @@ module _ (b : Ending) (turn : Finder (Option ItemView)) (t : TurnLong b turn) (f
       let next = beyond ts.past r.1.1 in
       let next' = beyond us.past r'.1.1 in
       let to : LeadsTo ts r.1.1 = (finds n f ts given.laid).leads in
-      let to' : LeadsTo us r'.1.1 = (finds m g us given.short).leads in
+      let to' : LeadsTo us r'.1.1 = (finds m g us given.short.laid).leads in
       let far : LeadsTo ts next = through to (beyond_leads ts.past r.1.1) in
       let far' : LeadsTo us next' = through to' (beyond_leads us.past r'.1.1) in
       let rest = list_leads n k (done ++ option_to_list r.0) r.1.0 next (behind n far given.laid).laid in
@@ -218,7 +222,7 @@ module _ (b : Ending) (turn : Finder (Option ItemView)) (t : TurnLong b turn) (f
       let far : length list.1.1.left ≤ length b.behind → Ends (FoundAlike b before) block_ended b (flat (block_of turn f ts)) (flat (block_of turn g us)) =
       λ few. passes {p = flat (block_of turn f ts)} (let less = fewer (eat_leads 125 list.1.1) in omega arith) (λ e. let less = eat_fewer 125 list.1.1 (omega arith) e in omega arith) in
       by_next (bumped_onward b ts us h) (λ o. far (let few = o.few in let less = fewer (through (inner_attributes_leads (bumped ts)) list_to) in omega arith))
-      (λ k. by_kept (inner_attributes_until b (bumped ts) (bumped us) k) (λ o. far (let few = o.few in let less = fewer list_to in omega arith))
+      (λ k. by_kept (inner_attributes_until (near_parting b) (near_enters b) (near_levels b) (bumped ts) (bumped us) k) (λ o. far (let few = o.few in let less = fewer list_to in omega arith))
       (λ l. by_long (list_long b turn t finds n m most before [] [] f g inner.1 inner'.1 given' l.rest refl a) far
       (λ w. closed_ends b before inner.0 inner'.0 list.0 list'.0 list.1.0 list'.1.0 l.value w.value.value w.value.found (eat_outcome b 125 list.1.1 list'.1.1 w.rest))))
 
@@ -288,7 +292,7 @@ some_passes b before f depth start (Some l) ts r few strict = passes {p = flat (
 kept_leaf : (b : Ending) (before f g : Found) (depth start start' : ℕ) (ts us : Tokens) → start ≡ start' + b.by → FoundNear b before f g → Near b ts us → (o o' : Option LeafRead) → SomeLeaf b o o'
     → TurnEnds b before start (leaf_found depth start o f ts) (leaf_found depth start' o' g us)
 kept_leaf b before f g depth start start' ts us s n h _ _ no_leaf =
-    by_next (behind_others_near b ts us h) (λ w. passes {p = flat (leaf_found depth start None f ts)} w.few (λ e. absurd cc))
+    by_next (behind_others_onward (near_parting b) ts us h) (λ w. passes {p = flat (leaf_found depth start None f ts)} w.few (λ e. absurd cc))
     (λ w. before_end (record { value = record { value = refl; found = problem_near b before f g problem.NoItem start start' s n }; rest = w }))
 kept_leaf b before f g depth start start' ts us s n h _ _ (one_leaf {l = l} {m = m} i) =
     before_end (record { value = record { value = ap Some i.item; found = leaf_near b before f g depth start start' ts.past us.past l m s (past_same b ts us h) i n }; rest = h })
@@ -327,7 +331,7 @@ extern_kept_near b before f g depth start start' ts us l m (Some item) o' s p i 
 extern_under : (b : Ending) (before f g : Found) (depth start start' : ℕ) (ts us : Tokens) → start ≡ start' + b.by → FoundNear b before f g → Near b ts us → (o o' : Option LeafRead) → SomeLeaf b o o'
     → Long (FoundAlike b before) b (flat (extern_found depth start o f ts)) (flat (extern_found depth start' o' g us))
 extern_under b before f g depth start start' ts us s n h _ _ no_leaf =
-    by_next (behind_others_near b ts us h) (λ w. rest_over b (flat (extern_found depth start None f ts)) _ w.few)
+    by_next (behind_others_onward (near_parting b) ts us h) (λ w. rest_over b (flat (extern_found depth start None f ts)) _ w.few)
     (λ w. under (record { value = record { value = refl; found = problem_near b before f g problem.NoItem start start' s n }; rest = w }))
 extern_under b before f g depth start start' ts us s n h _ _ (one_leaf {l = l} {m = m} i) =
     under (record { value = extern_kept_near b before f g depth start start' ts us l m (as_extern l.item) (as_extern m.item) s (past_same b ts us h) i (ap as_extern i.item) n; rest = h })
@@ -338,10 +342,6 @@ unmatched_long b before f g ts us h a =
     by_next (bumped_onward b ts us h) (λ w. rest_over b (flat (unmatched f ts)) _ w.few)
     (λ w. under (record { value = record { value = refl; found = problem_near b before f g problem.Unmatched (at ts) (at us) (at_same b ts us h) a }; rest = w }))
 
-extern_leads : (depth start : ℕ) (o : Option LeafRead) (f : Found) (ts : Tokens) → LeadsTo ts (extern_found depth start o f ts).1.1
-extern_leads depth start None f ts = behind_others_leads ts
-extern_leads depth start (Some l) f ts = here
-
 pub front_leads : (ts : Tokens) → LeadsTo ts (front ts).1
 front_leads ts = (front_takes ts).leads
 
@@ -351,8 +351,8 @@ extern_turn_long b depth n m before f g ts us given h a =
     let fr = front ts in
     let fr' = front us in
     when (is_at_end ts)
-    (λ e. rw (end_same b ts us h, e) (unmatched_long b before f g ts us h a))
-    (λ e. rw (end_same b ts us h, e)
+    (λ e. rw (end_same (near_twins b) ts us h, e) (unmatched_long b before f g ts us h a))
+    (λ e. rw (end_same (near_twins b) ts us h, e)
     (by_kept (front_until b ts us h)
     (λ o. extern_over b before f depth fr.0.start (leaf fr.0 fr.1).0 (leaf fr.0 fr.1).1 _ (let few = o.few in let less = fewer (leaf_leads fr.0 fr.1) in omega arith))
     (λ k. let given' = given_on given (front_leads ts) (front_leads us) in
@@ -369,8 +369,8 @@ pub extern_inside_ends : (b : Ending) (depth : ℕ) → BlockEnds b (extern_insi
 unfolding extern_inside
 extern_inside_ends b depth n m before f g ts us given h a =
     when (symbol ts == 123)
-    (λ e. rw (symbol_same b ts us h, e) (block_ends b (extern_turn depth) (extern_turn_long b depth) (λ end. extern_turn_found end depth) n m before f g ts us given h a))
-    (λ e. rw (symbol_same b ts us h, e) (before_end (record { value = record { value = refl; found = a }; rest = h })))
+    (λ e. rw (symbol_same (near_twins b) ts us h, e) (block_ends b (extern_turn depth) (extern_turn_long b depth) (λ end. extern_turn_found end depth) n m before f g ts us given h a))
+    (λ e. rw (symbol_same (near_twins b) ts us h, e) (before_end (record { value = record { value = refl; found = a }; rest = h })))
 
 -- ---- what is ended takes a token
 

@@ -1,53 +1,57 @@
 -- Items that hold none are the same in a text that ends with a `;` or a `}` and in a longer one, where they end there or before.
-use Rattle.std.proofs.Common.{◌≡◌, ◌≤◌, ◌<◌, ◌+◌, ◌==◌, ◌&&◌, ℕ, zero, suc, Bool, true, false, Option, Some, None, List, [], ◌∷◌, ◌++◌, length, refl, sym, ap, ◌∙◌, subst, arith, codes}
 use Rattle.std.specs.Prelude.{option_map, is_some, nat_lt}
 use Rattle.std.specs.Option.{option_or}
 use Rattle.std.specs.Str.{bytes_eq}
+use Rattle.std.proofs.Common.{◌≡◌, ◌≤◌, ◌<◌, ◌+◌, ◌==◌, ◌&&◌, ℕ, zero, suc, Bool, true, false, Option, Some, None, List, [], ◌++◌, length, refl, sym, ap, ◌∙◌, arith, codes}
 use Rattle.std.proofs.lemmas.Bool.Decides.{nat_tests}
+use Rattle.std.proofs.lemmas.Bool.{and_parts}
 use Rattle.hir_input.specs.declared.ast.Visibility.{Visibility}
 use Rattle.hir_input.specs.declared.ids.AstIdKind.{AstIdKind}
 use Rattle.hir_input.specs.declared.ids.AstIdKind.TheVariants as kind
 use Rattle.hir_input.specs.Attr.{MetaView}
-use Rattle.hir_input.specs.Syntax.{PlainKind, ItemView, FieldsView, fn_kind, union_kind, enum_kind, trait_kind, macro_def_kind, type_alias_kind, static_kind, ast_kind, plain_item, const_item, struct_item, impl_item, extern_crate, use_item, macro_rules, tuple_fields}
+use Rattle.hir_input.specs.Syntax.{PlainKind, ItemView, FieldsView, fn_kind, union_kind, enum_kind, trait_kind, macro_def_kind, type_alias_kind, static_kind, ast_kind, plain_item, const_item, struct_item, impl_item, extern_crate, use_item, macro_rules}
 use Rattle.rust_cursor.specs.declared.cursor.generics.Reach.TheVariants as reaches
-use Rattle.rust_cursor.specs.Angles.{behind_angles, behind_field, behind_header, is_trait_impl}
+use Rattle.rust_cursor.specs.Angles.{behind_angles, behind_header, is_trait_impl}
 use Rattle.rust_cursor.specs.Elements.{most, one}
 use Rattle.rust_cursor.specs.Extents.{ExcerptRead, tree_body}
 use Rattle.rust_cursor.specs.Reader.{Reader}
-use Rattle.rust_cursor.specs.Tokens.{Tokens, end_of}
-use Rattle.rust_cursor.specs.Words.{by_first, rest, symbol, word, text, bumped, is_empty, eat, eat_word, is_at_open}
+use Rattle.rust_cursor.specs.Tokens.{Tokens}
+use Rattle.rust_cursor.specs.Words.{rest, symbol, word, text, bumped, eat, eat_word, is_at_open}
 use Rattle.rust_cursor.proofs.Enclosed.{item_enclosed}
-use Rattle.rust_cursor.proofs.High.{height, Held, are_proper, proper_on, taken_high}
-use Rattle.rust_lexer.specs.Piece.{Piece}
-use Rattle.rust_cursor.proofs.Nesting.{shorter}
+use Rattle.rust_cursor.proofs.Around.{IsSound, sound_on}
+use Rattle.rust_cursor.proofs.Enclosed.{item_enclosed, impl_enclosed}
 use Rattle.rust_cursor.proofs.Laid.{IsLaid, behind}
-use Rattle.rust_cursor.proofs.Leads.{LeadsTo, here, further, through, Forwards, when, HasBlock, no_block as no_block_at, block as block_at, taken_block, bumped_leads, eat_leads, eat_word_leads, reached_leads, behind_angles_leads, taken_leads_on, turns_leads}
-use Rattle.rust_cursor.proofs.Near.{both_true, Ending, Near, Gone, Onward, into, on, gone_on, by_next, onward_leads, bumped_onward, fewer, symbol_same, word_same, text_same, open_same, at_same, past_same, taken_same, word_test, after_word, after_symbol}
-use Rattle.rust_cursor.proofs.NearPassing.{behind_angles_near, reached_near}
-use Rattle.rust_cursor.proofs.NearTexts.{BlockNear, no_block, block, SameText, taken_outcome, taken_until, taken_fewer}
-use Rattle.rust_cursor.proofs.NearUntil.{UntilBy, UpTo, Kept, gone, kept, by_kept, cond_until, pass_until, then_until, elements_until, eat_until, eat_word_until, AtEnd, Outcome, lost, stays, comes, more_left, map_outcome, then_outcome, eat_outcome, eat_fewer}
+use Rattle.rust_cursor.proofs.Leads.{LeadsTo, here, further, through, Forwards, when, bumped_leads, eat_leads, eat_word_leads, reached_leads, behind_angles_leads, taken_leads_on}
+use Rattle.rust_cursor.proofs.Near.{Ending, Near, Gone, gone_on, nothing, bumped_onward, fewer, at_same, past_same, taken_same, near_twins}
+use Rattle.rust_cursor.proofs.NearPassing.{behind_angles_near, reached_near, near_parting}
+use Rattle.rust_cursor.proofs.NearUntil.{UntilBy, Kept, AtEnd, Outcome, lost, stays, comes, more_left, map_outcome, then_outcome, eat_outcome, eat_fewer}
+use Rattle.rust_cursor.proofs.Parting.{gone, kept, by_next, onward_leads, by_kept, cond_until, then_until, eat_word_until}
+use Rattle.rust_cursor.proofs.Twins.{symbol_same, word_same, text_same, open_same, word_test, after_word, after_symbol}
+use Rattle.rust_cursor.proofs.NearTexts.{BlockNear, no_block, block, SameText, taken_outcome, taken_until, taken_fewer, next_past, near_enters, near_levels}
 use Rattle.rust_paths.specs.declared.names.TextRange.{TextRange}
 use Rattle.rust_paths.specs.Names.{Placed, as_name}
 use Rattle.rust_paths.specs.Paths.{path}
 use Rattle.rust_paths.specs.UseTrees.{use_tree}
 use Rattle.rust_paths.specs.Visibilities.{visibility}
-use Rattle.rust_paths.proofs.Leads.{path_leads, visibility_leads}
-use Rattle.rust_ranges.proofs.NearPaths.{PlacedNear, no_place, placed_near, placed_name_until, path_until, visibility_until}
-use Rattle.rust_ranges.proofs.NearTrees.{further_on, use_tree_until}
+use Rattle.rust_paths.proofs.Alike.{path_until}
+use Rattle.rust_paths.proofs.AlikeTrees.{use_tree_until}
+use Rattle.rust_paths.proofs.Leads.{path_leads}
 use Rattle.rust_metas.specs.Attributes.{inner_attributes}
-use Rattle.rust_ranges.proofs.HighMetas.{inner_attributes_up}
-use Rattle.rust_metas.proofs.Leads.{outer_attributes_leads}
-use Rattle.rust_ranges.proofs.NearMetas.{inner_attributes_until, outer_attributes_until, next_past}
+use Rattle.rust_metas.proofs.AlikeAttributes.{inner_attributes_until}
+use Rattle.rust_metas.proofs.Around.{inner_some}
+use Rattle.rust_metas.proofs.Leads.{inner_attributes_leads}
 use Rattle.rust_leaves.specs.Leaves.{NameRead, RestRead, LeafRead, no_name, name_read, named, next_range, named_or, alias, alias_if, renamed, rename_of, range_to, rest_read, bare_end, item_end, impl_end, macro_end, value_end, semicolon_end, call_end, block_attributes, has_trait}
 use Rattle.rust_leaves.specs.Kinds.{node, named_node, leaf_read, plain_read, function, block_item, macro_def, type_alias, static_value, constant, structure, implementation, told_at, crate_item, use_read, use_declaration, macro_definition, union_item, enumeration, trait_item, is_called, called, call_behind, some_read, invocation, leaf_by, leaf}
 use Rattle.rust_leaves.specs.declared.head.Head.{Head}
 use Rattle.rust_leaves.specs.declared.head.Head.TheVariants as heads
-use Rattle.rust_leaves.specs.Fronts.{FrontRead, front}
+use Rattle.rust_leaves.specs.Fronts.{FrontRead}
 use Rattle.rust_leaves.specs.Texts.{bare, last_text_from, last_text}
 use Rattle.rust_leaves.proofs.Beside.{fields_of}
+use Rattle.rust_items.proofs.Leads.{named_leads, alias_if_leads, renamed_leads, item_end_leads, impl_end_leads, macro_end_leads, value_end_leads, call_end_leads}
+use Rattle.rust_ranges.proofs.NearPaths.{PlacedNear, no_place, placed_near, placed_name_until}
+use Rattle.rust_ranges.proofs.NearTrees.{further_on, are_further, is_further}
 use Rattle.rust_ranges.proofs.NearFronts.{FrontNear}
 use Rattle.rust_ranges.proofs.NearFields.{in_order, lt_by, struct_fields_near}
-use Rattle.rust_items.proofs.Leads.{named_leads, alias_if_leads, renamed_leads, item_end_leads, impl_end_leads, macro_end_leads, value_end_leads, call_end_leads}
 
 -- ---- places
 
@@ -88,7 +92,7 @@ name_near b _ _ z z' e (placed_near n s t) = rw (e, n, s, t) (record { name = re
 pub named_until : (b : Ending) (ts us : Tokens) → Near b ts us → UntilBy (NameNear b) b (named ts) (named us)
 unfolding named
 named_until b ts us h =
-    by_kept (placed_name_until b ts us h) (λ g. gone g) (λ k. kept (record { value = name_near b _ _ (text ts) (text us) (text_same b ts us h) k.value; rest = k.rest }))
+    by_kept (placed_name_until b ts us h) (λ g. gone g) (λ k. kept (record { value = name_near b _ _ (text ts) (text us) (text_same (near_twins b) ts us h) k.value; rest = k.rest }))
 
 next_range_near : (b : Ending) (ts us : Tokens) → Near b ts us → next_range ts ≡ range_on b (next_range us)
 next_range_near b ts us h = rw (at_same b ts us h, next_past b ts us h) refl
@@ -96,15 +100,15 @@ next_range_near b ts us h = rw (at_same b ts us h, next_past b ts us h) refl
 named_or_until : (b : Ending) (w : List ℕ) → bytes_eq [] w ≡ false → (ts us : Tokens) → Near b ts us → UntilBy (NameNear b) b (named_or w ts) (named_or w us)
 unfolding named_or
 named_or_until b w empty ts us h =
-    cond_until (word_test b w ts us h)
-    (λ e. kept (record { value = record { name = ap (λ z. as_name (Some z)) (word_same b ts us h); hashed = word_same b ts us h; range = ap Some (next_range_near b ts us h) }; rest = after_word b w ts us empty h e }))
+    cond_until (word_test (near_twins b) w ts us h)
+    (λ e. kept (record { value = record { name = ap (λ z. as_name (Some z)) (word_same (near_twins b) ts us h); hashed = word_same (near_twins b) ts us h; range = ap Some (next_range_near b ts us h) }; rest = after_word (near_twins b) w ts us empty h e }))
     (λ _. named_until b ts us h)
 
 alias_until : (b : Ending) (ts us : Tokens) → Near b ts us → UntilBy (NameNear b) b (alias ts) (alias us)
 unfolding alias
 alias_until b ts us h =
-    cond_until (word_test b (codes "_") ts us h)
-    (λ e. kept (record { value = record { name = refl; hashed = refl; range = ap Some (next_range_near b ts us h) }; rest = after_word b (codes "_") ts us refl h e }))
+    cond_until (word_test (near_twins b) (codes "_") ts us h)
+    (λ e. kept (record { value = record { name = refl; hashed = refl; range = ap Some (next_range_near b ts us h) }; rest = after_word (near_twins b) (codes "_") ts us refl h e }))
     (λ _. named_until b ts us h)
 
 data AliasNear (b : Ending) : Option NameRead → Option NameRead → Type 0 where
@@ -117,7 +121,7 @@ alias_if_until b false ts us h = kept (record { value = no_alias; rest = h })
 
 renamed_until : (b : Ending) (ts us : Tokens) → Near b ts us → UntilBy (AliasNear b) b (renamed ts) (renamed us)
 unfolding renamed
-renamed_until b ts us h = then_until alias_if alias_if alias_if_leads alias_if_leads (alias_if_until b) (eat_word_until b (codes "as") refl ts us h)
+renamed_until b ts us h = then_until (near_parting b) alias_if alias_if alias_if_leads alias_if_leads (alias_if_until b) (eat_word_until (near_parting b) (codes "as") refl ts us h)
 
 rename_same : (b : Ending) (o o' : Option NameRead) → AliasNear b o o' → rename_of o' ≡ rename_of o
 rename_same b _ _ no_alias = refl
@@ -188,22 +192,22 @@ semicolon_leads : (read : ExcerptRead) → Forwards (semicolon_end read)
 semicolon_leads read ts = eat_leads 59 ts
 
 semicolon_fewer : (read : ExcerptRead) → TakesEnded (semicolon_end read)
-semicolon_fewer read ts e = eat_fewer 59 ts (omega arith) (both_true read.is_ended (eat 59 ts).0 e).1
+semicolon_fewer read ts e = eat_fewer 59 ts (omega arith) (and_parts read.is_ended (eat 59 ts).0 e).1
 
 semicolon_outcome : (b : Ending) (r s : ExcerptRead) → SameText b r s → (ts us : Tokens) → Near b ts us → RestOutcome b (semicolon_end r ts) (semicolon_end s us)
 semicolon_outcome b r s k ts us h =
     map_outcome (λ c. record { body = r.text; is_ended = r.is_ended && c; block = None; braces = None }) (λ c. record { body = s.text; is_ended = s.is_ended && c; block = None; braces = None })
-    (λ e. rw (k.text, k.ended) (record { body = refl; ended = ap (λ c. r.is_ended && c) e; block = no_block; braces = refl })) (λ e. (both_true r.is_ended (eat 59 ts).0 e).1) (eat_outcome b 59 ts us h)
+    (λ e. rw (k.text, k.ended) (record { body = refl; ended = ap (λ c. r.is_ended && c) e; block = no_block; braces = refl })) (λ e. (and_parts r.is_ended (eat 59 ts).0 e).1) (eat_outcome b 59 ts us h)
 
 call_end_outcome : (b : Ending) (ts us : Tokens) → Near b ts us → RestOutcome b (call_end ts) (call_end us)
 unfolding call_end
 call_end_outcome b ts us h =
     when (is_at_open ts)
     (λ e. when (symbol ts == 123)
-    (λ f. rw (open_same b ts us h, symbol_same b ts us h, e, f) (rest_outcome b (taken_outcome b _ _ ts us h)))
-    (λ f. rw (open_same b ts us h, symbol_same b ts us h, e, f)
+    (λ f. rw (open_same (near_twins b) ts us h, symbol_same (near_twins b) ts us h, e, f) (rest_outcome b (taken_outcome b _ _ ts us h)))
+    (λ f. rw (open_same (near_twins b) ts us h, symbol_same (near_twins b) ts us h, e, f)
     (then_outcome semicolon_end semicolon_end semicolon_leads semicolon_leads semicolon_fewer (semicolon_outcome b) (taken_until b _ _ ts us h))))
-    (λ e. rw (open_same b ts us h, e) (stays (record { value = record { body = refl; ended = refl; block = no_block; braces = refl }; rest = h })))
+    (λ e. rw (open_same (near_twins b) ts us h, e) (stays (record { value = record { body = refl; ended = refl; block = no_block; braces = refl }; rest = h })))
 
 pub call_end_fewer : TakesEnded call_end
 unfolding call_end
@@ -216,27 +220,22 @@ call_end_fewer ts e =
 
 -- ---- what stands in the braces that an item ends with
 
-some_high : (j : ℕ) (ts : Tokens) → suc j ≤ height ts.left → ts.left ≡ [] → ⊥
-some_high j ts h e = let none : suc j ≤ height [] = subst (λ l. suc j ≤ height l) e h in absurd (omega arith)
-
-attributes_same : (b : Ending) (n : ℕ) (o o' : Option Tokens) → BlockNear b o o' → ((a : Tokens) → o' ≡ Some a → IsLaid n (bumped a)) → ((a : Tokens) → o' ≡ Some a → 1 ≤ height (bumped a).left) → block_attributes o' ≡ block_attributes o
+attributes_same : (b : Ending) (o o' : Option Tokens) → BlockNear b o o' → ((a : Tokens) → o' ≡ Some a → (inner_attributes (bumped a)).1.left ≡ [] → ⊥) → block_attributes o' ≡ block_attributes o
 unfolding block_attributes
-attributes_same b n _ _ no_block laid high = refl
-attributes_same b n _ _ (block {ts = ts} {us = us} h) laid high =
-    let held : Held n 0 (bumped us) = record { laid = laid us refl; high = high us refl } in
-    by_next (bumped_onward b ts us h) (λ g. absurd (some_high 0 (bumped us) held.high g.none))
-    (λ k. by_kept (inner_attributes_until b (bumped ts) (bumped us) k)
-    (λ g. absurd (some_high 0 (inner_attributes (bumped us)).1 (inner_attributes_up n 0 (bumped us) held).high g.none)) (λ m. m.value))
+attributes_same b _ _ no_block some = refl
+attributes_same b _ _ (block {ts = ts} {us = us} h) some =
+    by_next (bumped_onward b ts us h) (λ g. absurd (some us refl (nothing (inner_attributes_leads (bumped us)) g.none)))
+    (λ k. by_kept (inner_attributes_until (near_parting b) (near_enters b) (near_levels b) (bumped ts) (bumped us) k)
+    (λ g. absurd (some us refl g.none)) (λ m. m.value))
 
 -- ---- what is given of both texts
 
 pub record Given (n m : ℕ) (ts us : Tokens) : Type 0 where
   pub laid : IsLaid n ts
-  pub short : IsLaid m us
-  pub proper : are_proper us.left ≡ true
+  pub short : IsSound m us
 
 pub given_on : {n m : ℕ} {ts us vs ws : Tokens} → Given n m ts us → LeadsTo ts vs → LeadsTo us ws → Given n m vs ws
-given_on {n = n} {m = m} g p q = record { laid = (behind n p g.laid).laid; short = (behind m q g.short).laid; proper = proper_on q g.proper }
+given_on {n = n} {m = m} g p q = record { laid = (behind n p g.laid).laid; short = sound_on m q g.short }
 
 -- ---- items
 
@@ -260,17 +259,13 @@ bare_near : (b : Ending) (t t' : Bool) → t' ≡ t → RestNear b (bare_end t) 
 bare_near b t t' e = record { body = refl; ended = e; block = no_block; braces = refl }
 
 -- the inner attributes of an item
-block_laid : {m : ℕ} {us vs : Tokens} {o : Option Tokens} → HasBlock us vs o → IsLaid m us → (a : Tokens) → o ≡ Some a → IsLaid m (bumped a)
-block_laid no_block_at l a e = absurd cc
-block_laid {m = m} (block_at b before some t) l a e = let same : b ≡ a = cc in subst (λ (x : Tokens). IsLaid m (bumped x)) same (behind m (through before (bumped_leads b)) l).laid
-
 item_attributes : {n m : ℕ} (b : Ending) (ts us : Tokens) → Given n m ts us → RestNear b (item_end ts).0 (item_end us).0 → block_attributes (item_end us).0.block ≡ block_attributes (item_end ts).0.block
 unfolding item_end
-item_attributes {m = m} b ts us g r = attributes_same b m _ _ r.block (block_laid (taken_block _ _ us) g.short) (taken_high _ _ us g.proper)
+item_attributes {m = m} b ts us g r = attributes_same b _ _ r.block (λ a e. inner_some m us (item_end us).1 a g.short (item_enclosed us a e))
 
 impl_attributes : {n m : ℕ} (b : Ending) (ts us : Tokens) → Given n m ts us → RestNear b (impl_end ts).0 (impl_end us).0 → block_attributes (impl_end us).0.block ≡ block_attributes (impl_end ts).0.block
 unfolding impl_end
-impl_attributes {m = m} b ts us g r = attributes_same b m _ _ r.block (block_laid (taken_block _ _ us) g.short) (taken_high _ _ us g.proper)
+impl_attributes {m = m} b ts us g r = attributes_same b _ _ r.block (λ a e. inner_some m us (impl_end us).1 a g.short (impl_enclosed us a e))
 
 module _ (b : Ending) (attrs : List MetaView) (v : Option Visibility) where
   function_outcome : {n m : ℕ} (ts us : Tokens) → Given n m ts us → Near b ts us → LeafOutcome b (function attrs v ts) (function attrs v us)
@@ -314,7 +309,7 @@ module _ (b : Ending) (attrs : List MetaView) (v : Option Visibility) where
   static_outcome ts us h =
       let ts' = (eat_word (codes "mut") ts).1 in
       let us' = (eat_word (codes "mut") us).1 in
-      by_kept (eat_word_until b (codes "mut") refl ts us h) (λ o. lost_by o (through (named_leads ts') (value_end_leads _)) (through (named_leads us') (value_end_leads _)) (λ e. let less = fewer (named_leads ts') in let strict = value_end_fewer (named ts').1 e in omega arith))
+      by_kept (eat_word_until (near_parting b) (codes "mut") refl ts us h) (λ o. lost_by o (through (named_leads ts') (value_end_leads _)) (through (named_leads us') (value_end_leads _)) (λ e. let less = fewer (named_leads ts') in let strict = value_end_fewer (named ts').1 e in omega arith))
       (λ k. by_kept (named_until b ts' us' k.rest) (λ o. lost_by o (value_end_leads _) (value_end_leads _) (value_end_fewer _))
       (λ l. map_outcome (plain_read static_kind attrs v (named ts').0) (plain_read static_kind attrs v (named us').0) (λ r. plain_near b static_kind _ _ v _ _ _ _ refl l.value r) (λ e. e) (value_end_outcome b _ _ l.rest)))
 
@@ -324,7 +319,7 @@ module _ (b : Ending) (attrs : List MetaView) (v : Option Visibility) where
       let w = codes "_" in
       by_kept (named_until b ts us h)
       (λ o. lost_by o (through (eat_word_leads w _) (value_end_leads _)) (through (eat_word_leads w _) (value_end_leads _)) (λ e. let less = fewer (eat_word_leads w (named ts).1) in let strict = value_end_fewer (eat_word w (named ts).1).1 e in omega arith))
-      (λ l. by_kept (eat_word_until b w refl (named ts).1 (named us).1 l.rest) (λ o. lost_by o (value_end_leads _) (value_end_leads _) (value_end_fewer _))
+      (λ l. by_kept (eat_word_until (near_parting b) w refl (named ts).1 (named us).1 l.rest) (λ o. lost_by o (value_end_leads _) (value_end_leads _) (value_end_fewer _))
       (λ k. map_outcome (λ r. leaf_read (const_item (named_node attrs (named ts).0.name v r.body)) kind.Const (named ts).0 r) (λ r. leaf_read (const_item (named_node attrs (named us).0.name v r.body)) kind.Const (named us).0 r)
       (λ r. read_near b _ _ kind.Const _ _ _ _ (ap (λ z. const_item (named_node attrs z v (value_end (eat_word w (named us).1).1).0.body)) l.value.name ∙ ap (λ z. const_item (named_node attrs (named ts).0.name v z)) r.body) l.value r)
       (λ e. e) (value_end_outcome b _ _ k.rest)))
@@ -350,9 +345,9 @@ module _ (b : Ending) (attrs : List MetaView) (v : Option Visibility) where
   use_outcome : (ts us : Tokens) → Near b ts us → LeafOutcome b (use_declaration attrs v ts) (use_declaration attrs v us)
   unfolding use_declaration
   use_outcome ts us h =
-      by_kept (use_tree_until b ts us h) (λ o. lost_by o (eat_leads 59 _) (eat_leads 59 _) (eat_fewer 59 _ (omega arith)))
+      by_kept (use_tree_until (near_parting b) (near_enters b) ts us h) (λ o. lost_by o (eat_leads 59 _) (eat_leads 59 _) (eat_fewer 59 _ (omega arith)))
       (λ k. map_outcome (use_read attrs v (use_tree ts).0) (use_read attrs v (use_tree us).0)
-      (λ e. record { item = ap (λ z. use_item (record { node = node attrs []; visibility = v; use_tree = z })) k.value.value; kind = refl; name = refl; named = refl; body = refl; ended = e; too_deep = k.value.too_deep; use_trees = k.value.starts })
+      (λ e. record { item = ap (λ z. use_item (record { node = node attrs []; visibility = v; use_tree = z })) k.value.value; kind = refl; name = refl; named = refl; body = refl; ended = e; too_deep = is_further b _ _ k.value.too_deep; use_trees = are_further b _ _ k.value.starts })
       (λ e. e) (eat_outcome b 59 _ _ k.rest))
 
   macro_definition_outcome : (ts us : Tokens) → Near b ts us → LeafOutcome b (macro_definition attrs ts) (macro_definition attrs us)
@@ -386,10 +381,10 @@ trait_same b ts us es fs g h p e le =
     let x = behind_header (behind_angles ts) in
     let x' = behind_header (behind_angles us) in
     let leads : LeadsTo ts x = through (behind_angles_leads ts) (reached_leads reaches.Header _) in
-    by_next (onward_leads (behind_angles_near b ts us h) (reached_leads reaches.Header _) (reached_leads reaches.Header _) (λ k. reached_near b reaches.Header _ _ k))
+    by_next (onward_leads (near_parting b) (behind_angles_near b ts us h) (reached_leads reaches.Header _) (reached_leads reaches.Header _) (λ k. reached_near b reaches.Header _ _ k))
     (λ o. let few = o.few in
     no_for x' fs.past (nil_word x' o.none) ∙ sym (not_before (bytes_eq (word x) (codes "for")) x.past es.past (in_order g.laid p leads (omega arith))))
-    (λ k. ap (λ z. bytes_eq z (codes "for") && nat_lt x'.past fs.past) (word_same b x x' k)
+    (λ k. ap (λ z. bytes_eq z (codes "for") && nat_lt x'.past fs.past) (word_same (near_twins b) x x' k)
     ∙ ap (λ t. bytes_eq (word x) (codes "for") && t) (lt_by x'.past fs.past b.by ∙ sym (ap (λ z. nat_lt z es.past) (past_same b x x' k) ∙ ap (λ z. nat_lt (x'.past + b.by) z) e)))
 
 impl_near : {n m : ℕ} (b : Ending) (attrs : List MetaView) (ts us : Tokens) → Given n m ts us → Near b ts us → RestNear b (impl_end ts).0 (impl_end us).0 → (impl_end ts).1.past ≡ (impl_end us).1.past + b.by → length b.behind ≤ length (impl_end ts).1.left
@@ -428,7 +423,7 @@ struct_near b attrs v ts us g nn h r e le =
     (ap (λ z. struct_item (named_node attrs z v (item_end y).0.body) (fields_of y)) nn.name
     ∙ ap (λ z. struct_item (named_node attrs (named ts).0.name v z) (fields_of y)) r.body
     ∙ ap (λ (f : FieldsView). struct_item (named_node attrs (named ts).0.name v (item_end x).0.body) f)
-    (struct_fields_near b x y (item_end x).1 (item_end y).1 _ _ given.laid given.short h r.block (block_leads x) (block_leads y) (item_end_leads x) (item_end_leads y) e le))
+    (struct_fields_near b x y (item_end x).1 (item_end y).1 _ _ given.laid given.short.laid h r.block (block_leads x) (block_leads y) (item_end_leads x) (item_end_leads y) e le))
     nn r
 
 structure_outcome : {n m : ℕ} (b : Ending) (attrs : List MetaView) (v : Option Visibility) (ts us : Tokens) → Given n m ts us → Near b ts us → LeafOutcome b (structure attrs v ts) (structure attrs v us)
@@ -490,7 +485,7 @@ last_text_near b vs ws n zero last ts us h p = refl
 last_text_near b vs ws n (suc k) last ts us h p =
     let test : (us.past == ws.past) ≡ (ts.past == vs.past) = taken_same b vs ws ts us n h in
     when (ts.past == vs.past) (λ e. rw (test, e) refl)
-    (λ e. let next = before_near b ts us vs ws h n e p in rw (test, e, text_same b ts us h) (last_text_near b vs ws n k (text ts) (bumped ts) (bumped us) next.0 next.1))
+    (λ e. let next = before_near b ts us vs ws h n e p in rw (test, e, text_same (near_twins b) ts us h) (last_text_near b vs ws n k (text ts) (bumped ts) (bumped us) next.0 next.1))
 
 no_call : (ts : Tokens) → ts.left ≡ [] → is_called ts ≡ false
 unfolding is_called symbol
@@ -500,12 +495,12 @@ called_same : (b : Ending) (ts us : Tokens) → Near b ts us → is_called us �
 unfolding is_called
 called_same b ts us h =
     when (symbol ts == 33)
-    (λ e. rw (symbol_same b ts us h, e, open_same b (bumped ts) (bumped us) (after_symbol b 33 ts us refl h e)) refl)
-    (λ e. rw (symbol_same b ts us h, e) refl)
+    (λ e. rw (symbol_same (near_twins b) ts us h, e, open_same (near_twins b) (bumped ts) (bumped us) (after_symbol (near_twins b) 33 ts us refl h e)) refl)
+    (λ e. rw (symbol_same (near_twins b) ts us h, e) refl)
 
 called_next : (b : Ending) (ts us : Tokens) → Near b ts us → is_called ts ≡ true → Near b (bumped ts) (bumped us)
 unfolding is_called
-called_next b ts us h e = after_symbol b 33 ts us refl h (both_true (symbol ts == 33) (is_at_open (bumped ts)) e).0
+called_next b ts us h e = after_symbol (near_twins b) 33 ts us refl h (and_parts (symbol ts == 33) (is_at_open (bumped ts)) e).0
 
 call_near : (b : Ending) (attrs : List MetaView) (p p' : Option _) (z z' : List ℕ) (r s : RestRead) → p' ≡ p → z' ≡ z → RestNear b r s → LeafNear b (called attrs p z r) (called attrs p' z' s)
 call_near b attrs p p' z z' r s e f k =
@@ -527,7 +522,7 @@ and_no false = refl
 invocation_ends : (b : Ending) (attrs : List MetaView) (ts us : Tokens) → Near b ts us → LeafEnds b (invocation attrs ts) (invocation attrs us)
 unfolding invocation last_text
 invocation_ends b attrs ts us h =
-    by_kept (path_until b ts us h)
+    by_kept (path_until (near_parting b) ts us h)
     (λ o. let none : (is_some (path us).0 && is_called (path us).1) ≡ false = ap (λ t. is_some (path us).0 && t) (no_call (path us).1 o.none) ∙ and_no (is_some (path us).0) in
     let few = o.few in
     when (is_some (path ts).0 && is_called (path ts).1)
@@ -540,7 +535,7 @@ invocation_ends b attrs ts us h =
     (λ k. let test : (is_some (path us).0 && is_called (path us).1) ≡ (is_some (path ts).0 && is_called (path ts).1) =
     ap (λ q. is_some q && is_called (path us).1) k.value ∙ ap (λ t. is_some (path ts).0 && t) (called_same b (path ts).1 (path us).1 k.rest) in
     when (is_some (path ts).0 && is_called (path ts).1)
-    (λ e. let next = called_next b (path ts).1 (path us).1 k.rest (both_true (is_some (path ts).0) (is_called (path ts).1) e).1 in
+    (λ e. let next = called_next b (path ts).1 (path us).1 k.rest (and_parts (is_some (path ts).0) (is_called (path ts).1) e).1 in
     rw (test, e)
     (outcome_ends2 (called attrs (path ts).0 (bare (last_text_from most (path ts).1.past [] ts))) (called attrs (path us).0 (bare (last_text_from most (path us).1.past [] us)))
     (λ r. one_leaf (call_near b attrs _ _ _ _ _ _ k.value (ap bare (last_text_near b (path ts).1 (path us).1 k.rest _ [] ts us h (path_leads ts))) r)) (λ e. e) (call_end_outcome b _ _ next)))

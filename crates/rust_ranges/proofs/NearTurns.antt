@@ -1,7 +1,8 @@
 -- An item that ends with the last token of a text is the same in a longer text.
-use Rattle.std.proofs.Common.{◌≡◌, ◌<◌, ◌+◌, ◌==◌, ◌||◌, ◌&&◌, ℕ, zero, suc, Bool, true, false, Option, Some, None, List, [], ◌∷◌, ◌++◌, length, refl, sym, ap, ◌∙◌, subst, arith}
 use Rattle.std.specs.Prelude.{is_none, not}
 use Rattle.std.specs.List.{list_any}
+use Rattle.std.proofs.Common.{◌≡◌, ◌<◌, ◌+◌, ◌==◌, ◌||◌, ◌&&◌, ℕ, zero, suc, Bool, true, false, Option, Some, None, List, [], ◌∷◌, ◌++◌, length, refl, sym, ap, ◌∙◌, subst, arith}
+use Rattle.std.proofs.lemmas.Bool.{and_parts}
 use Rattle.hir_input.specs.declared.ids.AstIdKind.{AstIdKind}
 use Rattle.hir_input.specs.declared.ids.AstIdKind.TheVariants as ast
 use Rattle.hir_input.specs.Attr.{MetaView}
@@ -10,10 +11,12 @@ use Rattle.rust_cursor.specs.Brackets.{behind_tree}
 use Rattle.rust_cursor.specs.Tokens.{Tokens}
 use Rattle.rust_cursor.specs.Words.{symbol, at, eat, bumped, is_at_end}
 use Rattle.rust_cursor.proofs.Laid.{IsLaid, behind}
-use Rattle.rust_cursor.proofs.Leads.{LeadsTo, here, through, when, eat_leads}
-use Rattle.rust_cursor.proofs.Near.{both_true, Ending, Near, fewer, by_next, bumped_onward, symbol_same, end_same, at_same, past_same}
+use Rattle.rust_cursor.proofs.Leads.{LeadsTo, through, when, eat_leads}
+use Rattle.rust_cursor.proofs.Near.{Ending, Near, fewer, bumped_onward, at_same, past_same, near_twins}
 use Rattle.rust_cursor.proofs.NearPassing.{behind_tree_near}
-use Rattle.rust_cursor.proofs.NearUntil.{by_kept, Step, at_last, next, step, eat_fewer}
+use Rattle.rust_cursor.proofs.NearUntil.{Step, at_last, next, step, eat_fewer}
+use Rattle.rust_cursor.proofs.Parting.{by_next, by_kept}
+use Rattle.rust_cursor.proofs.Twins.{symbol_same, end_same}
 use Rattle.rust_leaves.specs.declared.head.Head.{Head}
 use Rattle.rust_leaves.specs.declared.head.Head.TheVariants as heads
 use Rattle.rust_leaves.specs.Fronts.{FrontRead, front}
@@ -24,11 +27,11 @@ use Rattle.rust_items.specs.declared.log.ProblemKind.TheVariants as problem
 use Rattle.rust_items.specs.Found.{Found, Finder, nothing_found, and_problem, and_row}
 use Rattle.rust_items.specs.Items.{span_of, needs_name, and_item, leaf_turn, BlockRead, no_block, deep_block, unmatched, extern_inside, and_parent, one_more, extern_block, depth_of, inside_unless, module_with, some_item, by_head, turn_with, inside, turn}
 use Rattle.rust_items.proofs.Leads.{named_leads, front_start}
+use Rattle.rust_items.proofs.Places.{Finds, FindsIn, turn_with_found, inside_found, extern_inside_found, unless_found}
+use Rattle.rust_ranges.specs.Laws.{is_unfinished}
 use Rattle.rust_ranges.proofs.NearFronts.{FrontNear, front_until}
 use Rattle.rust_ranges.proofs.NearLeaves.{NameNear, named_until, Given, given_on, Ends, passes, before_end, at_end}
-use Rattle.rust_ranges.specs.Laws.{is_unfinished}
 use Rattle.rust_ranges.proofs.NearItems.{FoundNear, problem_near, item_near, all_near, flat, FoundAlike, ends_long, TurnLong, block_ends, leaf_leads, is_sound, flawed, found_leads, leaf_turn_ends, leaf_turn_fewer, extern_inside_fewer, block_fewer, extern_inside_ends, front_leads}
-use Rattle.rust_items.proofs.Places.{Finds, FindsIn, turn_with_found, inside_found, extern_inside_found, unless_found}
 
 -- ---- items that hold others
 
@@ -70,7 +73,7 @@ module _ (b : Ending) (before f g : Found) (a : FoundNear b before f g) (make ma
       → Ends (FoundAlike b before) (item_sound strict start) b (parent_of make depth start k n false f p) (parent_of make' depth start' k n' false g q)
   parent_ends strict {p = p} {q = q} (passes few st) =
       passes {p = parent_of make depth start k n false f p} few
-      (λ e. let both = both_true strict _ e in st (let ended = sound_parent depth start p.1.past k n p.0.0.is_ended p.0.1 f (make p.0.0) both.1 in rw (both.0, ended) refl))
+      (λ e. let both = and_parts strict _ e in st (let ended = sound_parent depth start p.1.past k n p.0.0.is_ended p.0.1 f (make p.0.0) both.1 in rw (both.0, ended) refl))
   parent_ends strict {p = p} {q = q} (before_end w) = before_end (record { value = parent_near false p.0 q.0 p.1.past q.1.past (past_same b p.1 q.1 w.rest) w.value; rest = w.rest })
   parent_ends strict {p = p} {q = q} (at_end t e) = at_end (parent_near false p.0 q.0 p.1.past q.1.past e.past t) e
 
@@ -89,7 +92,7 @@ extern_block_ends : (n m : ℕ) (b : Ending) (before f g : Found) (depth start s
 unfolding extern_block
 extern_block_ends n m b before f g depth start start' attrs attrs' ts us s e given h a strict =
     parent_ends b before f g a (make_extern attrs) (make_extern attrs') (λ r. ap (λ z. make_extern z r) e) depth start start' s ast.ExternBlock no_name no_name (record { name = refl; hashed = refl; range = refl }) strict
-    (weaker (λ f. (both_true strict _ f).1)
+    (weaker (λ f. (and_parts strict _ f).1)
     (extern_inside_ends b (one_more depth) n m nothing_found nothing_found nothing_found ts us given h (record { rows = refl; spans = refl; use_trees = refl; problems = refl })))
 
 -- ---- modules
@@ -148,12 +151,12 @@ module _ (b : Ending) (strict : Bool) (inside : Finder BlockRead) (ends : Inside
       (let few = o.few in let less = fewer to in let first = fewer (eat_leads 59 nm.1) in omega arith)
       (λ e. let few = o.few in
       let less = fewer to in
-      let both = both_true strict _ e in
+      let both = and_parts strict _ e in
       let ended : (semi.0 || inner.0.is_ended) ≡ true = sound_parent depth h.start inner.1.1.past ast.Module nm.0 (semi.0 || inner.0.is_ended) inner.1.0 f (module_with inside depth h f ts).0 both.1 in
       let strictly = module_takes n nm.1 given'.laid both.0 ended in omega arith))
       (λ l. when (symbol nm.1 == 59)
-      (λ e. rw (symbol_same b nm.1 nm'.1 l.rest, e) (semicolon before f g h h' k ts us l.value a (step b nm.1 nm'.1 l.rest)))
-      (λ e. rw (symbol_same b nm.1 nm'.1 l.rest, e)
+      (λ e. rw (symbol_same (near_twins b) nm.1 nm'.1 l.rest, e) (semicolon before f g h h' k ts us l.value a (step b nm.1 nm'.1 l.rest)))
+      (λ e. rw (symbol_same (near_twins b) nm.1 nm'.1 l.rest, e)
       (parent_ends b before f g a (make_module h nm.0.name false) (make_module h' nm'.0.name false) (made_module b h h' nm.0 nm'.0 false k l.value) depth h.start h'.start k.start ast.Module nm.0 nm'.0 l.value strict
       (ends n m nothing_found nothing_found nothing_found nm.1 nm'.1 given' l.rest (record { rows = refl; spans = refl; use_trees = refl; problems = refl })))))
 
@@ -173,7 +176,7 @@ module _ (b : Ending) (strict : Bool) (inside : Finder BlockRead) (ends : Inside
   head_ends heads.Module n m before f g h h' k ts us given i a = item_ends before h.start (module_ends n m before f g h h' k ts us given i a)
   head_ends heads.ExternBlock n m before f g h h' k ts us given i a =
       item_ends before h.start (extern_block_ends n m b before f g depth h.start h'.start h.attrs h'.attrs ts us k.start k.attrs given i a strict)
-  head_ends _ n m before f g h h' k ts us given i a = weaker (λ e. (both_true strict _ e).1) (leaf_turn_ends n m b before f g depth h h' k ts us given i a)
+  head_ends _ n m before f g h h' k ts us given i a = weaker (λ e. (and_parts strict _ e).1) (leaf_turn_ends n m b before f g depth h h' k ts us given i a)
 
   head_leads : (w : Head) (n : ℕ) (h : FrontRead) (f : Found) (ts : Tokens) → IsLaid n ts → LeadsTo ts (by_head inside depth w h f ts).1.1
   unfolding extern_block leaf_turn
@@ -190,13 +193,13 @@ module _ (b : Ending) (strict : Bool) (inside : Finder BlockRead) (ends : Inside
       let nm = named ts in
       let semi = eat 59 nm.1 in
       let inner = inside_unless semi.0 inside nothing_found semi.1 in
-      let both = both_true strict _ e in
+      let both = and_parts strict _ e in
       let first = fewer (named_leads ts) in
       let strictly = module_takes n nm.1 (behind n (named_leads ts) laid).laid both.0 (sound_parent depth h.start inner.1.1.past ast.Module nm.0 (semi.0 || inner.0.is_ended) inner.1.0 f (module_with inside depth h f ts).0 both.1) in omega arith
   head_takes heads.ExternBlock n h f ts laid e =
       let inner = extern_inside (one_more depth) nothing_found ts in
-      extern_inside_fewer b (one_more depth) n nothing_found ts laid (sound_parent depth h.start inner.1.1.past ast.ExternBlock no_name inner.0.is_ended inner.1.0 f (extern_block_from (node (h.attrs ++ inner.0.attrs) []) inner.0.items) (both_true strict _ e).1)
-  head_takes _ n h f ts laid e = leaf_turn_fewer depth h f ts (both_true strict _ e).1
+      extern_inside_fewer b (one_more depth) n nothing_found ts laid (sound_parent depth h.start inner.1.1.past ast.ExternBlock no_name inner.0.is_ended inner.1.0 f (extern_block_from (node (h.attrs ++ inner.0.attrs) []) inner.0.items) (and_parts strict _ e).1)
+  head_takes _ n h f ts laid e = leaf_turn_fewer depth h f ts (and_parts strict _ e).1
 
   turn_with_ends : (n m : ℕ) (before f g : Found) (ts us : Tokens) → Given n m ts us → Near b ts us → FoundNear b before f g → HeadEnds before (at ts) (turn_with inside depth f ts) (turn_with inside depth g us)
   turn_with_ends n m before f g ts us given h a =
@@ -205,10 +208,10 @@ module _ (b : Ending) (strict : Bool) (inside : Finder BlockRead) (ends : Inside
       let r = by_head inside depth fr.0.head fr.0 f fr.1 in
       let laid = (behind n (front_leads ts) given.laid).laid in
       when (is_at_end ts)
-      (λ e. rw (end_same b ts us h, e)
-      (by_next (bumped_onward b ts us h) (λ o. passes {p = flat (unmatched f ts)} o.few (λ c. absurd (let no = (both_true strict false c).1 in cc)))
+      (λ e. rw (end_same (near_twins b) ts us h, e)
+      (by_next (bumped_onward b ts us h) (λ o. passes {p = flat (unmatched f ts)} o.few (λ c. absurd (let no = (and_parts strict false c).1 in cc)))
       (λ w. before_end (record { value = record { value = refl; found = problem_near b before f g problem.Unmatched (at ts) (at us) (at_same b ts us h) a }; rest = w }))))
-      (λ e. rw (end_same b ts us h, e)
+      (λ e. rw (end_same (near_twins b) ts us h, e)
       (subst (λ (z : ℕ). HeadEnds before z r (by_head inside depth fr'.0.head fr'.0 g fr'.1)) (front_start ts)
       (by_kept (front_until b ts us h)
       (λ o. passes {p = flat r} (let few = o.few in let less = fewer (head_leads fr.0.head n fr.0 f fr.1 laid) in omega arith)
@@ -227,17 +230,17 @@ inside_ends : (b : Ending) (left : ℕ) → InsideEnds b false (inside left)
 unfolding inside
 inside_ends b zero n m before f g ts us given h a =
     when (symbol ts == 123)
-    (λ e. rw (symbol_same b ts us h, e)
+    (λ e. rw (symbol_same (near_twins b) ts us h, e)
     (by_next (behind_tree_near b ts us h) (λ o. passes {p = ((deep_block, and_problem problem.TooDeep (at ts) f), behind_tree ts)} o.few (λ c. absurd cc))
     (λ w. before_end (record { value = record { value = refl; found = problem_near b before f g problem.TooDeep (at ts) (at us) (at_same b ts us h) a }; rest = w }))))
-    (λ e. rw (symbol_same b ts us h, e) (before_end (record { value = record { value = refl; found = a }; rest = h })))
+    (λ e. rw (symbol_same (near_twins b) ts us h, e) (before_end (record { value = record { value = refl; found = a }; rest = h })))
 inside_ends b (suc left) n m before f g ts us given h a =
     when (symbol ts == 123)
-    (λ e. rw (symbol_same b ts us h, e)
+    (λ e. rw (symbol_same (near_twins b) ts us h, e)
     (weaker (λ c. absurd cc)
     (block_ends b (turn_with (inside left) (depth_of left)) (turn_long b (inside left) (inside_ends b left) (λ end. inside_found end left) (depth_of left))
     (λ end. turn_with_found end (inside left) (inside_found end left) (depth_of left)) n m before f g ts us given h a)))
-    (λ e. rw (symbol_same b ts us h, e) (before_end (record { value = record { value = refl; found = a }; rest = h })))
+    (λ e. rw (symbol_same (near_twins b) ts us h, e) (before_end (record { value = record { value = refl; found = a }; rest = h })))
 
 module _ (b : Ending) (left : ℕ) where
   inner_turn : TurnLong b (turn_with (inside left) (depth_of left))
@@ -250,8 +253,8 @@ module _ (b : Ending) (left : ℕ) where
   unfolding inside
   module_inside n m before f g ts us given h a =
       when (symbol ts == 123)
-      (λ e. rw (symbol_same b ts us h, e) (block_ends b (turn_with (inside left) (depth_of left)) inner_turn inner_finds n m before f g ts us given h a))
-      (λ e. rw (symbol_same b ts us h, e) (before_end (record { value = record { value = refl; found = a }; rest = h })))
+      (λ e. rw (symbol_same (near_twins b) ts us h, e) (block_ends b (turn_with (inside left) (depth_of left)) inner_turn inner_finds n m before f g ts us given h a))
+      (λ e. rw (symbol_same (near_twins b) ts us h, e) (before_end (record { value = record { value = refl; found = a }; rest = h })))
 
   module_inside_takes : InsideTakes true (inside (suc left))
   unfolding inside

@@ -1,27 +1,26 @@
 -- The text of an item begins with no shebang line and no frontmatter: no item begins so.
-use Rattle.std.proofs.Common.{◌≡◌, ◌+◌, ◌==◌, ◌&&◌, ◌||◌, ℕ, zero, suc, Bool, true, false, Option, Some, None, List, [], ◌∷◌, ◌++◌, length, drop, refl, sym, ap, ◌∙◌, subst, arith, map, append_assoc}
-use Rattle.std.specs.Prelude.{not, nat_le, slice_index, is_some}
+use Rattle.std.proofs.Common.{◌≡◌, ◌+◌, ◌==◌, ◌&&◌, ℕ, zero, suc, Bool, true, false, Option, List, [], ◌∷◌, ◌++◌, length, refl, sym, ap, ◌∙◌, arith, map}
+use Rattle.std.specs.Prelude.{not, slice_index}
 use Rattle.std.specs.List.{filter}
 use Rattle.std.proofs.lemmas.Bool.{eqb-true}
-use Rattle.std.proofs.lemmas.Bool.Decides.{nat_tests}
 use Rattle.hir_input.specs.declared.edition.EditionYear.{EditionYear}
 use Rattle.rust_lexer.specs.declared.kind.DocStyle.TheVariants.{Outer}
 use Rattle.rust_lexer.specs.declared.kind.TokenKind.{TokenKind}
 use Rattle.rust_lexer.specs.declared.kind.TokenKind.TheVariants as kinds
-use Rattle.rust_lexer.specs.Alone.{Stop, stop, front, is_fence, moved, EndsAlone}
-use Rattle.rust_lexer.specs.Bytes.{is_continuation, is_wide_start, run}
+use Rattle.rust_lexer.specs.Alone.{Stop, stop, is_fence, moved, EndsAlone}
+use Rattle.rust_lexer.specs.Bytes.{is_continuation, is_wide_start}
 use Rattle.rust_lexer.specs.Cut.{first_cut}
 use Rattle.rust_lexer.specs.Piece.{Piece}
 use Rattle.rust_lexer.specs.Symbol.{symbol_from, symbol_of}
-use Rattle.rust_lexer.specs.Tokens.{has_mark, is_bracket_next, is_shebang, is_significant, is_significant_kind, piece, tokens_from, whole}
+use Rattle.rust_lexer.specs.Tokens.{has_mark, is_bracket_next, is_shebang, is_significant, is_significant_kind, piece, tokens_from}
 use Rattle.rust_lexer.proofs.Apart.{tokens_first, tokens_moved}
 use Rattle.rust_cursor.specs.Tokens.{Tokens}
 use Rattle.rust_cursor.specs.Words.{by_first, symbol, kind, bumped}
 use Rattle.rust_cursor.proofs.Leads.{when}
-use Rattle.rust_metas.specs.Attributes.{is_doc, is_attribute, is_behind}
+use Rattle.rust_metas.specs.Attributes.{is_attribute}
 use Rattle.rust_ranges.proofs.Parts.{ended, IsPlain}
 use Rattle.rust_ranges.proofs.Inner.{IsMute, symbol_mute}
-use Rattle.rust_cursor.proofs.Near.{both_true}
+use Rattle.std.proofs.lemmas.Bool.{and_parts}
 
 abbrev starting : ℕ → Piece → List Piece → Option ℕ → EditionYear → Tokens
 starting past t l u y = record { past = past; left = t ∷ l; unended = u; edition = y }
@@ -84,8 +83,8 @@ module _ (past s : ℕ) (t : Piece) (l : List Piece) (u : Option ℕ) (y : Editi
     where
       no_shebang : is_shebang (p ∷ q ∷ ps) ≡ true → ⊥
       no_shebang m =
-          let one = both_true (symbol_of p == 35) (symbol_of q == 33 && not (is_bracket_next ps)) m in
-          let two = both_true (symbol_of q == 33) (not (is_bracket_next ps)) one.1 in
+          let one = and_parts (symbol_of p == 35) (symbol_of q == 33 && not (is_bracket_next ps)) m in
+          let two = and_parts (symbol_of q == 33) (not (is_bracket_next ps)) one.1 in
           let mark : symbol_of q ≡ 33 = eqb-true (symbol_of q) 33 two.0 in
           let first : t ≡ moved s p = cc in
           let next : rest ≡ moved s q ∷ (map (moved s) ps ++ tail) = cc in

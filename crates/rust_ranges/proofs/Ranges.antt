@@ -1,52 +1,46 @@
 -- The text of the range of an item, read alone, is exactly that item.
 use Rattle.std.proofs.Common.{◌≡◌, ◌<◌, ◌≤◌, ◌+◌, ◌-◌, ◌==◌, ◌&&◌, ◌||◌, ℕ, zero, suc, Bool, true, false, Option, Some, None, List, [], ◌∷◌, ◌++◌, map, length, take, drop, refl, sym, ap, ◌∙◌, subst, arith, append_assoc, length-append}
-use Rattle.std.specs.Prelude.{option_map, option_to_list, is_some, not, slice_index, slice_range}
-use Rattle.std.specs.List.{filter, list_any}
+use Rattle.std.specs.Prelude.{option_map, option_to_list, is_some}
+use Rattle.std.specs.List.{filter}
 use Rattle.std.proofs.lemmas.Bool.{eqb-true}
 use Rattle.std.proofs.lemmas.Bool.Decides.{nat_tests}
-use Rattle.std.proofs.lemmas.List.{length-map, map-append, append_cancel_left, length-take-le, length-drop, drop-drop, take-append-drop}
+use Rattle.std.proofs.lemmas.List.{length-map, append_cancel_left, length-take-le, length-drop, drop-drop, take-append-drop}
 use Rattle.hir_input.specs.declared.edition.EditionYear.{EditionYear}
-use Rattle.hir_input.specs.declared.ids.FileAstId.{FileAstId}
 use Rattle.hir_input.specs.Attr.{MetaView}
-use Rattle.hir_input.specs.Syntax.{ItemView, ItemViews, no_items, item_and, items_from, items_of, source_file, syntax_view}
+use Rattle.hir_input.specs.Syntax.{ItemView, ItemViews, no_items, item_and, items_from, source_file, syntax_view}
 use Rattle.rust_lexer.specs.Alone.{Stop, opening, closing, semicolon, stop, EndsAlone}
-use Rattle.rust_lexer.specs.Bytes.{is_continuation}
 use Rattle.rust_lexer.specs.Piece.{Piece}
 use Rattle.rust_lexer.specs.Tokens.{has_mark, is_significant, tokens_from}
-use Rattle.rust_cursor.specs.Tokens.{Tokens, tokens_of, end_of}
+use Rattle.rust_cursor.specs.Tokens.{Tokens, tokens_of}
 use Rattle.rust_cursor.specs.Words.{at}
-use Rattle.rust_cursor.proofs.Laid.{IsLaid, AreLaid, behind, past_within, tokens_laid}
+use Rattle.rust_cursor.proofs.Laid.{behind, past_within, tokens_laid}
 use Rattle.rust_cursor.proofs.Leads.{LeadsTo, when}
 use Rattle.rust_paths.specs.declared.names.TextRange.{TextRange}
-use Rattle.rust_metas.specs.Attributes.{inner_attributes}
 use Rattle.rust_metas.proofs.Leads.{inner_attributes_leads}
 use Rattle.rust_items.specs.declared.log.Problem.{Problem}
-use Rattle.rust_items.specs.declared.log.ProblemKind.TheVariants as problem
 use Rattle.rust_items.specs.declared.source_file.ItemPlace.{ItemPlace}
 use Rattle.rust_items.specs.declared.source_file.SourceFile.{SourceFile}
-use Rattle.rust_items.specs.Found.{Found, nothing_found, and_problem_at}
+use Rattle.rust_items.specs.Found.{Found, nothing_found}
 use Rattle.rust_items.specs.Ids.{with_ids, item_with_ids}
 use Rattle.rust_items.specs.Items.{turn}
 use Rattle.rust_items.specs.LineEnds.{with_feeds, place_in, moved_range, moved_span, moved_problem}
 use Rattle.rust_items.specs.Places.{Telling, IsNameIn, IsBodyIn, ArePlaces, nothing, placed}
-use Rattle.rust_items.specs.SourceFiles.{places, behind_attributes, found_in, items_in, read_of, IsFile, IsSourceFile}
-use Rattle.rust_items.proofs.Places.{Span, row_kind, place_kind, place_span, AreFound, items_found, turn_found}
-use Rattle.rust_ranges.specs.Laws.{ends_items, EndsOwn, is_unfinished, is_unfinished_at, text_at, EndsItself, without_ids, Bytes, bytes_of, further_on, IsItem, IsAtTop, RangeAlone}
-use Rattle.rust_ranges.proofs.Parts.{ended, IsPlain, IsPart, tokens_behind}
+use Rattle.rust_items.specs.SourceFiles.{places, behind_attributes, found_in, items_in, read_of, IsFile}
+use Rattle.rust_items.proofs.Places.{Span, place_span, items_found, turn_found}
+use Rattle.rust_ranges.specs.Laws.{ends_items, is_unfinished, is_unfinished_at, text_at, Bytes, bytes_of, further_on, RangeAlone}
+use Rattle.rust_ranges.proofs.Parts.{ended, IsPart, tokens_behind}
 use Rattle.rust_ranges.proofs.Alone.{part_in, StandsAlone, IsOwn, item_alone}
 use Rattle.rust_ranges.proofs.Feeds.{part, part_feeds, part_place}
 use Rattle.rust_ranges.proofs.Fresh.{none_there, turn_anywhere}
 use Rattle.rust_ranges.proofs.Inner.{IsMute, item_none}
-use Rattle.rust_cursor.proofs.Near.{both_true, Ending, is_last}
-use Rattle.rust_ranges.proofs.NearItems.{is_sound, place_on}
+use Rattle.std.proofs.lemmas.Bool.{and_parts}
+use Rattle.rust_cursor.proofs.Near.{Ending, is_last}
+use Rattle.rust_ranges.proofs.NearItems.{is_sound}
 use Rattle.rust_ranges.proofs.Plain.{plain_text}
-use Rattle.rust_ranges.proofs.Seats.{from, IsClean, HasPlace, IsLeft, all_left, left_on, year_is}
-use Rattle.rust_ranges.proofs.Tops.{Keeps, turn_is, turn_strict, IsTurned, IsFound, places_spans, without_again, same_first, found_keeps, file_turned, rows_spans, same_rows, same_spans}
+use Rattle.rust_ranges.proofs.Seats.{from, HasPlace, IsLeft, all_left, left_on, year_is}
+use Rattle.rust_ranges.proofs.Tops.{turn_is, turn_strict, places_spans, without_again, same_first, found_keeps, file_turned, rows_spans, same_rows, same_spans}
 
 -- ---- one turn of a text
-
-none_is_some : {A : Type 0} (o : Option A) (a : A) → o ≡ Some a → is_some o ≡ true
-none_is_some o a e = ap is_some e
 
 last_is : (o : Stop) → ends_items o ≡ true → is_last (stop o) ≡ true
 last_is opening e = absurd cc
@@ -139,7 +133,7 @@ any_moved : (place : ℕ → ℕ) (at : ℕ) (ps : List Problem) → is_unfinish
 any_moved place at [] e = refl
 any_moved place at (p ∷ ps) e =
     when (is_unfinished p.kind && p.at == at)
-    (λ f. let both = both_true (is_unfinished p.kind) (p.at == at) f in
+    (λ f. let both = and_parts (is_unfinished p.kind) (p.at == at) f in
     let same : p.at ≡ at = eqb-true p.at at both.1 in
     let here : (place p.at == place at) ≡ true = rw same (eqb_self (place at)) in
     absurd (let no = rw (both.0, here) at e in cc))

@@ -1,0 +1,139 @@
+-- Conditions of tokens that look alike are the same, until one goes past where the texts part.
+use Rattle.std.proofs.Common.{◌≡◌, ◌==◌, ◌||◌, ℕ, zero, suc, true, false, Option, Some, None, List, [], ◌∷◌, refl, ap, codes}
+use Rattle.std.specs.Prelude.{if◌then◌else◌, slice_index}
+use Rattle.std.specs.Str.{bytes_eq}
+use Rattle.std.proofs.lemmas.Bool.{eqb-true}
+use Rattle.hir_input.specs.Cfg.{CfgView, invalid}
+use Rattle.rust_lexer.specs.declared.kind.TokenKind.{TokenKind}
+use Rattle.rust_lexer.specs.declared.kind.TokenKind.TheVariants as kinds
+use Rattle.rust_lexer.specs.Piece.{Piece}
+use Rattle.rust_lexer.specs.Symbol.{symbol_of}
+use Rattle.rust_cursor.specs.Brackets.{behind_closed, behind_tree}
+use Rattle.rust_cursor.specs.Reader.{Reader, ◌>>=◌}
+use Rattle.rust_cursor.specs.Tokens.{Tokens}
+use Rattle.rust_cursor.specs.Words.{by_first, symbol, kind, text, bumped}
+use Rattle.rust_cursor.proofs.Leads.{through, Forwards, when, behind_closed_leads}
+use Rattle.rust_cursor.proofs.Parting.{Onward, on, gone, kept, Parting, Until, UpTo, by_next, onward_leads, cond_onward, cond_until, map_until, pass_until, bind_until, elements_until, Entering}
+use Rattle.rust_cursor.proofs.Twins.{is_edge, symbol_same, kind_same, text_same, open_same, end_same, symbol_test, after_symbol}
+use Rattle.rust_paths.specs.Names.{as_name}
+use Rattle.rust_paths.proofs.Alike.{name_until}
+use Rattle.rust_metas.specs.Conditions.{comma_from, behind_comma, is_word_kind, is_option_word, option_name, composed, pair, named, if_named, ended, condition_with, conditions, condition}
+use Rattle.rust_metas.specs.Literals.{is_literal_kind, is_ended}
+use Rattle.rust_metas.proofs.Leads.{comma_from_leads, if_named_leads, ended_leads, condition_with_leads, conditions_leads}
+
+-- ---- what stands between commas
+
+comma_onward : (b : Parting) (n : ℕ) (ts us : Tokens) → b.twins.are ts us → Onward b.twins.are b.lost (comma_from n ts) (comma_from n us)
+comma_onward b zero ts us h = on h
+comma_onward b (suc n) ts us h =
+    cond_onward (end_same b.twins ts us h) (λ _. on h)
+    (λ _. cond_onward (symbol_test b.twins 44 ts us h) (λ f. on (after_symbol b.twins 44 ts us refl h f))
+    (λ _. onward_leads b (b.tree ts us h) (comma_from_leads n _) (comma_from_leads n _) (λ k. comma_onward b n (behind_tree ts) (behind_tree us) k)))
+
+pub behind_comma_onward : (b : Parting) (ts us : Tokens) → b.twins.are ts us → Onward b.twins.are b.lost (behind_comma ts) (behind_comma us)
+unfolding behind_comma
+behind_comma_onward b ts us h = comma_onward b _ ts us h
+
+pub ended_same : (b : Parting) (ts us : Tokens) → b.twins.are ts us → is_ended us ≡ is_ended ts
+unfolding is_ended
+ended_same b ts us h = rw (end_same b.twins ts us h, symbol_same b.twins ts us h) refl
+
+ended_until : (b : Parting) (c : CfgView) → UpTo b (ended c) (ended c)
+unfolding ended
+ended_until b c ts us h =
+    by_next (behind_comma_onward b ts us h) (λ g. gone g) (λ n. kept (record { value = ap (λ t. if t then c else invalid) (ended_same b ts us h); rest = n }))
+
+-- ---- conditions
+
+-- no option's word begins with such a byte
+no_option : (z : List ℕ) → is_edge (slice_index z 0) ≡ true → (if bytes_eq z (codes "_") then false else (if bytes_eq z (codes "r#true") || bytes_eq z (codes "r#false") then true else false)) ≡ false
+no_option [] e = refl
+no_option (c ∷ z) e =
+    when (c == 123) (λ f. let is : c ≡ 123 = eqb-true c 123 f in rw is refl)
+    (λ f. when (c == 59) (λ g. let is : c ≡ 59 = eqb-true c 59 g in rw is refl)
+    (λ g. when (c == 125) (λ k. let is : c ≡ 125 = eqb-true c 125 k in rw is refl) (λ k. absurd (let no = rw (f, g, k) at e in cc))))
+
+no_option_kind : (k : TokenKind) (z : List ℕ) → is_edge (symbol_of (record { kind = k; text = z; at = 0 })) ≡ true
+    → (if bytes_eq z (codes "_") then false else (if bytes_eq z (codes "r#true") || bytes_eq z (codes "r#false") then true else is_word_kind (Some k))) ≡ false
+no_option_kind kinds.OpenDelim z e = no_option z e
+no_option_kind kinds.CloseDelim z e = no_option z e
+no_option_kind kinds.Punct z e = no_option z e
+no_option_kind _ z e = absurd cc
+
+option_no_edge : (ts : Tokens) → is_option_word ts ≡ true → is_edge (symbol ts) ≡ false
+unfolding is_option_word symbol text kind
+option_no_edge ts e = no_first ts.left e
+  where
+    no_first : (left : List Piece) → (if bytes_eq (by_first [] (λ t. t.text) left) (codes "_") then false else (if bytes_eq (by_first [] (λ t. t.text) left) (codes "r#true") || bytes_eq (by_first [] (λ t. t.text) left) (codes "r#false") then true else is_word_kind (by_first None (λ t. Some t.kind) left))) ≡ true
+        → is_edge (by_first 0 symbol_of left) ≡ false
+    no_first [] e = absurd cc
+    no_first (t ∷ left) e = when (is_edge (symbol_of t)) (λ f. let none = no_option_kind t.kind t.text f in absurd cc) (λ f. f)
+
+option_word_same : (b : Parting) (ts us : Tokens) → b.twins.are ts us → is_option_word us ≡ is_option_word ts
+unfolding is_option_word
+option_word_same b ts us h = rw (text_same b.twins ts us h, kind_same b.twins ts us h) refl
+
+option_name_until : (b : Parting) → UpTo b option_name option_name
+unfolding option_name
+option_name_until b ts us h =
+    cond_until (option_word_same b ts us h)
+    (λ e. kept (record { value = ap (λ z. as_name (Some z)) (text_same b.twins ts us h); rest = b.twins.next ts us h (option_no_edge ts e) })) (λ _. name_until b ts us h)
+
+pair_until : (b : Parting) (enter : Entering b) (key : List ℕ) (ts us : Tokens) → b.twins.are ts us → (symbol ts == 61) ≡ true → Until b (pair key ts) (pair key us)
+unfolding pair
+pair_until b enter key ts us h e =
+    let n = after_symbol b.twins 61 ts us refl h e in
+    cond_until (ap is_literal_kind (kind_same b.twins (bumped ts) (bumped us) n))
+    (λ _. by_next (enter.onward (bumped ts) (bumped us) n) (λ g. gone g)
+    (λ m. kept (record { value = rw (kind_same b.twins (bumped ts) (bumped us) n, text_same b.twins (bumped ts) (bumped us) n) refl; rest = m })))
+    (λ _. kept (record { value = refl; rest = n }))
+
+-- what a reader gives of what is in the bracket that comes next
+abbrev pub inside : {A B : Type 0} → (A → B) → Reader A → Reader B
+inside f m ts = (f (m (bumped ts)).0, behind_closed (symbol ts) (m (bumped ts)).1)
+
+pub inside_until : {A B : Type 0} (b : Parting) (enter : Entering b) (f : A → B) (m m' : Reader A) → UpTo b m m' → Forwards m → Forwards m' → UpTo b (inside f m) (inside f m')
+inside_until b enter f m m' each leads leads' ts us h =
+    let c = symbol ts in
+    by_next (enter.onward ts us h) (λ g. gone (b.lost_on _ _ _ _ g (through (leads (bumped ts)) (behind_closed_leads c _)) (through (leads' (bumped us)) (behind_closed_leads (symbol us) _))))
+    (λ n. rw (symbol_same b.twins ts us h) (pass_until b (behind_closed c) (behind_closed_leads c) (b.closed c) (map_until f (each (bumped ts) (bumped us) n))))
+
+module _ (b : Parting) (enter : Entering b) (m : Reader (Option (List CfgView))) (i : UpTo b m m) (f : Forwards m) where
+  named_until : (w : List ℕ) → UpTo b (named m w) (named m w)
+  named_until w ts us h =
+      cond_until (open_same b.twins ts us h) (λ _. inside_until b enter (composed w) m m i f f ts us h)
+      (λ _. cond_until (symbol_test b.twins 61 ts us h) (λ e. pair_until b enter w ts us h e) (λ _. kept (record { value = refl; rest = h })))
+
+  if_named_until : (o : Option (List ℕ)) → UpTo b (if_named m o) (if_named m o)
+  if_named_until None ts us h = kept (record { value = refl; rest = h })
+  if_named_until (Some w) ts us h = named_until w ts us h
+
+  -- behind the word
+  behind_word : Option (List ℕ) → Reader CfgView
+  behind_word w = do
+    c ← if_named m w
+    ended c
+
+  behind_word_leads : (w : Option (List ℕ)) → Forwards (behind_word w)
+  unfolding behind_word
+  behind_word_leads w ts = through (if_named_leads m f w ts) (ended_leads _ _)
+
+  behind_word_until : (w : Option (List ℕ)) → UpTo b (behind_word w) (behind_word w)
+  unfolding behind_word
+  behind_word_until w = bind_until b (if_named m w) (if_named m w) ended ended (if_named_until w) (ended_until b) ended_leads ended_leads
+
+  condition_with_until : UpTo b (condition_with m) (condition_with m)
+  unfolding behind_word
+  condition_with_until = bind_until b option_name option_name behind_word behind_word (option_name_until b) behind_word_until behind_word_leads behind_word_leads
+
+conditions_until : (b : Parting) (enter : Entering b) (depth : ℕ) → UpTo b (conditions depth) (conditions depth)
+unfolding conditions
+conditions_until b enter zero ts us h = kept (record { value = refl; rest = h })
+conditions_until b enter (suc depth) ts us h =
+    let inner = condition_with (conditions depth) in
+    let leads = condition_with_leads (conditions depth) (conditions_leads depth) in
+    map_until Some (elements_until b inner inner (condition_with_until b enter (conditions depth) (conditions_until b enter depth) (conditions_leads depth)) leads leads ts us h)
+
+pub condition_until : (b : Parting) (enter : Entering b) (depth : ℕ) → UpTo b (condition depth) (condition depth)
+unfolding condition
+condition_until b enter depth = condition_with_until b enter (conditions depth) (conditions_until b enter depth) (conditions_leads depth)

@@ -1,0 +1,119 @@
+-- Metas of tokens that look alike are the same, until one goes past where the texts part. Their spans count from anchors that are as far from both.
+use Rattle.std.proofs.Common.{◌≡◌, ◌&&◌, ◌==◌, ℕ, zero, suc, true, false, Option, Some, List, [], refl, ap, codes}
+use Rattle.std.specs.Str.{bytes_eq}
+use Rattle.std.proofs.lemmas.Bool.{and_parts}
+use Rattle.hir_input.specs.declared.ast.PathNode.{PathNode}
+use Rattle.hir_input.specs.Attr.{MetaView, key_value_meta, token_tree_meta, cfg_meta, cfg_attr_meta, unsafe_meta, metas_from}
+use Rattle.hir_input.specs.Cfg.{CfgView}
+use Rattle.rust_cursor.specs.Elements.{elements, one}
+use Rattle.rust_cursor.specs.Reader.{Reader, ◌>>=◌, pure}
+use Rattle.rust_cursor.specs.Tokens.{Tokens}
+use Rattle.rust_cursor.specs.Words.{symbol, word, bumped, is_at_open}
+use Rattle.rust_cursor.proofs.Leads.{through, Forwards, when, turns_leads}
+use Rattle.rust_cursor.proofs.Parting.{kept, Parting, Until, UpTo, cond_until, map_until, pass_until, bind_until, elements_until, Entering, Counted}
+use Rattle.rust_cursor.proofs.Twins.{is_edge, word_same, kind_same, text_same, open_same, edge_word, edge_test, symbol_test, after_word, after_symbol}
+use Rattle.rust_paths.specs.Paths.{path}
+use Rattle.rust_paths.proofs.Alike.{path_until}
+use Rattle.rust_metas.specs.Conditions.{behind_comma, condition}
+use Rattle.rust_metas.specs.Literals.{is_truth, is_literal, is_ended, root, next_literal, value}
+use Rattle.rust_metas.specs.Metas.{assigned, input, plain, is_call, member, meta_with, meta}
+use Rattle.rust_metas.proofs.Alike.{behind_comma_onward, ended_same, inside, inside_until, condition_until}
+use Rattle.rust_metas.proofs.Around.{literal_symbol}
+use Rattle.rust_metas.proofs.Leads.{behind_comma_leads, condition_leads, input_leads, member_leads, meta_leads}
+
+-- ---- literals
+
+literal_same : (b : Parting) (ts us : Tokens) → b.twins.are ts us → is_literal us ≡ is_literal ts
+unfolding is_literal is_truth
+literal_same b ts us h = rw (kind_same b.twins ts us h, word_same b.twins ts us h) refl
+
+next_literal_same : (b : Parting) (a a' : ℕ) → Counted b a a' → (ts us : Tokens) → b.twins.are ts us → is_edge (symbol ts) ≡ false → next_literal a' us ≡ next_literal a ts
+unfolding next_literal
+next_literal_same b a a' count ts us h f = rw (text_same b.twins ts us h, kind_same b.twins ts us h, count.start ts us h, count.end ts us h f) refl
+
+value_until : (b : Parting) (a a' : ℕ) → Counted b a a' → UpTo b (value a) (value a')
+unfolding value
+value_until b a a' count ts us h =
+    when (is_literal ts)
+    (λ f. let off : is_edge (symbol ts) ≡ false = ap is_edge (literal_symbol ts f) in
+    let n = b.twins.next ts us h off in
+    let test : (is_literal us && is_ended (bumped us)) ≡ (is_literal ts && is_ended (bumped ts)) = rw (literal_same b ts us h, ended_same b (bumped ts) (bumped us) n) refl in
+    cond_until test (λ _. kept (record { value = ap Some (next_literal_same b a a' count ts us h off); rest = n })) (λ _. kept (record { value = refl; rest = h })))
+    (λ f. rw (literal_same b ts us h, f) (kept (record { value = refl; rest = h })))
+
+-- ---- a path and its input
+
+assigned_until : (b : Parting) (a a' : ℕ) → Counted b a a' → (p : Option PathNode) (ts us : Tokens) → b.twins.are ts us → (symbol ts == 61) ≡ true → Until b (assigned a p ts) (assigned a' p us)
+assigned_until b a a' count p ts us h f = map_until (λ v. key_value_meta p v root) (value_until b a a' count (bumped ts) (bumped us) (after_symbol b.twins 61 ts us refl h f))
+
+input_until : (b : Parting) → Entering b → (a a' : ℕ) → Counted b a a' → (p : Option PathNode) → UpTo b (input a p) (input a' p)
+unfolding input
+input_until b enter a a' count p ts us h =
+    cond_until (symbol_test b.twins 61 ts us h) (λ f. assigned_until b a a' count p ts us h f)
+    (λ _. cond_until (open_same b.twins ts us h) (λ _. map_until (λ z. token_tree_meta p z root) (enter.text ts us h)) (λ _. kept (record { value = refl; rest = h })))
+
+plain_until : (b : Parting) → Entering b → (a a' : ℕ) → Counted b a a' → UpTo b (plain a) (plain a')
+unfolding plain
+plain_until b enter a a' count = bind_until b path path (input a) (input a') (path_until b) (input_until b enter a a' count) (input_leads a) (input_leads a')
+
+-- ---- what stands in brackets behind a word
+
+call_same : (b : Parting) (w : List ℕ) (ts us : Tokens) → bytes_eq [] w ≡ false → b.twins.are ts us → is_call w us ≡ is_call w ts
+unfolding is_call
+call_same b w ts us empty h =
+    when (is_edge (symbol ts))
+    (λ e. rw (edge_word ts e, edge_word us (edge_test b.twins ts us h e), empty) refl)
+    (λ e. rw (word_same b.twins ts us h, open_same b.twins (bumped ts) (bumped us) (b.twins.next ts us h e)) refl)
+
+call_next : (b : Parting) (w : List ℕ) (ts us : Tokens) → bytes_eq [] w ≡ false → b.twins.are ts us → is_call w ts ≡ true → b.twins.are (bumped ts) (bumped us)
+unfolding is_call
+call_next b w ts us empty h e = after_word b.twins w ts us empty h (and_parts (bytes_eq (word ts) w) (is_at_open (bumped ts)) e).0
+
+called_until : {A B : Type 0} (b : Parting) (enter : Entering b) (w : List ℕ) (f : A → B) (m m' : Reader A) → bytes_eq [] w ≡ false → UpTo b m m' → Forwards m → Forwards m' → (ts us : Tokens) → b.twins.are ts us → is_call w ts ≡ true
+    → Until b (inside f m (bumped ts)) (inside f m' (bumped us))
+called_until b enter w f m m' empty each leads leads' ts us h e = inside_until b enter f m m' each leads leads' (bumped ts) (bumped us) (call_next b w ts us empty h e)
+
+-- ---- metas
+
+-- a condition, and the metas behind it
+abbrev conditional : Reader MetaView → Reader CfgView → Reader (CfgView × List MetaView)
+conditional inner condition = do
+  c ← condition
+  metas ← elements (one (member inner))
+  pure (c, metas)
+
+module _ (b : Parting) (enter : Entering b) (a a' : ℕ) (count : Counted b a a') (inner inner' : Reader MetaView) (i : UpTo b inner inner') (f : Forwards inner) (f' : Forwards inner') (condition : Reader CfgView) (c : UpTo b condition condition) (d : Forwards condition) where
+  member_until : UpTo b (member inner) (member inner')
+  member_until ts us h = pass_until b behind_comma behind_comma_leads (behind_comma_onward b) (i ts us h)
+
+  members_leads : Forwards (elements (one (member inner)))
+  members_leads = turns_leads _ (one (member inner)) (member_leads inner condition f d)
+
+  members_leads' : Forwards (elements (one (member inner')))
+  members_leads' = turns_leads _ (one (member inner')) (member_leads inner' condition f' d)
+
+  conditional_until : UpTo b (conditional inner condition) (conditional inner' condition)
+  conditional_until =
+      bind_until b condition condition _ _ c
+      (λ x ts us h. map_until (λ metas. (x, metas)) (elements_until b (member inner) (member inner') member_until (member_leads inner condition f d) (member_leads inner' condition f' d) ts us h))
+      (λ x ts. members_leads ts) (λ x ts. members_leads' ts)
+
+  conditional_leads : Forwards (conditional inner condition)
+  conditional_leads ts = through (d ts) (members_leads (condition ts).1)
+
+  conditional_leads' : Forwards (conditional inner' condition)
+  conditional_leads' ts = through (d ts) (members_leads' (condition ts).1)
+
+  meta_with_until : UpTo b (meta_with a inner condition) (meta_with a' inner' condition)
+  meta_with_until ts us h =
+      cond_until (call_same b (codes "unsafe") ts us refl h) (λ k. called_until b enter (codes "unsafe") unsafe_meta inner inner' refl i f f' ts us h k)
+      (λ _. cond_until (call_same b (codes "cfg") ts us refl h) (λ k. called_until b enter (codes "cfg") cfg_meta condition condition refl c d d ts us h k)
+      (λ _. cond_until (call_same b (codes "cfg_attr") ts us refl h)
+      (λ k. called_until b enter (codes "cfg_attr") (λ p. cfg_attr_meta p.0 (metas_from p.1)) (conditional inner condition) (conditional inner' condition) refl conditional_until conditional_leads conditional_leads' ts us h k)
+      (λ _. plain_until b enter a a' count ts us h)))
+
+pub meta_until : (b : Parting) → Entering b → (a a' depth : ℕ) → Counted b a a' → UpTo b (meta a depth) (meta a' depth)
+unfolding meta
+meta_until b enter a a' zero count ts us h = kept (record { value = refl; rest = h })
+meta_until b enter a a' (suc depth) count ts us h =
+    meta_with_until b enter a a' count (meta a depth) (meta a' depth) (meta_until b enter a a' depth count) (meta_leads a depth) (meta_leads a' depth) (condition depth) (condition_until b enter depth) (condition_leads depth) ts us h
