@@ -6,7 +6,7 @@ ghost use Rattle.rust_edits.specs.Edits as spec;
 ghost use Rattle.rust_edits.specs.Inner as inner;
 
 use crate::alone::may_stand;
-use crate::parts::{Parts, parts_of};
+use crate::parts::parts_of;
 use crate::shift::Shift;
 use rust_items::{ItemPlace, TextRange};
 use std::alloc::{AllocError, Global};
