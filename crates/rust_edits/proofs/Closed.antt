@@ -14,7 +14,7 @@ use Rattle.rust_items.specs.LineEnds.{with_feeds}
 use Rattle.rust_typing.specs.Laws.{first_plain, BeginsPlain}
 use Rattle.rust_typing.proofs.Full.{feeds_full, feeds_lead}
 use Rattle.rust_typing.proofs.Returns.{feeds_body}
-use Rattle.rust_edits.specs.Inner.{braced, closes_at, begins_plain, is_alone}
+use Rattle.rust_edits.specs.Inner.{in_braces, closes_at, begins_plain, is_alone}
 
 -- a text before a `}` at this place, which closes braces that are open so many deep: its braces match, and none of its tokens takes the `}`
 inside : (last d left at from : ℕ) (x : List ℕ) → at + length x ≡ last → 1 ≤ d → closes_at last d (tokens_from left at (x ++ 125 ∷ [])) ≡ true
@@ -66,7 +66,7 @@ unfolding first_cut is_wide_start
 closes_behind last z = refl
 
 -- what was found of a text in braces
-pub alone_is : (m : List ℕ) → IsUtf8 m → is_alone (with_feeds (braced m)) ≡ true → StandsAlone (with_feeds m) × BeginsPlain (with_feeds m)
+pub alone_is : (m : List ℕ) → IsUtf8 m → is_alone (with_feeds (in_braces m)) ≡ true → StandsAlone (with_feeds m) × BeginsPlain (with_feeds m)
 alone_is m u e = (record { full = feeds_full m u; begins = lead; ends = matched.0; matched = matched.1 }, plain_inside 0 1 0 x (125 ∷ []) plain)
   where
     x : List ℕ

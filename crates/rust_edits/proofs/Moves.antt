@@ -19,8 +19,8 @@ use Rattle.rust_typing.proofs.Told.{body_is_told}
 use Rattle.rust_typing.proofs.Typing.{typing_inside}
 use Rattle.rust_edits.specs.declared.parts.Parts.{Parts}
 use Rattle.rust_edits.specs.declared.shift.Shift.{Shift}
-use Rattle.rust_edits.specs.Edits.{edited, place_by, Shifts}
-use Rattle.rust_edits.specs.Inner.{braced, is_alone, begins_bare, AreParts, IsShift}
+use Rattle.rust_edits.specs.Edits.{edited, shifted_place, Shifts}
+use Rattle.rust_edits.specs.Inner.{in_braces, is_alone, begins_bare, AreCut, IsShift}
 use Rattle.rust_edits.proofs.Closed.{alone_is}
 use Rattle.rust_edits.proofs.Bare.{IsBare, bare_is}
 
@@ -45,14 +45,14 @@ edited_is old q a b c s range typed whole starts ends =
 
 -- ---- the shift
 
-shift_is : (s : Shift) (i j k : ℕ) → s.opening ≡ i → s.closing ≡ j → s.closing_new ≡ k → place_by s ≡ shifted i j k
+shift_is : (s : Shift) (i j k : ℕ) → s.opening ≡ i → s.closing ≡ j → s.closing_new ≡ k → shifted_place s ≡ shifted i j k
 shift_is s i j k e f g = ap (λ (n : ℕ). shifted n s.closing s.closing_new) e ∙ ap (λ (n : ℕ). shifted i n s.closing_new) f ∙ ap (λ (n : ℕ). shifted i j n) g
 
 -- ---- an edit
 
 module _ (old typed : List ℕ) (items : List ItemPlace) (body range : TextRange) (p : Parts) (shift : Shift) (bare : begins_bare old ≡ true) (told : has_body_at body.start items ≡ true)
-    (parts : AreParts old body range p) (utf8 : IsUtf8 typed) (alone : is_alone (with_feeds (braced (p.front.now ++ (p.replaced.now ++ p.back.now)))) ≡ true)
-    (alone_new : is_alone (with_feeds (braced (p.front.now ++ (typed ++ p.back.now)))) ≡ true) (moves : IsShift body range (length typed) (length p.back.now) shift) where
+    (parts : AreCut old body range p) (utf8 : IsUtf8 typed) (alone : is_alone (with_feeds (in_braces (p.front.now ++ (p.replaced.now ++ p.back.now)))) ≡ true)
+    (alone_new : is_alone (with_feeds (in_braces (p.front.now ++ (typed ++ p.back.now)))) ≡ true) (moves : IsShift body range (length typed) (length p.back.now) shift) where
   q : List ℕ
   q = p.before.now
 
@@ -73,7 +73,7 @@ module _ (old typed : List ℕ) (items : List ItemPlace) (body range : TextRange
   unfolding q m' s
   new_is = edited_is old p.before.now p.front.now p.replaced.now p.back.now p.behind.now range typed parts.whole parts.starts parts.ends
 
-  by_shift : place_by shift ≡ shifted_by q m m'
+  by_shift : shifted_place shift ≡ shifted_by q m m'
   unfolding q m m'
   by_shift =
       let opens = parts.opens in

@@ -15,14 +15,14 @@ abbrev pub edited : List ℕ → TextRange → List ℕ → List ℕ
 edited old range typed = take range.start old ++ (typed ++ drop range.end old)
 
 -- where a place of the old text is in the new one
-abbrev pub place_by : Shift → ℕ → ℕ
-place_by s = shifted s.opening s.closing s.closing_new
+abbrev pub shifted_place : Shift → ℕ → ℕ
+shifted_place s = shifted s.opening s.closing s.closing_new
 
 -- what was read of two texts is the same but for body texts, with the same ids, and items and use trees stand where a shift says
 pub record IsMovedBy (shift : Shift) (read again : SourceFile) : Type 0 where
   pub syntax : without_bodies (syntax_view read.syntax) ≡ without_bodies (syntax_view again.syntax)
-  pub items : again.places.items ≡ map (moved_place (place_by shift)) read.places.items
-  pub use_trees : again.use_trees.items ≡ map (place_by shift) read.use_trees.items
+  pub items : again.places.items ≡ map (moved_place (shifted_place shift)) read.places.items
+  pub use_trees : again.use_trees.items ≡ map (shifted_place shift) read.use_trees.items
 
 -- Where these are the places of what is read of a text, in some edition, so is what is read of the text with an edit.
 abbrev pub Shifts : List ItemPlace → List ℕ → TextRange → List ℕ → Shift → Type 0

@@ -9,8 +9,8 @@ use Rattle.rust_edits.specs.declared.parts.Parts.{Parts}
 use Rattle.rust_edits.specs.declared.shift.Shift.{Shift}
 
 -- a text in braces
-abbrev pub braced : List ℕ → List ℕ
-braced m = 123 ∷ (m ++ 125 ∷ [])
+abbrev pub in_braces : List ℕ → List ℕ
+in_braces m = 123 ∷ (m ++ 125 ∷ [])
 
 -- the braces that are open so many deep before these tokens are closed by a `}` at this place, and no sooner
 abbrev pub closes_at : ℕ → ℕ → List Piece → Bool
@@ -35,7 +35,7 @@ begins_bare z =
     else not (slice_index z 0 == 45 || (slice_index z 0 == 10 || (slice_index z 0 == 13 || slice_index z 0 == 239)))
 
 -- these are the parts of a text about a range in these braces
-pub record AreParts (text : List ℕ) (body range : TextRange) (p : Parts) : Type 0 where
+pub record AreCut (text : List ℕ) (body range : TextRange) (p : Parts) : Type 0 where
   pub whole : text ≡ p.before.now ++ 123 ∷ (p.front.now ++ (p.replaced.now ++ (p.back.now ++ 125 ∷ p.behind.now)))
   pub opens : length p.before.now ≡ body.start
   pub starts : suc (length p.before.now) + length p.front.now ≡ range.start

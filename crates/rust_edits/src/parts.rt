@@ -43,7 +43,7 @@ fn behind_byte(text: &str, byte: u8) -> Option<&str>
 
 /// The parts of a text about a range in these braces.
 pub(crate) fn parts_of(text: &str, body: TextRange, range: TextRange) -> Option<Parts<'_>>
-    ensures { IfSome result (λ p. spec.AreParts text.now body range p) }
+    ensures { IfSome result (λ p. spec.AreCut text.now body range p) }
 {
     let (before, rest) = cut(text, body.start)?;
     let rest = behind_byte(rest, b'{')?;

@@ -3,7 +3,7 @@
 ghost use Rattle.std.specs.Prelude.{◌≡◌, IfOk, IfSome, map, option_map};
 ghost use Rattle.rust_items.specs.LineEnds.{moved_range};
 ghost use Rattle.rust_typing.specs.Moved.{moved_place};
-ghost use Rattle.rust_edits.specs.Edits.{place_by};
+ghost use Rattle.rust_edits.specs.Edits.{shifted_place};
 
 use rust_items::{ItemPlace, TextRange};
 use std::alloc::{AllocError, Global};
@@ -22,7 +22,7 @@ pub struct Shift {
 impl Shift {
     /// Where a place of the old text is in the new one. None stands between the braces, and none past what fits into memory.
     pub fn place(&self, at: usize) -> Option<usize>
-        ensures { IfSome result (λ to. to ≡ place_by self.now at) }
+        ensures { IfSome result (λ to. to ≡ shifted_place self.now at) }
     {
         if at <= self.opening {
             return Some(at);
@@ -31,7 +31,7 @@ impl Shift {
     }
 
     fn range(&self, range: TextRange) -> Option<TextRange>
-        ensures { IfSome result (λ to. to ≡ moved_range (place_by self.now) range) }
+        ensures { IfSome result (λ to. to ≡ moved_range (shifted_place self.now) range) }
     {
         let start = self.place(range.start)?;
         let end = self.place(range.end)?;
@@ -39,7 +39,7 @@ impl Shift {
     }
 
     fn some_range(&self, range: Option<TextRange>) -> Option<Option<TextRange>>
-        ensures { IfSome result (λ to. to ≡ option_map (moved_range (place_by self.now)) range) }
+        ensures { IfSome result (λ to. to ≡ option_map (moved_range (shifted_place self.now)) range) }
     {
         match range {
             Some(range) => Some(Some(self.range(range)?)),
@@ -48,7 +48,7 @@ impl Shift {
     }
 
     fn item(&self, item: ItemPlace) -> Option<ItemPlace>
-        ensures { IfSome result (λ to. to ≡ moved_place (place_by self.now) item) }
+        ensures { IfSome result (λ to. to ≡ moved_place (shifted_place self.now) item) }
     {
         Some(ItemPlace {
             id: item.id,
@@ -66,7 +66,7 @@ impl Shift {
         alloc: Global,
         items: &[ItemPlace],
     ) -> Result<Option<Vec<ItemPlace>>, AllocError>
-        ensures { IfOk result (λ moved. IfSome moved (λ v. v.items ≡ map (moved_place (place_by self.now)) items.now)) }
+        ensures { IfOk result (λ moved. IfSome moved (λ v. v.items ≡ map (moved_place (shifted_place self.now)) items.now)) }
     {
         let mut moved = Vec::with_capacity(alloc, items.len())?;
         for item in items {
@@ -86,7 +86,7 @@ impl Shift {
         alloc: Global,
         starts: &[usize],
     ) -> Result<Option<Vec<usize>>, AllocError>
-        ensures { IfOk result (λ moved. IfSome moved (λ v. v.items ≡ map (place_by self.now) starts.now)) }
+        ensures { IfOk result (λ moved. IfSome moved (λ v. v.items ≡ map (shifted_place self.now) starts.now)) }
     {
         let mut moved = Vec::with_capacity(alloc, starts.len())?;
         for start in starts {

@@ -1,7 +1,7 @@
 use Rattle.std.proofs.Common.{◌≡◌, map, take}
 use Rattle.rust_typing.specs.Moved.{moved_place}
-use Rattle.rust_edits.specs.Edits.{place_by}
+use Rattle.rust_edits.specs.Edits.{shifted_place}
 use Rattle.rust_edits.proofs.shift.Shift.items.Given as goal
 
 abbrev pub invariant-loop-item : goal.invariant-loop-item
-invariant-loop-item l = l.moved.items ≡ map (moved_place (place_by l.self)) (take l.item-index l.items)
+invariant-loop-item l = l.moved.items ≡ map (moved_place (shifted_place l.self)) (take l.item-index l.items)
