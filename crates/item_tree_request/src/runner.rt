@@ -22,9 +22,11 @@ pub fn run_with<T: ShowWriter, R: Read, W: Write>(
     input: &mut R,
     output: &mut W,
 ) -> Result<(), RunError>
-    ensures { HasRun T.is_text result (R.remaining input.old) (R.remaining input.new)
+    ensures run { HasRun T.is_text result (R.remaining input.old) (R.remaining input.new)
         (W.contents output.old) (W.contents output.new) }
+    ensures fixed { AreFixed T.is_text }
 {
+    T::are_fixed();
     let bytes = read_to_end(alloc, input)?;
     let text = answer(alloc, writer, &bytes)?;
     write_whole(output, text.as_bytes())?;
@@ -34,7 +36,6 @@ pub fn run_with<T: ShowWriter, R: Read, W: Write>(
 /// Reads a request in JSON up to the reader's end, makes its edits, and writes the pages and imports of its shows.
 ///
 /// Its errors are those of `run_with`.
-#[tactic(auto, using(crate::proofs::Outputs::printed_fixed))]
 pub fn run<R: Read, W: Write>(alloc: Global, input: &mut R, output: &mut W) -> Result<(), RunError>
     ensures run { HasRun IsPrinted result (R.remaining input.old) (R.remaining input.new)
         (W.contents output.old) (W.contents output.new) }

@@ -128,4 +128,7 @@ impl ShowWriter for Pages {
             Show::Changed { since } => push_changes(sources, since, text),
         }
     }
+
+    #[tactic(auto, using(crate::proofs::Outputs::printed_fixed))]
+    fn are_fixed() {}
 }

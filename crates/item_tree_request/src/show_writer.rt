@@ -10,7 +10,7 @@ use std::alloc::{AllocError, Global};
 /// What a program writes of shows.
 pub trait ShowWriter {
     ghost use Rattle.std.specs.Prelude.{OnOk};
-    ghost use Rattle.item_tree_request.specs.Outputs.{IsAdded, ShowText};
+    ghost use Rattle.item_tree_request.specs.Outputs.{AreFixed, IsAdded, ShowText};
 
     // Under reserved words, over a table, this text of a show.
     ghost is_text: { ShowText };
@@ -29,6 +29,10 @@ pub trait ShowWriter {
         requires { Knows sources.now show }
         ensures { let IsText = is_text edition.now.reserved.items sources.now show in
             OnOk result (IsAdded IsText (string_bytes text.old) (string_bytes text.new)) };
+
+    /// Two tables that the same edits lead to have the same texts; it does nothing.
+    fn are_fixed()
+        ensures { AreFixed is_text };
 }
 
 // The texts of the shows over a table, one after another.

@@ -62,4 +62,7 @@ impl ShowWriter for Outlines {
             Show::Changed { since } => push_changes(sources, since, text),
         }
     }
+
+    #[tactic(auto, using(crate::proofs::Outlined::outlined_fixed))]
+    fn are_fixed() {}
 }

@@ -3,8 +3,8 @@ use Rattle.std.proofs.lemmas.Result.{err_from_is_err_and}
 use Rattle.item_tree_request.specs.Runs.{IsOutputOf}
 use Rattle.item_tree_request.proofs.runner.run_with.Goals as goal
 
-pub returns-in_err-write_whole : goal.returns-in_err-write_whole
-returns-in_err-write_whole g c =
+pub returns-in_err-write_whole-clause-run : goal.returns-in_err-write_whole-clause-run
+returns-in_err-write_whole-clause-run g c =
     let IsText = g.T.ShowWriter.is_text in
     let p = err_from_is_err_and c.from_residual-in_err-write_whole.result c.from_residual-in_err-write_whole.ensures.1 in
     let failed = c.in_err-write_whole.ensures.err in
