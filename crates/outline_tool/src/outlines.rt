@@ -63,6 +63,5 @@ impl ShowWriter for Outlines {
         }
     }
 
-    #[tactic(auto, using(crate::proofs::Outlined::outlined_fixed))]
     fn are_fixed() {}
 }
