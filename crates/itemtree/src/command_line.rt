@@ -8,6 +8,63 @@ static SHOWS: [&str; 3] = ["page", "tree", "imports"];
 
 static IDS: [&str; 2] = ["on", "off"];
 
+const STATUSES: &str = "Statuses:
+  0  done: a name is found, nothing is wrong, nothing differs
+  1  find: nothing is found; check: something is wrong; changed: something differs
+  2  an error: the command line is wrong, a file cannot be read or has no tree,
+     memory runs out or writing fails. What can be done is done all the same
+  6  serve: reading or writing fails
+
+'itemtree COMMAND --help' has an example and the statuses of a command.";
+
+const AFTER_OUTLINE: &str =
+    "Example: itemtree outline --cfg 'feature=\"extra\"' --active --depth 2 src
+
+Status: 0, or 2 at an error";
+
+const AFTER_PAGE: &str = "Example: itemtree page --ids off src/lib.rs
+
+Status: 0, or 2 at an error";
+
+const AFTER_IMPORTS: &str = "Example: itemtree imports --duplicates src
+
+Status: 0, or 2 at an error";
+
+const AFTER_FIND: &str = "Example: itemtree find Circle::area src
+
+Status: 0 if something is found, 1 if nothing is, 2 at an error";
+
+const AFTER_TAGS: &str = "Example: itemtree tags src
+
+Status: 0, or 2 at an error";
+
+const AFTER_CHANGED: &str = "Example: itemtree changed old/lib.rs src/lib.rs
+
+Signatures, fields, variants, values, attributes and members are compared too. With --tree none of these
+counts but attributes, and of attributes none that is left out: another #[repr] or #[must_use] is no change.
+
+Status: 0 if nothing differs, 1 if something does, 2 at an error";
+
+const AFTER_REQUEST: &str = "Example: itemtree request --show page src/lib.rs | item_tree_tool
+
+Status: 0, or 2 at an error; then nothing is written";
+
+const AFTER_SERVE: &str =
+    "Example: echo '{\"crates\":[{\"root\":0}],\"edits\":[],\"shows\":[]}' | itemtree serve
+
+Status: 0 at the end of the input, 2 if the command line is wrong, 6 if reading or writing fails";
+
+const AFTER_CHECK: &str = "Example: itemtree check src
+
+This is no syntax check. It sees words that begin no item, items without an end or a name, brackets and quotes
+that do not pair, and paths and attributes that cannot be read; not what else signatures, types and bodies hold.
+
+Status: 0 if nothing is wrong, 1 if something is, 2 at an error";
+
+const SKIP: &str =
+    "An attribute to leave out of the tree; may be given several times. If it is not given, these are:
+doc, stable, unstable, target_feature, allow, expect, warn, deny, forbid, repr, inline, track_caller, must_use";
+
 fn files<'a>(alloc: Global) -> Arg<'a> {
     Arg::new(alloc, "files")
         .value_name("FILE")
@@ -26,10 +83,6 @@ fn flag<'a>(alloc: Global, name: &'static str, help: &'static str) -> Arg<'a> {
         .help(help)
 }
 
-fn no_members<'a>(alloc: Global) -> Arg<'a> {
-    flag(alloc, "no-members", "Leave out the members of items")
-}
-
 fn option<'a>(
     alloc: Global,
     name: &'static str,
@@ -44,125 +97,134 @@ fn option<'a>(
         .help(help)
 }
 
-/// The options that every command over files has.
-fn with_options<'a>(alloc: Global, command: Command<'a>) -> Result<Command<'a>, Error> {
-    let (set, add) = (ArgAction::Set, ArgAction::Append);
-    let edition = option(
-        alloc,
-        "edition",
-        "YEAR",
-        set,
-        "Whose reserved words are written as r#..",
-    )
-    .value_parser(YEARS.as_slice())
-    .default_value("2024");
-    let command = command
-        .arg(option(
-            alloc,
-            "cfg",
-            "SPEC",
-            add,
-            "A cfg that is set: NAME or KEY=\"VALUE\"",
-        ))?
-        .arg(flag(alloc, "active", "Leave out what a cfg disables"))?
-        .arg(edition)?
-        .arg(option(
-            alloc,
-            "skip",
-            "NAME",
-            add,
-            "An attribute to leave out, in place of the usual list",
-        ))?
-        .arg(flag(alloc, "docs", "Keep documentation"))?;
-    Ok(command)
+fn argument<'a>(
+    alloc: Global,
+    name: &'static str,
+    value: &'static str,
+    help: &'static str,
+) -> Arg<'a> {
+    Arg::new(alloc, name)
+        .value_name(value)
+        .required(true)
+        .help(help)
 }
 
-fn on_files<'a>(
+// ---- options of several commands
+
+fn cfg_option<'a>(alloc: Global) -> Arg<'a> {
+    let help = "A cfg that is set: NAME or KEY=\"VALUE\"; may be given several times";
+    option(alloc, "cfg", "SPEC", ArgAction::Append, help)
+}
+
+fn active<'a>(alloc: Global) -> Arg<'a> {
+    flag(alloc, "active", "Leave out what a cfg disables")
+}
+
+fn edition<'a>(alloc: Global) -> Arg<'a> {
+    let help = "The edition, whose keywords are no names and are written as r#NAME";
+    option(alloc, "edition", "YEAR", ArgAction::Set, help)
+        .value_parser(YEARS.as_slice())
+        .default_value("2024")
+}
+
+fn skip<'a>(alloc: Global) -> Arg<'a> {
+    option(alloc, "skip", "NAME", ArgAction::Append, SKIP)
+}
+
+fn docs<'a>(alloc: Global) -> Arg<'a> {
+    flag(alloc, "docs", "Keep documentation, if --skip is not given")
+}
+
+fn no_members<'a>(alloc: Global) -> Arg<'a> {
+    flag(alloc, "no-members", "Leave out the members of items")
+}
+
+/// A command that reads Rust.
+fn on_texts<'a>(
     alloc: Global,
     name: &'static str,
     about: &'static str,
+    after: &'static str,
 ) -> Result<Command<'a>, Error> {
-    let command = Command::new(alloc, name).about(about);
-    with_options(alloc, command)
+    let command = Command::new(alloc, name)
+        .about(about)
+        .after_help(after)
+        .arg(edition(alloc))?;
+    Ok(command)
 }
 
+/// A command that lists items of files, with the options for these.
+fn on_items<'a>(
+    alloc: Global,
+    name: &'static str,
+    about: &'static str,
+    after: &'static str,
+) -> Result<Command<'a>, Error> {
+    let command = on_texts(alloc, name, about, after)?
+        .arg(cfg_option(alloc))?
+        .arg(active(alloc))?
+        .arg(no_members(alloc))?;
+    Ok(command)
+}
+
+/// A command that shows the attributes of trees, with the options for these.
+fn on_trees<'a>(
+    alloc: Global,
+    name: &'static str,
+    about: &'static str,
+    after: &'static str,
+) -> Result<Command<'a>, Error> {
+    let command = on_texts(alloc, name, about, after)?
+        .arg(cfg_option(alloc))?
+        .arg(skip(alloc))?
+        .arg(docs(alloc))?;
+    Ok(command)
+}
+
+// ---- commands
+
 fn outline<'a>(alloc: Global) -> Result<Command<'a>, Error> {
-    let depth = option(
-        alloc,
-        "depth",
-        "N",
-        ArgAction::Set,
-        "Only items in fewer than N others",
-    )
-    .value_parser(clap::value_parser!(u32));
-    let json = flag(
-        alloc,
-        "json",
-        "Write a JSON object for each file, on a line of its own",
-    );
-    let command = on_files(
-        alloc,
-        "outline",
-        "Lists the items of files and their members",
-    )?
-    .arg(depth)?
-    .arg(json)?
-    .arg(no_members(alloc))?
-    .arg(files(alloc))?;
+    let help = "Only the outermost N levels of items and members";
+    let depth = option(alloc, "depth", "N", ArgAction::Set, help).value_parser(clap::value_parser!(
+        u32
+    ));
+    let help = "Write a JSON object for each file, on a line of its own";
+    let about = "Lists the items of files and their members";
+    let command = on_items(alloc, "outline", about, AFTER_OUTLINE)?
+        .arg(depth)?
+        .arg(flag(alloc, "json", help))?
+        .arg(files(alloc))?;
     Ok(command)
 }
 
 fn page<'a>(alloc: Global) -> Result<Command<'a>, Error> {
-    let ids = option(
-        alloc,
-        "ids",
-        "WHEN",
-        ArgAction::Set,
-        "Whether rust-analyzer's ids of items are written",
-    )
-    .value_parser(IDS.as_slice())
-    .default_value("on");
-    let command = on_files(
-        alloc,
-        "page",
-        "Writes the debug pages of item trees, as rust-analyzer shows them",
-    )?
-    .arg(ids)?
-    .arg(files(alloc))?;
-    Ok(command)
-}
-
-fn check<'a>(alloc: Global) -> Result<Command<'a>, Error> {
-    let command = on_files(
-        alloc,
-        "check",
-        "Tells what could not be read; status 1 if there is any",
-    )?
-    .arg(files(alloc))?;
+    let help = "Whether rust-analyzer's ids of items are written";
+    let ids = option(alloc, "ids", "WHEN", ArgAction::Set, help)
+        .value_parser(IDS.as_slice())
+        .default_value("on");
+    let about = "Writes the debug pages of item trees, as rust-analyzer shows them";
+    let command = on_trees(alloc, "page", about, AFTER_PAGE)?
+        .arg(ids)?
+        .arg(files(alloc))?;
     Ok(command)
 }
 
 fn imports<'a>(alloc: Global) -> Result<Command<'a>, Error> {
-    let about = "Only imports that repeat an earlier one of their module, each with its place";
-    let command = on_files(alloc, "imports", "Lists the imports of files")?
-        .arg(flag(alloc, "duplicates", about))?
+    let help = "Only imports that repeat an earlier one of their module, each with its place";
+    let about = "Lists the imports of files, also those that a cfg disables";
+    let command = on_texts(alloc, "imports", about, AFTER_IMPORTS)?
+        .arg(flag(alloc, "duplicates", help))?
         .arg(files(alloc))?;
     Ok(command)
 }
 
 fn find<'a>(alloc: Global) -> Result<Command<'a>, Error> {
-    let name = Arg::new(alloc, "name")
-        .value_name("NAME")
-        .required(true)
-        .help("a::b::f from a file's top; f or ::b::f at any depth; T::f of an impl of T too");
-    let command = on_files(
-        alloc,
-        "find",
-        "Tells where a path of names is declared; status 1 where nowhere",
-    )?
-    .arg(no_members(alloc))?
-    .arg(name)?
-    .arg(files(alloc))?;
+    let help =
+        "f or b::f at any depth, T::f in an impl of T too; ::a::b::f or crate::a::b::f from a file's top";
+    let about = "Tells where a name or a path of names is declared";
+    let command = on_items(alloc, "find", about, AFTER_FIND)?
+        .arg(argument(alloc, "name", "NAME", help))?
+        .arg(files(alloc))?;
     Ok(command)
 }
 
@@ -173,62 +235,72 @@ fn tags<'a>(alloc: Global) -> Result<Command<'a>, Error> {
         .value_name("FILE")
         .default_value("tags")
         .help("Where to write them; - for standard output");
-    let command = on_files(
-        alloc,
-        "tags",
-        "Writes a tags file, by which editors jump to names",
-    )?
-    .arg(no_members(alloc))?
-    .arg(output)?
-    .arg(files(alloc))?;
+    let about = "Writes a tags file, by which editors jump to names";
+    let command = on_items(alloc, "tags", about, AFTER_TAGS)?
+        .arg(output)?
+        .arg(files(alloc))?;
     Ok(command)
 }
 
 fn changed<'a>(alloc: Global) -> Result<Command<'a>, Error> {
-    let old = Arg::new(alloc, "old").value_name("OLD").required(true);
-    let new = Arg::new(alloc, "new").value_name("NEW").required(true);
-    let tree = flag(
-        alloc,
-        "tree",
-        "Compare the item trees alone, which keep no signatures, fields, values or members",
-    );
-    let about = "Lists what became another but for bodies of functions; its status is that of diff";
-    let command = on_files(alloc, "changed", about)?
-        .arg(tree)?
-        .arg(old)?
-        .arg(new)?;
+    let help =
+        "Compare the item trees alone, which keep no signatures, fields, variants, values or members";
+    let about =
+        "Lists the items and members that differ between two files, but for bodies of functions";
+    let command = on_texts(alloc, "changed", about, AFTER_CHANGED)?
+        .arg(docs(alloc))?
+        .arg(flag(alloc, "tree", help))?
+        .arg(cfg_option(alloc).requires_arg("tree")?)?
+        .arg(skip(alloc).requires_arg("tree")?)?
+        .arg(argument(
+            alloc,
+            "old",
+            "OLD",
+            "The file as it was; - for standard input",
+        ))?
+        .arg(argument(
+            alloc,
+            "new",
+            "NEW",
+            "The file as it is now; - for standard input",
+        ))?;
     Ok(command)
 }
 
 fn request<'a>(alloc: Global) -> Result<Command<'a>, Error> {
-    let show = option(
-        alloc,
-        "show",
-        "KIND",
-        ArgAction::Append,
-        "What the request asks to be shown of each file",
-    )
-    .value_parser(SHOWS.as_slice());
-    let bodies = flag(alloc, "no-bodies", "Leave the texts of bodies out");
+    let help = "What the request asks to be shown of each file; may be given several times";
+    let show = option(alloc, "show", "KIND", ArgAction::Append, help).value_parser(
+        SHOWS.as_slice(),
+    );
+    let help = "Leave the texts of bodies out";
     let about = "Writes the request in JSON that sets these files, as item_tree_tool reads it";
-    let command = on_files(alloc, "request", about)?
+    let command = on_trees(alloc, "request", about, AFTER_REQUEST)?
         .arg(show)?
-        .arg(bodies)?
+        .arg(flag(alloc, "no-bodies", help))?
         .arg(files(alloc))?;
     Ok(command)
 }
 
 fn serve<'a>(alloc: Global) -> Command<'a> {
-    Command::new(alloc, "serve").about(
-        "Answers requests in JSON line by line: each line of standard input by one of standard output",
-    )
+    let about =
+        "Answers requests in JSON line by line: each line of standard input by one of standard output";
+    Command::new(alloc, "serve")
+        .about(about)
+        .after_help(AFTER_SERVE)
+}
+
+fn check<'a>(alloc: Global) -> Result<Command<'a>, Error> {
+    let about = "Tells which items, brackets and quotes of files could not be read";
+    let command = on_texts(alloc, "check", about, AFTER_CHECK)?.arg(files(alloc))?;
+    Ok(command)
 }
 
 /// The whole command line.
 pub(crate) fn command<'a>(alloc: Global) -> Result<Command<'a>, Error> {
     let command = Command::new(alloc, "itemtree")
         .version("0.1.0")
-        .about("Answers what people ask of Rust files")
+        .about("Lists the items, imports and declarations of Rust files, and what changed in them")
+        .after_help(STATUSES)
         .subcommand_required(true)
         .arg_required_else_help(true)
         .subcommand(outline(alloc)?)?

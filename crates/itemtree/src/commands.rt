@@ -10,7 +10,7 @@ use itemtree_commands::{
     CompareError, Options, changed, check, duplicates, find, imports, outline, outline_json, page,
     push_tags,
 };
-use source_listing::{Query, Source};
+use source_listing::{Query, SoughtPath, Source, sought_path};
 use source_tree::SourceError;
 use std::alloc::{AllocError, Global};
 use std::fmt::Display;
@@ -22,6 +22,12 @@ const FILES_A_TIME: usize = 64;
 
 /// Back to the begin of the line on a terminal, and nothing on it.
 const CLEARED: &str = "\r\x1b[K";
+
+/// The status where a name is not found, a file is not clean, or files differ, as that of `grep` and `diff`.
+const NOT_SO: u8 = 1;
+
+/// The status of an error.
+pub(crate) const FAILED: u8 = 2;
 
 /// How files differ whose items are the same.
 const ONLY_ORDER: &str = "the order of items or the attributes of the file differ";
@@ -66,8 +72,7 @@ enum Action {
     Imports,
     Duplicates,
     Find {
-        path: String,
-        is_anywhere: bool,
+        sought: SoughtPath,
         has_members: bool,
     },
     Tags {
@@ -102,13 +107,12 @@ impl Action {
             Action::Imports => Ok((imports(alloc, source, options)?, true)),
             Action::Duplicates => Ok((duplicates(alloc, source, options)?, true)),
             Action::Find {
-                path,
-                is_anywhere,
+                sought,
                 has_members,
             } => {
                 let query = Query {
-                    path: path.as_str(),
-                    is_anywhere: *is_anywhere,
+                    path: sought.path.as_str(),
+                    is_anywhere: sought.is_anywhere,
                     only_active: options.only_active,
                 };
                 Ok((find(alloc, source, options, query, *has_members)?, true))
@@ -145,7 +149,7 @@ struct Run<'a> {
 impl Run<'_> {
     /// Tells on standard error that a file is not done.
     fn complain(&mut self, path: &str, error: impl Display + Drop) {
-        self.status = 1;
+        self.status = FAILED;
         let front = if self.is_watched { CLEARED } else { "" };
         let _ = eprintln!(self.rt; "{front}itemtree: {path}: {error}");
     }
@@ -161,7 +165,7 @@ impl Run<'_> {
 
     fn write(&mut self, text: &str, is_good: bool) -> io::Result<()> {
         if !is_good {
-            self.status = 1;
+            self.status = self.status.max(NOT_SO);
         }
         if !text.is_empty() {
             self.has_written = true;
@@ -216,27 +220,26 @@ impl Run<'_> {
     }
 }
 
-/// A path of names, with two colons before each, and whether it may begin in any module: a name alone, and a path with two
-/// colons in front, may.
-fn path_of_names(alloc: Global, words: &str, has_members: bool) -> Result<Action, AllocError> {
-    let mut path = String::from_str(alloc, "::")?;
-    let (is_anywhere, names) = match words.strip_prefix("::") {
-        Some(names) => (true, names),
-        None => (!words.contains("::"), words),
-    };
-    path.push_str(names)?;
-    Ok(Action::Find {
-        path,
-        is_anywhere,
-        has_members,
-    })
-}
-
 fn has_members(matches: &ArgMatches<'_>) -> bool {
     !matches.get_flag("no-members")
 }
 
-fn action_of(alloc: Global, name: &str, matches: &ArgMatches<'_>) -> Result<Action, AllocError> {
+/// What is done to find a path of names.
+fn finding(alloc: Global, matches: &ArgMatches<'_>) -> Result<Action, Failure> {
+    let words = matches.get_str("name").unwrap_or("");
+    let Some(sought) = sought_path(alloc, words)? else {
+        let message = format!(in alloc;
+            "find '{words}': this is neither a name, as f or r#fn, nor a path of names, as b::f or ::a::b::f"
+        )?;
+        return Err(Failure::Usage(message));
+    };
+    Ok(Action::Find {
+        sought,
+        has_members: has_members(matches),
+    })
+}
+
+fn action_of(alloc: Global, name: &str, matches: &ArgMatches<'_>) -> Result<Action, Failure> {
     match name {
         "outline" => {
             let depth = matches.get_one::<usize>("depth");
@@ -254,10 +257,7 @@ fn action_of(alloc: Global, name: &str, matches: &ArgMatches<'_>) -> Result<Acti
         }
         "imports" if matches.get_flag("duplicates") => Ok(Action::Duplicates),
         "imports" => Ok(Action::Imports),
-        "find" => {
-            let words = matches.get_str("name").unwrap_or("");
-            path_of_names(alloc, words, has_members(matches))
-        }
+        "find" => finding(alloc, matches),
         "tags" => {
             let lines = Vec::new(alloc);
             let has_members = has_members(matches);
@@ -281,7 +281,8 @@ fn finish(run: Run<'_>, matches: &ArgMatches<'_>) -> Result<u8, Failure> {
             write_tags(rt, matches.get_str("output").unwrap_or("tags"), lines)?;
             Ok(status)
         }
-        Action::Find { .. } => Ok(if has_written { status } else { 1 }),
+        Action::Find { .. } if !has_written => Ok(status.max(NOT_SO)),
+        Action::Find { .. } => Ok(status),
         Action::Outline { .. }
         | Action::Page { .. }
         | Action::Imports
@@ -290,7 +291,7 @@ fn finish(run: Run<'_>, matches: &ArgMatches<'_>) -> Result<u8, Failure> {
     }
 }
 
-/// Tells what became of a file in another. The status is that of `diff`: 0 where nothing did, and else 1.
+/// Tells what became of a file in another. The status is that of `diff`.
 fn tell(
     rt: &HostRuntime,
     old_path: &str,
@@ -305,17 +306,17 @@ fn tell(
     if lines.is_empty() {
         writeln!(rt.stdout(), "{old_path} and {new_path}: {ONLY_ORDER}")?;
     }
-    Ok(1)
+    Ok(NOT_SO)
 }
 
 /// Two files that there is no memory to compare.
 fn unmatched(rt: &HostRuntime, old: Source<'_>, new: Source<'_>) -> u8 {
     let (old_path, new_path) = (old.path, new.path);
     let _ = eprintln!(rt; "itemtree: {old_path} and {new_path}: out of memory");
-    2
+    FAILED
 }
 
-/// Lists the changes between two trees; status 2 where one cannot be had.
+/// Lists the changes between two trees, if both can be had.
 fn compare_trees(
     rt: &HostRuntime,
     options: &Options,
@@ -352,8 +353,7 @@ fn compare_seen(
     }
 }
 
-/// Lists the changes between two files, or between their trees where that is asked. The status is that of `diff`: 0 where
-/// they are equal, 1 where they differ, 2 where one cannot be read.
+/// Lists the changes between two files, or between their trees where that is asked. The status is that of `diff`.
 fn compare(
     rt: &HostRuntime,
     options: &Options,
@@ -383,13 +383,13 @@ fn compare(
 
 fn unread(rt: &HostRuntime, path: &str, error: impl Display + Drop) -> Result<u8, Failure> {
     let _ = eprintln!(rt; "itemtree: {path}: {error}");
-    Ok(2)
+    Ok(FAILED)
 }
 
 /// Does what a command line asks, and gives the status to end with.
 pub(crate) fn run_command(rt: &HostRuntime, matches: &ArgMatches<'_>) -> Result<u8, Failure> {
     let Some((name, inner)) = matches.subcommand() else {
-        return Ok(2);
+        return Ok(FAILED);
     };
     if name == "serve" {
         return answer_lines(rt);

@@ -1,5 +1,5 @@
-//! Answers what people ask of Rust files: what items they have, what they import, where a name is declared, what changed;
-//! and requests in JSON line by line.
+//! Lists the items, imports and declarations of Rust files, and what changed in them; and answers requests in JSON line by
+//! line.
 #![tactic(auto)]
 
 mod command_line;
@@ -12,10 +12,11 @@ mod tags;
 mod words;
 
 use crate::command_line::command;
-use crate::commands::{Failure, run_command};
+use crate::commands::{FAILED, Failure, run_command};
 use clap::error::ErrorKind;
 use clap::{ArgMatches, Error};
 use std::alloc::Global;
+use std::fmt::Display;
 use std::process::ExitCode;
 use std::{env, io};
 
@@ -34,39 +35,45 @@ fn parse<'a>(alloc: Global, words: &'a [String]) -> Result<ArgMatches<'a>, Error
     command.try_get_matches_from(words)
 }
 
-fn main(rt: HostRuntime) -> ExitCode {
-    let words: Vec<String> = match arguments(&rt) {
+/// Prints the help that is asked for, or what is wrong with a command line, and gives the status.
+fn print(rt: &HostRuntime, error: &Error) -> Result<u8, Failure> {
+    if error.kind() == ErrorKind::OutOfMemory {
+        let _ = eprintln!(rt; "itemtree: out of memory");
+        return Ok(FAILED);
+    }
+    let printed = error.print(rt);
+    if error.use_stderr() {
+        return Ok(FAILED);
+    }
+    printed?;
+    Ok(0)
+}
+
+fn run(rt: &HostRuntime) -> Result<u8, Failure> {
+    let words = match arguments(rt) {
         Ok(words) => words,
         Err(error) => {
-            let _ = eprintln!(rt; "itemtree: {error}");
-            return ExitCode::from(if error.kind() == io::ErrorKind::OutOfMemory {
-                1
-            } else {
-                2
-            });
+            let message = format!(in rt.alloc(); "the arguments: {error}")?;
+            return Err(Failure::Usage(message));
         }
     };
-    let matches = match parse(rt.alloc(), &words) {
-        Ok(matches) => matches,
-        Err(error) => {
-            if error.kind() == ErrorKind::OutOfMemory {
-                let _ = eprintln!(rt; "itemtree: out of memory");
-                return ExitCode::from(1);
-            }
-            let _ = error.print(&rt);
-            return ExitCode::from(if error.use_stderr() { 2 } else { 0 });
-        }
-    };
-    match run_command(&rt, &matches) {
+    match parse(rt.alloc(), &words) {
+        Ok(matches) => run_command(rt, &matches),
+        Err(error) => print(rt, &error),
+    }
+}
+
+/// Tells on standard error why a run ended early.
+fn failed(rt: &HostRuntime, reason: impl Display + Drop) -> ExitCode {
+    let _ = eprintln!(rt; "itemtree: {reason}");
+    ExitCode::from(FAILED)
+}
+
+fn main(rt: HostRuntime) -> ExitCode {
+    match run(&rt) {
         Ok(status) => ExitCode::from(status),
         Err(Failure::Closed) => ExitCode::SUCCESS,
-        Err(Failure::Usage(message)) => {
-            let _ = eprintln!(rt; "itemtree: {message}");
-            ExitCode::from(2)
-        }
-        Err(Failure::Other(error)) => {
-            let _ = eprintln!(rt; "itemtree: {error}");
-            ExitCode::from(1)
-        }
+        Err(Failure::Usage(message)) => failed(&rt, message),
+        Err(Failure::Other(error)) => failed(&rt, error),
     }
 }

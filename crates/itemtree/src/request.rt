@@ -1,5 +1,5 @@
 //! The request in JSON that `item_tree_tool` reads.
-use crate::commands::Failure;
+use crate::commands::{FAILED, Failure};
 use crate::files::{files_of_folder, is_a_folder, read};
 use crate::options::atoms_of;
 use clap::ArgMatches;
@@ -54,7 +54,7 @@ fn push_texts(rt: &HostRuntime, path: &str, texts: &mut Vec<String>) -> io::Resu
 /// Tells on standard error why there is no request.
 fn refused(rt: &HostRuntime, reason: &str) -> u8 {
     let _ = eprintln!(rt; "itemtree: {reason}");
-    1
+    FAILED
 }
 
 /// Writes the request. Where a file cannot be read, or the request cannot be written, nothing is.

@@ -11,6 +11,7 @@ pub mod ImportObjects
 pub mod Repeated
 pub mod Pages
 pub mod Search
+pub mod Sought
 pub mod Tags
 pub mod Views
 pub mod Inner

@@ -1,12 +1,14 @@
 -- What lines are made of, and those of problems.
-use Rattle.std.specs.Prelude.{ℕ, Bool, true, not, ◌&&◌, ◌||◌, ◌*◌, nat_lt, if◌then◌else◌, List, [], ◌++◌, codes, replicate, Option, Some, None}
+use Rattle.std.specs.Prelude.{ℕ, Bool, true, false, not, ◌&&◌, ◌||◌, ◌*◌, ◌==◌, nat_lt, if◌then◌else◌, List, [], ◌++◌, codes, length, replicate, Option, Some, None}
 use Rattle.std.specs.List.{flat_map}
 use Rattle.hir_input.specs.declared.ids.AstIdKind.{AstIdKind}
 use Rattle.hir_input.specs.declared.ids.AstIdKind.TheVariants as kind
 use Rattle.hir_input.specs.Name.{shown_name}
-use Rattle.hir_input.specs.Path.{shown_path}
+use Rattle.hir_input.specs.declared.mod_path.PathKind.{PathKind}
+use Rattle.hir_input.specs.declared.mod_path.PathKind.TheVariants.{Super, Crate}
+use Rattle.hir_input.specs.Path.{Path, shown_path}
 use Rattle.item_tree.specs.declared.visibility.RawVisibility.{RawVisibility}
-use Rattle.item_tree.specs.declared.visibility.RawVisibility.TheVariants.{PubSelf}
+use Rattle.item_tree.specs.declared.visibility.RawVisibility.TheVariants.{Module, PubSelf}
 use Rattle.item_tree.specs.declared.visibility.VisibilityExplicitness.TheVariants.{Implicit}
 use Rattle.item_tree.specs.Page.{shown_visibility}
 use Rattle.item_tree.specs.Tree.{Tree, single, glob, prefixed}
@@ -64,10 +66,24 @@ is_chosen c level is_active = is_within c.depth level && (not c.only_active || i
 abbrev pub is_listed : Choice → RowView → Bool
 is_listed c r = is_chosen c r.level r.is_active
 
+-- `self`, `super` and `crate`
+abbrev pub is_short_kind : PathKind → Bool
+is_short_kind (Super n) = nat_lt n 2
+is_short_kind Crate = true
+is_short_kind _ = false
+
+abbrev pub is_one_word : Path → Bool
+is_one_word path = if length path.names == 0 then is_short_kind path.kind else false
+
+-- the visibility of the module of a path: `in` stands before any path but these words
+abbrev pub visible_in : List (List ℕ) → Path → List ℕ
+visible_in reserved path = (if is_one_word path then codes "pub(" else codes "pub(in ") ++ shown_path reserved path ++ codes ")"
+
 -- a visibility is written where it was
 abbrev pub visibility_text : List (List ℕ) → Option RawVisibility → List ℕ
 visibility_text reserved None = []
 visibility_text reserved (Some (PubSelf Implicit)) = []
+visibility_text reserved (Some (Module path e)) = visible_in reserved path ++ codes " "
 visibility_text reserved (Some v) = shown_visibility reserved v
 
 abbrev pub name_text : List (List ℕ) → Option (List ℕ) → List ℕ

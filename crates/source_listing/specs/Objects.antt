@@ -21,7 +21,7 @@ use Rattle.listed_members.specs.Listed.{Listed, Reading, header_of, members_of}
 use Rattle.source_problems.specs.declared.problem.SourceProblemKind.{SourceProblemKind}
 use Rattle.source_problems.specs.Problems.{told_kind}
 use Rattle.source_listing.specs.declared.finder.Spot.{Spot}
-use Rattle.source_listing.specs.Lines.{Choice, Source, is_chosen, message, short_tree, word}
+use Rattle.source_listing.specs.Lines.{Choice, Source, is_chosen, message, short_tree, visible_in, word}
 use Rattle.source_listing.specs.Places.{place_of, spot_at}
 
 -- an item, and whether no cfg disables it, nor an item that it stands in, nor the file
@@ -61,7 +61,7 @@ visibility_form reserved (Some Public) = string (codes "pub")
 visibility_form reserved (Some PubCrate) = string (codes "pub(crate)")
 visibility_form reserved (Some (PubSelf Explicit)) = string (codes "pub(self)")
 visibility_form reserved (Some (PubSelf Implicit)) = null
-visibility_form reserved (Some (Module path e)) = string (codes "pub(in " ++ shown_path reserved path ++ codes ")")
+visibility_form reserved (Some (Module path e)) = string (visible_in reserved path)
 
 abbrev pub line_form : Option Spot → Data
 line_form None = null

@@ -1,7 +1,10 @@
 -- What the code holds, as plain data.
+use Rattle.std.specs.Prelude.{string_bytes}
 use Rattle.source_listing.specs.declared.lines.Source as code_source
 use Rattle.source_listing.specs.declared.lines.Choice as code_choice
 use Rattle.source_listing.specs.declared.search.Query as code_query
+use Rattle.source_listing.specs.declared.sought.SoughtPath as code_sought
+use Rattle.source_listing.specs.Sought.{Sought}
 use Rattle.source_listing.specs.Lines.{Source, Choice}
 use Rattle.source_listing.specs.Search.{Query}
 use Rattle.source_listing.specs.declared.changed.Side as code_side
@@ -18,3 +21,6 @@ query_view q = record { path = q.path.now; is_anywhere = q.is_anywhere; only_act
 
 abbrev pub side_view : code_side.Side → Side
 side_view s = record { source = source_view s.source; places = s.places.now }
+
+abbrev pub sought_view : code_sought.SoughtPath → Sought
+sought_view a = record { path = string_bytes a.path; is_anywhere = a.is_anywhere }

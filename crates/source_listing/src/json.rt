@@ -16,7 +16,7 @@ ghost use Rattle.source_listing.specs.Places.{AreDistinct, place_of, spot_at};
 ghost use Rattle.source_listing.specs.Views.{choice_view, source_view};
 
 use crate::finder::Spot;
-use crate::lines::{Choice, Printer, Source, word};
+use crate::lines::{Choice, Printer, Source, push_visible_in, word};
 use crate::subjects::push_short_tree;
 use def_collector::{name_at, visibility_at};
 use hir_input::{CfgOptions, Edition, FileAstId, Name};
@@ -138,8 +138,8 @@ fn visibility_value(
         Some(RawVisibility::Public) => Value::try_from_str(alloc, "pub"),
         Some(RawVisibility::PubCrate) => Value::try_from_str(alloc, "pub(crate)"),
         Some(RawVisibility::Module(path, _)) => {
-            let path = path.display(edition);
-            let text = format!(in alloc; "pub(in {path})")?;
+            let mut text = String::new(alloc);
+            push_visible_in(edition, path, &mut text)?;
             Ok(Value::String(text))
         }
     }

@@ -8,7 +8,7 @@ ghost use Rattle.source_listing.specs.Views.{choice_view, source_view};
 
 use crate::finder::{Finder, Spot};
 use crate::subjects::push_subject;
-use hir_input::{AstIdKind, Edition, FileAstId, Name};
+use hir_input::{AstIdKind, Edition, FileAstId, ModPath, Name, PathKind};
 use item_rows::Row;
 use item_tree::{RawVisibility, VisibilityExplicitness};
 use line_index::Position;
@@ -115,6 +115,34 @@ pub(crate) fn push_indent(level: usize, out: &mut String) -> Result<(), AllocErr
     Ok(())
 }
 
+/// Whether a visibility has this path without `in`: `self`, `super` or `crate`.
+fn is_one_word(path: &ModPath) -> bool
+    ensures { result ≡ spec.is_one_word path.now }
+{
+    if !path.segments().is_empty() {
+        return false;
+    }
+    match path.kind() {
+        PathKind::Super(count) => count < 2,
+        PathKind::Crate => true,
+        PathKind::Plain | PathKind::Abs | PathKind::DollarCrate(_) => false,
+    }
+}
+
+/// The visibility of the module of a path.
+pub(crate) fn push_visible_in(
+    edition: &Edition,
+    path: &ModPath,
+    out: &mut String,
+) -> Result<(), AllocError>
+    ensures { let text = spec.visible_in edition.now.reserved.items path.now in
+        OnOk result (string_bytes out.new ≡ string_bytes out.old ++ text) }
+{
+    out.push_str(if is_one_word(path) { "pub(" } else { "pub(in " })?;
+    let path = path.display(edition);
+    write!(out, "{path})")
+}
+
 /// A visibility as it was written, and a blank.
 pub(crate) fn push_visibility(
     edition: &Edition,
@@ -132,8 +160,8 @@ pub(crate) fn push_visibility(
         Some(RawVisibility::Public) => out.push_str("pub "),
         Some(RawVisibility::PubCrate) => out.push_str("pub(crate) "),
         Some(RawVisibility::Module(path, _)) => {
-            let path = path.display(edition);
-            write!(out, "pub(in {path}) ")
+            push_visible_in(edition, path, out)?;
+            out.push_str(" ")
         }
     }
 }

@@ -1,0 +1,56 @@
+-- How a path of names that is looked for is written.
+use Rattle.std.specs.Prelude.{ℕ, Bool, true, false, ◌==◌, nat_eq, if◌then◌else◌, List, [], ◌∷◌, ◌++◌, codes, length, drop, Option, Some, None, option_map, unwrap_or}
+use Rattle.std.specs.List.{slice_split, starts_with}
+use Rattle.std.specs.Option.{option_or}
+use Rattle.rust_lexer.specs.Identifier.{is_identifier}
+use Rattle.source_listing.specs.Search.{segment}
+
+-- a path that is looked for: names with two colons before each, from the top on or anywhere
+pub record Sought : Type 0 where
+  pub path : List ℕ
+  pub is_anywhere : Bool
+
+abbrev pub sought_from : Bool → List ℕ → Sought
+sought_from is_anywhere path = record { path = path; is_anywhere = is_anywhere }
+
+-- what stands in a text behind these bytes
+abbrev pub text_behind : List ℕ → List ℕ → Option (List ℕ)
+text_behind front text = if starts_with nat_eq text front then Some (drop (length front) text) else None
+
+-- a word without `r#`
+abbrev pub without_raw : List ℕ → List ℕ
+without_raw word = unwrap_or (text_behind (codes "r#") word) word
+
+-- the name that a word is, also with `r#`
+abbrev pub sought_name : List ℕ → Option (List ℕ)
+sought_name word = if is_identifier (without_raw word) then Some (without_raw word) else None
+
+-- the same of a word before a colon, if there is nothing between that and the next colon
+abbrev pub name_before : List ℕ → List ℕ → Option (List ℕ)
+name_before gap word = if length gap == 0 then sought_name word else None
+
+-- a name in front of others
+abbrev pub in_front : Option (List ℕ) → Option (List ℕ) → Option (List ℕ)
+in_front None names = None
+in_front (Some name) names = option_map (λ path. segment name ++ path) names
+
+-- the path of the names that stand between colons, two after each but the last
+abbrev pub joined_names : List (List ℕ) → Option (List ℕ)
+joined_names [] = None
+joined_names (word ∷ []) = option_map segment (sought_name word)
+joined_names (word ∷ gap ∷ words) = in_front (name_before gap word) (joined_names words)
+
+abbrev pub sought_names : List ℕ → Option (List ℕ)
+sought_names text = joined_names (slice_split (λ b. b == 58) text)
+
+-- what stands behind `::` or `crate::`, with which a path from the top begins
+abbrev pub behind_top : List ℕ → Option (List ℕ)
+behind_top text = option_or (text_behind (codes "::") text) (text_behind (codes "crate::") text)
+
+abbrev pub sought_by : Option (List ℕ) → List ℕ → Option Sought
+sought_by None text = option_map (sought_from true) (sought_names text)
+sought_by (Some names) text = option_map (sought_from false) (sought_names names)
+
+-- the path that a text is, if it is one
+abbrev pub sought : List ℕ → Option Sought
+sought text = sought_by (behind_top text) text

@@ -1,0 +1,136 @@
+//! Paths of names that are looked for, as they are written.
+ghost use Rattle.std.specs.Prelude.{◌≡◌, ◌++◌, ◌==◌, IfOk, OnOk, map, option_map, string_bytes};
+ghost use Rattle.std.specs.List.{slice_split};
+ghost use Rattle.source_listing.specs.Sought as spec;
+ghost use Rattle.source_listing.specs.Search.{segment};
+ghost use Rattle.source_listing.specs.Views.{sought_view};
+
+use rust_lexer::is_identifier;
+use std::alloc::{AllocError, Global};
+
+/// A path of names that is looked for.
+#[derive(Debug, Drop)]
+pub struct SoughtPath {
+    /// Its names with two colons before each, as `::a::b`.
+    pub path: String,
+    /// Whether it may begin in any module, and not at the top alone.
+    pub is_anywhere: bool,
+}
+
+/// What stands in a text behind another.
+fn text_behind<'a>(front: &str, text: &'a str) -> Option<&'a str>
+    ensures { option_map (λ rest. rest.now) result ≡ spec.text_behind front.now text.now }
+{
+    text.strip_prefix(front)
+}
+
+/// A word without `r#`.
+fn without_raw(word: &str) -> &str
+    ensures { result.now ≡ spec.without_raw word.now }
+{
+    match text_behind("r#", word) {
+        Some(name) => name,
+        None => word,
+    }
+}
+
+/// The name that a word is.
+fn sought_name(word: &str) -> Option<&str>
+    ensures { option_map (λ name. name.now) result ≡ spec.sought_name word.now }
+{
+    let name = without_raw(word);
+    if !is_identifier(name) {
+        return None;
+    }
+    Some(name)
+}
+
+/// The name that a word is, if there is nothing in the gap behind it.
+fn name_before<'a>(gap: &str, word: &'a str) -> Option<&'a str>
+    ensures { option_map (λ name. name.now) result ≡ spec.name_before gap.now word.now }
+{
+    if !gap.is_empty() {
+        return None;
+    }
+    sought_name(word)
+}
+
+fn push_name(name: &str, path: &mut String) -> Result<(), AllocError>
+    ensures { OnOk result (string_bytes path.new ≡ string_bytes path.old ++ segment name.now) }
+{
+    path.push_str("::")?;
+    path.push_str(name)
+}
+
+/// What stands between the colons of a text.
+fn words(alloc: Global, text: &str) -> Result<Vec<&str>, AllocError>
+    ensures { IfOk result (λ words. map (λ w. w.now) words.items ≡ slice_split (λ b. b == 58) text.now) }
+{
+    let mut words = Vec::new(alloc);
+    for word in text.split(':') {
+        words.push(word)?;
+    }
+    Ok(words)
+}
+
+/// The path of the names that stand between colons.
+#[tactic(auto, using(crate::proofs::Named::read_first))]
+fn joined_names(alloc: Global, words: &[&str]) -> Result<Option<String>, AllocError>
+    ensures { IfOk result (λ path. option_map string_bytes path ≡ spec.joined_names (map (λ w. w.now) words.now)) }
+{
+    let mut path = String::new(alloc);
+    let mut left = words;
+    while let [word, gap, rest @ ..] = left {
+        let Some(name) = name_before(gap, word) else {
+            return Ok(None);
+        };
+        push_name(name, &mut path)?;
+        left = rest;
+    }
+    let [word] = left else {
+        return Ok(None);
+    };
+    let Some(name) = sought_name(word) else {
+        return Ok(None);
+    };
+    push_name(name, &mut path)?;
+    Ok(Some(path))
+}
+
+/// What stands behind `::` or `crate::`.
+fn behind_top(text: &str) -> Option<&str>
+    ensures { option_map (λ names. names.now) result ≡ spec.behind_top text.now }
+{
+    match text_behind("::", text) {
+        Some(names) => Some(names),
+        None => text_behind("crate::", text),
+    }
+}
+
+fn sought_from(
+    alloc: Global,
+    is_anywhere: bool,
+    names: &str,
+) -> Result<Option<SoughtPath>, AllocError>
+    ensures { let path_is = option_map (spec.sought_from is_anywhere) (spec.sought_names names.now) in
+        IfOk result (λ sought. option_map sought_view sought ≡ path_is) }
+{
+    let words = words(alloc, names)?;
+    let Some(path) = joined_names(alloc, &words)? else {
+        return Ok(None);
+    };
+    Ok(Some(SoughtPath { path, is_anywhere }))
+}
+
+/// The path that a text is: names, also with `r#`, with two colons between each two, from the top on behind `::` or `crate::`,
+/// and else anywhere.
+///
+/// The only error is want of memory.
+pub fn sought_path(alloc: Global, text: &str) -> Result<Option<SoughtPath>, AllocError>
+    ensures { IfOk result (λ sought. option_map sought_view sought ≡ spec.sought text.now) }
+{
+    match behind_top(text) {
+        Some(names) => sought_from(alloc, false, names),
+        None => sought_from(alloc, true, text),
+    }
+}
