@@ -10,6 +10,7 @@ PROGRAM is itemtree, and TOOL is item_tree_tool. The parts, all of them where no
   beside the program and beside the same forms in Python
 - lines: lines that are empty, cut, long or in pieces, and streams that fail
 - places: what is told of texts, beside what `itemtree outline`, `imports`, `check` and `find` print of the same ones
+- typed: texts that are changed in ranges, beside the same texts set whole
 - random: random sessions, beside TOOL run anew on the edits so far, and beside a new session that is given them at once
 - damaged: edits, shows and first lines that are damaged at random, beside the forms in Python
 - noise: random bytes between good lines
@@ -71,6 +72,10 @@ def refused(number, error, told=None):
 
 def no_request(number, pointer, told=None):
     return refused(number, {'kind': 'not a request', 'pointer': pointer}, told)
+
+
+def not_changed(number, cause, place=0, told=None):
+    return refused(number, {'cause': cause, 'kind': 'text not changed', 'place': place}, told)
 
 
 class Silent(Exception):
@@ -256,6 +261,10 @@ def wrong_span(value):
     return list_of(wrong_u32)(value) if isinstance(value, list) and len(value) == 2 else []
 
 
+def wrong_range(value):
+    return list_of(wrong_u64)(value) if isinstance(value, list) and len(value) == 2 else []
+
+
 def wrong_ctxt(value):
     return wrong_u32(value) if type(value) is int else one_of('ROOT2015', 'ROOT2018', 'ROOT2021', 'ROOT2024')(value)
 
@@ -409,6 +418,7 @@ EDITS = {
     'set_block': [('block', wrong_u32, True), ATTRS, *BODY],
     'remove_block': [('block', wrong_u32, True)],
     'set_text': [('file', wrong_u32, True), ('text', wrong_string, True)],
+    'change_text': [('file', wrong_u32, True), ('range', wrong_range, True), ('text', wrong_string, True)],
 }
 
 
@@ -580,6 +590,13 @@ WRONG_EDITS = [
     ({'edit': 'set_text'}, '/file'), ({'edit': 'set_text', 'file': 1}, '/text'), ({'edit': 'set_text', 'file': 1, 'text': None}, '/text'),
     ({'edit': 'set_text', 'file': 1, 'text': ['fn f() {}']}, '/text'), ({'edit': 'set_text', 'text': 'fn f() {}'}, '/file'),
     ({'edit': 'set_text', 'file': -1, 'text': 0}, '/file'), ({'edit': 'set_text', 'block': 1, 'text': ''}, '/file'),
+    ({'edit': 'change_text', 'text': 0, 'range': 0}, '/file'), ({'edit': 'change_text', 'file': 2**32, 'range': 0, 'text': 0}, '/file'),
+    *(({'edit': 'change_text', 'file': 1, 'text': 0, 'range': span}, '/range' + pointer) for span, pointer in [
+        (None, ''), (0, ''), ('0..1', ''), ({}, ''), ([], ''), ([0], ''), ([0, 0, 0], ''), (['', '', ''], ''), ([None, 0], '/0'),
+        ([-1, ''], '/0'), ([0, '1'], '/1'), ([LAST, True], '/1')]),
+    ({'edit': 'change_text', 'file': 1, 'range': [0, 0.5], 'text': ''}, ''), ({'edit': 'change_text', 'file': 1, 'range': [0, 2**64]}, ''),
+    ({'edit': 'change_text', 'file': 1, 'text': ''}, '/range'), ({'edit': 'change_text', 'file': 1, 'range': [0, 0]}, '/text'),
+    ({'edit': 'change_text', 'file': 1, 'range': [LAST, 0], 'text': 0}, '/text'),
 ]
 WRONG_SHOWS = [
     (0, ''), (None, ''), ('page', ''), ([], ''), ({}, '/show'), ({'show': 'all', 'crate': -1}, '/show'), ({'show': 1}, '/show'),
@@ -641,6 +658,7 @@ GOOD_EDITS = [
         {'item': item} for item in GOOD_ITEMS]}},
     {'edit': 'set_file', 'file': 3, 'syntax': {'root': 'error', 'items': 0, 'tail': 0}}, {'edit': 'remove_file', 'file': 3, 'syntax': 0},
     {'edit': 'remove_block', 'block': 0, 'file': ''}, {'edit': 'set_cfg', 'crate': 0}, {'edit': 'set_text', 'file': 0, 'text': ''},
+    {'edit': 'change_text', 'file': 0, 'range': [0, 0], 'text': 'fn f() {}'},
     {'edit': 'set_cfg', 'crate': 0, 'cfg': ['a', {'key': 'a', 'value': 'a\nb', 'not': 0}], 'file': -1},
     *({'edit': 'set_file', 'file': 3, 'syntax': {'root': root}} for root in ('source_file', 'macro_items', 'macro_stmts')),
 ]
@@ -1149,6 +1167,65 @@ def check_places(options):
                 ends_well(server, 'places')
 
 
+# ---- texts that are changed
+
+def check_one_changed(server, whole, file, edits, text):
+    """A line of edits of one file, beside a session in which the text is set whole."""
+    shows = told_of(file) + [{'show': 'find', 'name': 'f'}]
+    got = json.loads(server.ask({'edits': edits, 'shows': shows}))
+    wanted = json.loads(whole.ask({'edits': [{'edit': 'set_text', 'file': file, 'text': text}], 'shows': shows}))
+    tell(got.get('shows') == wanted['shows'], f'{shown(written(edits))} is the text {text!r}', got, wanted)
+
+
+def check_typed(options):
+    """Texts that become others in steps, those of a line one behind the other."""
+    chance, found = random.Random(f'{options.seed} typed'), texts() + ['é', 'aé😀\nfn f() {}', '\ufeff// é\nfn f() {}']
+    with Server(options.program) as server, Server(options.program) as whole:
+        server.ask(OPENED)
+        whole.ask(OPENED)
+        for _ in range(400):
+            file, steps = chance.randrange(3), [chance.choice(found) for _ in range(chance.randrange(1, 5))]
+            edits = [{'edit': 'set_text', 'file': file, 'text': steps[0]}]
+            edits += [changing(chance, file, old, new) for old, new in zip(steps, steps[1:])]
+            check_one_changed(server, whole, file, edits, steps[-1])
+            last = chance.choice(found)
+            check_one_changed(server, whole, file, [changing(chance, file, steps[-1], last)], last)
+        ends_well(server, 'typed')
+        ends_well(whole, 'set whole')
+    check_unchanged(options.program)
+
+
+# A text of nine bytes, characters of which begin at 0, 1, 3, 7 and 8; ranges of it, and why they cannot be replaced.
+MIXED = 'aé😀b\n'
+UNCHANGED = [([0, 10], 'range not in the text'), ([10, 10], 'range not in the text'), ([10, 9], 'range not in the text'),
+             ([1, 0], 'range not in the text'), ([3, 1], 'range not in the text'), ([0, LAST], 'range not in the text'),
+             ([LAST, LAST], 'range not in the text'), ([2, 1], 'range not in the text'), ([0, 2], 'range cuts a character'),
+             ([2, 2], 'range cuts a character'), ([2, 3], 'range cuts a character'), ([4, 7], 'range cuts a character'),
+             ([1, 6], 'range cuts a character'), ([5, 9], 'range cuts a character')]
+
+
+def check_unchanged(program):
+    """Texts that cannot be changed: nothing of the line is done."""
+    change = {'edit': 'change_text', 'file': 1, 'range': [0, 0], 'text': 'x'}
+    mixed = {'edit': 'set_text', 'file': 1, 'text': MIXED}
+    lines = [({'id': 'a', **OPENED, 'edits': [SET, change], 'shows': [PAGE]}, not_changed(0, 'no text', 1, 'a')),
+             ({'shows': [PAGE]}, answered(0, ['\n'])), ({'edits': [change]}, not_changed(0, 'no text')),
+             ({'edits': [mixed, SET, change]}, not_changed(0, 'no text', 2)), ({'edits': [mixed]}, answered(1, []))]
+    for span, cause in UNCHANGED:
+        lines.append(({'edits': [SET, mixed, {**change, 'range': span}]}, not_changed(1, cause, 2)))
+        lines.append(({'edits': [{**change, 'range': span}, FAR, change], 'shows': [PAGE]}, not_changed(1, cause)))
+    lines += [({'edits': [FAR, {**change, 'range': [9, 9]}]}, not_changed(1, 'no text', 1)),
+              ({'edits': [{**change, 'range': [0, 9], 'text': 'fn f() {}'}], 'shows': [PAGE]}, answered(2, [PAGED])),
+              ({'edits': [{'edit': 'remove_file', 'file': 1}, change]}, not_changed(2, 'no text', 1)),
+              ({'edits': [{'edit': 'remove_file', 'file': 2}, {'edit': 'set_block', 'block': 1}, {**change, 'range': [9, 9]}],
+                'shows': [PAGE]}, answered(5, [PAGED]))]
+    for start, end, text in ((0, 0, ''), (0, 10, '')):
+        lines.append(({'edits': [{**change, 'range': [start, end], 'text': text}]}, answered(6 + bool(end), [])))
+    lines += [({'shows': [PAGE]}, answered(7, ['\n'])), ({'edits': [{**change, 'range': [0, 1]}]}, not_changed(7, 'range not in the text')),
+              ({'edits': [{**change, 'text': 'fn f() {}'}], 'shows': [PAGE]}, answered(8, [PAGED]))]
+    check_lines(program, 'a text that cannot be changed', lines)
+
+
 # ---- random sessions
 
 def parts(value):
@@ -1188,6 +1265,27 @@ FLAGS = ['test', 'unix', 'a', {'key': 'feature', 'value': 'x'}]
 NAMES = ['f', 'g', 'area', 'a', 'type']
 
 
+def text_after(edits, file):
+    """The text of a file after edits, or None where it has none."""
+    text = None
+    for edit in edits:
+        if edit.get('file') == file and edit['edit'] == 'change_text':
+            start, end = edit['range']
+            text = (text.encode()[:start] + edit['text'].encode() + text.encode()[end:]).decode()
+        elif edit.get('file') == file:
+            text = edit.get('text')
+    return text
+
+
+def changing(chance, file, old, new):
+    """The edit that makes another text of a file's, and leaves a part that both begin and one that both end with."""
+    most = min(len(old), len(new))
+    front = chance.randrange(len(os.path.commonprefix([old, new])) + 1)
+    back = chance.randrange(min(len(os.path.commonprefix([old[::-1], new[::-1]])), most - front) + 1)
+    start, end = len(old[:front].encode()), len(old[:len(old) - back].encode())
+    return {'edit': 'change_text', 'file': file, 'range': [start, end], 'text': new[front:len(new) - back]}
+
+
 class Random:
     """A random session, made line by line."""
 
@@ -1221,8 +1319,8 @@ class Random:
         item['body'] = self.chance.choice(['', '{ 1 }'])
         return item
 
-    def edit(self):
-        """An edit as it is sent, and as TOOL reads it."""
+    def edit(self, before=()):
+        """An edit behind those of its line, as it is sent, and as TOOL reads it."""
         chance, material = self.chance, self.material
         file, block = chance.randrange(4), chance.randrange(2)
         kind = chance.choice(['stored', 'made', 'made', 'text', 'text', 'remove_file', 'set_block', 'remove_block', 'set_cfg'])
@@ -1236,7 +1334,8 @@ class Random:
             edit = {'edit': 'remove_block', 'block': block}
         elif kind == 'text':
             at = chance.randrange(len(material.texts))
-            return ({'edit': 'set_text', 'file': file, 'text': material.texts[at]},
+            old, new = text_after(self.sent + [edit for edit, _ in before], file), material.texts[at]
+            return ({'edit': 'set_text', 'file': file, 'text': new} if old is None else changing(chance, file, old, new),
                     {'edit': 'set_file', 'file': file, 'syntax': material.read[self.opening['edition'].get('year', 2024)][at]})
         else:
             syntax = (chance.choice(material.syntaxes) if kind == 'stored' else
@@ -1255,7 +1354,7 @@ class Random:
         return self.start + len(self.made)
 
     def wrong_line(self, is_first):
-        """A line that changes nothing, and the kind of its error and its pointer."""
+        """A line that changes nothing, and the kind of its error and its pointer or its place."""
         edits = [self.edit()[0] for _ in range(self.chance.randrange(2))]
         opening = self.opening if is_first else {}
         (item, of_item), (statement, of_statement) = self.chance.choice(WRONG_ITEMS), self.chance.choice(WRONG_STATEMENTS)
@@ -1274,6 +1373,8 @@ class Random:
         ]
         if not is_first:
             lines.append(({'crates': [{'root': 0}], 'edits': edits}, 'not a request', '/crates'))
+            change = {'edit': 'change_text', 'file': 9, 'range': [0, 0], 'text': ''}
+            lines.append(({'edits': edits + [change]}, 'text not changed', len(edits)))
         return self.chance.choice(lines)
 
 
@@ -1304,18 +1405,23 @@ def try_wrong_line(server, case, is_first):
     got = server.ask(line)
     error = json.loads(got).get('error', {})
     number = None if is_first else case.number()
-    wanted = refused(number, {'column': error.get('column'), 'kind': kind} if kind == 'not JSON' else {'kind': kind, 'pointer': pointer})
+    wanted = refused(number, {'column': error.get('column'), 'kind': kind} if kind == 'not JSON' else
+                     {'cause': 'no text', 'kind': kind, 'place': pointer} if kind == 'text not changed' else
+                     {'kind': kind, 'pointer': pointer})
     want(got == wanted, 'a line of wrong form', line if isinstance(line, bytes) else written(line), got, wanted)
 
 
 def try_good_line(server, tool, case, told, is_first):
-    edits = [case.edit() for _ in range(case.chance.choice([0, 1, 1, 1, 2, 3]))]
+    edits = []
+    for _ in range(case.chance.choice([0, 1, 1, 1, 2, 3])):
+        edits.append(case.edit(edits))
     shows = [case.show() for _ in range(case.chance.randrange(4))]
     room, cause = LAST - case.number(), 'too many edits'
     at = min(len(edits), room)
     if case.crates and case.chance.random() < 0.1:
         place = case.chance.randrange(len(edits) + 1)
-        edits.insert(place, (FAR, FAR))
+        far = {**FAR, 'file': 9}
+        edits.insert(place, (far, far))
         if place < room:
             at, cause = place, 'too many supers'
         else:
@@ -1472,7 +1578,8 @@ def check_damaged_lines(program, case, crates, count):
             if steps is None and not has_long_path(value, 100):
                 right += 1
                 answer = json.loads(server.ask({key: [value]}))
-                tell(answer.get('error', {}).get('kind') in (None, 'edit refused'), f'good {key}: {shown(written(value))}', answer)
+                tell(answer.get('error', {}).get('kind') in (None, 'edit refused', 'text not changed'),
+                     f'good {key}: {shown(written(value))}', answer)
                 number = answer['number']
         ends_well(server, 'damaged lines')
     return right
@@ -1630,7 +1737,8 @@ def check_many(options):
     print(f'serve: 10,000 edits took {marks[10][0]:.2f} s and {marks[10][1]} kB')
 
 
-PARTS = {'examples': check_examples, 'errors': check_errors, 'lines': check_line_forms, 'places': check_places, 'random': check_random,
+PARTS = {'examples': check_examples, 'errors': check_errors, 'lines': check_line_forms, 'places': check_places, 'typed': check_typed,
+         'random': check_random,
          'damaged': check_random_wrong_forms, 'noise': check_noise, 'unread': check_unread, 'many': check_many}
 
 

@@ -12,10 +12,12 @@ mod reply;
 mod session;
 mod show;
 mod shown;
+mod splice;
 mod texts;
 
 pub use conversation::Conversation;
 pub use edit::LineEdit;
 pub use error::LineError;
 pub use show::LineShow;
+pub use splice::ChangeFault;
 pub use texts::SourceText;
