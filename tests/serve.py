@@ -218,6 +218,12 @@ def first_wrong(members):
     return None
 
 
+def unknown_key(value, known):
+    """The step to the first key that is none of these, by its bytes. A null counts as absent."""
+    unknown = [key for key in value if key not in known and value[key] is not None] if isinstance(value, dict) else []
+    return [min(unknown, key=str.encode).replace('~', '~0').replace('/', '~1')] if unknown else None
+
+
 def wrong_keys(value, keys):
     """A null counts as absent, and no form of a required key takes a null."""
     if not isinstance(value, dict):
@@ -353,13 +359,13 @@ def holds_float(value):
 
 def wrong_edit(value, crates):
     """With that many crates. A float anywhere makes it wrong as a whole."""
-    return [] if holds_float(value) else wrong_kind(value, 'edit', {**EDITS, 'set_cfg': [
+    return [] if holds_float(value) else unknown_key(value, EDIT_KEYS) or wrong_kind(value, 'edit', {**EDITS, 'set_cfg': [
         ('crate', number_up_to(crates - 1), True), ('cfg', list_of(wrong_atom), False)]})
 
 
 def wrong_show(value, crates):
-    if holds_float(value):
-        return []
+    if holds_float(value) or unknown_key(value, SHOW_KEYS):
+        return [] if holds_float(value) else unknown_key(value, SHOW_KEYS)
     krate, file, block = ('crate', number_up_to(crates - 1), True), ('file', wrong_u32, True), ('block', wrong_u32, True)
     place = file if isinstance(value, dict) and value.get('file') is not None else block
     return wrong_kind(value, 'show', {
@@ -377,7 +383,7 @@ def wrong_edition(value):
 
 def wrong_opening(value):
     """The keys of a first line that set up its session."""
-    return wrong_keys(value, [('crates', list_of(wrong_crate), False), ('skipped', list_of(wrong_name), False),
+    return unknown_key(value, LINE_KEYS) or wrong_keys(value, [('crates', list_of(wrong_crate), False), ('skipped', list_of(wrong_name), False),
                               ('edition', wrong_edition, False), ('start', wrong_u64, False)])
 
 
@@ -420,6 +426,9 @@ EDITS = {
     'set_text': [('file', wrong_u32, True), ('text', wrong_string, True)],
     'change_text': [('file', wrong_u32, True), ('range', wrong_range, True), ('text', wrong_string, True)],
 }
+LINE_KEYS = ['id', 'crates', 'skipped', 'edition', 'start', 'edits', 'shows']
+EDIT_KEYS = ['edit', 'file', 'block', 'crate', 'syntax', 'attrs', 'stmts', 'tail', 'cfg', 'text', 'range']
+SHOW_KEYS = ['show', 'crate', 'file', 'block', 'since', 'name']
 
 
 # ---- errors
@@ -573,6 +582,8 @@ WRONG_SYNTAXES = [
 ]
 WRONG_EDITS = [
     (0, ''), (None, ''), ('set_file', ''), ([], ''), ({}, '/edit'), ({'edit': 'set'}, '/edit'), ({'edit': None}, '/edit'),
+    ({**SET, 'files': 1}, '/files'), ({'edti': 'set_file', 'fil': 0, 'edit': 0}, '/edti'), ({'Edit': 'set', 'é': 0, 'z': 0}, '/Edit'),
+    ({**SET, 'é': 0, '😀': 0}, '/é'), ({**SET, 'a/~b~1': 0}, '/a~1~0b~01'), ({**SET, '': 0}, '/'), ({**SET, 'shows': None, 'edits': []}, '/edits'),
     ({'edit': []}, '/edit'), ({'edit': 'set_file', 'file': 1}, '/syntax'), ({**SET, 'file': -1}, '/file'),
     ({**SET, 'file': 2**32}, '/file'), ({**SET, 'file': None}, '/file'), ({**SET, 'syntax': None}, '/syntax'),
     ({'syntax': 0, 'file': '1', 'edit': 'set_file'}, '/file'),
@@ -600,6 +611,7 @@ WRONG_EDITS = [
 ]
 WRONG_SHOWS = [
     (0, ''), (None, ''), ('page', ''), ([], ''), ({}, '/show'), ({'show': 'all', 'crate': -1}, '/show'), ({'show': 1}, '/show'),
+    ({**PAGE, 'crates': 0}, '/crates'), ({'sow': 'page', 'edit': 'set_file'}, '/edit'), ({**PAGE, 'text': '', 'Show': ''}, '/Show'),
     ({'show': None}, '/show'), ({'show': 'page', 'crate': 0}, '/block'), ({'show': 'page'}, '/crate'), ({**PAGE, 'crate': 1}, '/crate'),
     ({**PAGE, 'crate': None}, '/crate'), ({'file': '', 'crate': 1, 'show': 'page'}, '/crate'), ({**PAGE, 'file': 'x'}, '/file'),
     ({**PAGE, 'file': -1, 'block': 0}, '/file'), ({**PAGE, 'file': None, 'block': ''}, '/block'), ({**PAGE, 'noted': 1e3}, ''),
@@ -650,7 +662,7 @@ GOOD_ITEMS = [
 ]
 GOOD_EDITS = [
     {'edit': 'set_block', 'block': 2**32 - 1},
-    {'edit': 'set_block', 'block': 0, 'attrs': GOOD_METAS, 'tail': {'call': GOOD_CALLS[1], 'item': 0}, 'items': 0,
+    {'edit': 'set_block', 'block': 0, 'attrs': GOOD_METAS, 'tail': {'call': GOOD_CALLS[1], 'item': 0}, 'items': None,
      'stmts': ['other', {'item': FUNCTION, 'call': 0}, *({'call': call, 'item': None} for call in GOOD_CALLS)]},
     {'edit': 'set_file', 'file': 2, 'syntax': {'root': 'source_file', 'attrs': GOOD_METAS, 'items': GOOD_ITEMS, 'stmts': 0}, 'crate': 9},
     {'edit': 'set_file', 'file': 3, 'syntax': {'root': 'macro_items', 'attrs': 0, 'items': GOOD_ITEMS[::-1]}},
@@ -782,6 +794,10 @@ def check_wrong_forms(program):
     for line, pointer in WRONG_TEXTS:
         first.append((line, no_request(None, pointer)))
         later.append((line, no_request(0, pointer)))
+    for line, pointer in (({'edit': 'set_text', 'file': 0, 'text': ''}, '/edit'), ({'edits': 0, 'edit': []}, '/edit'), ({'a~/': 0}, '/a~0~1'),
+                          ({'Id': 1, 'noted': [], 'show': 'page'}, '/Id'), ({'crates': 0, 'edits': 0, 'z': [0.5], 'y': None}, '/z')):
+        first.append(({**line, 'id': 1}, no_request(None, pointer, 1)))
+        later.append(({**line, 'id': 1}, no_request(0, pointer, 1)))
     first.append(({'shows': [PAGE]}, no_request(None, '/shows/0/crate')))
     first.append(({'edits': [{'edit': 'set_cfg', 'crate': 0}]}, no_request(None, '/edits/0/crate')))
     later.append(({'edits': [SET] * 10 + [{'edit': 'set_cfg', 'crate': 1}]}, no_request(0, '/edits/10/crate')))
@@ -847,13 +863,13 @@ def check_forms():
 
 
 def check_good_forms(program):
-    """Ids come back, other keys are ignored, of two equal keys the last one counts, and a first line has defaults."""
+    """Ids come back, keys of others are ignored, of two equal keys the last one counts, and a first line has defaults."""
     lines = [({'id': told}, answered(0, [], told)) for told in IDS]
     lines += [
         (b'{"id":1,"id":2}', answered(0, [], 2)),
         (b'{"id":0.5,"id":"last"}', answered(0, [], 'last')),
         (b' {\t"id" : "\\u00e9\\/" } \r', answered(0, [], 'é/')),
-        ({'Id': 1, 'noted': [], 'show': 'page'}, answered(0, [])),
+        ({'Id': None, 'noted': None}, answered(0, [])),
         ({'shows': [{'show': 'changed', 'since': 0, 'crate': 'x'}]}, answered(0, [''])),
         ({'shows': [{'show': 'find', 'name': 'f'}, {'show': 'problems', 'file': 2**32 - 1}]}, answered(0, [[], []])),
     ]

@@ -8,6 +8,8 @@ use Rattle.item_tree_db.specs.Edits as table
 use Rattle.item_tree_request.specs.Edits as request
 use Rattle.item_tree_request.specs.Named.{EditNamesCrate}
 use Rattle.rust_paths.specs.declared.names.TextRange.{TextRange}
+use Rattle.source_session.specs.declared.keys.LineObject.TheVariants.{OfEdits}
+use Rattle.source_session.specs.Keys.{only_known}
 use Rattle.source_session.specs.declared.edit.LineEdit as code
 use Rattle.source_session.specs.declared.edit.LineEdit.TheVariants.{Table, SetText, ChangeText}
 
@@ -66,6 +68,7 @@ change_edit d = do
 abbrev pub edit : ℕ → Data → Reading LineEdit
 edit count d = do
   _ ← members_in d
+  _ ← only_known OfEdits d
   word ← required_at (codes "edit") text d
   on_word word (codes "set_text") (text_edit d) (on_word word (codes "change_text") (change_edit d) (reading_map of_table (request.edit count d)))
 

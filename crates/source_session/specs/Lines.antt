@@ -6,6 +6,8 @@ use Rattle.hir_input_json.specs.Reading.{Reading, right, ◌>>=◌}
 use Rattle.hir_input_json.specs.Editions.{EditionView, edition_at}
 use Rattle.hir_input_json.specs.Forms.{field, optional_at, by_first, wrong_at, whole, name, list_at}
 use Rattle.item_tree_request.specs.Edits.{crate_data}
+use Rattle.source_session.specs.declared.keys.LineObject.TheVariants.{Whole}
+use Rattle.source_session.specs.Keys.{only_known}
 use Rattle.source_session.specs.declared.show.LineShow.{LineShow}
 use Rattle.source_session.specs.Edits.{LineEdit, line_edit}
 use Rattle.source_session.specs.Shows.{line_show}
@@ -55,6 +57,7 @@ no_settings d = do
 -- the line that opens a session
 abbrev pub first_line : Data → Reading (Settings × Asked)
 first_line d = do
+  _ ← only_known Whole d
   opened ← settings d
   rest ← asked (length opened.crates) d
   right (opened, rest)
@@ -62,5 +65,6 @@ first_line d = do
 -- a line of a session with this many crates
 abbrev pub later_line : ℕ → Data → Reading Asked
 later_line count d = do
+  _ ← only_known Whole d
   _ ← no_settings d
   asked count d

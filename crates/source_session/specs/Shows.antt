@@ -8,6 +8,8 @@ use Rattle.hir_input_json.specs.Reading.{Reading, right, wrong, reading_map, her
 use Rattle.hir_input_json.specs.Forms.{required_at, on_word, id_at, below, text, name, members_in}
 use Rattle.item_tree_request.specs.Named as request
 use Rattle.item_tree_request.specs.Shows as request_shows
+use Rattle.source_session.specs.declared.keys.LineObject.TheVariants.{OfShows}
+use Rattle.source_session.specs.Keys.{only_known}
 use Rattle.source_session.specs.declared.show.LineShow.{LineShow}
 use Rattle.source_session.specs.declared.show.LineShow.TheVariants.{Table, Outline, ImportPlaces, Problems, Find}
 
@@ -46,6 +48,7 @@ show_by count word d =
 abbrev pub show : ℕ → Data → Reading LineShow
 show count d = do
   _ ← members_in d
+  _ ← only_known OfShows d
   word ← required_at (codes "show") text d
   show_by count word d
 

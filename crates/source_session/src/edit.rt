@@ -6,6 +6,7 @@ ghost use Rattle.hir_input_json.specs.Held.{held};
 ghost use Rattle.hir_input_json.specs.Reads.{Reads};
 ghost use Rattle.source_session.specs.Edits.{edit as edit_form, line_edit, text_edit, change_edit, range as range_form, short_text, edit_view, IsUsable, IsShort};
 
+use crate::keys::{LineObject, only_known};
 use hir_input::HirFileId;
 use hir_input_json::float::has_float;
 use hir_input_json::member::{field, id_at, members_of, taken, word_at};
@@ -114,6 +115,7 @@ fn members_edit(
     ensures reads { Reads edit_view result (edit_form count (held members.old)) }
     ensures usable { IfOk result (IsUsable count) }
 {
+    only_known(alloc, members, LineObject::OfEdits)?;
     match word_at(alloc, members, "edit")? {
         "set_text" => set_text_of(alloc, members),
         "change_text" => change_text_of(alloc, members),

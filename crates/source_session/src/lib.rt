@@ -5,6 +5,7 @@
 mod conversation;
 mod edit;
 mod error;
+mod keys;
 mod laws;
 mod line;
 mod meaning;

@@ -11,6 +11,7 @@ ghost use Rattle.source_session.specs.LineViews.{asked_view, first_view, setting
 ghost use Rattle.source_session.specs.Shows.{NamesCrate, line_show};
 
 use crate::edit::{LineEdit, edit_of};
+use crate::keys::{LineObject, only_known};
 use crate::show::{LineShow, show_of};
 use hir_input::{Edition, Name};
 use hir_input_json::edition::edition_at;
@@ -154,6 +155,7 @@ pub(crate) fn first_line(alloc: Global, mut members: Map<String, Value>) -> Resu
     ensures reads { Reads first_view result (spec.first_line (held members)) }
     ensures own { IfOk result (λ first. IsOwn (length first.settings.crates.items) first.asked) }
 {
+    only_known(alloc, &members, LineObject::Whole)?;
     let settings = settings_in(alloc, &mut members)?;
     let asked = asked_in(alloc, &mut members, settings.crates.len())?;
     Ok(First { settings, asked })
@@ -168,6 +170,7 @@ pub(crate) fn later_line(
     ensures reads { Reads asked_view result (spec.later_line count (held members)) }
     ensures own { IfOk result (IsOwn count) }
 {
+    only_known(alloc, &members, LineObject::Whole)?;
     no_settings_in(alloc, &members)?;
     asked_in(alloc, &mut members, count)
 }

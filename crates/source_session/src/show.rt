@@ -5,6 +5,7 @@ ghost use Rattle.hir_input_json.specs.Held.{held};
 ghost use Rattle.hir_input_json.specs.Reads.{Reads};
 ghost use Rattle.source_session.specs.Shows.{NamesCrate, IsNamed, crate_in, file_in, name_in, show as show_form, show_by, line_show};
 
+use crate::keys::{LineObject, only_known};
 use hir_input::{Crate, HirFileId, Name};
 use hir_input_json::float::has_float;
 use hir_input_json::member::{id_at, members_of, required_at, word_at};
@@ -64,6 +65,7 @@ fn members_show(
     ensures reads { Reads (λ show. show) result (show_form count (held members.old)) }
     ensures known { IfOk result (NamesCrate count) }
 {
+    only_known(alloc, members, LineObject::OfShows)?;
     match word_at(alloc, members, "show")? {
         "outline" => {
             let krate = crate_at(alloc, members, count)?;
