@@ -1164,16 +1164,41 @@ def check_editions(program):
             ends_well(server, 'editions')
 
 
+# The attributes that are left out where none are named.
+USUAL_SKIPPED = ['doc', 'stable', 'unstable', 'target_feature', 'allow', 'expect', 'warn', 'deny', 'forbid', 'repr', 'inline',
+                 'track_caller', 'must_use']
+
+
+def check_skipped(program):
+    """Typing in documentation is no change, unless the names that are skipped are others."""
+    text = {'edit': 'set_text', 'file': 1, 'text': '/// a\n#[inline]\n#[b] fn f() {}'}
+    changed = [PAGE, {'show': 'changed', 'since': 1}]
+    for skipped in ({}, {'skipped': None}):
+        check_lines(program, 'what is left out', [
+            ({**OPENED, **skipped, 'edits': [text], 'shows': [PAGE]}, answered(1, ['#[b]\n' + PAGED])),
+            ({'edits': [{**text, 'text': text['text'].replace('a', 'b')}], 'shows': changed}, answered(2, ['#[b]\n' + PAGED, '']))])
+    for skipped, page in ((['doc'], '#[inline]\n#[b]\n'), (['doc', 'b'], '#[inline]\n'), (['doc', 'inline', 'b', 'a'], '')):
+        check_lines(program, f'{skipped} left out', [({**OPENED, 'skipped': skipped, 'edits': [text], 'shows': [PAGE]}, answered(1, [page + PAGED]))])
+    for skipped in ([], ['inline']):
+        with Server(program) as server:
+            server.ask({**OPENED, 'skipped': skipped, 'edits': [text]})
+            got = server.ask({'edits': [{**text, 'text': '/// b\n#[inline]\n#[b] fn f() {}'}], 'shows': changed[1:]})
+            tell(got == answered(2, ['crate 0 file 1 change 2\n']), 'documentation that is not left out', got)
+            ends_well(server, 'documentation')
+
+
 def check_places(options):
     program, found = options.program, texts()
     check_found(program)
     check_editions(program)
+    check_skipped(program)
     with tempfile.TemporaryDirectory() as folder:
         for cfg in ([], ['--cfg', 'test', '--cfg', 'feature="extra"']):
             request, paths = request_of(program, found, folder, *cfg)
             edits = [{'edit': 'set_text', 'file': file, 'text': text} for file, text in enumerate(found)]
             with Server(program) as server:
-                opening = {key: request[key] for key in ('crates', 'edition', 'skipped')}
+                tell(request['skipped'] == USUAL_SKIPPED, 'what the commands leave out', request['skipped'], USUAL_SKIPPED)
+                opening = {key: request[key] for key in ('crates', 'edition')}
                 got = server.ask({**opening, 'edits': edits})
                 tell(got == answered(len(found), []), 'texts are set', got, answered(len(found), []))
                 outlines = [check_text(server, program, path, file, cfg) for file, path in enumerate(paths)]
