@@ -259,6 +259,10 @@ def wrong_name(value):
     return None if isinstance(value, str) and value and '\n' not in value else []
 
 
+def wrong_asked_name(value):
+    return wrong_name(value.removeprefix('r#') if isinstance(value, str) else value)
+
+
 def wrong_truth(value):
     return None if isinstance(value, bool) else []
 
@@ -370,7 +374,7 @@ def wrong_show(value, crates):
     place = file if isinstance(value, dict) and value.get('file') is not None else block
     return wrong_kind(value, 'show', {
         'page': [krate, place], 'tree': [krate, place], 'imports': [krate, place], 'changed': [('since', wrong_u64, True)],
-        'outline': [krate, file], 'import_places': [krate, file], 'problems': [file], 'find': [('name', wrong_name, True)]})
+        'outline': [krate, file], 'import_places': [krate, file], 'problems': [file], 'find': [('name', wrong_asked_name, True)]})
 
 
 def wrong_crate(value):
@@ -626,7 +630,8 @@ WRONG_SHOWS = [
     ({'show': 'import_places', 'crate': 1, 'file': 1}, '/crate'), ({'show': 'import_places', 'crate': 0, 'file': ''}, '/file'),
     ({'show': 'problems'}, '/file'), ({'show': 'problems', 'file': -1}, '/file'), ({'show': 'problems', 'block': 0}, '/file'),
     ({'show': 'find'}, '/name'), ({'show': 'find', 'name': 1}, '/name'), ({'show': 'find', 'name': None}, '/name'),
-    ({'show': 'find', 'name': ''}, '/name'), ({'show': 'find', 'name': 'a\nb'}, '/name'),
+    ({'show': 'find', 'name': ''}, '/name'), ({'show': 'find', 'name': 'a\nb'}, '/name'), ({'show': 'find', 'name': 'r#'}, '/name'),
+    ({'show': 'find', 'name': 'r#\n'}, '/name'),
 ]
 # Values of right form, each form at least once in every way.
 GOOD_CFGS = [
@@ -678,7 +683,7 @@ GOOD_SHOWS = [
     PAGE, {'show': 'page', 'crate': 0, 'file': None, 'block': 0}, {'show': 'tree', 'crate': 0, 'file': 2**32 - 1, 'block': ''},
     {'show': 'imports', 'crate': 0, 'block': 2**32 - 1}, {'show': 'changed', 'since': LAST, 'crate': 9},
     {'show': 'outline', 'crate': 0, 'file': 0}, {'show': 'import_places', 'crate': 0, 'file': 0, 'block': -1},
-    {'show': 'problems', 'file': 0, 'crate': -1}, {'show': 'find', 'name': '"'},
+    {'show': 'problems', 'file': 0, 'crate': -1}, {'show': 'find', 'name': '"'}, {'show': 'find', 'name': 'r#r#'},
 ]
 GOOD_OPENING = {
     'crates': [{'root': 0, 'noted': {}}, {'root': 2**32 - 1, 'cfg': ['a', {'key': 'a', 'value': ''}], 'attrs': GOOD_METAS},
@@ -1088,6 +1093,11 @@ def check_names(server, program, outlines, paths):
         got = json.loads(server.ask({'shows': [{'show': 'find', 'name': name}]}))['shows'][0]
         tell([entry['file'] for entry in got] == [entry['file'] for entry in entries] and all(list(entry) == sorted(entry) for entry in got)
              and sorted(map(written, got)) == sorted(map(written, entries)), f'find {name}', got, entries)
+        raw = json.loads(server.ask({'shows': [{'show': 'find', 'name': f'r#{name}'}]}))['shows'][0]
+        tell(raw == got, f'find r#{name}', raw, got)
+    for name in ('r', '#f', 'r#r#f', 'R#f'):
+        got = json.loads(server.ask({'shows': [{'show': 'find', 'name': name}]}))['shows'][0]
+        tell(not got, f'find {name}', got)
     for name in ('f', 'area', 'Circle'):
         lines = output(program, 'find', '--no-members', name, *paths).splitlines()
         tell(len(lines) == len(wanted[name]), f'find {name}, and itemtree find', lines, wanted[name])
