@@ -387,8 +387,9 @@ def wrong_edition(value):
 
 def wrong_opening(value):
     """The keys of a first line that set up its session."""
-    return unknown_key(value, LINE_KEYS) or wrong_keys(value, [('crates', list_of(wrong_crate), False), ('skipped', list_of(wrong_name), False),
-                              ('edition', wrong_edition, False), ('start', wrong_u64, False)])
+    return unknown_key(value, LINE_KEYS) or wrong_keys(value, [
+        ('crates', list_of(wrong_crate), False), ('skipped', list_of(wrong_name), False), ('edition', wrong_edition, False),
+        ('start', wrong_u64, False)])
 
 
 wrong_u32, wrong_u64 = number_up_to(2**32 - 1), number_up_to(LAST)
@@ -587,7 +588,8 @@ WRONG_SYNTAXES = [
 WRONG_EDITS = [
     (0, ''), (None, ''), ('set_file', ''), ([], ''), ({}, '/edit'), ({'edit': 'set'}, '/edit'), ({'edit': None}, '/edit'),
     ({**SET, 'files': 1}, '/files'), ({'edti': 'set_file', 'fil': 0, 'edit': 0}, '/edti'), ({'Edit': 'set', 'é': 0, 'z': 0}, '/Edit'),
-    ({**SET, 'é': 0, '😀': 0}, '/é'), ({**SET, 'a/~b~1': 0}, '/a~1~0b~01'), ({**SET, '': 0}, '/'), ({**SET, 'shows': None, 'edits': []}, '/edits'),
+    ({**SET, 'é': 0, '😀': 0}, '/é'), ({**SET, 'a/~b~1': 0}, '/a~1~0b~01'), ({**SET, '': 0}, '/'),
+    ({**SET, 'shows': None, 'edits': []}, '/edits'),
     ({'edit': []}, '/edit'), ({'edit': 'set_file', 'file': 1}, '/syntax'), ({**SET, 'file': -1}, '/file'),
     ({**SET, 'file': 2**32}, '/file'), ({**SET, 'file': None}, '/file'), ({**SET, 'syntax': None}, '/syntax'),
     ({'syntax': 0, 'file': '1', 'edit': 'set_file'}, '/file'),
@@ -799,8 +801,9 @@ def check_wrong_forms(program):
     for line, pointer in WRONG_TEXTS:
         first.append((line, no_request(None, pointer)))
         later.append((line, no_request(0, pointer)))
-    for line, pointer in (({'edit': 'set_text', 'file': 0, 'text': ''}, '/edit'), ({'edits': 0, 'edit': []}, '/edit'), ({'a~/': 0}, '/a~0~1'),
-                          ({'Id': 1, 'noted': [], 'show': 'page'}, '/Id'), ({'crates': 0, 'edits': 0, 'z': [0.5], 'y': None}, '/z')):
+    for line, pointer in (({'edit': 'set_text', 'file': 0, 'text': ''}, '/edit'), ({'edits': 0, 'edit': []}, '/edit'),
+                          ({'a~/': 0}, '/a~0~1'), ({'Id': 1, 'noted': [], 'show': 'page'}, '/Id'),
+                          ({'crates': 0, 'edits': 0, 'z': [0.5], 'y': None}, '/z')):
         first.append(({**line, 'id': 1}, no_request(None, pointer, 1)))
         later.append(({**line, 'id': 1}, no_request(0, pointer, 1)))
     first.append(({'shows': [PAGE]}, no_request(None, '/shows/0/crate')))
@@ -1097,7 +1100,7 @@ def check_names(server, program, outlines, paths):
         tell(raw == got, f'find r#{name}', raw, got)
     for name in ('r', '#f', 'r#r#f', 'R#f'):
         got = json.loads(server.ask({'shows': [{'show': 'find', 'name': name}]}))['shows'][0]
-        tell(not got, f'find {name}', got)
+        tell(len(got) == len(wanted[name]), f'find {name}', got, wanted[name])
     for name in ('f', 'area', 'Circle'):
         lines = output(program, 'find', '--no-members', name, *paths).splitlines()
         tell(len(lines) == len(wanted[name]), f'find {name}, and itemtree find', lines, wanted[name])
@@ -1188,7 +1191,8 @@ def check_skipped(program):
             ({**OPENED, **skipped, 'edits': [text], 'shows': [PAGE]}, answered(1, ['#[b]\n' + PAGED])),
             ({'edits': [{**text, 'text': text['text'].replace('a', 'b')}], 'shows': changed}, answered(2, ['#[b]\n' + PAGED, '']))])
     for skipped, page in ((['doc'], '#[inline]\n#[b]\n'), (['doc', 'b'], '#[inline]\n'), (['doc', 'inline', 'b', 'a'], '')):
-        check_lines(program, f'{skipped} left out', [({**OPENED, 'skipped': skipped, 'edits': [text], 'shows': [PAGE]}, answered(1, [page + PAGED]))])
+        check_lines(program, f'{skipped} left out', [
+            ({**OPENED, 'skipped': skipped, 'edits': [text], 'shows': [PAGE]}, answered(1, [page + PAGED]))])
     for skipped in ([], ['inline']):
         with Server(program) as server:
             server.ask({**OPENED, 'skipped': skipped, 'edits': [text]})
