@@ -10,6 +10,7 @@ PROGRAM is itemtree, and TOOL is item_tree_tool. The parts, all of them where no
   beside the program and beside the same forms in Python
 - lines: lines that are empty, cut, long or in pieces, and streams that fail
 - places: what is told of texts, beside what `itemtree outline`, `imports`, `check` and `find` print of the same ones
+- typed: texts that are changed in ranges, beside the same texts set whole
 - random: random sessions, beside TOOL run anew on the edits so far, and beside a new session that is given them at once
 - damaged: edits, shows and first lines that are damaged at random, beside the forms in Python
 - noise: random bytes between good lines
@@ -71,6 +72,10 @@ def refused(number, error, told=None):
 
 def no_request(number, pointer, told=None):
     return refused(number, {'kind': 'not a request', 'pointer': pointer}, told)
+
+
+def not_changed(number, cause, place=0, told=None):
+    return refused(number, {'cause': cause, 'kind': 'text not changed', 'place': place}, told)
 
 
 class Silent(Exception):
@@ -213,6 +218,12 @@ def first_wrong(members):
     return None
 
 
+def unknown_key(value, known):
+    """The step to the first key that is none of these, by its bytes. A null counts as absent."""
+    unknown = [key for key in value if key not in known and value[key] is not None] if isinstance(value, dict) else []
+    return [min(unknown, key=str.encode).replace('~', '~0').replace('/', '~1')] if unknown else None
+
+
 def wrong_keys(value, keys):
     """A null counts as absent, and no form of a required key takes a null."""
     if not isinstance(value, dict):
@@ -248,12 +259,20 @@ def wrong_name(value):
     return None if isinstance(value, str) and value and '\n' not in value else []
 
 
+def wrong_asked_name(value):
+    return wrong_name(value.removeprefix('r#') if isinstance(value, str) else value)
+
+
 def wrong_truth(value):
     return None if isinstance(value, bool) else []
 
 
 def wrong_span(value):
     return list_of(wrong_u32)(value) if isinstance(value, list) and len(value) == 2 else []
+
+
+def wrong_range(value):
+    return list_of(wrong_u64)(value) if isinstance(value, list) and len(value) == 2 else []
 
 
 def wrong_ctxt(value):
@@ -344,18 +363,18 @@ def holds_float(value):
 
 def wrong_edit(value, crates):
     """With that many crates. A float anywhere makes it wrong as a whole."""
-    return [] if holds_float(value) else wrong_kind(value, 'edit', {**EDITS, 'set_cfg': [
+    return [] if holds_float(value) else unknown_key(value, EDIT_KEYS) or wrong_kind(value, 'edit', {**EDITS, 'set_cfg': [
         ('crate', number_up_to(crates - 1), True), ('cfg', list_of(wrong_atom), False)]})
 
 
 def wrong_show(value, crates):
-    if holds_float(value):
-        return []
+    if holds_float(value) or unknown_key(value, SHOW_KEYS):
+        return [] if holds_float(value) else unknown_key(value, SHOW_KEYS)
     krate, file, block = ('crate', number_up_to(crates - 1), True), ('file', wrong_u32, True), ('block', wrong_u32, True)
     place = file if isinstance(value, dict) and value.get('file') is not None else block
     return wrong_kind(value, 'show', {
         'page': [krate, place], 'tree': [krate, place], 'imports': [krate, place], 'changed': [('since', wrong_u64, True)],
-        'outline': [krate, file], 'import_places': [krate, file], 'problems': [file], 'find': [('name', wrong_name, True)]})
+        'outline': [krate, file], 'import_places': [krate, file], 'problems': [file], 'find': [('name', wrong_asked_name, True)]})
 
 
 def wrong_crate(value):
@@ -368,8 +387,9 @@ def wrong_edition(value):
 
 def wrong_opening(value):
     """The keys of a first line that set up its session."""
-    return wrong_keys(value, [('crates', list_of(wrong_crate), False), ('skipped', list_of(wrong_name), False),
-                              ('edition', wrong_edition, False), ('start', wrong_u64, False)])
+    return unknown_key(value, LINE_KEYS) or wrong_keys(value, [
+        ('crates', list_of(wrong_crate), False), ('skipped', list_of(wrong_name), False), ('edition', wrong_edition, False),
+        ('start', wrong_u64, False)])
 
 
 wrong_u32, wrong_u64 = number_up_to(2**32 - 1), number_up_to(LAST)
@@ -409,7 +429,11 @@ EDITS = {
     'set_block': [('block', wrong_u32, True), ATTRS, *BODY],
     'remove_block': [('block', wrong_u32, True)],
     'set_text': [('file', wrong_u32, True), ('text', wrong_string, True)],
+    'change_text': [('file', wrong_u32, True), ('range', wrong_range, True), ('text', wrong_string, True)],
 }
+LINE_KEYS = ['id', 'crates', 'skipped', 'edition', 'start', 'edits', 'shows']
+EDIT_KEYS = ['edit', 'file', 'block', 'crate', 'syntax', 'attrs', 'stmts', 'tail', 'cfg', 'text', 'range']
+SHOW_KEYS = ['show', 'crate', 'file', 'block', 'since', 'name']
 
 
 # ---- errors
@@ -563,6 +587,9 @@ WRONG_SYNTAXES = [
 ]
 WRONG_EDITS = [
     (0, ''), (None, ''), ('set_file', ''), ([], ''), ({}, '/edit'), ({'edit': 'set'}, '/edit'), ({'edit': None}, '/edit'),
+    ({**SET, 'files': 1}, '/files'), ({'edti': 'set_file', 'fil': 0, 'edit': 0}, '/edti'), ({'Edit': 'set', 'é': 0, 'z': 0}, '/Edit'),
+    ({**SET, 'é': 0, '😀': 0}, '/é'), ({**SET, 'a/~b~1': 0}, '/a~1~0b~01'), ({**SET, '': 0}, '/'),
+    ({**SET, 'shows': None, 'edits': []}, '/edits'),
     ({'edit': []}, '/edit'), ({'edit': 'set_file', 'file': 1}, '/syntax'), ({**SET, 'file': -1}, '/file'),
     ({**SET, 'file': 2**32}, '/file'), ({**SET, 'file': None}, '/file'), ({**SET, 'syntax': None}, '/syntax'),
     ({'syntax': 0, 'file': '1', 'edit': 'set_file'}, '/file'),
@@ -580,9 +607,17 @@ WRONG_EDITS = [
     ({'edit': 'set_text'}, '/file'), ({'edit': 'set_text', 'file': 1}, '/text'), ({'edit': 'set_text', 'file': 1, 'text': None}, '/text'),
     ({'edit': 'set_text', 'file': 1, 'text': ['fn f() {}']}, '/text'), ({'edit': 'set_text', 'text': 'fn f() {}'}, '/file'),
     ({'edit': 'set_text', 'file': -1, 'text': 0}, '/file'), ({'edit': 'set_text', 'block': 1, 'text': ''}, '/file'),
+    ({'edit': 'change_text', 'text': 0, 'range': 0}, '/file'), ({'edit': 'change_text', 'file': 2**32, 'range': 0, 'text': 0}, '/file'),
+    *(({'edit': 'change_text', 'file': 1, 'text': 0, 'range': span}, '/range' + pointer) for span, pointer in [
+        (None, ''), (0, ''), ('0..1', ''), ({}, ''), ([], ''), ([0], ''), ([0, 0, 0], ''), (['', '', ''], ''), ([None, 0], '/0'),
+        ([-1, ''], '/0'), ([0, '1'], '/1'), ([LAST, True], '/1')]),
+    ({'edit': 'change_text', 'file': 1, 'range': [0, 0.5], 'text': ''}, ''), ({'edit': 'change_text', 'file': 1, 'range': [0, 2**64]}, ''),
+    ({'edit': 'change_text', 'file': 1, 'text': ''}, '/range'), ({'edit': 'change_text', 'file': 1, 'range': [0, 0]}, '/text'),
+    ({'edit': 'change_text', 'file': 1, 'range': [LAST, 0], 'text': 0}, '/text'),
 ]
 WRONG_SHOWS = [
     (0, ''), (None, ''), ('page', ''), ([], ''), ({}, '/show'), ({'show': 'all', 'crate': -1}, '/show'), ({'show': 1}, '/show'),
+    ({**PAGE, 'crates': 0}, '/crates'), ({'sow': 'page', 'edit': 'set_file'}, '/edit'), ({**PAGE, 'text': '', 'Show': ''}, '/Show'),
     ({'show': None}, '/show'), ({'show': 'page', 'crate': 0}, '/block'), ({'show': 'page'}, '/crate'), ({**PAGE, 'crate': 1}, '/crate'),
     ({**PAGE, 'crate': None}, '/crate'), ({'file': '', 'crate': 1, 'show': 'page'}, '/crate'), ({**PAGE, 'file': 'x'}, '/file'),
     ({**PAGE, 'file': -1, 'block': 0}, '/file'), ({**PAGE, 'file': None, 'block': ''}, '/block'), ({**PAGE, 'noted': 1e3}, ''),
@@ -597,7 +632,8 @@ WRONG_SHOWS = [
     ({'show': 'import_places', 'crate': 1, 'file': 1}, '/crate'), ({'show': 'import_places', 'crate': 0, 'file': ''}, '/file'),
     ({'show': 'problems'}, '/file'), ({'show': 'problems', 'file': -1}, '/file'), ({'show': 'problems', 'block': 0}, '/file'),
     ({'show': 'find'}, '/name'), ({'show': 'find', 'name': 1}, '/name'), ({'show': 'find', 'name': None}, '/name'),
-    ({'show': 'find', 'name': ''}, '/name'), ({'show': 'find', 'name': 'a\nb'}, '/name'),
+    ({'show': 'find', 'name': ''}, '/name'), ({'show': 'find', 'name': 'a\nb'}, '/name'), ({'show': 'find', 'name': 'r#'}, '/name'),
+    ({'show': 'find', 'name': 'r#\n'}, '/name'),
 ]
 # Values of right form, each form at least once in every way.
 GOOD_CFGS = [
@@ -633,7 +669,7 @@ GOOD_ITEMS = [
 ]
 GOOD_EDITS = [
     {'edit': 'set_block', 'block': 2**32 - 1},
-    {'edit': 'set_block', 'block': 0, 'attrs': GOOD_METAS, 'tail': {'call': GOOD_CALLS[1], 'item': 0}, 'items': 0,
+    {'edit': 'set_block', 'block': 0, 'attrs': GOOD_METAS, 'tail': {'call': GOOD_CALLS[1], 'item': 0}, 'items': None,
      'stmts': ['other', {'item': FUNCTION, 'call': 0}, *({'call': call, 'item': None} for call in GOOD_CALLS)]},
     {'edit': 'set_file', 'file': 2, 'syntax': {'root': 'source_file', 'attrs': GOOD_METAS, 'items': GOOD_ITEMS, 'stmts': 0}, 'crate': 9},
     {'edit': 'set_file', 'file': 3, 'syntax': {'root': 'macro_items', 'attrs': 0, 'items': GOOD_ITEMS[::-1]}},
@@ -641,6 +677,7 @@ GOOD_EDITS = [
         {'item': item} for item in GOOD_ITEMS]}},
     {'edit': 'set_file', 'file': 3, 'syntax': {'root': 'error', 'items': 0, 'tail': 0}}, {'edit': 'remove_file', 'file': 3, 'syntax': 0},
     {'edit': 'remove_block', 'block': 0, 'file': ''}, {'edit': 'set_cfg', 'crate': 0}, {'edit': 'set_text', 'file': 0, 'text': ''},
+    {'edit': 'change_text', 'file': 0, 'range': [0, 0], 'text': 'fn f() {}'},
     {'edit': 'set_cfg', 'crate': 0, 'cfg': ['a', {'key': 'a', 'value': 'a\nb', 'not': 0}], 'file': -1},
     *({'edit': 'set_file', 'file': 3, 'syntax': {'root': root}} for root in ('source_file', 'macro_items', 'macro_stmts')),
 ]
@@ -648,7 +685,7 @@ GOOD_SHOWS = [
     PAGE, {'show': 'page', 'crate': 0, 'file': None, 'block': 0}, {'show': 'tree', 'crate': 0, 'file': 2**32 - 1, 'block': ''},
     {'show': 'imports', 'crate': 0, 'block': 2**32 - 1}, {'show': 'changed', 'since': LAST, 'crate': 9},
     {'show': 'outline', 'crate': 0, 'file': 0}, {'show': 'import_places', 'crate': 0, 'file': 0, 'block': -1},
-    {'show': 'problems', 'file': 0, 'crate': -1}, {'show': 'find', 'name': '"'},
+    {'show': 'problems', 'file': 0, 'crate': -1}, {'show': 'find', 'name': '"'}, {'show': 'find', 'name': 'r#r#'},
 ]
 GOOD_OPENING = {
     'crates': [{'root': 0, 'noted': {}}, {'root': 2**32 - 1, 'cfg': ['a', {'key': 'a', 'value': ''}], 'attrs': GOOD_METAS},
@@ -764,6 +801,11 @@ def check_wrong_forms(program):
     for line, pointer in WRONG_TEXTS:
         first.append((line, no_request(None, pointer)))
         later.append((line, no_request(0, pointer)))
+    for line, pointer in (({'edit': 'set_text', 'file': 0, 'text': ''}, '/edit'), ({'edits': 0, 'edit': []}, '/edit'),
+                          ({'a~/': 0}, '/a~0~1'), ({'Id': 1, 'noted': [], 'show': 'page'}, '/Id'),
+                          ({'crates': 0, 'edits': 0, 'z': [0.5], 'y': None}, '/z')):
+        first.append(({**line, 'id': 1}, no_request(None, pointer, 1)))
+        later.append(({**line, 'id': 1}, no_request(0, pointer, 1)))
     first.append(({'shows': [PAGE]}, no_request(None, '/shows/0/crate')))
     first.append(({'edits': [{'edit': 'set_cfg', 'crate': 0}]}, no_request(None, '/edits/0/crate')))
     later.append(({'edits': [SET] * 10 + [{'edit': 'set_cfg', 'crate': 1}]}, no_request(0, '/edits/10/crate')))
@@ -829,13 +871,13 @@ def check_forms():
 
 
 def check_good_forms(program):
-    """Ids come back, other keys are ignored, of two equal keys the last one counts, and a first line has defaults."""
+    """Ids come back, keys of others are ignored, of two equal keys the last one counts, and a first line has defaults."""
     lines = [({'id': told}, answered(0, [], told)) for told in IDS]
     lines += [
         (b'{"id":1,"id":2}', answered(0, [], 2)),
         (b'{"id":0.5,"id":"last"}', answered(0, [], 'last')),
         (b' {\t"id" : "\\u00e9\\/" } \r', answered(0, [], 'é/')),
-        ({'Id': 1, 'noted': [], 'show': 'page'}, answered(0, [])),
+        ({'Id': None, 'noted': None}, answered(0, [])),
         ({'shows': [{'show': 'changed', 'since': 0, 'crate': 'x'}]}, answered(0, [''])),
         ({'shows': [{'show': 'find', 'name': 'f'}, {'show': 'problems', 'file': 2**32 - 1}]}, answered(0, [[], []])),
     ]
@@ -1054,6 +1096,11 @@ def check_names(server, program, outlines, paths):
         got = json.loads(server.ask({'shows': [{'show': 'find', 'name': name}]}))['shows'][0]
         tell([entry['file'] for entry in got] == [entry['file'] for entry in entries] and all(list(entry) == sorted(entry) for entry in got)
              and sorted(map(written, got)) == sorted(map(written, entries)), f'find {name}', got, entries)
+        raw = json.loads(server.ask({'shows': [{'show': 'find', 'name': f'r#{name}'}]}))['shows'][0]
+        tell(raw == got, f'find r#{name}', raw, got)
+    for name in ('r', '#f', 'r#r#f', 'R#f'):
+        got = json.loads(server.ask({'shows': [{'show': 'find', 'name': name}]}))['shows'][0]
+        tell(len(got) == len(wanted[name]), f'find {name}', got, wanted[name])
     for name in ('f', 'area', 'Circle'):
         lines = output(program, 'find', '--no-members', name, *paths).splitlines()
         tell(len(lines) == len(wanted[name]), f'find {name}, and itemtree find', lines, wanted[name])
@@ -1130,16 +1177,42 @@ def check_editions(program):
             ends_well(server, 'editions')
 
 
+# The attributes that are left out where none are named.
+USUAL_SKIPPED = ['doc', 'stable', 'unstable', 'target_feature', 'allow', 'expect', 'warn', 'deny', 'forbid', 'repr', 'inline',
+                 'track_caller', 'must_use']
+
+
+def check_skipped(program):
+    """Typing in documentation is no change, unless the names that are skipped are others."""
+    text = {'edit': 'set_text', 'file': 1, 'text': '/// a\n#[inline]\n#[b] fn f() {}'}
+    changed = [PAGE, {'show': 'changed', 'since': 1}]
+    for skipped in ({}, {'skipped': None}):
+        check_lines(program, 'what is left out', [
+            ({**OPENED, **skipped, 'edits': [text], 'shows': [PAGE]}, answered(1, ['#[b]\n' + PAGED])),
+            ({'edits': [{**text, 'text': text['text'].replace('a', 'b')}], 'shows': changed}, answered(2, ['#[b]\n' + PAGED, '']))])
+    for skipped, page in ((['doc'], '#[inline]\n#[b]\n'), (['doc', 'b'], '#[inline]\n'), (['doc', 'inline', 'b', 'a'], '')):
+        check_lines(program, f'{skipped} left out', [
+            ({**OPENED, 'skipped': skipped, 'edits': [text], 'shows': [PAGE]}, answered(1, [page + PAGED]))])
+    for skipped in ([], ['inline']):
+        with Server(program) as server:
+            server.ask({**OPENED, 'skipped': skipped, 'edits': [text]})
+            got = server.ask({'edits': [{**text, 'text': '/// b\n#[inline]\n#[b] fn f() {}'}], 'shows': changed[1:]})
+            tell(got == answered(2, ['crate 0 file 1 change 2\n']), 'documentation that is not left out', got)
+            ends_well(server, 'documentation')
+
+
 def check_places(options):
     program, found = options.program, texts()
     check_found(program)
     check_editions(program)
+    check_skipped(program)
     with tempfile.TemporaryDirectory() as folder:
         for cfg in ([], ['--cfg', 'test', '--cfg', 'feature="extra"']):
             request, paths = request_of(program, found, folder, *cfg)
             edits = [{'edit': 'set_text', 'file': file, 'text': text} for file, text in enumerate(found)]
             with Server(program) as server:
-                opening = {key: request[key] for key in ('crates', 'edition', 'skipped')}
+                tell(request['skipped'] == USUAL_SKIPPED, 'what the commands leave out', request['skipped'], USUAL_SKIPPED)
+                opening = {key: request[key] for key in ('crates', 'edition')}
                 got = server.ask({**opening, 'edits': edits})
                 tell(got == answered(len(found), []), 'texts are set', got, answered(len(found), []))
                 outlines = [check_text(server, program, path, file, cfg) for file, path in enumerate(paths)]
@@ -1147,6 +1220,65 @@ def check_places(options):
                 check_kept(server, request, len(found))
                 check_forgotten(server, request, outlines)
                 ends_well(server, 'places')
+
+
+# ---- texts that are changed
+
+def check_one_changed(server, whole, file, edits, text):
+    """A line of edits of one file, beside a session in which the text is set whole."""
+    shows = told_of(file) + [{'show': 'find', 'name': 'f'}]
+    got = json.loads(server.ask({'edits': edits, 'shows': shows}))
+    wanted = json.loads(whole.ask({'edits': [{'edit': 'set_text', 'file': file, 'text': text}], 'shows': shows}))
+    tell(got.get('shows') == wanted['shows'], f'{shown(written(edits))} is the text {text!r}', got, wanted)
+
+
+def check_typed(options):
+    """Texts that become others in steps, those of a line one behind the other."""
+    chance, found = random.Random(f'{options.seed} typed'), texts() + ['é', 'aé😀\nfn f() {}', '\ufeff// é\nfn f() {}']
+    with Server(options.program) as server, Server(options.program) as whole:
+        server.ask(OPENED)
+        whole.ask(OPENED)
+        for _ in range(400):
+            file, steps = chance.randrange(3), [chance.choice(found) for _ in range(chance.randrange(1, 5))]
+            edits = [{'edit': 'set_text', 'file': file, 'text': steps[0]}]
+            edits += [changing(chance, file, old, new) for old, new in zip(steps, steps[1:])]
+            check_one_changed(server, whole, file, edits, steps[-1])
+            last = chance.choice(found)
+            check_one_changed(server, whole, file, [changing(chance, file, steps[-1], last)], last)
+        ends_well(server, 'typed')
+        ends_well(whole, 'set whole')
+    check_unchanged(options.program)
+
+
+# A text of nine bytes, characters of which begin at 0, 1, 3, 7 and 8; ranges of it, and why they cannot be replaced.
+MIXED = 'aé😀b\n'
+UNCHANGED = [([0, 10], 'range not in the text'), ([10, 10], 'range not in the text'), ([10, 9], 'range not in the text'),
+             ([1, 0], 'range not in the text'), ([3, 1], 'range not in the text'), ([0, LAST], 'range not in the text'),
+             ([LAST, LAST], 'range not in the text'), ([2, 1], 'range not in the text'), ([0, 2], 'range cuts a character'),
+             ([2, 2], 'range cuts a character'), ([2, 3], 'range cuts a character'), ([4, 7], 'range cuts a character'),
+             ([1, 6], 'range cuts a character'), ([5, 9], 'range cuts a character')]
+
+
+def check_unchanged(program):
+    """Texts that cannot be changed: nothing of the line is done."""
+    change = {'edit': 'change_text', 'file': 1, 'range': [0, 0], 'text': 'x'}
+    mixed = {'edit': 'set_text', 'file': 1, 'text': MIXED}
+    lines = [({'id': 'a', **OPENED, 'edits': [SET, change], 'shows': [PAGE]}, not_changed(0, 'no text', 1, 'a')),
+             ({'shows': [PAGE]}, answered(0, ['\n'])), ({'edits': [change]}, not_changed(0, 'no text')),
+             ({'edits': [mixed, SET, change]}, not_changed(0, 'no text', 2)), ({'edits': [mixed]}, answered(1, []))]
+    for span, cause in UNCHANGED:
+        lines.append(({'edits': [SET, mixed, {**change, 'range': span}]}, not_changed(1, cause, 2)))
+        lines.append(({'edits': [{**change, 'range': span}, FAR, change], 'shows': [PAGE]}, not_changed(1, cause)))
+    lines += [({'edits': [FAR, {**change, 'range': [9, 9]}]}, not_changed(1, 'no text', 1)),
+              ({'edits': [{**change, 'range': [0, 9], 'text': 'fn f() {}'}], 'shows': [PAGE]}, answered(2, [PAGED])),
+              ({'edits': [{'edit': 'remove_file', 'file': 1}, change]}, not_changed(2, 'no text', 1)),
+              ({'edits': [{'edit': 'remove_file', 'file': 2}, {'edit': 'set_block', 'block': 1}, {**change, 'range': [9, 9]}],
+                'shows': [PAGE]}, answered(5, [PAGED]))]
+    for start, end, text in ((0, 0, ''), (0, 10, '')):
+        lines.append(({'edits': [{**change, 'range': [start, end], 'text': text}]}, answered(6 + bool(end), [])))
+    lines += [({'shows': [PAGE]}, answered(7, ['\n'])), ({'edits': [{**change, 'range': [0, 1]}]}, not_changed(7, 'range not in the text')),
+              ({'edits': [{**change, 'text': 'fn f() {}'}], 'shows': [PAGE]}, answered(8, [PAGED]))]
+    check_lines(program, 'a text that cannot be changed', lines)
 
 
 # ---- random sessions
@@ -1188,6 +1320,27 @@ FLAGS = ['test', 'unix', 'a', {'key': 'feature', 'value': 'x'}]
 NAMES = ['f', 'g', 'area', 'a', 'type']
 
 
+def text_after(edits, file):
+    """The text of a file after edits, or None where it has none."""
+    text = None
+    for edit in edits:
+        if edit.get('file') == file and edit['edit'] == 'change_text':
+            start, end = edit['range']
+            text = (text.encode()[:start] + edit['text'].encode() + text.encode()[end:]).decode()
+        elif edit.get('file') == file:
+            text = edit.get('text')
+    return text
+
+
+def changing(chance, file, old, new):
+    """The edit that makes another text of a file's, and leaves a part that both begin and one that both end with."""
+    most = min(len(old), len(new))
+    front = chance.randrange(len(os.path.commonprefix([old, new])) + 1)
+    back = chance.randrange(min(len(os.path.commonprefix([old[::-1], new[::-1]])), most - front) + 1)
+    start, end = len(old[:front].encode()), len(old[:len(old) - back].encode())
+    return {'edit': 'change_text', 'file': file, 'range': [start, end], 'text': new[front:len(new) - back]}
+
+
 class Random:
     """A random session, made line by line."""
 
@@ -1221,8 +1374,8 @@ class Random:
         item['body'] = self.chance.choice(['', '{ 1 }'])
         return item
 
-    def edit(self):
-        """An edit as it is sent, and as TOOL reads it."""
+    def edit(self, before=()):
+        """An edit behind those of its line, as it is sent, and as TOOL reads it."""
         chance, material = self.chance, self.material
         file, block = chance.randrange(4), chance.randrange(2)
         kind = chance.choice(['stored', 'made', 'made', 'text', 'text', 'remove_file', 'set_block', 'remove_block', 'set_cfg'])
@@ -1236,7 +1389,8 @@ class Random:
             edit = {'edit': 'remove_block', 'block': block}
         elif kind == 'text':
             at = chance.randrange(len(material.texts))
-            return ({'edit': 'set_text', 'file': file, 'text': material.texts[at]},
+            old, new = text_after(self.sent + [edit for edit, _ in before], file), material.texts[at]
+            return ({'edit': 'set_text', 'file': file, 'text': new} if old is None else changing(chance, file, old, new),
                     {'edit': 'set_file', 'file': file, 'syntax': material.read[self.opening['edition'].get('year', 2024)][at]})
         else:
             syntax = (chance.choice(material.syntaxes) if kind == 'stored' else
@@ -1255,7 +1409,7 @@ class Random:
         return self.start + len(self.made)
 
     def wrong_line(self, is_first):
-        """A line that changes nothing, and the kind of its error and its pointer."""
+        """A line that changes nothing, and the kind of its error and its pointer or its place."""
         edits = [self.edit()[0] for _ in range(self.chance.randrange(2))]
         opening = self.opening if is_first else {}
         (item, of_item), (statement, of_statement) = self.chance.choice(WRONG_ITEMS), self.chance.choice(WRONG_STATEMENTS)
@@ -1274,6 +1428,8 @@ class Random:
         ]
         if not is_first:
             lines.append(({'crates': [{'root': 0}], 'edits': edits}, 'not a request', '/crates'))
+            change = {'edit': 'change_text', 'file': 9, 'range': [0, 0], 'text': ''}
+            lines.append(({'edits': edits + [change]}, 'text not changed', len(edits)))
         return self.chance.choice(lines)
 
 
@@ -1304,18 +1460,23 @@ def try_wrong_line(server, case, is_first):
     got = server.ask(line)
     error = json.loads(got).get('error', {})
     number = None if is_first else case.number()
-    wanted = refused(number, {'column': error.get('column'), 'kind': kind} if kind == 'not JSON' else {'kind': kind, 'pointer': pointer})
+    wanted = refused(number, {'column': error.get('column'), 'kind': kind} if kind == 'not JSON' else
+                     {'cause': 'no text', 'kind': kind, 'place': pointer} if kind == 'text not changed' else
+                     {'kind': kind, 'pointer': pointer})
     want(got == wanted, 'a line of wrong form', line if isinstance(line, bytes) else written(line), got, wanted)
 
 
 def try_good_line(server, tool, case, told, is_first):
-    edits = [case.edit() for _ in range(case.chance.choice([0, 1, 1, 1, 2, 3]))]
+    edits = []
+    for _ in range(case.chance.choice([0, 1, 1, 1, 2, 3])):
+        edits.append(case.edit(edits))
     shows = [case.show() for _ in range(case.chance.randrange(4))]
     room, cause = LAST - case.number(), 'too many edits'
     at = min(len(edits), room)
     if case.crates and case.chance.random() < 0.1:
         place = case.chance.randrange(len(edits) + 1)
-        edits.insert(place, (FAR, FAR))
+        far = {**FAR, 'file': 9}
+        edits.insert(place, (far, far))
         if place < room:
             at, cause = place, 'too many supers'
         else:
@@ -1472,7 +1633,8 @@ def check_damaged_lines(program, case, crates, count):
             if steps is None and not has_long_path(value, 100):
                 right += 1
                 answer = json.loads(server.ask({key: [value]}))
-                tell(answer.get('error', {}).get('kind') in (None, 'edit refused'), f'good {key}: {shown(written(value))}', answer)
+                tell(answer.get('error', {}).get('kind') in (None, 'edit refused', 'text not changed'),
+                     f'good {key}: {shown(written(value))}', answer)
                 number = answer['number']
         ends_well(server, 'damaged lines')
     return right
@@ -1630,7 +1792,8 @@ def check_many(options):
     print(f'serve: 10,000 edits took {marks[10][0]:.2f} s and {marks[10][1]} kB')
 
 
-PARTS = {'examples': check_examples, 'errors': check_errors, 'lines': check_line_forms, 'places': check_places, 'random': check_random,
+PARTS = {'examples': check_examples, 'errors': check_errors, 'lines': check_line_forms, 'places': check_places, 'typed': check_typed,
+         'random': check_random,
          'damaged': check_random_wrong_forms, 'noise': check_noise, 'unread': check_unread, 'many': check_many}
 
 

@@ -12,15 +12,17 @@ use Rattle.item_tree_request.specs.Requests.{IsJsonText}
 use Rattle.line_stream.specs.Lines.{Told, whole, too_long, no_memory, IsToldOf}
 use Rattle.line_stream.specs.Served.{IsServed}
 use Rattle.source_session.specs.declared.error.LineError.{LineError}
-use Rattle.source_session.specs.declared.error.LineError.TheVariants.{NotJson, NotRequest, Refused, TooLong, OutOfMemory}
+use Rattle.source_session.specs.declared.error.LineError.TheVariants.{NotJson, NotRequest, NotChanged, Refused, TooLong, OutOfMemory}
 use Rattle.source_session.specs.Histories.{Makes, Make, IsLedTo, GoesOn}
+use Rattle.hir_input.specs.declared.edition.EditionYear.{EditionYear}
 use Rattle.hir_input_json.specs.Editions.{EditionView}
 use Rattle.hir_input_json.specs.Reading.{Reading, right, wrong}
 use Rattle.source_session.specs.Lines.{Asked, later_line}
 use Rattle.source_session.specs.Replies.{Open, Outcome, Reply, Replies, IsDone, IsOutcome, IsReplyUnless, IsReplyOf, IsReply, of_session, id_of}
 use Rattle.source_session.specs.Sessions.{Session, AreMade, IsUnedited}
-use Rattle.source_session.specs.Texts.{Change, text_in, leaves, AreMeant}
+use Rattle.source_session.specs.Texts.{Change, FileTexts, text_in, text_after, leaves, AreMeant}
 use Rattle.source_session.proofs.Made.{same_length}
+use Rattle.source_session.proofs.Meant.{meant_over}
 
 -- edits in two goes
 pub made_join : (s u v : Session) (es fs : List EditView) (cs ds : List Change) → AreMade s es cs u → AreMade u fs ds v → AreMade s (es ++ fs) (cs ++ ds) v
@@ -42,7 +44,7 @@ record LedBy (s : Session) (line : List ℕ) (new : Open) : Type 0 where
   edits : List EditView
   changes : List Change
   made : AreMade s edits changes session
-  makes : Makes s.edition.0 s.count line edits changes
+  makes : Makes s.edition.0 s.count (text_in s.texts) line edits changes
 
 led_still : (s : Session) (line : List ℕ) (new : Open) → new ≡ Some s → LedBy s line new
 led_still s line new e = record { session = s; stands = e; edits = []; changes = []; made = record { count = refl; edition = refl; table = after_none s.table; texts = λ file. refl }; makes = inl (refl, refl) }
@@ -51,20 +53,21 @@ led_still s line new e = record { session = s; stands = e; edits = []; changes =
 
 -- a line that is a request
 module _ (s : Session) (line : List ℕ) (d : Data) (text : IsJsonText line d) (a : Asked) (reading : later_line s.count d ≡ right a) where
-  makes_first : (es : List EditView) (cs : List Change) (n : ℕ) → AreMeant s.edition.0 a.edits es cs → Makes s.edition.0 s.count line (take n es) (take n cs)
+  makes_first : (es : List EditView) (cs : List Change) (n : ℕ) → AreMeant s.edition.0 (text_in s.texts) a.edits es cs → Makes s.edition.0 s.count (text_in s.texts) line (take n es) (take n cs)
   makes_first es cs n meant = inr (record { value = d; text = text; asked = a; reading = reading; all_edits = es; all_changes = cs; meant = meant; made = n; edits_are = refl; changes_are = refl })
 
-  makes_stopped : (es : List EditView) (cs : List Change) (n : ℕ) → (n ≡ 0) ⊎ AreMeant s.edition.0 a.edits es cs → Makes s.edition.0 s.count line (take n es) (take n cs)
+  makes_stopped : (es : List EditView) (cs : List Change) (n : ℕ) → (n ≡ 0) ⊎ AreMeant s.edition.0 (text_in s.texts) a.edits es cs → Makes s.edition.0 s.count (text_in s.texts) line (take n es) (take n cs)
   makes_stopped es cs n (inl z) = inl (ap (λ k. take k es) z, ap (λ k. take k cs) z)
   makes_stopped es cs n (inr meant) = makes_first es cs n meant
 
-  makes_all : (es : List EditView) (cs : List Change) → AreMeant s.edition.0 a.edits es cs → Makes s.edition.0 s.count line es cs
+  makes_all : (es : List EditView) (cs : List Change) → AreMeant s.edition.0 (text_in s.texts) a.edits es cs → Makes s.edition.0 s.count (text_in s.texts) line es cs
   makes_all es cs meant =
-      subst (λ xs. Makes s.edition.0 s.count line xs cs) (take_all (length es) es (omega arith))
-      (subst (λ xs. Makes s.edition.0 s.count line (take (length es) es) xs) (take_all (length es) cs (omega (arith, same_length s.edition.0 a.edits es cs meant))) (makes_first es cs (length es) meant))
+      subst (λ xs. Makes s.edition.0 s.count (text_in s.texts) line xs cs) (take_all (length es) es (omega arith))
+      (subst (λ xs. Makes s.edition.0 s.count (text_in s.texts) line (take (length es) es) xs) (take_all (length es) cs (omega (arith, same_length s.edition.0 (text_in s.texts) a.edits es cs meant))) (makes_first es cs (length es) meant))
 
   led_undone : (u : Session) (e : LineError) (new : Open) → new ≡ Some u → IsUnedited s a.edits u e → LedBy s line new
   led_undone u (Refused place cause) new o h = record { session = u; stands = o; edits = take place h.edits; changes = take place h.changes; made = h.made; makes = makes_first h.edits h.changes place h.meant }
+  led_undone u (NotChanged place cause) new o h = led_still s line new (o ∙ ap Some h.1)
   led_undone u OutOfMemory new o h = record { session = u; stands = o; edits = take h.count h.edits; changes = take h.count h.changes; made = h.made; makes = makes_stopped h.edits h.changes h.count h.meant }
   led_undone u (NotJson column) new o h = absurd h
   led_undone u (NotRequest pointer) new o h = absurd h
@@ -100,11 +103,41 @@ led_line s line no_memory new r t h = led_still s line new h.0
 
 -- ---- all lines
 
+-- over texts that are the same
+makes_over : (edition : EditionYear) (count : ℕ) (old new : FileTexts) → ((file : ℕ) → old file ≡ new file) → (line : List ℕ) (es : List EditView) (cs : List Change) → Makes edition count old line es cs → Makes edition count new line es cs
+makes_over edition count old new same line es cs (inl none) = inl none
+makes_over edition count old new same line es cs (inr m) = inr (record {
+  value = m.value;
+  text = m.text;
+  asked = m.asked;
+  reading = m.reading;
+  all_edits = m.all_edits;
+  all_changes = m.all_changes;
+  meant = meant_over edition old new same m.asked.edits m.all_edits m.all_changes m.meant;
+  made = m.made;
+  edits_are = m.edits_are;
+  changes_are = m.changes_are;
+})
+
+make_over : (edition : EditionYear) (count : ℕ) (old new : FileTexts) → ((file : ℕ) → old file ≡ new file) → (lines : List (List ℕ)) (es : List EditView) (cs : List Change) → Make edition count old lines es cs → Make edition count new lines es cs
+make_over edition count old new same [] es cs h = h
+make_over edition count old new same (line ∷ lines) es cs h = (
+  h.0,
+  h.1,
+  h.2,
+  h.3,
+  makes_over edition count old new same line h.0 h.2 h.4,
+  make_over edition count (text_after old h.2) (text_after new h.2) (λ file. ap (unwrap_or (last_some (leaves file) h.2)) (same file)) lines h.1 h.3 h.5,
+  h.6,
+  h.7,
+)
+
 led_further : (s : Session) (line : List ℕ) (lines : List (List ℕ)) (next new : Open) (led : LedBy s line next) → ((u : Session) → next ≡ Some u → IsLedTo u lines new) → IsLedTo s (line ∷ lines) new
 led_further s line lines next new led more =
     let rest = more led.session led.stands in
-    let by_count = subst (λ k. Make led.session.edition.0 k lines rest.edits rest.changes) led.made.count rest.by_lines in
-    let by_first = subst (λ (x : EditionView). Make x.0 s.count lines rest.edits rest.changes) led.made.edition by_count in
+    let by_count = subst (λ k. Make led.session.edition.0 k (text_in led.session.texts) lines rest.edits rest.changes) led.made.count rest.by_lines in
+    let by_edition = subst (λ (x : EditionView). Make x.0 s.count (text_in led.session.texts) lines rest.edits rest.changes) led.made.edition by_count in
+    let by_first = make_over s.edition.0 s.count (text_in led.session.texts) (text_after (text_in s.texts) led.changes) led.made.texts lines rest.edits rest.changes by_edition in
     record {
       session = rest.session;
       stands = rest.stands;

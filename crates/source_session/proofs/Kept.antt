@@ -1,13 +1,13 @@
 -- The texts of files, one change after another.
-use Rattle.std.proofs.Common.{◌≡◌, ℕ, suc, ◌+◌, ◌<◌, ◌==◌, true, false, if◌then◌else◌, List, ◌∷◌, Option, Some, None, IfSome, All, length, take, get_or, refl, sym, ap, subst, ◌∙◌, arith}
+use Rattle.std.proofs.Common.{◌≡◌, ℕ, suc, ◌+◌, ◌<◌, ◌==◌, true, false, if◌then◌else◌, List, [], ◌∷◌, ◌++◌, Option, Some, None, IfSome, All, length, take, get_or, refl, sym, ap, subst, ◌∙◌, arith}
 use Rattle.std.proofs.lemmas.List.{take_more}
 use Rattle.std.proofs.lemmas.List.Elements.{All-push}
 use Rattle.std.specs.Option.{unwrap_or}
 use Rattle.item_tree_db.specs.History.{last_some}
-use Rattle.item_tree_db.proofs.Histories.{or_else}
+use Rattle.item_tree_db.proofs.Histories.{last_append, or_else}
 use Rattle.source_session.specs.declared.texts.SourceText.{SourceText}
 use Rattle.source_session.specs.Inner.{HasSlot, HasSlotFor}
-use Rattle.source_session.specs.Texts.{Texts, Change, text_in, leaves, text_after}
+use Rattle.source_session.specs.Texts.{Texts, FileTexts, Change, text_in, leaves, text_after}
 
 -- ---- room
 
@@ -37,14 +37,25 @@ all_rest P x xs h = λ k d within. h (suc k) d (omega (arith, within))
 
 -- the next change, and those behind it
 pub text_step : (old new : Texts) (file : ℕ) (text : Option SourceText) (rest : List Change) → ((f : ℕ) → text_in new f ≡ (if file == f then text else text_in old f))
-    → (f : ℕ) → text_after new rest f ≡ text_after old (Some (file, text) ∷ rest) f
+    → (f : ℕ) → text_after (text_in new) rest f ≡ text_after (text_in old) (Some (file, text) ∷ rest) f
 text_step old new file text rest put f =
     ap (unwrap_or (last_some (leaves f) rest)) (put f ∙ elim (file == f) as (λ b. (if b then text else text_in old f) ≡ unwrap_or (if b then Some text else None) (text_in old f)) [ true ↦ refl | false ↦ refl ])
     ∙ sym (or_else (last_some (leaves f) rest) (leaves f (Some (file, text))) (text_in old f))
 
-pub text_skip : (texts : Texts) (rest : List Change) (f : ℕ) → text_after texts rest f ≡ text_after texts (None ∷ rest) f
+pub text_skip : (texts : Texts) (rest : List Change) (f : ℕ) → text_after (text_in texts) rest f ≡ text_after (text_in texts) (None ∷ rest) f
 text_skip texts rest f = sym (or_else (last_some (leaves f) rest) None (text_in texts f))
 
+-- the last change, and those before it
+pub text_last : (texts : FileTexts) (front : List Change) (c : Change) (f : ℕ) → text_after texts (front ++ c ∷ []) f ≡ unwrap_or (leaves f c) (text_after texts front f)
+text_last texts front c f = ap (λ o. unwrap_or o (texts f)) (last_append (leaves f) front (c ∷ [])) ∙ or_else (leaves f c) (last_some (leaves f) front) (texts f)
+
+-- one that leaves nothing of a file, or else what it leaves
+pub skips_last : (texts : FileTexts) (all front : List Change) (c : Change) (f : ℕ) → all ≡ front ++ c ∷ [] → leaves f c ≡ None → text_after texts all f ≡ text_after texts front f
+skips_last texts all front c f is none = ap (λ cs. text_after texts cs f) is ∙ text_last texts front c f ∙ ap (λ o. unwrap_or o (text_after texts front f)) none
+
+pub takes_last : (texts : FileTexts) (all front : List Change) (c : Change) (f : ℕ) (text : Option SourceText) → all ≡ front ++ c ∷ [] → leaves f c ≡ Some text → text_after texts all f ≡ text
+takes_last texts all front c f text is some = ap (λ cs. text_after texts cs f) is ∙ text_last texts front c f ∙ ap (λ o. unwrap_or o (text_after texts front f)) some
+
 -- changes over texts that are the same
-pub text_over : (old new : Texts) (cs : List Change) → ((file : ℕ) → text_in new file ≡ text_in old file) → (file : ℕ) → text_after new cs file ≡ text_after old cs file
+pub text_over : (old new : Texts) (cs : List Change) → ((file : ℕ) → text_in new file ≡ text_in old file) → (file : ℕ) → text_after (text_in new) cs file ≡ text_after (text_in old) cs file
 text_over old new cs same file = ap (unwrap_or (last_some (leaves file) cs)) (same file)

@@ -20,11 +20,14 @@ use Rattle.item_tree_request.proofs.Made.{is_made, is_unmade, found_in_map}
 use Rattle.decl_index.specs.Entries.{IndexView}
 use Rattle.decl_index.proofs.Laws.{behind_after}
 use Rattle.source_session.specs.Edits.{LineEdit}
-use Rattle.source_session.specs.Inner.{IsPlaced, LeavesPlaced, AreTogether, session_of}
+use Rattle.source_session.specs.declared.error.LineError.{LineError}
+use Rattle.source_session.specs.declared.error.LineError.TheVariants.{NotJson, NotRequest, NotChanged, Refused, TooLong}
+use Rattle.source_session.specs.declared.error.LineError.TheVariants as why
+use Rattle.source_session.specs.Inner.{IsPlaced, LeavesPlaced, AreTogether, TellsFault, session_of}
 use Rattle.source_session.specs.Refusals.{line_refusal, made_count, outcome_of}
 use Rattle.source_session.specs.Sessions.{Session, AreMade, IsEdited, IsStopped, IsUnedited}
 use Rattle.source_session.proofs.Kept.{text_over}
-use Rattle.source_session.specs.Texts.{Texts, Change, text_in, text_after, leaves, AreMeant}
+use Rattle.source_session.specs.Texts.{Texts, FileTexts, Change, text_in, text_after, leaves, AreMeant, FailsAt}
 
 -- ---- the places of texts
 
@@ -44,14 +47,14 @@ placed_last : (file : ℕ) (cs : List Change) → All LeavesPlaced cs → IfSome
 placed_last file [] h = tt
 placed_last file (c ∷ cs) h = some_either IsPlaced (last_some (leaves file) cs) (leaves file c) (placed_last file cs (λ k d within. h (suc k) d (omega (arith, within)))) (placed_leaves file c (h 0 None (omega arith)))
 
-placed_after : (texts : Texts) (cs : List Change) → ((file : ℕ) → IsPlaced (text_in texts file)) → All LeavesPlaced cs → (file : ℕ) → IsPlaced (text_after texts cs file)
+placed_after : (texts : Texts) (cs : List Change) → ((file : ℕ) → IsPlaced (text_in texts file)) → All LeavesPlaced cs → (file : ℕ) → IsPlaced (text_after (text_in texts) cs file)
 placed_after texts cs old new file = some_else IsPlaced (last_some (leaves file) cs) (text_in texts file) (placed_last file cs new) (old file)
 
 -- ---- what belongs together
 
 -- after edits of the table and changes of the texts
 pub together_after : (count : ℕ) (s u : State) (edits : List EditView) (old new : Texts) (changes : List Change) (index : IndexView) → AreTogether count s old index → IsAfter s edits u → IsFooting s u → All LeavesPlaced changes
-    → ((file : ℕ) → text_in new file ≡ text_after old changes file) → AreTogether count u new index
+    → ((file : ℕ) → text_in new file ≡ text_after (text_in old) changes file) → AreTogether count u new index
 together_after count s u edits old new changes index t after footing placed texts = record {
   known = λ n own small. rw after.count (t.known n own small);
   behind = behind_after s u edits index after footing t.behind;
@@ -60,13 +63,13 @@ together_after count s u edits old new changes index t after footing placed text
 
 -- ---- outcomes
 
-pub same_length : (edition : EditionYear) (ls : List LineEdit) (es : List EditView) (cs : List Change) → AreMeant edition ls es cs → length cs ≡ length es
-same_length edition [] [] [] h = refl
-same_length edition (l ∷ ls) (e ∷ es) (c ∷ cs) h = ap suc (same_length edition ls es cs h.1)
-same_length edition [] (e ∷ es) cs h = absurd h
-same_length edition [] [] (c ∷ cs) h = absurd h
-same_length edition (l ∷ ls) [] cs h = absurd h
-same_length edition (l ∷ ls) (e ∷ es) [] h = absurd h
+pub same_length : (edition : EditionYear) (texts : FileTexts) (ls : List LineEdit) (es : List EditView) (cs : List Change) → AreMeant edition texts ls es cs → length cs ≡ length es
+same_length edition texts [] [] [] h = refl
+same_length edition texts (l ∷ ls) (e ∷ es) (c ∷ cs) h = ap suc (same_length edition (text_after texts (c ∷ [])) ls es cs h.1)
+same_length edition texts [] (e ∷ es) cs h = absurd h
+same_length edition texts [] [] (c ∷ cs) h = absurd h
+same_length edition texts (l ∷ ls) [] cs h = absurd h
+same_length edition texts (l ∷ ls) (e ∷ es) [] h = absurd h
 
 -- nothing is made
 pub made_none : (s u : Session) → u.count ≡ s.count → u.edition ≡ s.edition → u.table ≡ s.table → ((file : ℕ) → text_in u.texts file ≡ text_in s.texts file) → AreMade s [] [] u
@@ -74,6 +77,15 @@ made_none s u count edition table texts = record { count = count; edition = edit
 
 pub stopped_none : (s : Session) (asked : List LineEdit) (u : Session) → u.count ≡ s.count → u.edition ≡ s.edition → u.table ≡ s.table → ((file : ℕ) → text_in u.texts file ≡ text_in s.texts file) → IsStopped s asked u
 stopped_none s asked u count edition table texts = record { edits = []; changes = []; count = 0; meant = inl refl; made = made_none s u count edition table texts }
+
+-- memory is wanting, or an edit means nothing
+pub unmeant : (s : Session) (asked : List LineEdit) (e : LineError) → TellsFault (FailsAt s.edition.0 (text_in s.texts) asked) e → IsUnedited s asked s e
+unmeant s asked (NotChanged place cause) h = (h, refl)
+unmeant s asked why.OutOfMemory h = stopped_none s asked s refl refl refl (λ file. refl)
+unmeant s asked (NotJson column) h = absurd h
+unmeant s asked (NotRequest pointer) h = absurd h
+unmeant s asked (Refused place cause) h = absurd h
+unmeant s asked TooLong h = absurd h
 
 -- all is made, and memory is wanting behind it
 pub stopped_all : (s : Session) (asked : List LineEdit) (u : Session) → IsEdited s asked u → IsStopped s asked u
@@ -83,11 +95,11 @@ stopped_all s asked u e = record {
   count = length e.edits;
   meant = inr e.meant;
   made = subst (λ es. AreMade s es (take (length e.edits) e.changes) u) (sym (take_all (length e.edits) e.edits (omega arith)))
-      (subst (λ cs. AreMade s e.edits cs u) (sym (take_all (length e.edits) e.changes (omega (arith, same_length s.edition.0 asked e.edits e.changes e.meant)))) e.made);
+      (subst (λ cs. AreMade s e.edits cs u) (sym (take_all (length e.edits) e.changes (omega (arith, same_length s.edition.0 (text_in s.texts) asked e.edits e.changes e.meant)))) e.made);
 }
 
 -- an edit is refused, or memory is wanting in it
-module _ (s : Session) (asked : List LineEdit) (u : Session) (edits : List EditView) (changes : List Change) (place : ℕ) (meant : AreMeant s.edition.0 asked edits changes) (made : AreMade s (take place edits) (take place changes) u) where
+module _ (s : Session) (asked : List LineEdit) (u : Session) (edits : List EditView) (changes : List Change) (place : ℕ) (meant : AreMeant s.edition.0 (text_in s.texts) asked edits changes) (made : AreMade s (take place edits) (take place changes) u) where
   pub refused_at : (cause : EditFault) → IsUnmade s.table edits (refusal_of place cause) → IsUnedited s asked u (line_refusal place cause)
   refused_at TooManyEdits h = record { edits = edits; changes = changes; meant = meant; made = made; none_before = h.0; passes = h.1 }
   refused_at (Lower TooManyItems) h = record { edits = edits; changes = changes; meant = meant; made = made; none_before = h.0; passes = h.1 }
@@ -110,13 +122,13 @@ after_first s u edits (Ok number) ok err = subst (λ es. IsAfter s es u) (sym (t
 after_first s u edits (Err all) ok err = err
 
 -- what all edits of a line come to
-module _ (s u : Session) (asked : List LineEdit) (edits : List Edit) (changes : List Change) (meant : AreMeant s.edition.0 asked (map edit_view edits) changes) where
+module _ (s u : Session) (asked : List LineEdit) (edits : List Edit) (changes : List Change) (meant : AreMeant s.edition.0 (text_in s.texts) asked (map edit_view edits) changes) where
   edited_by : (number : ℕ) → AreMade s (take (length edits) (map edit_view edits)) (take (length edits) changes) u → number ≡ u.table.number → number ≤ last_number → FirstFit s.table (map edit_view edits) (length edits) → IsEdited s asked u
   edited_by number made is small fit =
       let es = map edit_view edits in
       let whole = length-map edits edit_view in
       let all = subst (λ xs. AreMade s xs (take (length edits) changes) u) (take_all (length edits) es (omega (arith, whole))) made in
-      let both = subst (λ cs. AreMade s es cs u) (take_all (length edits) changes (omega (arith, whole, same_length s.edition.0 asked es changes meant))) all in
+      let both = subst (λ cs. AreMade s es cs u) (take_all (length edits) changes (omega (arith, whole, same_length s.edition.0 (text_in s.texts) asked es changes meant))) all in
       let fits = is_made s.table u.table es both.table (omega (arith, small, is)) (subst (FirstFit s.table es) (sym whole) fit) in
       record { edits = es; changes = changes; meant = meant; made = both; none_passes = fits.none_passes }
 
@@ -135,9 +147,9 @@ module _ (s u : Session) (asked : List LineEdit) (edits : List Edit) (changes : 
 
 -- room was made for the texts, the table answered, and the first changes were made
 module _ (s u : State) (old room new : Texts) (edits : List Edit) (changes : List Change) (made : Result ℕ AllRefused) (n : ℕ) (ok : OnOk made (IsAfter s (map edit_view edits) u)) (refused : IfErr made (λ all. IsAfter s (edits_before all edits) u))
-    (count_is : n ≡ made_count (length edits) made) (same : (file : ℕ) → text_in room file ≡ text_in old file) (put : (file : ℕ) → text_in new file ≡ text_after room (take n changes) file) where
-  texts_after : (file : ℕ) → text_in new file ≡ text_after old (take (made_count (length edits) made) changes) file
-  texts_after file = put file ∙ text_over old room (take n changes) same file ∙ ap (λ k. text_after old (take k changes) file) count_is
+    (count_is : n ≡ made_count (length edits) made) (same : (file : ℕ) → text_in room file ≡ text_in old file) (put : (file : ℕ) → text_in new file ≡ text_after (text_in room) (take n changes) file) where
+  texts_after : (file : ℕ) → text_in new file ≡ text_after (text_in old) (take (made_count (length edits) made) changes) file
+  texts_after file = put file ∙ text_over old room (take n changes) same file ∙ ap (λ k. text_after (text_in old) (take k changes) file) count_is
 
   pub files_made : (count : ℕ) (edition : EditionView)
       → AreMade (session_of count edition s old) (take (made_count (length edits) made) (map edit_view edits)) (take (made_count (length edits) made) changes) (session_of count edition u new)

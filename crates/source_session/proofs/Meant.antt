@@ -1,14 +1,83 @@
 -- What edits of a line mean, one more at a time.
-use Rattle.std.proofs.Common.{List, [], ◌∷◌, ◌++◌}
+use Rattle.std.proofs.Common.{◌≡◌, ℕ, suc, List, [], ◌∷◌, ◌++◌, Ok, Err, length, refl, sym, ap, subst, ◌∙◌}
+use Rattle.std.specs.Option.{unwrap_or}
 use Rattle.hir_input.specs.declared.edition.EditionYear.{EditionYear}
 use Rattle.item_tree_db.specs.Edits.{EditView}
-use Rattle.source_session.specs.Edits.{LineEdit}
-use Rattle.source_session.specs.Texts.{Change, Means, AreMeant}
+use Rattle.item_tree_db.specs.History.{last_some}
+use Rattle.item_tree_db.proofs.Histories.{or_else}
+use Rattle.source_session.specs.declared.error.LineError.{LineError}
+use Rattle.source_session.specs.declared.error.LineError.TheVariants.{NotJson, NotRequest, NotChanged, Refused, TooLong, OutOfMemory}
+use Rattle.source_session.specs.declared.splice.ChangeFault.{ChangeFault}
+use Rattle.source_session.specs.Edits.{LineEdit, of_table, set_text, change_text}
+use Rattle.source_session.specs.Inner.{IsFailing, TellsFault}
+use Rattle.source_session.specs.Texts.{Change, FileTexts, leaves, text_after, bytes_of, changed_text, Means, AreMeant, Fails, FailsAt}
 
-pub meant_push : (edition : EditionYear) (ls : List LineEdit) (es : List EditView) (cs : List Change) (l : LineEdit) (e : EditView) (c : Change) → AreMeant edition ls es cs → Means edition l e c → AreMeant edition (ls ++ l ∷ []) (es ++ e ∷ []) (cs ++ c ∷ [])
-meant_push edition [] [] [] l e c are is = (is, tt)
-meant_push edition (k ∷ ls) (f ∷ es) (d ∷ cs) l e c are is = (are.0, meant_push edition ls es cs l e c are.1 is)
-meant_push edition [] (f ∷ es) cs l e c are is = absurd are
-meant_push edition [] [] (d ∷ cs) l e c are is = absurd are
-meant_push edition (k ∷ ls) [] cs l e c are is = absurd are
-meant_push edition (k ∷ ls) (f ∷ es) [] l e c are is = absurd are
+-- ---- over texts that are the same
+
+module _ (edition : EditionYear) (old new : FileTexts) (same : (file : ℕ) → old file ≡ new file) where
+  means_over : (l : LineEdit) (e : EditView) (c : Change) → Means edition old l e c → Means edition new l e c
+  means_over (of_table f) e c h = h
+  means_over (set_text file text) e c h = h
+  means_over (change_text file range text) e c h = (h.0, subst (λ t. changed_text (bytes_of t) range text ≡ Ok h.0) (same file) h.1, h.2)
+
+  fails_over : (l : LineEdit) (cause : ChangeFault) → Fails old l cause → Fails new l cause
+  fails_over (of_table f) cause h = h
+  fails_over (set_text file text) cause h = h
+  fails_over (change_text file range text) cause h = subst (λ t. changed_text (bytes_of t) range text ≡ Err cause) (same file) h
+
+pub meant_over : (edition : EditionYear) (old new : FileTexts) → ((file : ℕ) → old file ≡ new file) → (ls : List LineEdit) (es : List EditView) (cs : List Change) → AreMeant edition old ls es cs → AreMeant edition new ls es cs
+meant_over edition old new same [] [] [] h = h
+meant_over edition old new same (l ∷ ls) (e ∷ es) (c ∷ cs) h = (
+  means_over edition old new same l e c h.0,
+  meant_over edition (text_after old (c ∷ [])) (text_after new (c ∷ [])) (λ file. ap (unwrap_or (leaves file c)) (same file)) ls es cs h.1,
+)
+meant_over edition old new same [] (e ∷ es) cs h = absurd h
+meant_over edition old new same [] [] (c ∷ cs) h = absurd h
+meant_over edition old new same (l ∷ ls) [] cs h = absurd h
+meant_over edition old new same (l ∷ ls) (e ∷ es) [] h = absurd h
+
+-- ---- behind others
+
+-- the first change, and those behind it
+after_first : (texts : FileTexts) (c : Change) (cs : List Change) (file : ℕ) → text_after texts (c ∷ cs) file ≡ text_after (text_after texts (c ∷ [])) cs file
+after_first texts c cs file = or_else (last_some (leaves file) cs) (leaves file c) (texts file)
+
+pub meant_push : (edition : EditionYear) (texts : FileTexts) (ls : List LineEdit) (es : List EditView) (cs : List Change) (l : LineEdit) (e : EditView) (c : Change) → AreMeant edition texts ls es cs → Means edition (text_after texts cs) l e c → AreMeant edition texts (ls ++ l ∷ []) (es ++ e ∷ []) (cs ++ c ∷ [])
+meant_push edition texts [] [] [] l e c are is = (is, tt)
+meant_push edition texts (k ∷ ls) (f ∷ es) (d ∷ cs) l e c are is =
+    let next = text_after texts (d ∷ []) in
+    (are.0, meant_push edition next ls es cs l e c are.1 (means_over edition (text_after texts (d ∷ cs)) (text_after next cs) (after_first texts d cs) l e c is))
+meant_push edition texts [] (f ∷ es) cs l e c are is = absurd are
+meant_push edition texts [] [] (d ∷ cs) l e c are is = absurd are
+meant_push edition texts (k ∷ ls) [] cs l e c are is = absurd are
+meant_push edition texts (k ∷ ls) (f ∷ es) [] l e c are is = absurd are
+
+-- the first that means nothing
+pub fails_behind : (edition : EditionYear) (texts : FileTexts) (ls : List LineEdit) (es : List EditView) (cs : List Change) (l : LineEdit) (rest : List LineEdit) (cause : ChangeFault) → AreMeant edition texts ls es cs → Fails (text_after texts cs) l cause → FailsAt edition texts (ls ++ l ∷ rest) (length ls) cause
+fails_behind edition texts [] [] [] l rest cause are fails = fails
+fails_behind edition texts (k ∷ ls) (f ∷ es) (d ∷ cs) l rest cause are fails =
+    let next = text_after texts (d ∷ []) in
+    (f, d, are.0, fails_behind edition next ls es cs l rest cause are.1 (fails_over edition (text_after texts (d ∷ cs)) (text_after next cs) (after_first texts d cs) l cause fails))
+fails_behind edition texts [] (f ∷ es) cs l rest cause are fails = absurd are
+fails_behind edition texts [] [] (d ∷ cs) l rest cause are fails = absurd are
+fails_behind edition texts (k ∷ ls) [] cs l rest cause are fails = absurd are
+fails_behind edition texts (k ∷ ls) (f ∷ es) [] l rest cause are fails = absurd are
+
+meant_length : (edition : EditionYear) (texts : FileTexts) (ls : List LineEdit) (es : List EditView) (cs : List Change) → AreMeant edition texts ls es cs → length cs ≡ length ls
+meant_length edition texts [] [] [] are = refl
+meant_length edition texts (l ∷ ls) (e ∷ es) (c ∷ cs) are = ap suc (meant_length edition (text_after texts (c ∷ [])) ls es cs are.1)
+meant_length edition texts [] (e ∷ es) cs are = absurd are
+meant_length edition texts [] [] (c ∷ cs) are = absurd are
+meant_length edition texts (l ∷ ls) [] cs are = absurd are
+meant_length edition texts (l ∷ ls) (e ∷ es) [] are = absurd are
+
+-- what is told of an edit behind others is told of all
+pub tells_behind : (edition : EditionYear) (texts : FileTexts) (ls : List LineEdit) (es : List EditView) (cs : List Change) (l : LineEdit) (rest : List LineEdit) (e : LineError) → AreMeant edition texts ls es cs → TellsFault (IsFailing (text_after texts cs) l (length cs)) e
+    → TellsFault (FailsAt edition texts (ls ++ l ∷ rest)) e
+tells_behind edition texts ls es cs l rest (NotChanged place cause) are h =
+    subst (λ k. FailsAt edition texts (ls ++ l ∷ rest) k cause) (sym (h.0 ∙ meant_length edition texts ls es cs are)) (fails_behind edition texts ls es cs l rest cause are h.1)
+tells_behind edition texts ls es cs l rest OutOfMemory are h = h
+tells_behind edition texts ls es cs l rest (NotJson column) are h = h
+tells_behind edition texts ls es cs l rest (NotRequest pointer) are h = h
+tells_behind edition texts ls es cs l rest (Refused place cause) are h = h
+tells_behind edition texts ls es cs l rest TooLong are h = h

@@ -1,19 +1,23 @@
 -- The edits of a line.
-use Rattle.std.specs.Prelude.{ℕ, ◌^◌, ◌≤◌, nat_lt, List, [], length, codes, string_bytes, if◌then◌else◌, Option, Some, None}
-use Rattle.serde_json.specs.Data.{Data}
+use Rattle.std.specs.Prelude.{ℕ, ◌^◌, ◌≤◌, nat_lt, List, [], length, codes, decimal, string_bytes, if◌then◌else◌, Option, Some, None}
+use Rattle.serde_json.specs.Data.{Data, Items, no_items, item}
 use Rattle.serde_json.specs.Written.{has_float}
-use Rattle.hir_input_json.specs.Reading.{Reading, right, wrong, reading_map, here, ◌>>=◌}
-use Rattle.hir_input_json.specs.Forms.{required_at, on_word, id_at, text, members_in}
+use Rattle.hir_input_json.specs.Reading.{Reading, right, wrong, reading_map, here, under, ◌>>=◌}
+use Rattle.hir_input_json.specs.Forms.{required_at, on_word, id_at, whole, text, items_in, members_in}
 use Rattle.item_tree_db.specs.Edits as table
 use Rattle.item_tree_request.specs.Edits as request
 use Rattle.item_tree_request.specs.Named.{EditNamesCrate}
+use Rattle.rust_paths.specs.declared.names.TextRange.{TextRange}
+use Rattle.source_session.specs.declared.keys.LineObject.TheVariants.{OfEdits}
+use Rattle.source_session.specs.Keys.{only_known}
 use Rattle.source_session.specs.declared.edit.LineEdit as code
-use Rattle.source_session.specs.declared.edit.LineEdit.TheVariants.{Table, SetText}
+use Rattle.source_session.specs.declared.edit.LineEdit.TheVariants.{Table, SetText, ChangeText}
 
--- an edit of a line: one of a request, or a file set to what is read of a text
+-- an edit of a line: one of a request, a file set to what is read of a text, or a range of the text of a file replaced
 pub data LineEdit : Type 0 where
   of_table : table.EditView → LineEdit
   set_text : ℕ → List ℕ → LineEdit
+  change_text : ℕ → TextRange → List ℕ → LineEdit
 
 -- so many bytes as the ids of items are distinct for
 abbrev pub IsShort : List ℕ → Type 0
@@ -36,12 +40,37 @@ text_edit d = do
   written ← required_at (codes "text") short_text d
   right (set_text file written)
 
+-- a list of just the two ends
+abbrev pub range_in : Items → Reading TextRange
+range_in no_items = wrong []
+range_in (item a no_items) = wrong []
+range_in (item a (item b no_items)) = do
+  start ← under (decimal 0) (whole (2 ^ 64) a)
+  end ← under (decimal 1) (whole (2 ^ 64) b)
+  right (record { start = start; end = end })
+range_in (item a (item b (item c ds))) = wrong []
+
+-- a range of a text
+abbrev pub range : Data → Reading TextRange
+range d = do
+  ds ← items_in d
+  range_in ds
+
+-- a range of the text of a file replaced
+abbrev pub change_edit : Data → Reading LineEdit
+change_edit d = do
+  file ← id_at (codes "file") d
+  place ← required_at (codes "range") range d
+  written ← required_at (codes "text") short_text d
+  right (change_text file place written)
+
 -- an edit of a table of this many crates, by its word
 abbrev pub edit : ℕ → Data → Reading LineEdit
 edit count d = do
   _ ← members_in d
+  _ ← only_known OfEdits d
   word ← required_at (codes "edit") text d
-  on_word word (codes "set_text") (text_edit d) (reading_map of_table (request.edit count d))
+  on_word word (codes "set_text") (text_edit d) (on_word word (codes "change_text") (change_edit d) (reading_map of_table (request.edit count d)))
 
 -- the same of a value without a float
 abbrev pub line_edit : ℕ → Data → Reading LineEdit
@@ -53,8 +82,10 @@ line_edit count d = if has_float d then wrong [] else edit count d
 abbrev pub edit_view : code.LineEdit → LineEdit
 edit_view (Table e) = of_table (table.edit_view e)
 edit_view (SetText file text) = set_text file.0 (string_bytes text)
+edit_view (ChangeText file range text) = change_text file.0 range (string_bytes text)
 
 -- a crate that it names is one of this many, and a text is short
 abbrev pub IsUsable : ℕ → code.LineEdit → Type 0
 IsUsable count (Table e) = EditNamesCrate count e
 IsUsable count (SetText file text) = IsShort (string_bytes text)
+IsUsable count (ChangeText file range text) = IsShort (string_bytes text)

@@ -9,7 +9,9 @@ use Rattle.item_tree.specs.declared.fault.EditFault.TheVariants.{TooManyEdits, L
 use Rattle.item_tree.specs.declared.fault.LowerError.TheVariants as lowering
 use Rattle.source_listing.specs.Objects.{count_form}
 use Rattle.source_session.specs.declared.error.LineError.{LineError}
-use Rattle.source_session.specs.declared.error.LineError.TheVariants.{NotJson, NotRequest, Refused, TooLong, OutOfMemory}
+use Rattle.source_session.specs.declared.splice.ChangeFault.{ChangeFault}
+use Rattle.source_session.specs.declared.splice.ChangeFault.TheVariants as change
+use Rattle.source_session.specs.declared.error.LineError.TheVariants.{NotJson, NotRequest, NotChanged, Refused, TooLong, OutOfMemory}
 
 -- the size that an edit passes, in words
 abbrev pub cause_text : EditFault → List ℕ
@@ -20,6 +22,13 @@ cause_text (Lower lowering.TooManyUseTrees) = codes "too many use trees"
 cause_text (Lower lowering.TooManyAttributes) = codes "too many attributes"
 cause_text (Lower lowering.TooManySupers) = codes "too many supers"
 cause_text (Lower lowering.OutOfMemory) = codes "out of memory"
+
+-- why a text cannot be changed, in words
+abbrev pub fault_text : ChangeFault → List ℕ
+fault_text change.NoText = codes "no text"
+fault_text change.OutsideText = codes "range not in the text"
+fault_text change.CutsCharacter = codes "range cuts a character"
+fault_text change.TooLong = codes "text too long"
 
 -- an object of one kind of error
 abbrev pub kind_form : List ℕ → Data
@@ -34,6 +43,7 @@ line_error fault.OutOfMemory = OutOfMemory
 abbrev pub error_form : LineError → Data
 error_form (NotJson column) = object (member (codes "column") (count_form column) (member (codes "kind") (string (codes "not JSON")) no_members))
 error_form (NotRequest pointer) = object (member (codes "kind") (string (codes "not a request")) (member (codes "pointer") (string pointer) no_members))
+error_form (NotChanged place cause) = object (member (codes "cause") (string (fault_text cause)) (member (codes "kind") (string (codes "text not changed")) (member (codes "place") (count_form place) no_members)))
 error_form (Refused place cause) = object (member (codes "cause") (string (cause_text cause)) (member (codes "kind") (string (codes "edit refused")) (member (codes "place") (count_form place) no_members)))
 error_form TooLong = kind_form (codes "line too long")
 error_form OutOfMemory = kind_form (codes "out of memory")

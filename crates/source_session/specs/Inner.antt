@@ -6,16 +6,20 @@ use Rattle.serde_json.specs.declared.value.Value.{Value}
 use Rattle.serde_json.specs.Data.{Data}
 use Rattle.serde_json.specs.View.{items_of, view}
 use Rattle.serde_json.specs.Written.{items_have_float}
+use Rattle.hir_input.specs.declared.edition.EditionYear.{EditionYear}
 use Rattle.hir_input_json.specs.Editions.{EditionView}
 use Rattle.item_tree_db.specs.State.{State}
 use Rattle.source_listing.specs.Places.{AreDistinct}
 use Rattle.decl_index.specs.Entries.{IndexView, IsBehind}
 use Rattle.source_session.specs.declared.error.LineError.{LineError}
+use Rattle.source_session.specs.declared.error.LineError.TheVariants.{NotJson, NotRequest, NotChanged, Refused, TooLong, OutOfMemory}
+use Rattle.source_session.specs.declared.splice.ChangeFault.{ChangeFault}
+use Rattle.source_session.specs.Edits.{LineEdit}
 use Rattle.source_session.specs.declared.texts.SourceText.{SourceText}
 use Rattle.source_session.specs.declared.reply.Reply as reply
 use Rattle.source_session.specs.Replies.{Outcome, Reply}
 use Rattle.source_session.specs.Sessions.{Session}
-use Rattle.source_session.specs.Texts.{Texts, Change, slot_in, text_in}
+use Rattle.source_session.specs.Texts.{Texts, Change, FileTexts, slot_in, text_in, Fails, FailsAt}
 
 -- something is kept for a file
 abbrev pub HasSlot : Texts → ℕ → Type 0
@@ -34,6 +38,23 @@ IsPlaced text = IfSome text (λ t. AreDistinct t.places.items)
 -- so are those of what a change leaves
 abbrev pub LeavesPlaced : Change → Type 0
 LeavesPlaced change = IfSome change (λ c. IsPlaced c.1)
+
+-- memory is wanting, or the error tells what P says of its place and cause
+abbrev pub TellsFault : (ℕ → ChangeFault → Type 0) → LineError → Type 0
+TellsFault P (NotChanged place cause) = P place cause
+TellsFault P OutOfMemory = Unit {0}
+TellsFault P (NotJson column) = ⊥
+TellsFault P (NotRequest pointer) = ⊥
+TellsFault P (Refused place cause) = ⊥
+TellsFault P TooLong = ⊥
+
+-- the edit at a place has this place, and its text is not changed for this reason
+abbrev pub IsToldOf : Result (List ℕ) ChangeFault → ℕ → ℕ → ChangeFault → Type 0
+IsToldOf changed at place cause = (place ≡ at) × (changed ≡ Err cause)
+
+-- the edit at a place has this place, and means nothing over these texts for this reason
+abbrev pub IsFailing : FileTexts → LineEdit → ℕ → ℕ → ChangeFault → Type 0
+IsFailing texts l at place cause = (place ≡ at) × Fails texts l cause
 
 -- the crates that lines name are crates of the table
 abbrev pub Knowing : ℕ → State → Type 0

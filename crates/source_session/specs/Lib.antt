@@ -1,3 +1,4 @@
+pub mod Keys
 pub mod Edits
 pub mod Shows
 pub mod Lines

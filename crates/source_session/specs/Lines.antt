@@ -1,11 +1,13 @@
 -- How a line is read.
-use Rattle.std.specs.Prelude.{ℕ, ◌^◌, List, length, codes}
+use Rattle.std.specs.Prelude.{ℕ, ◌^◌, List, [], ◌∷◌, length, codes}
 use Rattle.serde_json.specs.Data.{Data}
 use Rattle.item_tree.specs.CrateView.{CrateView}
 use Rattle.hir_input_json.specs.Reading.{Reading, right, ◌>>=◌}
 use Rattle.hir_input_json.specs.Editions.{EditionView, edition_at}
 use Rattle.hir_input_json.specs.Forms.{field, optional_at, by_first, wrong_at, whole, name, list_at}
 use Rattle.item_tree_request.specs.Edits.{crate_data}
+use Rattle.source_session.specs.declared.keys.LineObject.TheVariants.{Whole}
+use Rattle.source_session.specs.Keys.{only_known}
 use Rattle.source_session.specs.declared.show.LineShow.{LineShow}
 use Rattle.source_session.specs.Edits.{LineEdit, line_edit}
 use Rattle.source_session.specs.Shows.{line_show}
@@ -19,11 +21,19 @@ pub record Settings : Type 0 where
   -- the number before the first edit
   pub start : ℕ
 
+-- the attributes that are left out of trees where a line names none: documentation, and what else rust-analyzer leaves out
+abbrev pub usual_skipped : List (List ℕ)
+usual_skipped =
+    codes "doc" ∷ codes "stable" ∷ codes "unstable" ∷ codes "target_feature" ∷ codes "allow" ∷ codes "expect" ∷ codes "warn" ∷ codes "deny" ∷ codes "forbid" ∷ codes "repr" ∷ codes "inline" ∷ codes "track_caller" ∷ codes "must_use" ∷ []
+
+abbrev pub skipped_at : Data → Reading (List (List ℕ))
+skipped_at d = by_first (field (codes "skipped") d) (λ _. list_at name (codes "skipped") d) (right usual_skipped)
+
 -- each by its form, in this order
 abbrev pub settings : Data → Reading Settings
 settings d = do
   crates ← list_at crate_data (codes "crates") d
-  skipped ← list_at name (codes "skipped") d
+  skipped ← skipped_at d
   language ← edition_at d
   start ← optional_at 0 (codes "start") (whole (2 ^ 64)) d
   right (record { crates = crates; skipped = skipped; edition = language; start = start })
@@ -55,6 +65,7 @@ no_settings d = do
 -- the line that opens a session
 abbrev pub first_line : Data → Reading (Settings × Asked)
 first_line d = do
+  _ ← only_known Whole d
   opened ← settings d
   rest ← asked (length opened.crates) d
   right (opened, rest)
@@ -62,5 +73,6 @@ first_line d = do
 -- a line of a session with this many crates
 abbrev pub later_line : ℕ → Data → Reading Asked
 later_line count d = do
+  _ ← only_known Whole d
   _ ← no_settings d
   asked count d

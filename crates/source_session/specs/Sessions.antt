@@ -7,10 +7,11 @@ use Rattle.item_tree_db.specs.Edits.{EditView}
 use Rattle.item_tree_db.specs.History.{IsAfter}
 use Rattle.item_tree_request.specs.Outputs.{NonePasses, PassesAt}
 use Rattle.source_session.specs.declared.error.LineError.{LineError}
-use Rattle.source_session.specs.declared.error.LineError.TheVariants.{NotJson, NotRequest, Refused, TooLong, OutOfMemory}
+use Rattle.source_session.specs.declared.error.LineError.TheVariants.{NotJson, NotRequest, NotChanged, Refused, TooLong, OutOfMemory}
+use Rattle.source_session.specs.declared.splice.ChangeFault.{ChangeFault}
 use Rattle.source_session.specs.Edits.{LineEdit}
 use Rattle.source_session.specs.Lines.{Settings}
-use Rattle.source_session.specs.Texts.{Texts, Change, text_in, text_after, AreMeant}
+use Rattle.source_session.specs.Texts.{Texts, Change, text_in, text_after, AreMeant, FailsAt}
 
 -- what stands between lines
 pub record Session : Type 0 where
@@ -29,13 +30,13 @@ pub record AreMade (s : Session) (edits : List EditView) (changes : List Change)
   pub count : u.count ≡ s.count
   pub edition : u.edition ≡ s.edition
   pub table : IsAfter s.table edits u.table
-  pub texts : (file : ℕ) → text_in u.texts file ≡ text_after s.texts changes file
+  pub texts : (file : ℕ) → text_in u.texts file ≡ text_after (text_in s.texts) changes file
 
 -- all edits of a line are made, and none passes a size
 pub record IsEdited (s : Session) (asked : List LineEdit) (u : Session) : Type 0 where
   pub edits : List EditView
   pub changes : List Change
-  pub meant : AreMeant s.edition.0 asked edits changes
+  pub meant : AreMeant s.edition.0 (text_in s.texts) asked edits changes
   pub made : AreMade s edits changes u
   pub none_passes : NonePasses s.table edits (length edits)
 
@@ -43,7 +44,7 @@ pub record IsEdited (s : Session) (asked : List LineEdit) (u : Session) : Type 0
 pub record IsRefused (s : Session) (asked : List LineEdit) (u : Session) (place : ℕ) (cause : EditFault) : Type 0 where
   pub edits : List EditView
   pub changes : List Change
-  pub meant : AreMeant s.edition.0 asked edits changes
+  pub meant : AreMeant s.edition.0 (text_in s.texts) asked edits changes
   pub made : AreMade s (take place edits) (take place changes) u
   pub none_before : NonePasses s.table edits place
   pub passes : PassesAt s.table edits place cause
@@ -53,12 +54,17 @@ pub record IsStopped (s : Session) (asked : List LineEdit) (u : Session) : Type 
   pub edits : List EditView
   pub changes : List Change
   pub count : ℕ
-  pub meant : (count ≡ 0) ⊎ AreMeant s.edition.0 asked edits changes
+  pub meant : (count ≡ 0) ⊎ AreMeant s.edition.0 (text_in s.texts) asked edits changes
   pub made : AreMade s (take count edits) (take count changes) u
+
+-- the edit at this place is the first that means nothing, for this reason, and nothing is made
+abbrev pub IsUnchanged : Session → List LineEdit → Session → ℕ → ChangeFault → Type 0
+IsUnchanged s asked u place cause = FailsAt s.edition.0 (text_in s.texts) asked place cause × (u ≡ s)
 
 -- the edits of a line are not all made, for this reason
 abbrev pub IsUnedited : Session → List LineEdit → Session → LineError → Type 0
 IsUnedited s asked u (Refused place cause) = IsRefused s asked u place cause
+IsUnedited s asked u (NotChanged place cause) = IsUnchanged s asked u place cause
 IsUnedited s asked u OutOfMemory = IsStopped s asked u
 IsUnedited s asked u (NotJson column) = ⊥
 IsUnedited s asked u (NotRequest pointer) = ⊥

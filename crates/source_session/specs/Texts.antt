@@ -1,5 +1,5 @@
 -- The texts of files, and what edits leave of them.
-use Rattle.std.specs.Prelude.{◌≡◌, ℕ, ◌==◌, List, [], ◌∷◌, if◌then◌else◌, Option, Some, None, string_bytes}
+use Rattle.std.specs.Prelude.{◌≡◌, ℕ, zero, suc, ◌^◌, ◌==◌, Bool, ◌||◌, nat_lt, List, [], ◌∷◌, ◌++◌, length, take, drop, if◌then◌else◌, Option, Some, None, option_map, Result, Ok, Err, string_bytes}
 use Rattle.std.specs.BTreeMap.{is_at}
 use Rattle.std.specs.Map.{lookup}
 use Rattle.std.specs.Option.{option_and_then, unwrap_or}
@@ -11,8 +11,12 @@ use Rattle.item_tree_db.specs.Edits.{EditView, set, remove, set_cfg}
 use Rattle.item_tree_db.specs.History.{last_some}
 use Rattle.rust_items.specs.declared.source_file.SourceFile.{SourceFile}
 use Rattle.rust_items.specs.SourceFiles.{IsSourceFile}
+use Rattle.rust_members.specs.Lists.{is_cut}
+use Rattle.rust_paths.specs.declared.names.TextRange.{TextRange}
+use Rattle.source_session.specs.declared.splice.ChangeFault.{ChangeFault}
+use Rattle.source_session.specs.declared.splice.ChangeFault.TheVariants.{NoText, OutsideText, CutsCharacter, TooLong}
 use Rattle.source_session.specs.declared.texts.SourceText.{SourceText}
-use Rattle.source_session.specs.Edits.{LineEdit, of_table, set_text}
+use Rattle.source_session.specs.Edits.{LineEdit, of_table, set_text, change_text}
 
 -- what is kept for files, in the order of their numbers
 abbrev pub Texts : Type 0
@@ -43,9 +47,47 @@ abbrev pub leaves : ℕ → Change → Option (Option SourceText)
 leaves file None = None
 leaves file (Some (at, text)) = if at == file then Some text else None
 
+-- the texts of all files, by their numbers
+abbrev pub FileTexts : Type 0
+FileTexts = ℕ → Option SourceText
+
 -- the text of a file after edits: what the last of them leaves that sets or removes the file
-abbrev pub text_after : Texts → List Change → ℕ → Option SourceText
-text_after texts changes file = unwrap_or (last_some (leaves file) changes) (text_in texts file)
+abbrev pub text_after : FileTexts → List Change → FileTexts
+text_after texts changes file = unwrap_or (last_some (leaves file) changes) (texts file)
+
+-- ---- a range of a text replaced
+
+-- a text with what stands in a range of it replaced
+abbrev pub spliced : List ℕ → TextRange → List ℕ → List ℕ
+spliced text range new = take range.start text ++ new ++ drop range.end text
+
+-- a range does not stand in a text
+abbrev pub is_outside : List ℕ → TextRange → Bool
+is_outside text range = nat_lt range.end range.start || nat_lt (length text) range.end
+
+-- a text has more bytes than the ids of items are distinct for
+abbrev pub is_long : List ℕ → Bool
+is_long text = nat_lt (2 ^ 32) (length text)
+
+-- why a range of a text cannot be replaced, if it cannot
+abbrev pub change_fault : List ℕ → TextRange → List ℕ → Option ChangeFault
+change_fault text range new =
+    if is_outside text range then Some OutsideText
+    else (if is_cut text range then (if is_long (spliced text range new) then Some TooLong else None) else Some CutsCharacter)
+
+-- a text, unless there is a fault
+abbrev pub unless_fault : Option ChangeFault → List ℕ → Result (List ℕ) ChangeFault
+unless_fault None text = Ok text
+unless_fault (Some cause) text = Err cause
+
+-- the text of a file with a range replaced, or why it cannot be
+abbrev pub changed_text : Option (List ℕ) → TextRange → List ℕ → Result (List ℕ) ChangeFault
+changed_text None range new = Err NoText
+changed_text (Some text) range new = unless_fault (change_fault text range new) (spliced text range new)
+
+-- the bytes of a text
+abbrev pub bytes_of : Option SourceText → Option (List ℕ)
+bytes_of text = option_map (λ t. string_bytes t.text) text
 
 -- ---- what edits of a line mean
 
@@ -61,16 +103,33 @@ pub record IsReading (edition : EditionYear) (file : ℕ) (text : List ℕ) (edi
   pub use_trees : kept.use_trees.items ≡ read.use_trees.items
   pub problems : kept.problems.items ≡ read.problems.items
 
--- an edit of a line means this edit of the table, and leaves this of a text
-abbrev pub Means : EditionYear → LineEdit → EditView → Change → Type 0
-Means edition (of_table e) edit change = (edit ≡ e) × (change ≡ forgets e)
-Means edition (set_text file text) edit change = IsReading edition file text edit change
+-- an edit of a line over these texts means this edit of the table, and leaves this of a text; a change is the setting of the changed text
+abbrev pub Means : EditionYear → FileTexts → LineEdit → EditView → Change → Type 0
+Means edition texts (of_table e) edit change = (edit ≡ e) × (change ≡ forgets e)
+Means edition texts (set_text file text) edit change = IsReading edition file text edit change
+Means edition texts (change_text file range new) edit change =
+    (text : List ℕ) × (changed_text (bytes_of (texts file)) range new ≡ Ok text) × IsReading edition file text edit change
 
--- each of them does
-abbrev pub AreMeant : EditionYear → List LineEdit → List EditView → List Change → Type 0
-AreMeant edition [] [] [] = Unit {0}
-AreMeant edition (l ∷ ls) (e ∷ es) (c ∷ cs) = Means edition l e c × AreMeant edition ls es cs
-AreMeant edition [] (e ∷ es) cs = ⊥
-AreMeant edition [] [] (c ∷ cs) = ⊥
-AreMeant edition (l ∷ ls) [] cs = ⊥
-AreMeant edition (l ∷ ls) (e ∷ es) [] = ⊥
+-- each of them does, over the texts that those before it leave
+abbrev pub AreMeant : EditionYear → FileTexts → List LineEdit → List EditView → List Change → Type 0
+AreMeant edition texts [] [] [] = Unit {0}
+AreMeant edition texts (l ∷ ls) (e ∷ es) (c ∷ cs) = Means edition texts l e c × AreMeant edition (text_after texts (c ∷ [])) ls es cs
+AreMeant edition texts [] (e ∷ es) cs = ⊥
+AreMeant edition texts [] [] (c ∷ cs) = ⊥
+AreMeant edition texts (l ∷ ls) [] cs = ⊥
+AreMeant edition texts (l ∷ ls) (e ∷ es) [] = ⊥
+
+-- ---- edits that mean nothing
+
+-- an edit means nothing over these texts, for this reason
+abbrev pub Fails : FileTexts → LineEdit → ChangeFault → Type 0
+Fails texts (of_table e) cause = ⊥
+Fails texts (set_text file text) cause = ⊥
+Fails texts (change_text file range new) cause = changed_text (bytes_of (texts file)) range new ≡ Err cause
+
+-- the edit at this place is the first of them that means nothing
+abbrev pub FailsAt : EditionYear → FileTexts → List LineEdit → ℕ → ChangeFault → Type 0
+FailsAt edition texts [] place cause = ⊥
+FailsAt edition texts (l ∷ ls) zero cause = Fails texts l cause
+FailsAt edition texts (l ∷ ls) (suc place) cause =
+    (e : EditView) × (c : Change) × Means edition texts l e c × FailsAt edition (text_after texts (c ∷ [])) ls place cause

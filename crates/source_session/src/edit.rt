@@ -1,17 +1,19 @@
 //! Edits of a line, read from their forms.
-ghost use Rattle.std.specs.Prelude.{◌≡◌, ℕ, IfOk, codes, string_bytes};
+ghost use Rattle.std.specs.Prelude.{◌≡◌, ◌^◌, ℕ, IfOk, codes, string_bytes};
 ghost use Rattle.serde_json.specs.View.{view};
-ghost use Rattle.hir_input_json.specs.Forms.{required_at as required_form};
+ghost use Rattle.hir_input_json.specs.Forms.{required_at as required_form, whole};
 ghost use Rattle.hir_input_json.specs.Held.{held};
 ghost use Rattle.hir_input_json.specs.Reads.{Reads};
-ghost use Rattle.source_session.specs.Edits.{edit as edit_form, line_edit, text_edit, short_text, edit_view, IsUsable, IsShort};
+ghost use Rattle.source_session.specs.Edits.{edit as edit_form, line_edit, text_edit, change_edit, range as range_form, short_text, edit_view, IsUsable, IsShort};
 
+use crate::keys::{LineObject, only_known};
 use hir_input::HirFileId;
-use hir_input_json::Fault;
 use hir_input_json::float::has_float;
-use hir_input_json::member::{id_at, members_of, taken, word_at};
+use hir_input_json::member::{field, id_at, members_of, taken, word_at};
+use hir_input_json::{Fault, ReadIn};
 use item_tree_db::Edit;
 use item_tree_request::request::edit::edit_in;
+use rust_members::TextRange;
 use serde_json::{Map, Value};
 use std::alloc::Global;
 
@@ -21,10 +23,20 @@ pub enum LineEdit {
     /// One of a request.
     Table(Edit),
     /// A file set to what is read of a Rust text.
-    SetText { file: HirFileId, text: String },
+    SetText {
+        file: HirFileId,
+        text: String,
+    },
+    /// What stands in a range of the text of a file, replaced.
+    ChangeText {
+        file: HirFileId,
+        range: TextRange,
+        text: String,
+    },
 }
 
-const MOST_BYTES: usize = 0x1_0000_0000;
+/// As many bytes as the ids of items are distinct for.
+pub(crate) const MOST_BYTES: usize = 0x1_0000_0000;
 
 // Takes a text of at most 2^32 bytes out.
 fn text_at(alloc: Global, members: &mut Map<String, Value>) -> Result<String, Fault>
@@ -51,6 +63,49 @@ fn set_text_of(alloc: Global, members: &mut Map<String, Value>) -> Result<LineEd
     Ok(LineEdit::SetText { file, text })
 }
 
+// A place in a text.
+fn place_of(alloc: Global, value: &Value) -> Result<usize, Fault>
+    ensures { Reads (λ place. place) result (whole (2 ^ 64) (view value.now)) }
+{
+    let place = value.as_u64().ok_or_else(|| Fault::here(alloc))?;
+    Ok(place as usize)
+}
+
+fn range_of(alloc: Global, value: &Value) -> Result<TextRange, Fault>
+    ensures { Reads (λ range. range) result (range_form (view value.now)) }
+{
+    let Some(items) = value.as_array() else {
+        return Err(Fault::here(alloc));
+    };
+    match items.as_slice() {
+        [start, end] => {
+            let start = place_of(alloc, start).in_item(alloc, 0)?;
+            let end = place_of(alloc, end).in_item(alloc, 1)?;
+            Ok(TextRange { start, end })
+        }
+        _ => Err(Fault::here(alloc)),
+    }
+}
+
+fn range_at(alloc: Global, members: &Map<String, Value>) -> Result<TextRange, Fault>
+    ensures { Reads (λ range. range) result (required_form (codes "range") range_form (held members.now)) }
+{
+    match field(members, "range") {
+        Some(found) => range_of(alloc, found).in_member(alloc, "range"),
+        None => Err(Fault::at(alloc, "range")),
+    }
+}
+
+fn change_text_of(alloc: Global, members: &mut Map<String, Value>) -> Result<LineEdit, Fault>
+    ensures reads { Reads edit_view result (change_edit (held members.old)) }
+    ensures usable { (count : ℕ) → IfOk result (IsUsable count) }
+{
+    let file = HirFileId(id_at(alloc, members, "file")?);
+    let range = range_at(alloc, members)?;
+    let text = text_at(alloc, members)?;
+    Ok(LineEdit::ChangeText { file, range, text })
+}
+
 // An edit of a table of this many crates, whose members are taken out.
 fn members_edit(
     alloc: Global,
@@ -60,8 +115,10 @@ fn members_edit(
     ensures reads { Reads edit_view result (edit_form count (held members.old)) }
     ensures usable { IfOk result (IsUsable count) }
 {
+    only_known(alloc, members, LineObject::OfEdits)?;
     match word_at(alloc, members, "edit")? {
         "set_text" => set_text_of(alloc, members),
+        "change_text" => change_text_of(alloc, members),
         _ => Ok(LineEdit::Table(edit_in(alloc, members, count)?)),
     }
 }

@@ -1,8 +1,9 @@
 //! Why a line has no shows.
 ghost use Rattle.std.specs.Prelude.{◌≡◌, IfOk};
 ghost use Rattle.serde_json.specs.View.{view};
-ghost use Rattle.source_session.specs.Errors.{cause_text, error_form};
+ghost use Rattle.source_session.specs.Errors.{cause_text, error_form, fault_text};
 
+use crate::splice::ChangeFault;
 use hir_input_json::{Fault, Pointer};
 use item_tree::{EditFault, LowerError};
 use serde_json::{Value, json};
@@ -16,6 +17,8 @@ pub enum LineError {
     NotJson { column: usize },
     /// It is JSON, but no request: where the first value stands that is not of its form.
     NotRequest { pointer: Pointer },
+    /// An edit of it changes a text that it cannot change: its place in the list, counted from 0, and why.
+    NotChanged { place: usize, cause: ChangeFault },
     /// An edit of it passes a size: its place in the list, counted from 0, and the size.
     Refused { place: usize, cause: EditFault },
     /// It is longer than the longest line.
@@ -75,6 +78,18 @@ fn cause_text(cause: EditFault) -> &'static str
     }
 }
 
+// Why a text cannot be changed, in words.
+fn fault_text(cause: ChangeFault) -> &'static str
+    ensures { result.now ≡ fault_text cause }
+{
+    match cause {
+        ChangeFault::NoText => "no text",
+        ChangeFault::OutsideText => "range not in the text",
+        ChangeFault::CutsCharacter => "range cuts a character",
+        ChangeFault::TooLong => "text too long",
+    }
+}
+
 /// The object of an error.
 ///
 /// The only error is want of memory.
@@ -86,6 +101,10 @@ pub(crate) fn error_value(alloc: Global, error: LineError) -> Result<Value, Allo
         LineError::NotRequest { pointer } => {
             let pointer = pointer.text();
             json!(in alloc; {"kind": "not a request", "pointer": pointer})
+        }
+        LineError::NotChanged { place, cause } => {
+            let cause = fault_text(cause);
+            json!(in alloc; {"cause": cause, "kind": "text not changed", "place": place})
         }
         LineError::Refused { place, cause } => {
             let cause = cause_text(cause);

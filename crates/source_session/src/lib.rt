@@ -5,6 +5,7 @@
 mod conversation;
 mod edit;
 mod error;
+mod keys;
 mod laws;
 mod line;
 mod meaning;
@@ -12,10 +13,12 @@ mod reply;
 mod session;
 mod show;
 mod shown;
+mod splice;
 mod texts;
 
 pub use conversation::Conversation;
 pub use edit::LineEdit;
 pub use error::LineError;
 pub use show::LineShow;
+pub use splice::ChangeFault;
 pub use texts::SourceText;

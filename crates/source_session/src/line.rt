@@ -1,7 +1,7 @@
 //! Lines, read from their members.
-ghost use Rattle.std.specs.Prelude.{◌≡◌, All, IfOk, OnOk, codes, length, map};
+ghost use Rattle.std.specs.Prelude.{◌≡◌, ◌++◌, All, IfOk, OnOk, codes, length, map, option_to_list};
 ghost use Rattle.serde_json.specs.View.{items_view};
-ghost use Rattle.hir_input_json.specs.Forms.{each, list_at as each_at};
+ghost use Rattle.hir_input_json.specs.Forms.{each, list_at as each_at, name_in};
 ghost use Rattle.hir_input_json.specs.Held.{held, without};
 ghost use Rattle.hir_input_json.specs.Reads.{Reads};
 ghost use Rattle.source_session.specs.Edits.{edit_view, line_edit, IsUsable};
@@ -11,6 +11,7 @@ ghost use Rattle.source_session.specs.LineViews.{asked_view, first_view, setting
 ghost use Rattle.source_session.specs.Shows.{NamesCrate, line_show};
 
 use crate::edit::{LineEdit, edit_of};
+use crate::keys::{LineObject, only_known};
 use crate::show::{LineShow, show_of};
 use hir_input::{Edition, Name};
 use hir_input_json::edition::edition_at;
@@ -20,7 +21,7 @@ use hir_input_json::{Fault, ReadIn};
 use item_tree::CrateData;
 use item_tree_request::request::crates::crates_at;
 use serde_json::{Map, Value};
-use std::alloc::Global;
+use std::alloc::{AllocError, Global};
 
 /// What opens a session.
 #[derive(Drop)]
@@ -47,6 +48,58 @@ pub(crate) struct First {
 
 // ---- what opens a session
 
+// The attributes that are left out of trees where a line names none.
+const USUAL_SKIPPED: [&str; 13] = [
+    "doc",
+    "stable",
+    "unstable",
+    "target_feature",
+    "allow",
+    "expect",
+    "warn",
+    "deny",
+    "forbid",
+    "repr",
+    "inline",
+    "track_caller",
+    "must_use",
+];
+
+// Adds a word, if it is a name.
+#[tactic(auto, using(hir_input_json::proofs::Names::new_name))]
+fn push_name(alloc: Global, word: &str, names: &mut Vec<Name>) -> Result<(), AllocError>
+    ensures { OnOk result (names.new.items ≡ names.old.items ++ option_to_list (name_in word.now)) }
+{
+    let text = String::from_str(alloc, word)?;
+    if let Some(name) = Name::new(text) {
+        names.push(name)?;
+    }
+    Ok(())
+}
+
+fn usual_skipped(alloc: Global) -> Result<Vec<Name>, AllocError>
+    ensures { IfOk result (λ names. names.items ≡ spec.usual_skipped) }
+{
+    let mut names = Vec::with_capacity(alloc, USUAL_SKIPPED.len())?;
+    for word in &USUAL_SKIPPED {
+        push_name(alloc, word, &mut names)?;
+    }
+    Ok(names)
+}
+
+// Takes the names of the attributes out that are left out of trees.
+fn skipped_at(alloc: Global, members: &mut Map<String, Value>) -> Result<Vec<Name>, Fault>
+    ensures reads { Reads (λ v. v.items) result (spec.skipped_at (held members.old)) }
+    ensures left { OnOk result (held members.new ≡ without (codes "skipped") (held members.old)) }
+{
+    let is_absent = field(members, "skipped").is_none();
+    let names = names_at(alloc, members, "skipped")?;
+    if is_absent {
+        return Ok(usual_skipped(alloc)?);
+    }
+    Ok(names)
+}
+
 #[tactic(auto, using(hir_input_json::proofs::Held::field_without))]
 fn settings_in(alloc: Global, members: &mut Map<String, Value>) -> Result<Settings, Fault>
     ensures reads { Reads settings_view result (spec.settings (held members.old)) }
@@ -54,7 +107,7 @@ fn settings_in(alloc: Global, members: &mut Map<String, Value>) -> Result<Settin
         ≡ without (codes "edition") (without (codes "skipped") (without (codes "crates") (held members.old)))) }
 {
     let crates = crates_at(alloc, members)?;
-    let skipped = names_at(alloc, members, "skipped")?;
+    let skipped = skipped_at(alloc, members)?;
     let edition = edition_at(alloc, members)?;
     let start = u64_at(alloc, members, "start")?;
     Ok(Settings {
@@ -154,6 +207,7 @@ pub(crate) fn first_line(alloc: Global, mut members: Map<String, Value>) -> Resu
     ensures reads { Reads first_view result (spec.first_line (held members)) }
     ensures own { IfOk result (λ first. IsOwn (length first.settings.crates.items) first.asked) }
 {
+    only_known(alloc, &members, LineObject::Whole)?;
     let settings = settings_in(alloc, &mut members)?;
     let asked = asked_in(alloc, &mut members, settings.crates.len())?;
     Ok(First { settings, asked })
@@ -168,6 +222,7 @@ pub(crate) fn later_line(
     ensures reads { Reads asked_view result (spec.later_line count (held members)) }
     ensures own { IfOk result (IsOwn count) }
 {
+    only_known(alloc, &members, LineObject::Whole)?;
     no_settings_in(alloc, &members)?;
     asked_in(alloc, &mut members, count)
 }

@@ -1,16 +1,19 @@
 //! What edits of a line mean: edits of the table, and what becomes of the texts of files.
-ghost use Rattle.std.specs.Prelude.{◌≡◌, ℕ, All, IfOk, length, map};
+ghost use Rattle.std.specs.Prelude.{◌≡◌, ℕ, All, IfOk, IfErr, length, map, string_bytes};
 ghost use Rattle.item_tree_db.specs.Edits.{edit_view as table_view};
 ghost use Rattle.item_tree_request.specs.Named.{EditNamesCrate};
-ghost use Rattle.source_session.specs.Edits.{IsUsable, edit_view};
-ghost use Rattle.source_session.specs.Inner.{LeavesPlaced};
-ghost use Rattle.source_session.specs.Texts.{AreMeant, Means, forgets};
+ghost use Rattle.source_session.specs.Edits.{IsShort, IsUsable, change_text, edit_view};
+ghost use Rattle.source_session.specs.Inner.{LeavesPlaced, IsFailing, TellsFault};
+ghost use Rattle.source_session.specs.Texts.{AreMeant, FailsAt, IsReading, Means, forgets, text_after as after, text_in};
 
 use crate::edit::LineEdit;
-use crate::texts::{Change, SourceText};
+use crate::error::LineError;
+use crate::splice::changed;
+use crate::texts::{Change, SourceText, Texts, text_after};
 use hir_input::{EditionYear, HirFileId};
 use item_tree_db::Edit;
 use rust_items::read_source_file;
+use rust_members::TextRange;
 use std::alloc::{AllocError, Global};
 
 /// An edit of the table, and what it leaves of the text of a file.
@@ -43,8 +46,8 @@ fn reading(
     text: String,
     edition: EditionYear,
 ) -> Result<Meaning, AllocError>
-    requires { IsUsable 0 (LineEdit.SetText file text) }
-    ensures means { IfOk result (λ m. Means edition (edit_view (LineEdit.SetText file text)) (table_view m.edit) m.change) }
+    requires { IsShort (string_bytes text) }
+    ensures means { IfOk result (λ m. IsReading edition file.0 (string_bytes text) (table_view m.edit) m.change) }
     ensures known { (count : ℕ) → IfOk result (λ m. EditNamesCrate count m.edit) }
     ensures placed { IfOk result (λ m. LeavesPlaced m.change) }
 {
@@ -64,37 +67,70 @@ fn reading(
     })
 }
 
+// What the edit means that replaces a range of the text of a file, behind those which make these changes.
+fn changing(
+    alloc: Global,
+    file: HirFileId,
+    range: TextRange,
+    new: &str,
+    texts: &Texts,
+    changes: &[Change],
+    edition: EditionYear,
+) -> Result<Meaning, LineError>
+    ensures means { IfOk result (λ m. Means edition (after (text_in texts.now.entries) changes.now) (change_text file.0 range new.now) (table_view m.edit) m.change) }
+    ensures known { (count : ℕ) → IfOk result (λ m. EditNamesCrate count m.edit) }
+    ensures placed { IfOk result (λ m. LeavesPlaced m.change) }
+    ensures fails { IfErr result (TellsFault (IsFailing (after (text_in texts.now.entries) changes.now) (change_text file.0 range new.now) (length changes.now))) }
+{
+    let old = text_after(texts, changes, file.0);
+    let made = changed(alloc, old, range, new, changes.len())?;
+    let meaning = reading(alloc, file, made, edition)?;
+    Ok(meaning)
+}
+
+// What an edit means behind those which make these changes.
 fn meaning_of(
     alloc: Global,
     edit: LineEdit,
+    texts: &Texts,
+    changes: &[Change],
     count: usize,
     edition: EditionYear,
-) -> Result<Meaning, AllocError>
+) -> Result<Meaning, LineError>
     requires { IsUsable count edit }
-    ensures means { IfOk result (λ m. Means edition (edit_view edit) (table_view m.edit) m.change) }
+    ensures means { IfOk result (λ m. Means edition (after (text_in texts.now.entries) changes.now) (edit_view edit) (table_view m.edit) m.change) }
     ensures known { IfOk result (λ m. EditNamesCrate count m.edit) }
     ensures placed { IfOk result (λ m. LeavesPlaced m.change) }
+    ensures fails { IfErr result (TellsFault (IsFailing (after (text_in texts.now.entries) changes.now) (edit_view edit) (length changes.now))) }
 {
     match edit {
         LineEdit::Table(edit) => {
             let change = forgotten(&edit);
             Ok(Meaning { edit, change })
         }
-        LineEdit::SetText { file, text } => reading(alloc, file, text, edition),
+        LineEdit::SetText { file, text } => {
+            let meaning = reading(alloc, file, text, edition)?;
+            Ok(meaning)
+        }
+        LineEdit::ChangeText { file, range, text } => {
+            changing(alloc, file, range, text.as_str(), texts, changes, edition)
+        }
     }
 }
 
-/// What edits of a line mean that name crates of this many, in an edition.
+/// What edits of a line over these texts mean that name crates of this many, in an edition.
 ///
-/// The only error is want of memory.
+/// `NotChanged` comes exactly where one of them means nothing, and tells the first. The only other error is want of memory.
 pub(crate) fn meanings_of(
     alloc: Global,
     edits: Vec<LineEdit>,
+    texts: &Texts,
     count: usize,
     edition: EditionYear,
-) -> Result<Meanings, AllocError>
+) -> Result<Meanings, LineError>
     requires { All (IsUsable count) edits.items }
-    ensures meant { IfOk result (λ m. AreMeant edition (map edit_view edits.items) (map table_view m.edits.items) m.changes.items) }
+    ensures meant { IfOk result (λ m. AreMeant edition (text_in texts.now.entries) (map edit_view edits.items) (map table_view m.edits.items) m.changes.items) }
+    ensures fails { IfErr result (TellsFault (FailsAt edition (text_in texts.now.entries) (map edit_view edits.items))) }
     ensures known { IfOk result (λ m. All (EditNamesCrate count) m.edits.items) }
     ensures placed { IfOk result (λ m. All LeavesPlaced m.changes.items) }
     ensures count { IfOk result (λ m. length m.edits.items ≡ length edits.items) }
@@ -102,7 +138,7 @@ pub(crate) fn meanings_of(
     let mut made = Vec::with_capacity(alloc, edits.len())?;
     let mut changes = Vec::with_capacity(alloc, edits.len())?;
     for edit in edits {
-        let meaning = meaning_of(alloc, edit, count, edition)?;
+        let meaning = meaning_of(alloc, edit, texts, &changes, count, edition)?;
         made.push(meaning.edit)?;
         changes.push(meaning.change)?;
     }

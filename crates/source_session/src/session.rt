@@ -87,7 +87,7 @@ fn edit_files(
     ensures together { (index : IndexView) → AreTogether count sources.old texts.old.entries index
         → AreTogether count sources.new texts.new.entries index }
 {
-    let meanings = meanings_of(alloc, edits, count, edition)?;
+    let meanings = meanings_of(alloc, edits, texts, count, edition)?;
     make_room(texts, &meanings.changes)?;
     let most = meanings.edits.len();
     let made = sources.edit_all(meanings.edits);

@@ -1,10 +1,13 @@
 //! Shows of a line, read from their forms.
-ghost use Rattle.std.specs.Prelude.{◌≡◌, IfOk, codes};
+ghost use Rattle.std.specs.Prelude.{◌≡◌, IfOk, codes, option_map};
+ghost use Rattle.std.specs.Option.{unwrap_or};
 ghost use Rattle.serde_json.specs.View.{view};
 ghost use Rattle.hir_input_json.specs.Held.{held};
 ghost use Rattle.hir_input_json.specs.Reads.{Reads};
-ghost use Rattle.source_session.specs.Shows.{NamesCrate, IsNamed, crate_in, file_in, name_in, show as show_form, show_by, line_show};
+ghost use Rattle.rust_paths.specs.Names.{behind_hash};
+ghost use Rattle.source_session.specs.Shows.{NamesCrate, IsNamed, asked_name as asked_form, asked_name_in, crate_in, file_in, show as show_form, show_by, line_show};
 
+use crate::keys::{LineObject, only_known};
 use hir_input::{Crate, HirFileId, Name};
 use hir_input_json::float::has_float;
 use hir_input_json::member::{id_at, members_of, required_at, word_at};
@@ -47,12 +50,43 @@ fn file_at(alloc: Global, members: &Map<String, Value>) -> Result<HirFileId, Fau
     Ok(HirFileId(id_at(alloc, members, "file")?))
 }
 
-// Takes a name out.
+fn behind_hash(text: &str) -> Option<&str>
+    ensures { option_map (λ word. word.now) result ≡ behind_hash text.now }
+{
+    match text.strip_prefix('r') {
+        Some(rest) => rest.strip_prefix('#'),
+        None => None,
+    }
+}
+
+// A name without the `r#` that it may stand behind.
+fn without_hash(text: &str) -> &str
+    ensures { result.now ≡ unwrap_or (behind_hash text.now) text.now }
+{
+    match behind_hash(text) {
+        Some(name) => name,
+        None => text,
+    }
+}
+
+fn asked_name(alloc: Global, value: Value) -> Result<Name, Fault>
+    ensures { Reads (λ name. name) result (asked_form (view value)) }
+{
+    match value {
+        Value::String(text) => {
+            let name = Value::try_from_str(alloc, without_hash(text.as_str()))?;
+            name_of(alloc, name)
+        }
+        _ => Err(Fault::here(alloc)),
+    }
+}
+
+// Takes the name out that is looked for.
 fn name_at(alloc: Global, members: &mut Map<String, Value>) -> Result<Name, Fault>
-    ensures { Reads (λ name. name) result (name_in (held members.old)) }
+    ensures { Reads (λ name. name) result (asked_name_in (held members.old)) }
 {
     let name = required_at(alloc, members, "name")?;
-    name_of(alloc, name).in_member(alloc, "name")
+    asked_name(alloc, name).in_member(alloc, "name")
 }
 
 // A show after edits of a table of this many crates, whose members are taken out.
@@ -64,6 +98,7 @@ fn members_show(
     ensures reads { Reads (λ show. show) result (show_form count (held members.old)) }
     ensures known { IfOk result (NamesCrate count) }
 {
+    only_known(alloc, members, LineObject::OfShows)?;
     match word_at(alloc, members, "show")? {
         "outline" => {
             let krate = crate_at(alloc, members, count)?;

@@ -1,7 +1,7 @@
 //! The texts of files, with what was read of them.
-ghost use Rattle.std.specs.Prelude.{◌≡◌, ℕ, ◌==◌, ◌∷◌, List, All, IfSome, OnOk, if◌then◌else◌, take, option_copied};
+ghost use Rattle.std.specs.Prelude.{◌≡◌, ℕ, ◌==◌, ◌∷◌, List, All, IfSome, OnOk, if◌then◌else◌, take, option_copied, option_map};
 ghost use Rattle.source_session.specs.Inner.{HasSlot, HasSlotFor};
-ghost use Rattle.source_session.specs.Texts.{Change as ChangeView, text_after, text_in};
+ghost use Rattle.source_session.specs.Texts.{Change as ChangeView, leaves, text_after, text_in};
 
 use rust_items::{ItemPlace, Problem};
 use std::alloc::AllocError;
@@ -33,6 +33,34 @@ pub(crate) fn text_of(texts: &Texts, file: u32) -> Option<&SourceText>
         Some(text) => text.as_ref(),
         None => None,
     }
+}
+
+// What a change leaves of a file.
+fn left_of(change: &Change, file: u32) -> Option<Option<&SourceText>>
+    ensures { option_map option_copied result ≡ leaves file change.now }
+{
+    match change {
+        Some((at, text)) if *at == file => Some(text.as_ref()),
+        _ => None,
+    }
+}
+
+/// The text of a file after changes.
+pub(crate) fn text_after<'t>(
+    texts: &'t Texts,
+    changes: &'t [Change],
+    file: u32,
+) -> Option<&'t SourceText>
+    ensures { option_copied result ≡ text_after (text_in texts.now.entries) changes.now file }
+{
+    let mut left = changes;
+    while let Some((last, front)) = left.split_last() {
+        match left_of(last, file) {
+            Some(text) => return text,
+            None => left = front,
+        }
+    }
+    text_of(texts, file)
 }
 
 // Keeps something for a file.
@@ -85,7 +113,7 @@ fn put(texts: &mut Texts, file: u32, text: Option<SourceText>)
 #[tactic(auto, using(crate::proofs::Kept::slot_if, crate::proofs::Kept::text_step, crate::proofs::Kept::text_skip))]
 fn make(texts: &mut Texts, change: Change)
     requires { HasSlotFor texts.old.entries change }
-    ensures texts { (rest : List ChangeView) (f : ℕ) → text_after texts.new.entries rest f ≡ text_after texts.old.entries (change ∷ rest) f }
+    ensures texts { (rest : List ChangeView) (f : ℕ) → text_after (text_in texts.new.entries) rest f ≡ text_after (text_in texts.old.entries) (change ∷ rest) f }
     ensures slots { (f : ℕ) → HasSlot texts.old.entries f → HasSlot texts.new.entries f }
 {
     if let Some((file, text)) = change {
@@ -96,7 +124,7 @@ fn make(texts: &mut Texts, change: Change)
 /// Makes the first changes, for which there is room.
 pub(crate) fn put_first(texts: &mut Texts, mut changes: Vec<Change>, count: usize)
     requires { All (HasSlotFor texts.old.entries) changes.items }
-    ensures { (f : ℕ) → text_in texts.new.entries f ≡ text_after texts.old.entries (take count changes.items) f }
+    ensures { (f : ℕ) → text_in texts.new.entries f ≡ text_after (text_in texts.old.entries) (take count changes.items) f }
 {
     changes.truncate(count);
     for change in changes {

@@ -5,14 +5,14 @@ use Rattle.item_tree_request.specs.Named.{EditNamesCrate}
 use Rattle.source_session.specs.declared.edit.LineEdit.{LineEdit}
 use Rattle.source_session.specs.Edits.{edit_view}
 use Rattle.source_session.specs.Inner.{LeavesPlaced}
-use Rattle.source_session.specs.Texts.{AreMeant}
+use Rattle.source_session.specs.Texts.{text_in, AreMeant}
 use Rattle.source_session.proofs.meaning.meanings_of.Given as goal
 
 abbrev pub invariant-loop-edit : goal.invariant-loop-edit
 invariant-loop-edit l =
     (done : List LineEdit)
     × (l.fn.edits.items ≡ done ++ l.edit-iterator.rest.items)
-    × AreMeant l.edition (map edit_view done) (map table.edit_view l.made.items) l.changes.items
+    × AreMeant l.edition (text_in l.texts.entries) (map edit_view done) (map table.edit_view l.made.items) l.changes.items
     × All (EditNamesCrate l.count) l.made.items
     × All LeavesPlaced l.changes.items
     × (length l.made.items ≡ length done)

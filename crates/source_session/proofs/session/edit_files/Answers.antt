@@ -6,7 +6,7 @@ use Rattle.source_session.specs.Edits.{edit_view}
 use Rattle.source_session.specs.Inner.{session_of}
 use Rattle.source_session.specs.Refusals.{made_count}
 use Rattle.source_session.specs.Sessions.{IsEdited, IsUnedited}
-use Rattle.source_session.proofs.Made.{files_made, files_together, outcome_by, stopped_none}
+use Rattle.source_session.proofs.Made.{files_made, files_together, outcome_by, stopped_none, unmeant}
 use Rattle.source_session.proofs.Named.{edits_known}
 use Rattle.source_session.proofs.session.edit_files.Goals as goal
 
@@ -15,8 +15,9 @@ returns-in_err-meanings-clause-edited c = λ reserved.
     let edition : EditionView = (c.args.edition, reserved) in
     let s = session_of c.args.count edition c.args.sources.now c.args.texts.now.entries in
     let asked = map edit_view c.args.edits.items in
-    let is : c.from_residual.result ≡ Err OutOfMemory = search rules in
-    subst (λ r. MatchResult r (λ _. IsEdited s asked s) (IsUnedited s asked s)) (sym is) (stopped_none s asked s refl refl refl (λ file. refl))
+    let e = c.in_err-meanings.field-0.0 in
+    let is : c.from_residual.result ≡ Err e = search rules in
+    subst (λ r. MatchResult r (λ _. IsEdited s asked s) (IsUnedited s asked s)) (sym is) (unmeant s asked e c.in_err-meanings.ensures.fails)
 
 pub returns-in_err-make_room-clause-edited : goal.returns-in_err-make_room-clause-edited
 returns-in_err-make_room-clause-edited c = λ reserved.

@@ -1,6 +1,6 @@
 use Rattle.std.proofs.Common.{◌≡◌, ◌∷◌, None, All, rules, sym, ap, subst, ◌∙◌, arith}
 use Rattle.source_session.specs.Inner.{HasSlotFor}
-use Rattle.source_session.specs.Texts.{text_after}
+use Rattle.source_session.specs.Texts.{text_in, text_after}
 use Rattle.source_session.proofs.Kept.{all_rest, slots_for_stay}
 use Rattle.source_session.proofs.texts.put_first.Goals as goal
 
@@ -18,6 +18,6 @@ loop-change-preserved c =
     let change = c.in-Some.change in
     let step : c.loop-change.change-iterator.rest.items ≡ change ∷ rest = search rules in
     let room = subst (All (HasSlotFor old)) step c.loop-change.invariant.1 in (
-      λ f. c.make.ensures.texts rest f ∙ ap (λ cs. text_after old cs f) (sym step) ∙ c.loop-change.invariant.0 f,
+      λ f. c.make.ensures.texts rest f ∙ ap (λ cs. text_after (text_in old) cs f) (sym step) ∙ c.loop-change.invariant.0 f,
       slots_for_stay old new c.make.ensures.slots rest (all_rest (HasSlotFor old) change rest room),
     )

@@ -1,0 +1,69 @@
+-- A text with what stands in a range of it replaced.
+use Rattle.std.proofs.Common.{◌≡◌, ℕ, ◌≤◌, ◌+◌, ◌-◌, ◌^◌, ◌&&◌, ◌++◌, Bool, true, false, if◌then◌else◌, List, Option, Some, None, Ok, length, take, drop, refl, sym, ap, subst, arith}
+use Rattle.std.specs.Prelude.{IsCharBoundary, is_some, nat_le, nat_lt, option_map}
+use Rattle.std.proofs.lemmas.Bool.{and_parts}
+use Rattle.std.proofs.lemmas.Bool.Decides.{nat_tests}
+use Rattle.std.proofs.lemmas.List.{length-append, length-drop, length-take-le}
+use Rattle.rust_members.specs.Lists.{is_boundary, is_cut}
+use Rattle.rust_members.proofs.Moving.{boundary_is}
+use Rattle.rust_paths.specs.declared.names.TextRange.{TextRange}
+use Rattle.source_session.specs.declared.splice.ChangeFault.TheVariants.{OutsideText, CutsCharacter, TooLong}
+use Rattle.source_session.specs.Edits.{IsShort}
+use Rattle.source_session.specs.Texts.{spliced, is_outside, is_long, change_fault, unless_fault, changed_text}
+
+-- ---- where a range is cut out
+
+module _ (text : List ℕ) (range : TextRange) (cut : is_cut text range ≡ true) where
+  ends_cut : (is_boundary text range.start ≡ true) × (is_boundary text range.end ≡ true)
+  ends_cut = and_parts (is_boundary text range.start) (is_boundary text range.end) (and_parts (nat_le range.start range.end) (is_boundary text range.start && is_boundary text range.end) cut).1
+
+  pub begins : IsCharBoundary text range.start
+  begins = boundary_is text range.start ends_cut.0
+
+  pub ends : IsCharBoundary text range.end
+  ends = boundary_is text range.end ends_cut.1
+
+-- a part is cut out where it can be
+pub cut_tells : {A : Type 0} (o : Option A) (f : A → List ℕ) (b : Bool) (part : List ℕ) → option_map f o ≡ (if b then Some part else None) → is_some o ≡ b
+cut_tells None f true part e = absurd cc
+cut_tells None f false part e = refl
+cut_tells (Some a) f true part e = refl
+cut_tells (Some a) f false part e = absurd cc
+
+-- ---- lengths
+
+module _ (text : List ℕ) (range : TextRange) (new : List ℕ) (order : range.start ≤ range.end) (inside : range.end ≤ length text) where
+  spliced_length : length (spliced text range new) ≡ (length text - (range.end - range.start)) + length new
+  spliced_length =
+      let all : length (spliced text range new) ≡ length (take range.start text ++ new) + length (drop range.end text) = length-append (take range.start text ++ new) (drop range.end text) in
+      let begin : length (take range.start text ++ new) ≡ length (take range.start text) + length new = length-append (take range.start text) new in
+      let front : length (take range.start text) ≡ range.start = length-take-le range.start text (omega (arith, order, inside)) in
+      let back : length (drop range.end text) ≡ length text - range.end = length-drop range.end text in
+      omega (arith, order, inside, all, begin, front, back)
+
+  pub long_by : nat_lt (2 ^ 32) ((length text - (range.end - range.start)) + length new) ≡ is_long (spliced text range new)
+  long_by = ap (nat_lt (2 ^ 32)) (sym spliced_length)
+
+-- ---- without a fault
+
+cut_by : (a b c : Bool) → (if a then Some OutsideText else (if b then (if c then Some TooLong else None) else Some CutsCharacter)) ≡ None → b ≡ true
+cut_by true b c e = absurd cc
+cut_by false true c e = refl
+cut_by false false c e = absurd cc
+
+-- the range is cut out
+pub fault_none : (text : List ℕ) (range : TextRange) (new : List ℕ) → change_fault text range new ≡ None → is_cut text range ≡ true
+fault_none text range new e = cut_by (is_outside text range) (is_cut text range) (is_long (spliced text range new)) e
+
+short_by : (a b c : Bool) (made text : List ℕ) → is_long made ≡ c → unless_fault (if a then Some OutsideText else (if b then (if c then Some TooLong else None) else Some CutsCharacter)) made ≡ Ok text → IsShort text
+short_by true b c made text l e = absurd cc
+short_by false false c made text l e = absurd cc
+short_by false true true made text l e = absurd cc
+short_by false true false made text l e =
+    let same : made ≡ text = cc in
+    subst IsShort same (grind (arith, nat_tests))
+
+-- and the text is short
+pub changed_short : (old : Option (List ℕ)) (range : TextRange) (new text : List ℕ) → changed_text old range new ≡ Ok text → IsShort text
+changed_short None range new text e = absurd cc
+changed_short (Some old) range new text e = short_by (is_outside old range) (is_cut old range) (is_long (spliced old range new)) (spliced old range new) text refl e

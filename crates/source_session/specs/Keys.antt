@@ -1,0 +1,36 @@
+-- The keys that the objects of a line may have.
+use Rattle.std.specs.Prelude.{ℕ, Bool, ◌==◌, ◌||◌, if◌then◌else◌, List, [], ◌∷◌, codes, encode_utf8, Option, Some, None, is_none, option_and_then}
+use Rattle.std.specs.List.{flat_map, list_any}
+use Rattle.std.specs.Str.{bytes_eq, chars}
+use Rattle.serde_json.specs.Data.{Data, Members, no_members, member}
+use Rattle.serde_json.specs.Find.{as_object}
+use Rattle.hir_input_json.specs.Reading.{Reading, right}
+use Rattle.hir_input_json.specs.Forms.{by_first, unless_null, wrong_at}
+use Rattle.source_session.specs.declared.keys.LineObject.{LineObject}
+use Rattle.source_session.specs.declared.keys.LineObject.TheVariants.{Whole, OfEdits, OfShows}
+
+-- those of a line, of any edit and of any show
+abbrev pub keys_of : LineObject → List (List ℕ)
+keys_of Whole = codes "id" ∷ codes "crates" ∷ codes "skipped" ∷ codes "edition" ∷ codes "start" ∷ codes "edits" ∷ codes "shows" ∷ []
+keys_of OfEdits =
+    codes "edit" ∷ codes "file" ∷ codes "block" ∷ codes "crate" ∷ codes "syntax" ∷ codes "attrs" ∷ codes "stmts" ∷ codes "tail" ∷ codes "cfg" ∷ codes "text" ∷ codes "range" ∷ []
+keys_of OfShows = codes "show" ∷ codes "crate" ∷ codes "file" ∷ codes "block" ∷ codes "since" ∷ codes "name" ∷ []
+
+abbrev pub is_known : LineObject → List ℕ → Bool
+is_known o key = list_any (bytes_eq key) (keys_of o)
+
+-- the key of the first member that is no null and has none of these keys
+abbrev pub unknown_key : LineObject → Members → Option (List ℕ)
+unknown_key o no_members = None
+unknown_key o (member key d ms) = if is_none (unless_null d) || is_known o key then unknown_key o ms else Some key
+
+-- a character of a key as a pointer has it
+abbrev pub pointer_char : ℕ → List ℕ
+pointer_char c = if c == 126 then codes "~0" else (if c == 47 then codes "~1" else encode_utf8 c)
+
+abbrev pub pointer_step : List ℕ → List ℕ
+pointer_step key = flat_map pointer_char (chars key)
+
+-- the members of an object have its keys alone
+abbrev pub only_known : LineObject → Data → Reading (Unit {0})
+only_known o d = by_first (option_and_then (unknown_key o) (as_object d)) (λ key. wrong_at (pointer_step key)) (right tt)

@@ -1,0 +1,107 @@
+//! The keys that the objects of a line may have.
+ghost use Rattle.std.specs.Prelude.{◌≡◌, ◌++◌, IfOk, OnOk, is_none, option_map, string_bytes};
+ghost use Rattle.serde_json.specs.View.{members_view, view};
+ghost use Rattle.hir_input_json.specs.Forms.{unless_null};
+ghost use Rattle.hir_input_json.specs.Held.{held};
+ghost use Rattle.hir_input_json.specs.Reads.{Reads};
+ghost use Rattle.source_session.specs.Keys as spec;
+ghost use Rattle.source_session.specs.Keys.{only_known};
+
+use hir_input_json::Fault;
+use serde_json::{Map, Value};
+use std::alloc::{AllocError, Global};
+
+/// An object of a line, each with keys of its own.
+#[derive(Clone, Copy)]
+pub(crate) enum LineObject {
+    Whole,
+    OfEdits,
+    OfShows,
+}
+
+fn is_known(object: LineObject, key: &str) -> bool
+    ensures { result ≡ spec.is_known object key.now }
+{
+    match object {
+        LineObject::Whole => matches!(
+            key,
+            "id" | "crates" | "skipped" | "edition" | "start" | "edits" | "shows"
+        ),
+        LineObject::OfEdits => matches!(
+            key,
+            "edit"
+                | "file"
+                | "block"
+                | "crate"
+                | "syntax"
+                | "attrs"
+                | "stmts"
+                | "tail"
+                | "cfg"
+                | "text"
+                | "range"
+        ),
+        LineObject::OfShows => matches!(
+            key,
+            "show" | "crate" | "file" | "block" | "since" | "name"
+        ),
+    }
+}
+
+fn is_absent(value: &Value) -> bool
+    ensures { result ≡ is_none (unless_null (view value.now)) }
+{
+    matches!(value, Value::Null)
+}
+
+// The key of the first member that no such object has. A null counts as absent.
+fn unknown_key(object: LineObject, members: &Map<String, Value>) -> Option<&str>
+    ensures { option_map (λ key. key.now) result ≡ spec.unknown_key object (members_view members.now.entries) }
+{
+    for (key, member) in members.iter() {
+        if !is_absent(member) && !is_known(object, key.as_str()) {
+            return Some(key.as_str());
+        }
+    }
+    None
+}
+
+fn push_char(c: char, step: &mut String) -> Result<(), AllocError>
+    ensures { OnOk result (string_bytes step.new ≡ string_bytes step.old ++ spec.pointer_char c) }
+{
+    match c {
+        '~' => step.push_str("~0"),
+        '/' => step.push_str("~1"),
+        _ => step.push(c),
+    }
+}
+
+// A key as a pointer has it.
+fn pointer_step(alloc: Global, key: &str) -> Result<String, AllocError>
+    ensures { IfOk result (λ step. string_bytes step ≡ spec.pointer_step key.now) }
+{
+    let mut step = String::new(alloc);
+    for c in key.chars() {
+        push_char(c, &mut step)?;
+    }
+    Ok(step)
+}
+
+/// Whether the members of an object have its keys alone.
+///
+/// `WrongForm` comes only where one has another, and tells the first.
+pub(crate) fn only_known(
+    alloc: Global,
+    members: &Map<String, Value>,
+    object: LineObject,
+) -> Result<(), Fault>
+    ensures { Reads (λ _. tt) result (only_known object (held members.now)) }
+{
+    match unknown_key(object, members) {
+        Some(key) => {
+            let step = pointer_step(alloc, key)?;
+            Err(Fault::at(alloc, step.as_str()))
+        }
+        None => Ok(()),
+    }
+}

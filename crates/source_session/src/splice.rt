@@ -1,0 +1,112 @@
+//! The text of a file, with what stands in a range of it replaced.
+ghost use Rattle.std.specs.Prelude.{◌≡◌, ◌^◌, ◌+◌, ◌≤◌, true, nat_lt, IfOk, IfErr, Ok, length, option_copied, string_bytes};
+ghost use Rattle.rust_members.specs.Lists.{is_cut};
+ghost use Rattle.source_session.specs.Inner.{TellsFault, IsToldOf};
+ghost use Rattle.source_session.specs.Texts as spec;
+ghost use Rattle.source_session.specs.Texts.{bytes_of, change_fault, changed_text};
+
+use crate::edit::MOST_BYTES;
+use crate::error::LineError;
+use crate::texts::SourceText;
+use rust_members::{TextRange, cut_out};
+use std::alloc::{AllocError, Global};
+
+/// Why a range of the text of a file cannot be replaced.
+#[derive(Clone, Copy, Debug)]
+pub enum ChangeFault {
+    /// The file has no text.
+    NoText,
+    /// The range ends before it begins, or past the text.
+    OutsideText,
+    /// The range begins or ends inside a character.
+    CutsCharacter,
+    /// The text would have more than 2^32 bytes.
+    TooLong,
+}
+
+fn is_outside(text: &str, range: TextRange) -> bool
+    ensures { result ≡ spec.is_outside text.now range }
+{
+    range.end < range.start || text.len() < range.end
+}
+
+#[tactic(auto, using(crate::proofs::Spliced::cut_tells))]
+fn cuts_none(text: &str, range: TextRange) -> bool
+    ensures { result ≡ is_cut text.now range }
+{
+    cut_out(text, range).is_some()
+}
+
+// So many bytes and more are too many.
+#[tactic(auto, using(std::proofs::lemmas::Bool::Decides::nat_tests))]
+fn are_many(left: usize, more: usize) -> bool
+    ensures { result ≡ nat_lt (2 ^ 32) (left + more) }
+{
+    if left > MOST_BYTES {
+        return true;
+    }
+    more > MOST_BYTES - left
+}
+
+// The text would have too many bytes.
+#[tactic(auto, using(crate::proofs::Spliced::long_by))]
+fn is_long(text: &str, range: TextRange, new: &str) -> bool
+    requires order { range.start ≤ range.end }
+    requires inside { range.end ≤ length text.now }
+    ensures { result ≡ spec.is_long (spec.spliced text.now range new.now) }
+{
+    are_many(text.len() - (range.end - range.start), new.len())
+}
+
+#[tactic(auto, using(std::proofs::lemmas::Bool::Decides::nat_tests))]
+fn fault(text: &str, range: TextRange, new: &str) -> Option<ChangeFault>
+    ensures { result ≡ change_fault text.now range new.now }
+{
+    if is_outside(text, range) {
+        return Some(ChangeFault::OutsideText);
+    }
+    if !cuts_none(text, range) {
+        return Some(ChangeFault::CutsCharacter);
+    }
+    if is_long(text, range, new) {
+        return Some(ChangeFault::TooLong);
+    }
+    None
+}
+
+#[tactic(auto, using(crate::proofs::Spliced::begins, crate::proofs::Spliced::ends))]
+fn spliced(alloc: Global, text: &str, range: TextRange, new: &str) -> Result<String, AllocError>
+    requires { is_cut text.now range ≡ true }
+    ensures { IfOk result (λ made. string_bytes made ≡ spec.spliced text.now range new.now) }
+{
+    let mut made = String::from_str(alloc, &text[..range.start])?;
+    made.push_str(new)?;
+    made.push_str(&text[range.end..])?;
+    Ok(made)
+}
+
+/// The text of a file with what stands in a range of it replaced, for the edit at this place of a line.
+///
+/// `NotChanged` comes exactly where the range cannot be replaced, and the only other error is want of memory.
+#[tactic(auto, using(crate::proofs::Spliced::fault_none))]
+pub(crate) fn changed(
+    alloc: Global,
+    text: Option<&SourceText>,
+    range: TextRange,
+    new: &str,
+    place: usize,
+) -> Result<String, LineError>
+    ensures made { IfOk result (λ made. changed_text (bytes_of (option_copied text.entry)) range new.now ≡ Ok (string_bytes made)) }
+    ensures fails { IfErr result (TellsFault (IsToldOf (changed_text (bytes_of (option_copied text.entry)) range new.now) place)) }
+{
+    let Some(text) = text else {
+        let cause = ChangeFault::NoText;
+        return Err(LineError::NotChanged { place, cause });
+    };
+    let old = text.text.as_str();
+    if let Some(cause) = fault(old, range, new) {
+        return Err(LineError::NotChanged { place, cause });
+    }
+    let made = spliced(alloc, old, range, new)?;
+    Ok(made)
+}
