@@ -5,7 +5,7 @@
 #   refused_memory.sh PROGRAM OUTLINES ITEMTREE [TESTS ..]
 #
 # The program on each request of tests/requests that it answers, and OUTLINES on each of tests/outlines, has to end with status 5,
-# the line `out of memory` and nothing written. ITEMTREE with each of its commands on a small file has to end with status 1, a line
+# the line `out of memory` and nothing written. ITEMTREE with each of its commands on a small file has to end with status 2, a line
 # that ends so, and nothing written but the head of a tags file. ITEMTREE's serve on tests/itemtree/session.jsonl may end so before it
 # reads a line; otherwise it has to answer each line with one, one of them at most with an error of want of memory, and to go on.
 # Each test of the binaries TESTS whose name holds `when_memory_is_refused` has to pass in every run. Each whose name holds
@@ -63,7 +63,7 @@ try_request() {
     judge $? "$2: status $status with no request for memory refused"
 }
 
-# A command of itemtree, in one word, on a small file, which FILE in it stands for too. `changed` may end as where it cannot read.
+# A command of itemtree, in one word, on a small file, which FILE in it stands for too.
 try_command() {
     local request command
     read -ra command <<< "$2"
@@ -71,8 +71,7 @@ try_command() {
     for ((request = 1; ; request++)); do
         refuse "$request" "$1" "${command[@]}" "$here/itemtree/shapes.rs"
         [ "$made" -ge "$request" ] || break
-        [ "$2" = 'changed FILE' ] && [ "$status" = 2 ] && status=1
-        [ "$status" = 1 ] && ! grep -qv '^!_TAG' "$own/out" && [[ $(cat "$own/err") = *'out of memory' ]]
+        [ "$status" = 2 ] && ! grep -qv '^!_TAG' "$own/out" && grep -q 'out of memory$' "$own/err"
         judge $? "itemtree $2: status $status with request $request for memory refused"
     done
     [ "$status" = 0 ]
@@ -98,7 +97,7 @@ try_session() {
     for ((request = 1; ; request++)); do
         refuse "$request" "$1" serve < "$session"
         [ "$made" -ge "$request" ] || break
-        if [ "$status" = 1 ] && [ ! -s "$own/out" ]; then [[ $(cat "$own/err") = *'out of memory' ]]; else went_on; fi
+        if [ "$status" = 2 ] && [ ! -s "$own/out" ]; then [[ $(cat "$own/err") = *'out of memory' ]]; else went_on; fi
         judge $? "itemtree serve: status $status with request $request for memory refused"
     done
     went_on && ! grep -q 'out of memory' "$own/out" && [[ $wanted = '['*']}' ]]

@@ -77,12 +77,31 @@ fn with_options<'a>(alloc: Global, command: Command<'a>) -> Result<Command<'a>, 
     Ok(command)
 }
 
+/// The options that tell what of folders is taken.
+fn with_folders<'a>(alloc: Global, command: Command<'a>) -> Result<Command<'a>, Error> {
+    let hidden = flag(
+        alloc,
+        "hidden",
+        "Of folders, take hidden entries and folders called target too",
+    );
+    let exclude = option(
+        alloc,
+        "exclude",
+        "GLOB",
+        ArgAction::Append,
+        "Of folders, leave out what has such a name, or such a path below the folder",
+    );
+    let command = command.arg(hidden)?.arg(exclude)?;
+    Ok(command)
+}
+
 fn on_files<'a>(
     alloc: Global,
     name: &'static str,
     about: &'static str,
 ) -> Result<Command<'a>, Error> {
     let command = Command::new(alloc, name).about(about);
+    let command = with_folders(alloc, command)?;
     with_options(alloc, command)
 }
 

@@ -2,31 +2,27 @@
 //! and requests in JSON line by line.
 #![tactic(auto)]
 
+mod arguments;
+mod changed;
 mod command_line;
 mod commands;
 mod files;
 mod options;
+mod output;
 mod request;
 mod serve;
 mod tags;
 mod words;
 
+use crate::arguments::words;
 use crate::command_line::command;
-use crate::commands::{Failure, run_command};
+use crate::commands::{FAILED, Failure, run_command};
+use crate::output::{STDOUT, unwritten};
 use clap::error::ErrorKind;
 use clap::{ArgMatches, Error};
 use std::alloc::Global;
+use std::fmt::Display;
 use std::process::ExitCode;
-use std::{env, io};
-
-/// The words of the command line, the program's name first.
-fn arguments(rt: &HostRuntime) -> io::Result<Vec<String>> {
-    let mut words = Vec::new(rt.alloc());
-    for word in env::args(rt)? {
-        words.push(word)?;
-    }
-    Ok(words)
-}
 
 /// What is asked on a command line.
 fn parse<'a>(alloc: Global, words: &'a [String]) -> Result<ArgMatches<'a>, Error> {
@@ -34,39 +30,45 @@ fn parse<'a>(alloc: Global, words: &'a [String]) -> Result<ArgMatches<'a>, Error
     command.try_get_matches_from(words)
 }
 
+/// Prints the help that is asked for, or what is wrong with a command line, and gives the status.
+fn print(rt: &HostRuntime, error: &Error) -> Result<u8, Failure> {
+    if error.kind() == ErrorKind::OutOfMemory {
+        let _ = eprintln!(rt; "itemtree: out of memory");
+        return Ok(FAILED);
+    }
+    let printed = error.print(rt);
+    if error.use_stderr() {
+        return Ok(FAILED);
+    }
+    match printed {
+        Ok(()) => Ok(0),
+        Err(error) => Err(unwritten(rt.alloc(), STDOUT, error)),
+    }
+}
+
+fn run(rt: &HostRuntime) -> Result<u8, Failure> {
+    let words = words(rt)?;
+    match parse(rt.alloc(), &words) {
+        Ok(matches) => run_command(rt, &matches),
+        Err(error) => print(rt, &error),
+    }
+}
+
+/// Tells on standard error why a run ended early.
+fn failed(rt: &HostRuntime, reason: impl Display + Drop) -> ExitCode {
+    let _ = eprintln!(rt; "itemtree: {reason}");
+    ExitCode::from(FAILED)
+}
+
 fn main(rt: HostRuntime) -> ExitCode {
-    let words: Vec<String> = match arguments(&rt) {
-        Ok(words) => words,
-        Err(error) => {
-            let _ = eprintln!(rt; "itemtree: {error}");
-            return ExitCode::from(if error.kind() == io::ErrorKind::OutOfMemory {
-                1
-            } else {
-                2
-            });
-        }
-    };
-    let matches = match parse(rt.alloc(), &words) {
-        Ok(matches) => matches,
-        Err(error) => {
-            if error.kind() == ErrorKind::OutOfMemory {
-                let _ = eprintln!(rt; "itemtree: out of memory");
-                return ExitCode::from(1);
-            }
-            let _ = error.print(&rt);
-            return ExitCode::from(if error.use_stderr() { 2 } else { 0 });
-        }
-    };
-    match run_command(&rt, &matches) {
+    match run(&rt) {
         Ok(status) => ExitCode::from(status),
         Err(Failure::Closed) => ExitCode::SUCCESS,
-        Err(Failure::Usage(message)) => {
-            let _ = eprintln!(rt; "itemtree: {message}");
-            ExitCode::from(2)
+        Err(Failure::Usage(message)) => failed(&rt, message),
+        Err(Failure::Unwritten { path, error }) => {
+            let _ = eprintln!(rt; "itemtree: {path}: {error}");
+            ExitCode::from(FAILED)
         }
-        Err(Failure::Other(error)) => {
-            let _ = eprintln!(rt; "itemtree: {error}");
-            ExitCode::from(1)
-        }
+        Err(Failure::Other(error)) => failed(&rt, error),
     }
 }
