@@ -4,11 +4,14 @@ import json
 import os
 import pty
 import re
+import resource
 import shlex
 import shutil
+import signal
 import subprocess
 import sys
 import tempfile
+import time
 
 TOP = os.path.dirname(os.path.dirname(os.path.realpath(__file__)))
 PROGRAM = os.path.join(TOP, 'crates/itemtree/out/itemtree')
@@ -135,7 +138,7 @@ def check_tools(folder):
              and re.findall(r'^  (\d)  ', text, re.M) == ['0', '2', '3', '4', '5', '6'], f'{name} --help', text)
         tell(run(f'{shlex.quote(program)} -h < /dev/null; echo $?', folder) == text, f'{name} -h')
         got = run(f'{shlex.quote(program)} --version < /dev/null; echo $?', folder)
-        tell(got == f'{name} 0.1.0\n0\n', f'{name} --version', got)
+        tell(got == f'{name} 0.2.0\n0\n', f'{name} --version', got)
         got = run(f'{shlex.quote(program)} more --help < /dev/null; echo $?', folder)
         tell(got == 'not JSON\n2\n', f'{name} more --help', got)
 
@@ -167,26 +170,135 @@ def check_request(folder):
     tell(got == wanted, 'a request and the page that it asks for', got, wanted)
 
 
+def run_program(words, folder, **more):
+    """Runs the program without a shell, as nobody in particular if the tests are root's, whom no permission stops."""
+    more = dict({'user': 65534, 'group': 65534, 'extra_groups': []} if os.geteuid() == 0 else {}, **more)
+    copy = os.path.join(folder, 'itemtree')
+    if not os.path.exists(copy):
+        os.chmod(folder, 0o777)
+        shutil.copy(PROGRAM, copy)
+    done = subprocess.run([copy, *words], cwd=folder, timeout=60, stdout=subprocess.PIPE, stderr=subprocess.PIPE, **more)
+    return done.returncode, done.stdout.decode(), done.stderr.decode()
+
+
+def write_files(folder, files):
+    for name, text in files.items():
+        path = os.path.join(os.fsencode(folder), os.fsencode(name))
+        os.makedirs(os.path.dirname(path), exist_ok=True)
+        with open(path, 'wb') as file:
+            file.write(text)
+
+
+def check_unread(folder):
+    """What cannot be read below a folder is told by its whole path, and the others are done."""
+    write_files(folder, {'odd/good.rs': b'fn good() {}', b'odd/bad\xff.rs': b'', b'odd/note\xff.txt': b'', 'odd/sub/ok.rs': b'fn ok() {}',
+                         b'odd/sub/.\xff.rs': b'', 'odd/locked/in.rs': b'fn no() {}', 'odd/sub/shut.rs': b'fn no() {}'})
+    os.chmod(os.path.join(folder, 'odd/locked'), 0)
+    os.chmod(os.path.join(folder, 'odd/sub/shut.rs'), 0)
+    unread = 'itemtree: odd/bad\ufffd.rs: this name is not UTF-8\nitemtree: odd/locked: Permission denied (os error 13)\n'
+    shut = 'itemtree: odd/sub/shut.rs: Permission denied (os error 13)\n'
+    lines = 'odd/good.rs:1:4: fn good\nodd/sub/ok.rs:1:4: fn ok\n'
+    for words, wanted in ((['outline', 'odd'], (2, lines, unread + shut)),
+                          (['find', 'none', 'odd'], (2, '', unread + shut)),
+                          (['request', 'odd'], (2, '', unread)),
+                          (['changed', 'odd', 'odd'], (2, '', unread * 2 + shut * 2)),
+                          (['outline', '--exclude', 'bad*', '--exclude', 'locked', 'odd/'], (2, lines, shut)),
+                          (['outline', '--exclude', 'bad?.rs', '--exclude', 'locked', '--exclude', 'shut.rs', 'odd'], (0, lines, '')),
+                          (['outline', 'odd/locked'], (2, '', 'itemtree: odd/locked: Permission denied (os error 13)\n'))):
+        got = run_program(words, folder)
+        tell(got == wanted, f'{words} of what cannot be read', got, wanted)
+
+
+def check_tags_kept(folder):
+    """A tags file stays as it is, or is the new one as a whole."""
+    place = os.path.join(folder, 'kept')
+    os.mkdir(place, 0o777)
+    os.chmod(place, 0o777)
+    tags, link = os.path.join(place, 'tags'), os.path.join(place, 'link')
+    write_files(place, {'tags': b'as before', 'good.rs': b'fn good() {}', 'bad.rs': b'\xff'})
+    os.chmod(tags, 0o666)
+
+    def limit(is_fatal):
+        resource.setrlimit(resource.RLIMIT_CORE, (0, 0))
+        resource.setrlimit(resource.RLIMIT_FSIZE, (100, 100))
+        signal.signal(signal.SIGXFSZ, signal.SIG_DFL if is_fatal else signal.SIG_IGN)
+
+    def is_kept(words, status, said, left, **more):
+        got = run_program(['tags', '-o', 'kept/tags', *words], folder, **more)
+        there = sorted(os.listdir(place)), open(tags, encoding='utf-8').read()
+        wanted = sorted(['bad.rs', 'good.rs', 'tags', *left]), 'as before'
+        tell(got == (status, '', said) and there == wanted, f'tags {words} {more}', (got, there), ((status, '', said), wanted))
+
+    unread = 'stream did not contain valid UTF-8\n'
+    is_kept(['absent'], 2, 'itemtree: absent: No such file or directory (os error 2)\n'
+            'itemtree: kept/tags: not written, because nothing could be read\n', [])
+    is_kept(['kept/bad.rs'], 2, f'itemtree: kept/bad.rs: {unread}itemtree: kept/tags: not written, because nothing could be read\n', [])
+    is_kept(['kept/good.rs'], 2, 'itemtree: kept/tags: File too large (os error 27)\n', [], preexec_fn=lambda: limit(False))
+    is_kept(['kept/good.rs'], -signal.SIGXFSZ, '', ['tags.new0'], preexec_fn=lambda: limit(True))
+    os.chmod(place, 0o555)
+    is_kept(['kept/good.rs'], 2, 'itemtree: kept/tags: Permission denied (os error 13)\n', ['tags.new0'])
+    os.chmod(place, 0o777)
+    os.chmod(tags, 0o642)
+    os.symlink('tags', link)
+    got = run_program(['tags', '-o', 'kept/link', 'kept'], folder)
+    wanted = 2, '', f'itemtree: kept/bad.rs: {unread}itemtree: kept/link: written without what could not be read\n'
+    text = open(tags, encoding='utf-8').read()
+    there = sorted(os.listdir(place)), os.path.islink(link), os.stat(tags).st_mode & 0o777
+    tell(got == wanted and there == (['bad.rs', 'good.rs', 'link', 'tags', 'tags.new0'], True, 0o642)
+         and text.endswith('\ngood\tkept/good.rs\t1;"\tf\n') and text.startswith('!_TAG'), 'tags behind a link', (got, there, text), wanted)
+
+
+def check_unwritten(folder):
+    """What cannot be written is told by its name."""
+    full = 'No space left on device (os error 28)'
+    for command, wanted in (('tags -o /nowhere/tags shapes.rs', '/nowhere/tags: No such file or directory (os error 2)'),
+                            ('tags -o /dev/full shapes.rs', f'/dev/full: {full}'),
+                            ('tags -o src shapes.rs', 'src: Is a directory (os error 21)'),
+                            ('tags -o - shapes.rs > /dev/full', f'standard output: {full}'),
+                            ('outline shapes.rs > /dev/full', f'standard output: {full}'),
+                            ('request shapes.rs > /dev/full', f'standard output: {full}'),
+                            ('changed shapes.rs known.rs > /dev/full', f'standard output: {full}'),
+                            ('--help > /dev/full', f'standard output: {full}')):
+        got = run(f'itemtree {command}; echo $?', folder)
+        tell(got == f'itemtree: {wanted}\n2\n', command, got, wanted)
+
+
+def check_arguments(folder):
+    """An argument that is not UTF-8 is told."""
+    for words, at, shown in (([b'outline', b'\xff.rs'], 2, '\ufffd.rs'), ([b'a' * 300 + b'\xff'], 1, 'a' * 300 + '\ufffd')):
+        got = run_program(words, folder)
+        wanted = 2, '', f'itemtree: argument {at} is not UTF-8: {shown}\n'
+        tell(got == wanted, 'an argument that is not UTF-8', got, wanted)
+    name = 'b' * 200
+    got = run_program(['outline', *[f'{"./" * 200}{name}.rs'] * 2], folder)
+    tell(got[0] == 2 and got[2].count(f'/{name}.rs: No such file') == 2, 'long arguments', got)
+
+
 def check_progress(folder):
-    """On a terminal `tags` tells on standard error how many files of a folder are done; a complaint has a line of its own."""
-    many = os.path.join(folder, 'many')
-    os.mkdir(many)
-    for at in range(130):
-        with open(os.path.join(many, f'{at:03}.rs'), 'wb') as file:
-            file.write(b'\xff' if at == 70 else b'fn f() {}')
-    shown, other = pty.openpty()
-    subprocess.run([PROGRAM, 'tags', '-o', os.devnull, 'many'], cwd=folder, timeout=60, stderr=other)
-    os.close(other)
-    got = b''
-    try:
-        while not got.endswith(b'130 files\r\n'):
-            got += os.read(shown, 4096)
-    except OSError:
-        pass
-    os.close(shown)
-    parts = got.decode().split('\r\x1b[K')
-    tell(len(parts) == 5 and parts[0] == '' and parts[1] == '64 of 130 files' and parts[2].startswith('itemtree: many/070.rs: ')
-         and parts[2].endswith('\r\n') and parts[3:] == ['128 of 130 files', '130 of 130 files\r\n'], 'progress on a terminal', repr(parts))
+    """What takes longer than a second tells on a terminal how many files are done, and takes it away before it tells of anything else."""
+    write_files(folder, {f'many/{at}.rs': b'fn f() {}' if at != 3 else b'\xff' for at in (1, 3, 4)})
+    slow = os.path.join(folder, 'many/2.rs')
+    os.mkfifo(slow)
+    for words, is_slow in ((['outline'], True), (['tags', '-o', os.devnull], True), (['outline'], False)):
+        shown, other = pty.openpty()
+        child = subprocess.Popen([PROGRAM, *words, 'many'], cwd=folder, stdout=subprocess.DEVNULL, stderr=other)
+        os.close(other)
+        with open(slow, 'w', encoding='utf-8') as file:
+            time.sleep(1.2 if is_slow else 0)
+            file.write('fn f() {}')
+        child.wait(60)
+        got = b''
+        try:
+            while more := os.read(shown, 4096):
+                got += more
+        except OSError:
+            pass
+        os.close(shown)
+        count = '\r\x1b[K2 of 4 files\r\x1b[K' if is_slow else ''
+        more = 'itemtree: /dev/null: written without what could not be read\r\n' if 'tags' in words else ''
+        wanted = f'{count}itemtree: many/3.rs: stream did not contain valid UTF-8\r\n{more}'
+        tell(got.decode() == wanted, f'progress of {words} on a terminal', repr(got), repr(wanted))
+    os.remove(slow)
     got = run('itemtree tags -o /dev/null src', folder)
     tell(got == '', 'no progress elsewhere', got)
 
@@ -209,6 +321,10 @@ def main():
         check_request(folder)
         check_documents(check_help(folder))
         check_tools(folder)
+        check_unread(folder)
+        check_tags_kept(folder)
+        check_unwritten(folder)
+        check_arguments(folder)
     print(f'itemtree: {passed} passed, {failed} failed')
     return failed > 0
 

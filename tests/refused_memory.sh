@@ -71,7 +71,7 @@ try_command() {
     for ((request = 1; ; request++)); do
         refuse "$request" "$1" "${command[@]}" "$here/itemtree/shapes.rs"
         [ "$made" -ge "$request" ] || break
-        [ "$status" = 2 ] && ! grep -qv '^!_TAG' "$own/out" && [[ $(cat "$own/err") = *'out of memory' ]]
+        [ "$status" = 2 ] && ! grep -qv '^!_TAG' "$own/out" && grep -q 'out of memory$' "$own/err"
         judge $? "itemtree $2: status $status with request $request for memory refused"
     done
     [ "$status" = 0 ]

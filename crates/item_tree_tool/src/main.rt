@@ -41,7 +41,7 @@ fn told(rt: &HostRuntime) -> Result<Option<&'static str>, RunError> {
     };
     match word.as_str() {
         "-h" | "--help" => Ok(Some(HELP)),
-        "-V" | "--version" => Ok(Some("item_tree_tool 0.1.0\n")),
+        "-V" | "--version" => Ok(Some("item_tree_tool 0.2.0\n")),
         _ => Ok(None),
     }
 }

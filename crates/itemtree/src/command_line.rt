@@ -139,6 +139,24 @@ fn no_members<'a>(alloc: Global) -> Arg<'a> {
     flag(alloc, "no-members", "Leave out the members of items")
 }
 
+/// The options that tell what of folders is taken.
+fn with_folders<'a>(alloc: Global, command: Command<'a>) -> Result<Command<'a>, Error> {
+    let hidden = flag(
+        alloc,
+        "hidden",
+        "Of folders, take hidden entries and folders called target too",
+    );
+    let exclude = option(
+        alloc,
+        "exclude",
+        "GLOB",
+        ArgAction::Append,
+        "Of folders, leave out what has such a name, or such a path below the folder",
+    );
+    let command = command.arg(hidden)?.arg(exclude)?;
+    Ok(command)
+}
+
 /// A command that reads Rust.
 fn on_texts<'a>(
     alloc: Global,
@@ -150,7 +168,7 @@ fn on_texts<'a>(
         .about(about)
         .after_help(after)
         .arg(edition(alloc))?;
-    Ok(command)
+    with_folders(alloc, command)
 }
 
 /// A command that lists items of files, with the options for these.
@@ -256,13 +274,13 @@ fn changed<'a>(alloc: Global) -> Result<Command<'a>, Error> {
             alloc,
             "old",
             "OLD",
-            "The file as it was; - for standard input",
+            "The file as it was, or a folder; - for standard input",
         ))?
         .arg(argument(
             alloc,
             "new",
             "NEW",
-            "The file as it is now; - for standard input",
+            "The file as it is now, or a folder; - for standard input",
         ))?;
     Ok(command)
 }
@@ -298,7 +316,7 @@ fn check<'a>(alloc: Global) -> Result<Command<'a>, Error> {
 /// The whole command line.
 pub(crate) fn command<'a>(alloc: Global) -> Result<Command<'a>, Error> {
     let command = Command::new(alloc, "itemtree")
-        .version("0.1.0")
+        .version("0.2.0")
         .about("Lists the items, imports and declarations of Rust files, and what changed in them")
         .after_help(STATUSES)
         .subcommand_required(true)

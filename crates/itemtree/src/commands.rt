@@ -1,36 +1,26 @@
 //! The commands, file by file.
-use crate::files::{files_of_folder, is_a_folder, read};
+use crate::changed::compare;
+use crate::files::{Filter, STDIN, files_of, read};
 use crate::options::read_options;
+use crate::output::{Progress, STDOUT, complain, complain_of, write_out};
 use crate::request::write_request;
 use crate::serve::answer_lines;
 use crate::tags::write_tags;
 use clap::ArgMatches;
-use hir_input::EditionYear;
 use itemtree_commands::{
-    CompareError, Options, changed, check, duplicates, find, imports, outline, outline_json, page,
-    push_tags,
+    Options, check, duplicates, find, imports, outline, outline_json, page, push_tags,
 };
 use source_listing::{Query, SoughtPath, Source, sought_path};
 use source_tree::SourceError;
 use std::alloc::{AllocError, Global};
 use std::fmt::Display;
 use std::io;
-use std::io::{IsTerminal, Write};
-
-/// How many files are done between two tellings.
-const FILES_A_TIME: usize = 64;
-
-/// Back to the begin of the line on a terminal, and nothing on it.
-const CLEARED: &str = "\r\x1b[K";
 
 /// The status where a name is not found, a file is not clean, or files differ, as that of `grep` and `diff`.
-const NOT_SO: u8 = 1;
+pub(crate) const NOT_SO: u8 = 1;
 
 /// The status of an error.
 pub(crate) const FAILED: u8 = 2;
-
-/// How files differ whose items are the same.
-const ONLY_ORDER: &str = "the order of items or the attributes of the file differ";
 
 /// Why a run ends early.
 #[derive(Debug, Drop)]
@@ -39,6 +29,8 @@ pub(crate) enum Failure {
     Closed,
     /// The command line is wrong.
     Usage(String),
+    /// This cannot be written.
+    Unwritten { path: String, error: io::Error },
     Other(io::Error),
 }
 
@@ -140,37 +132,32 @@ struct Run<'a> {
     options: &'a Options,
     action: Action,
     status: u8,
+    /// Whether any file was done.
+    has_done: bool,
     /// Whether anything was written.
     has_written: bool,
-    /// Whether somebody sees how many files are done.
-    is_watched: bool,
+    progress: Progress<'a>,
 }
 
 impl Run<'_> {
     /// Tells on standard error that a file is not done.
     fn complain(&mut self, path: &str, error: impl Display + Drop) {
         self.status = FAILED;
-        let front = if self.is_watched { CLEARED } else { "" };
-        let _ = eprintln!(self.rt; "{front}itemtree: {path}: {error}");
+        self.progress.clear();
+        complain(self.rt, path, error);
     }
 
-    /// Tells on the terminal how many files of a folder are done: after the last, and now and then before.
-    fn tell_progress(&self, done: usize, count: usize) {
-        let is_last = done == count;
-        if self.is_watched && (is_last || done % FILES_A_TIME == 0) {
-            let end = if is_last { "\n" } else { "" };
-            let _ = eprint!(self.rt; "{CLEARED}{done} of {count} files{end}");
-        }
-    }
-
-    fn write(&mut self, text: &str, is_good: bool) -> io::Result<()> {
+    fn write(&mut self, text: &str, is_good: bool) -> Result<(), Failure> {
+        self.has_done = true;
         if !is_good {
             self.status = self.status.max(NOT_SO);
         }
-        if !text.is_empty() {
-            self.has_written = true;
+        if text.is_empty() {
+            return Ok(());
         }
-        self.rt.stdout().write_all(text.as_bytes())
+        self.has_written = true;
+        self.progress.clear();
+        write_out(self.rt, text)
     }
 
     fn do_text(&mut self, path: &str, text: &str) -> Result<(), Failure> {
@@ -192,30 +179,17 @@ impl Run<'_> {
         }
     }
 
-    fn do_folder(&mut self, path: &str) -> Result<(), Failure> {
-        match files_of_folder(self.rt, path) {
-            Ok(files) => {
-                for (before, file) in files.iter().enumerate() {
-                    self.do_file(file)?;
-                    self.tell_progress(before + 1, files.len());
-                }
-                Ok(())
-            }
-            Err(error) => {
-                self.complain(path, error);
-                Ok(())
-            }
+    fn do_all(&mut self, paths: &[&str], filter: Filter<'_, '_>) -> Result<(), Failure> {
+        let found = files_of(self.rt, paths, filter)?;
+        if !found.faults.is_empty() {
+            self.status = FAILED;
+            complain_of(self.rt, &found.faults);
         }
-    }
-
-    fn do_all(&mut self, paths: &[&str]) -> Result<(), Failure> {
-        for path in paths {
-            if is_a_folder(self.rt, path) {
-                self.do_folder(path)?;
-            } else {
-                self.do_file(path)?;
-            }
+        for (before, file) in found.files.iter().enumerate() {
+            self.do_file(file)?;
+            self.progress.tell(before + 1, found.files.len());
         }
+        self.progress.clear();
         Ok(())
     }
 }
@@ -267,19 +241,40 @@ fn action_of(alloc: Global, name: &str, matches: &ArgMatches<'_>) -> Result<Acti
     }
 }
 
+/// Writes the tags. If nothing could be read, those that stand are better than none.
+fn finish_tags(
+    rt: &HostRuntime,
+    path: &str,
+    lines: Vec<String>,
+    status: u8,
+    has_done: bool,
+) -> Result<u8, Failure> {
+    let shown = if path == STDIN { STDOUT } else { path };
+    if status == FAILED && !has_done {
+        complain(rt, shown, "not written, because nothing could be read");
+        return Ok(status);
+    }
+    write_tags(rt, path, lines)?;
+    if status == FAILED {
+        complain(rt, shown, "written without what could not be read");
+    }
+    Ok(status)
+}
+
 /// Ends a run: writes the tags, and gives the status.
 fn finish(run: Run<'_>, matches: &ArgMatches<'_>) -> Result<u8, Failure> {
     let Run {
         rt,
         action,
         status,
+        has_done,
         has_written,
         ..
     } = run;
     match action {
         Action::Tags { lines, .. } => {
-            write_tags(rt, matches.get_str("output").unwrap_or("tags"), lines)?;
-            Ok(status)
+            let path = matches.get_str("output").unwrap_or("tags");
+            finish_tags(rt, path, lines, status, has_done)
         }
         Action::Find { .. } if !has_written => Ok(status.max(NOT_SO)),
         Action::Find { .. } => Ok(status),
@@ -289,101 +284,6 @@ fn finish(run: Run<'_>, matches: &ArgMatches<'_>) -> Result<u8, Failure> {
         | Action::Duplicates
         | Action::Check => Ok(status),
     }
-}
-
-/// Tells what became of a file in another. The status is that of `diff`.
-fn tell(
-    rt: &HostRuntime,
-    old_path: &str,
-    new_path: &str,
-    lines: &str,
-    is_same: bool,
-) -> Result<u8, Failure> {
-    if is_same {
-        return Ok(0);
-    }
-    rt.stdout().write_all(lines.as_bytes())?;
-    if lines.is_empty() {
-        writeln!(rt.stdout(), "{old_path} and {new_path}: {ONLY_ORDER}")?;
-    }
-    Ok(NOT_SO)
-}
-
-/// Two files that there is no memory to compare.
-fn unmatched(rt: &HostRuntime, old: Source<'_>, new: Source<'_>) -> u8 {
-    let (old_path, new_path) = (old.path, new.path);
-    let _ = eprintln!(rt; "itemtree: {old_path} and {new_path}: out of memory");
-    FAILED
-}
-
-/// Lists the changes between two trees, if both can be had.
-fn compare_trees(
-    rt: &HostRuntime,
-    options: &Options,
-    old: Source<'_>,
-    new: Source<'_>,
-) -> Result<u8, Failure> {
-    match changed(rt.alloc(), old, new, options) {
-        Ok(compared) => tell(rt, old.path, new.path, &compared.text, compared.is_same),
-        Err(CompareError::Old(error)) => unread(rt, old.path, error),
-        Err(CompareError::New(error)) => unread(rt, new.path, error),
-        Err(CompareError::OutOfMemory) => Ok(unmatched(rt, old, new)),
-    }
-}
-
-/// Lists the changes of what others can see of two files.
-fn compare_seen(
-    rt: &HostRuntime,
-    old: Source<'_>,
-    new: Source<'_>,
-    edition: EditionYear,
-    has_docs: bool,
-) -> Result<u8, Failure> {
-    let olds = source_changes::Source {
-        path: old.path,
-        text: old.text,
-    };
-    let news = source_changes::Source {
-        path: new.path,
-        text: new.text,
-    };
-    match source_changes::compare(rt.alloc(), olds, news, edition, has_docs) {
-        Ok(compared) => tell(rt, old.path, new.path, &compared.text, compared.is_same),
-        Err(_) => Ok(unmatched(rt, old, new)),
-    }
-}
-
-/// Lists the changes between two files, or between their trees where that is asked. The status is that of `diff`.
-fn compare(
-    rt: &HostRuntime,
-    options: &Options,
-    inner: &ArgMatches<'_>,
-    old_path: &str,
-    new_path: &str,
-) -> Result<u8, Failure> {
-    let (old, new) = match (read(rt, old_path), read(rt, new_path)) {
-        (Ok(old), Ok(new)) => (old, new),
-        (Err(error), _) => return unread(rt, old_path, error),
-        (_, Err(error)) => return unread(rt, new_path, error),
-    };
-    let olds = Source {
-        path: old_path,
-        text: &old,
-    };
-    let news = Source {
-        path: new_path,
-        text: &new,
-    };
-    if inner.get_flag("tree") {
-        return compare_trees(rt, options, olds, news);
-    }
-    let has_docs = inner.get_flag("docs");
-    compare_seen(rt, olds, news, options.edition.year, has_docs)
-}
-
-fn unread(rt: &HostRuntime, path: &str, error: impl Display + Drop) -> Result<u8, Failure> {
-    let _ = eprintln!(rt; "itemtree: {path}: {error}");
-    Ok(FAILED)
 }
 
 /// Does what a command line asks, and gives the status to end with.
@@ -410,15 +310,16 @@ pub(crate) fn run_command(rt: &HostRuntime, matches: &ArgMatches<'_>) -> Result<
         return write_request(rt, options, inner);
     }
     let action = action_of(rt.alloc(), name, inner)?;
-    let is_watched = name == "tags" && rt.stderr().is_terminal();
     let mut run = Run {
         rt,
-        is_watched,
         action,
         options: &options,
         status: 0,
+        has_done: false,
         has_written: false,
+        progress: Progress::new(rt),
     };
-    run.do_all(inner.get_strs("files").unwrap_or(&[]))?;
+    let paths = inner.get_strs("files").unwrap_or(&[]);
+    run.do_all(paths, Filter::new(inner))?;
     finish(run, inner)
 }

@@ -1,54 +1,244 @@
-//! The files that are named on a command line.
+//! The files that a command line names, and the Rust files below folders.
+use clap::ArgMatches;
+use path_glob::is_match;
 use std::alloc::{AllocError, Global};
+use std::fmt::Display;
+use std::io::{BufRead, BufReader};
+use std::rt::Files;
 use std::{fs, io};
 
 /// What stands for standard input.
 pub(crate) const STDIN: &str = "-";
 
-fn is_folder(rt: &HostRuntime, path: &str) -> bool {
-    match fs::metadata(rt, path) {
-        Ok(metadata) => metadata.is_dir(),
-        Err(_) => false,
-    }
+/// The folders that cargo builds in.
+const BUILT: &str = "target";
+
+/// What of folders is taken. Files that are named are.
+#[derive(Clone, Copy)]
+pub(crate) struct Filter<'a, 'w> {
+    /// Whether hidden entries are, and folders called `target`.
+    has_hidden: bool,
+    /// What is not.
+    excluded: Option<&'a [&'w str]>,
 }
 
-/// Adds the Rust files of a folder to the files, and its folders to the folders.
-fn list_folder(
-    rt: &HostRuntime,
-    folder: &str,
-    folders: &mut Vec<String>,
-    files: &mut Vec<String>,
-) -> io::Result<()> {
-    for entry in fs::read_dir(rt, folder)? {
-        let entry = entry?;
-        let path = String::from_str(rt.alloc(), entry.path().as_str())?;
-        if entry.file_type()?.is_dir() {
-            folders.push(path)?;
-        } else if path.ends_with(".rs") {
-            files.push(path)?;
+impl<'a, 'w> Filter<'a, 'w> {
+    pub(crate) fn new(matches: &'a ArgMatches<'w>) -> Filter<'a, 'w> {
+        Filter {
+            has_hidden: matches.get_flag("hidden"),
+            excluded: matches.get_strs("exclude"),
         }
     }
-    Ok(())
+
+    /// Whether an entry is left out, by its name and its path, which begins with a slash for the folder that was named.
+    fn excludes(&self, alloc: Global, name: &str, path: &str) -> Result<bool, AllocError> {
+        if !self.has_hidden && name.starts_with('.') {
+            return Ok(true);
+        }
+        for glob in self.excluded.unwrap_or(&[]) {
+            if stands_for(alloc, glob, name, path)? {
+                return Ok(true);
+            }
+        }
+        Ok(false)
+    }
 }
 
-/// The Rust files of a folder at every depth, sorted by their paths. Folders behind links are not entered.
-pub(crate) fn files_of_folder(rt: &HostRuntime, folder: &str) -> io::Result<Vec<String>> {
+/// Whether a glob is one of an entry: of its name, or of its path with or without the slash.
+fn stands_for(alloc: Global, glob: &str, name: &str, path: &str) -> Result<bool, AllocError> {
+    let glob = glob.strip_suffix('/').unwrap_or(glob);
+    let below = path.strip_prefix('/').unwrap_or(path);
+    if is_match(alloc, glob, name)? || is_match(alloc, glob, below)? {
+        return Ok(true);
+    }
+    is_match(alloc, glob, path)
+}
+
+/// The Rust files below folders, and what could not be read there.
+#[derive(Drop)]
+pub(crate) struct Found {
+    /// Their paths, sorted for each folder.
+    pub(crate) files: Vec<String>,
+    /// A path, and why it could not be read.
+    pub(crate) faults: Vec<String>,
+}
+
+impl Found {
+    fn new(alloc: Global) -> Found {
+        Found {
+            files: Vec::new(alloc),
+            faults: Vec::new(alloc),
+        }
+    }
+
+    fn push_fault(
+        &mut self,
+        alloc: Global,
+        path: &str,
+        error: impl Display + Drop,
+    ) -> Result<(), AllocError> {
+        self.faults.push(format!(in alloc; "{path}: {error}")?)?;
+        Ok(())
+    }
+}
+
+/// A way through all folders below one.
+#[derive(Drop)]
+struct Walk<'r, 't, 'f, 'w> {
+    rt: &'r HostRuntime,
+    filter: Filter<'f, 'w>,
+    /// The one, without a slash behind it.
+    top: &'t str,
+    /// Those that are still to be read, each with a slash behind it.
+    folders: Vec<String>,
+    found: Found,
+}
+
+impl Walk<'_, '_, '_, '_> {
+    fn excludes(&self, name: &str, path: &str) -> Result<bool, AllocError> {
+        let path = path.strip_prefix(self.top).unwrap_or(path);
+        self.filter.excludes(self.rt.alloc(), name, path)
+    }
+
+    fn push_folder(&mut self, name: &str, mut path: String) -> Result<(), AllocError> {
+        if self.filter.has_hidden || name != BUILT {
+            path.push('/')?;
+            self.folders.push(path)?;
+        }
+        Ok(())
+    }
+
+    fn push_entry(&mut self, folder: &str, name: &str) -> Result<(), AllocError> {
+        let alloc = self.rt.alloc();
+        let path = format!(in alloc; "{folder}{name}")?;
+        if self.excludes(name, &path)? {
+            return Ok(());
+        }
+        let entry = match fs::symlink_metadata(self.rt, path.as_str()) {
+            Ok(entry) => entry,
+            Err(error) => return self.found.push_fault(alloc, &path, error),
+        };
+        if entry.is_dir() {
+            self.push_folder(name, path)?;
+        } else if name.ends_with(".rs") {
+            self.found.files.push(path)?;
+        }
+        Ok(())
+    }
+
+    /// An entry whose name is no text cannot be opened. Only a Rust file is missed.
+    fn push_unnamed(&mut self, folder: &str, name: &[u8]) -> Result<(), AllocError> {
+        if !name.ends_with(b".rs") {
+            return Ok(());
+        }
+        let alloc = self.rt.alloc();
+        let name = String::from_utf8_lossy(alloc, name)?;
+        let path = format!(in alloc; "{folder}{name}")?;
+        if !self.excludes(&name, &path)? {
+            let error = "this name is not UTF-8";
+            self.found.push_fault(alloc, &path, error)?;
+        }
+        Ok(())
+    }
+
+    fn push_named(&mut self, folder: &str, name: &[u8]) -> Result<(), AllocError> {
+        match str::from_utf8(name) {
+            Ok("" | "." | "..") => Ok(()),
+            Ok(name) => self.push_entry(folder, name),
+            Err(_) => self.push_unnamed(folder, name),
+        }
+    }
+
+    fn read_folder(&mut self, folder: &str) -> io::Result<()> {
+        let alloc = self.rt.alloc();
+        // The system gives whole names, with a zero behind each.
+        let mut names = BufReader::new(alloc, self.rt.open_dir(folder)?)?;
+        let mut name = Vec::new(alloc);
+        for _turn in 0..u64::MAX {
+            name.clear();
+            if names.read_until(0, &mut name)? == 0 {
+                break;
+            }
+            name.pop();
+            self.push_named(folder, &name)?;
+        }
+        Ok(())
+    }
+
+    /// What cannot be read is told, and the rest is read all the same.
+    fn try_folder(&mut self, folder: &str) -> Result<(), AllocError> {
+        match self.read_folder(folder) {
+            Ok(()) => Ok(()),
+            Err(error) => {
+                let path = folder.strip_suffix('/').unwrap_or(folder);
+                self.found.push_fault(self.rt.alloc(), path, error)
+            }
+        }
+    }
+}
+
+/// The path of a folder, with a slash behind it.
+pub(crate) fn with_slash(alloc: Global, folder: &str) -> Result<String, AllocError> {
+    let mut path = String::from_str(alloc, folder)?;
+    if !folder.ends_with('/') {
+        path.push('/')?;
+    }
+    Ok(path)
+}
+
+/// The Rust files below a folder, at every depth. Links to folders are not followed. That there is none is told on standard
+/// error.
+pub(crate) fn files_of_folder(
+    rt: &HostRuntime,
+    folder: &str,
+    filter: Filter<'_, '_>,
+) -> Result<Found, AllocError> {
     let mut folders = Vec::new(rt.alloc());
-    let mut files = Vec::new(rt.alloc());
-    folders.push(String::from_str(rt.alloc(), folder)?)?;
+    folders.push(with_slash(rt.alloc(), folder)?)?;
+    let mut walk = Walk {
+        rt,
+        filter,
+        top: folder.strip_suffix('/').unwrap_or(folder),
+        folders,
+        found: Found::new(rt.alloc()),
+    };
     for _turn in 0..u64::MAX {
-        let Some(next) = folders.pop() else {
+        let Some(next) = walk.folders.pop() else {
             break;
         };
-        list_folder(rt, &next, &mut folders, &mut files)?;
+        walk.try_folder(&next)?;
     }
-    files.sort()?;
-    Ok(files)
+    let Walk { mut found, .. } = walk;
+    found.files.sort()?;
+    found.faults.sort()?;
+    if found.files.is_empty() && found.faults.is_empty() {
+        let _ = eprintln!(rt; "itemtree: {folder}: no Rust file is below this folder");
+    }
+    Ok(found)
+}
+
+/// The files that are named, and those below folders that are, in the order in which they are.
+pub(crate) fn files_of(
+    rt: &HostRuntime,
+    paths: &[&str],
+    filter: Filter<'_, '_>,
+) -> Result<Found, AllocError> {
+    let mut all = Found::new(rt.alloc());
+    for path in paths {
+        if is_a_folder(rt, path) {
+            let mut found = files_of_folder(rt, path, filter)?;
+            all.files.append(&mut found.files)?;
+            all.faults.append(&mut found.faults)?;
+        } else {
+            all.files.push(String::from_str(rt.alloc(), path)?)?;
+        }
+    }
+    Ok(all)
 }
 
 /// Whether an argument is a folder.
 pub(crate) fn is_a_folder(rt: &HostRuntime, path: &str) -> bool {
-    path != STDIN && is_folder(rt, path)
+    path != STDIN && fs::metadata(rt, path).is_ok_and(|found| found.is_dir())
 }
 
 /// The text of a file, or of standard input.

@@ -2,32 +2,27 @@
 //! line.
 #![tactic(auto)]
 
+mod arguments;
+mod changed;
 mod command_line;
 mod commands;
 mod files;
 mod options;
+mod output;
 mod request;
 mod serve;
 mod tags;
 mod words;
 
+use crate::arguments::words;
 use crate::command_line::command;
 use crate::commands::{FAILED, Failure, run_command};
+use crate::output::{STDOUT, unwritten};
 use clap::error::ErrorKind;
 use clap::{ArgMatches, Error};
 use std::alloc::Global;
 use std::fmt::Display;
 use std::process::ExitCode;
-use std::{env, io};
-
-/// The words of the command line, the program's name first.
-fn arguments(rt: &HostRuntime) -> io::Result<Vec<String>> {
-    let mut words = Vec::new(rt.alloc());
-    for word in env::args(rt)? {
-        words.push(word)?;
-    }
-    Ok(words)
-}
 
 /// What is asked on a command line.
 fn parse<'a>(alloc: Global, words: &'a [String]) -> Result<ArgMatches<'a>, Error> {
@@ -45,18 +40,14 @@ fn print(rt: &HostRuntime, error: &Error) -> Result<u8, Failure> {
     if error.use_stderr() {
         return Ok(FAILED);
     }
-    printed?;
-    Ok(0)
+    match printed {
+        Ok(()) => Ok(0),
+        Err(error) => Err(unwritten(rt.alloc(), STDOUT, error)),
+    }
 }
 
 fn run(rt: &HostRuntime) -> Result<u8, Failure> {
-    let words = match arguments(rt) {
-        Ok(words) => words,
-        Err(error) => {
-            let message = format!(in rt.alloc(); "the arguments: {error}")?;
-            return Err(Failure::Usage(message));
-        }
-    };
+    let words = words(rt)?;
     match parse(rt.alloc(), &words) {
         Ok(matches) => run_command(rt, &matches),
         Err(error) => print(rt, &error),
@@ -74,6 +65,10 @@ fn main(rt: HostRuntime) -> ExitCode {
         Ok(status) => ExitCode::from(status),
         Err(Failure::Closed) => ExitCode::SUCCESS,
         Err(Failure::Usage(message)) => failed(&rt, message),
+        Err(Failure::Unwritten { path, error }) => {
+            let _ = eprintln!(rt; "itemtree: {path}: {error}");
+            ExitCode::from(FAILED)
+        }
         Err(Failure::Other(error)) => failed(&rt, error),
     }
 }

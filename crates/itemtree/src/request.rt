@@ -1,7 +1,8 @@
 //! The request in JSON that `item_tree_tool` reads.
 use crate::commands::{FAILED, Failure};
-use crate::files::{files_of_folder, is_a_folder, read};
+use crate::files::{Filter, files_of, read};
 use crate::options::atoms_of;
+use crate::output::{complain, complain_of, write_out};
 use clap::ArgMatches;
 use hir_input::{Crate, HirFileId};
 use item_tree_db::Place;
@@ -10,8 +11,6 @@ use itemtree_commands::Options;
 use request_writer::RequestOptions;
 use source_request::source_request;
 use std::alloc::{AllocError, Global};
-use std::io;
-use std::io::Write;
 
 fn show_kind(word: &str) -> ShowKind {
     match word {
@@ -39,22 +38,28 @@ fn shows_of(alloc: Global, words: &[&str], count: usize) -> Result<Vec<Show>, Al
     Ok(shows)
 }
 
-/// Adds the text of a file, or those of a folder's files.
-fn push_texts(rt: &HostRuntime, path: &str, texts: &mut Vec<String>) -> io::Result<()> {
-    if !is_a_folder(rt, path) {
-        texts.push(read(rt, path)?)?;
-        return Ok(());
+/// The texts of the files, and of those below folders; nothing if one of them cannot be read, which is told on standard error.
+fn texts_of(
+    rt: &HostRuntime,
+    paths: &[&str],
+    filter: Filter<'_, '_>,
+) -> Result<Option<Vec<String>>, AllocError> {
+    let found = files_of(rt, paths, filter)?;
+    if !found.faults.is_empty() {
+        complain_of(rt, &found.faults);
+        return Ok(None);
     }
-    for file in &files_of_folder(rt, path)? {
-        texts.push(read(rt, file)?)?;
+    let mut texts = Vec::new(rt.alloc());
+    for file in &found.files {
+        match read(rt, file) {
+            Ok(text) => texts.push(text)?,
+            Err(error) => {
+                complain(rt, file, error);
+                return Ok(None);
+            }
+        }
     }
-    Ok(())
-}
-
-/// Tells on standard error why there is no request.
-fn refused(rt: &HostRuntime, reason: &str) -> u8 {
-    let _ = eprintln!(rt; "itemtree: {reason}");
-    FAILED
+    Ok(Some(texts))
 }
 
 /// Writes the request. Where a file cannot be read, or the request cannot be written, nothing is.
@@ -64,13 +69,10 @@ pub(crate) fn write_request(
     matches: &ArgMatches<'_>,
 ) -> Result<u8, Failure> {
     let alloc = rt.alloc();
-    let mut texts = Vec::new(alloc);
-    for path in matches.get_strs("files").unwrap_or(&[]) {
-        if let Err(error) = push_texts(rt, path, &mut texts) {
-            let reason = format!(in alloc; "{path}: {error}")?;
-            return Ok(refused(rt, &reason));
-        }
-    }
+    let paths = matches.get_strs("files").unwrap_or(&[]);
+    let Some(texts) = texts_of(rt, paths, Filter::new(matches))? else {
+        return Ok(FAILED);
+    };
     let shows = shows_of(alloc, matches.get_strs("show").unwrap_or(&[]), texts.len())?;
     let asked = RequestOptions {
         bodies: !matches.get_flag("no-bodies"),
@@ -80,13 +82,13 @@ pub(crate) fn write_request(
     };
     match source_request(alloc, &texts, &asked, &shows) {
         Ok(request) => {
-            rt.stdout().write_all(request.as_bytes())?;
-            rt.stdout().write_all(b"\n")?;
+            write_out(rt, &request)?;
+            write_out(rt, "\n")?;
             Ok(0)
         }
         Err(fault) => {
-            let reason = format!(in alloc; "{fault}")?;
-            Ok(refused(rt, &reason))
+            let _ = eprintln!(rt; "itemtree: {fault}");
+            Ok(FAILED)
         }
     }
 }

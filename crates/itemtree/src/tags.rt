@@ -1,5 +1,8 @@
 //! The tags file.
+use crate::commands::Failure;
 use crate::files::STDIN;
+use crate::output::{unwritten, write_out};
+use std::fs::{File, Permissions};
 use std::io::Write;
 use std::{fs, io};
 
@@ -8,16 +11,89 @@ const HEAD: &str = "!_TAG_FILE_FORMAT\t2\t/extended format; --format=1 will not 
 !_TAG_PROGRAM_NAME\titemtree\t//
 ";
 
+/// How many new files that a killed run left are passed over.
+const MOST_LEFT: u8 = 100;
+
+/// Makes a file beside another, under a name that none has.
+fn create_beside(rt: &HostRuntime, path: &str) -> io::Result<(String, File)> {
+    for turn in 0..MOST_LEFT {
+        let beside = format!(in rt.alloc(); "{path}.new{turn}")?;
+        match File::create_new(rt, beside.as_str()) {
+            Ok(file) => return Ok((beside, file)),
+            Err(error) if error.kind() == io::ErrorKind::AlreadyExists => {}
+            Err(error) => return Err(error),
+        }
+    }
+    Err(io::Error::from(io::ErrorKind::AlreadyExists))
+}
+
+/// Writes the text to the file beside and gives that the name of the other.
+fn fill(
+    rt: &HostRuntime,
+    beside: &str,
+    mut file: File,
+    permissions: Option<Permissions>,
+    path: &str,
+    text: &str,
+) -> io::Result<()> {
+    file.write_all(text.as_bytes())?;
+    if let Some(permissions) = permissions {
+        file.set_permissions(permissions)?;
+    }
+    fs::rename(rt, beside, path)
+}
+
+/// Puts a new file in the place of one, or of none, which stands as it is until then.
+fn replace(
+    rt: &HostRuntime,
+    path: &str,
+    permissions: Option<Permissions>,
+    text: &str,
+) -> io::Result<()> {
+    let (beside, file) = create_beside(rt, path)?;
+    let replaced = fill(rt, &beside, file, permissions, path, text);
+    if replaced.is_err() {
+        let _ = fs::remove_file(rt, beside.as_str());
+    }
+    replaced
+}
+
+/// Writes a file as a whole or not at all; behind a link, the file that it leads to. Devices and pipes take the text as it comes.
+fn write_whole(rt: &HostRuntime, path: &str, text: &str) -> io::Result<()> {
+    match fs::metadata(rt, path) {
+        Ok(old) => {
+            if !old.is_file() {
+                return fs::write(rt, path, text);
+            }
+            let path = fs::canonicalize(rt, path)?;
+            replace(rt, path.as_str(), Some(old.permissions()), text)
+        }
+        Err(_) => {
+            // (a link that leads to no file yet)
+            if fs::symlink_metadata(rt, path).is_ok() {
+                return fs::write(rt, path, text);
+            }
+            replace(rt, path, None, text)
+        }
+    }
+}
+
 /// Sorts the lines and writes them behind the head, to a file or to standard output.
-pub(crate) fn write_tags(rt: &HostRuntime, path: &str, mut lines: Vec<String>) -> io::Result<()> {
+pub(crate) fn write_tags(
+    rt: &HostRuntime,
+    path: &str,
+    mut lines: Vec<String>,
+) -> Result<(), Failure> {
     lines.sort()?;
     let mut text = String::from_str(rt.alloc(), HEAD)?;
     for line in &lines {
         text.push_str(line)?;
     }
     if path == STDIN {
-        rt.stdout().write_all(text.as_bytes())
-    } else {
-        fs::write(rt, path, text.as_str())
+        return write_out(rt, &text);
+    }
+    match write_whole(rt, path, &text) {
+        Ok(()) => Ok(()),
+        Err(error) => Err(unwritten(rt.alloc(), path, error)),
     }
 }

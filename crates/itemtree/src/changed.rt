@@ -1,0 +1,238 @@
+//! What became of a file in another, or of the files below a folder in those below another.
+use crate::commands::{FAILED, Failure, NOT_SO};
+use crate::files::{Filter, Found, STDIN, files_of_folder, is_a_folder, read, with_slash};
+use crate::output::{Progress, complain, complain_of, write_out};
+use clap::ArgMatches;
+use itemtree_commands::{CompareError, Options, changed};
+use source_listing::Source;
+use std::alloc::{AllocError, Global};
+use std::cmp::Ordering;
+use std::fmt::Display;
+
+/// How files differ whose items are the same.
+const ONLY_ORDER: &str = "the order of items or the attributes of the file differ";
+
+/// A comparison. Its status is that of `diff`: 0 where all is the same, 1 where something differs, 2 where something cannot
+/// be read.
+#[derive(Drop)]
+struct Comparison<'a> {
+    rt: &'a HostRuntime,
+    options: &'a Options,
+    /// Whether only the item trees are compared.
+    is_of_trees: bool,
+    /// Whether documentation is compared too.
+    has_docs: bool,
+    status: u8,
+    progress: Progress<'a>,
+}
+
+impl Comparison<'_> {
+    fn write(&mut self, text: &str) -> Result<(), Failure> {
+        self.status = self.status.max(NOT_SO);
+        self.progress.clear();
+        write_out(self.rt, text)
+    }
+
+    fn complain(&mut self, path: &str, error: impl Display + Drop) {
+        self.status = FAILED;
+        self.progress.clear();
+        complain(self.rt, path, error);
+    }
+
+    /// Two files that there is no memory to compare.
+    fn give_up(&mut self, old: &str, new: &str) {
+        self.status = FAILED;
+        self.progress.clear();
+        let _ = eprintln!(self.rt; "itemtree: {old} and {new}: out of memory");
+    }
+
+    fn tell(&mut self, old: &str, new: &str, lines: &str, is_same: bool) -> Result<(), Failure> {
+        if is_same {
+            return Ok(());
+        }
+        if lines.is_empty() {
+            let line = format!(in self.rt.alloc(); "{old} and {new}: {ONLY_ORDER}\n")?;
+            return self.write(&line);
+        }
+        self.write(lines)
+    }
+
+    /// Lists the changes between two trees.
+    fn compare_trees(&mut self, old: Source<'_>, new: Source<'_>) -> Result<(), Failure> {
+        match changed(self.rt.alloc(), old, new, self.options) {
+            Ok(compared) => self.tell(old.path, new.path, &compared.text, compared.is_same)?,
+            Err(CompareError::Old(error)) => self.complain(old.path, error),
+            Err(CompareError::New(error)) => self.complain(new.path, error),
+            Err(CompareError::OutOfMemory) => self.give_up(old.path, new.path),
+        }
+        Ok(())
+    }
+
+    /// Lists the changes of what others can see of two files.
+    fn compare_seen(&mut self, old: Source<'_>, new: Source<'_>) -> Result<(), Failure> {
+        let olds = source_changes::Source {
+            path: old.path,
+            text: old.text,
+        };
+        let news = source_changes::Source {
+            path: new.path,
+            text: new.text,
+        };
+        let year = self.options.edition.year;
+        match source_changes::compare(self.rt.alloc(), olds, news, year, self.has_docs) {
+            Ok(compared) => self.tell(old.path, new.path, &compared.text, compared.is_same)?,
+            Err(_) => self.give_up(old.path, new.path),
+        }
+        Ok(())
+    }
+
+    fn read(&mut self, path: &str) -> Option<String> {
+        match read(self.rt, path) {
+            Ok(text) => Some(text),
+            Err(error) => {
+                self.complain(path, error);
+                None
+            }
+        }
+    }
+
+    fn compare_files(&mut self, old_path: &str, new_path: &str) -> Result<(), Failure> {
+        let (Some(old), Some(new)) = (self.read(old_path), self.read(new_path)) else {
+            return Ok(());
+        };
+        let olds = Source {
+            path: old_path,
+            text: &old,
+        };
+        let news = Source {
+            path: new_path,
+            text: &new,
+        };
+        if self.is_of_trees {
+            self.compare_trees(olds, news)
+        } else {
+            self.compare_seen(olds, news)
+        }
+    }
+
+    /// Tells of a file that only one of two folders has.
+    fn tell_single(&mut self, path: &str, what: &str) -> Result<(), Failure> {
+        let line = format!(in self.rt.alloc(); "{path}: {what} file\n")?;
+        self.write(&line)
+    }
+
+    fn found_in(&mut self, folder: &str, filter: Filter<'_, '_>) -> Result<Found, AllocError> {
+        let found = files_of_folder(self.rt, folder, filter)?;
+        if !found.faults.is_empty() {
+            self.status = FAILED;
+            complain_of(self.rt, &found.faults);
+        }
+        Ok(found)
+    }
+
+    fn compare_pair(&mut self, pair: Pair<'_>) -> Result<(), Failure> {
+        match pair {
+            (Some(old), Some(new)) => self.compare_files(old, new),
+            (Some(old), None) => self.tell_single(old, "removed"),
+            (None, Some(new)) => self.tell_single(new, "added"),
+            (None, None) => Ok(()),
+        }
+    }
+
+    fn compare_folders(
+        &mut self,
+        old: &str,
+        new: &str,
+        filter: Filter<'_, '_>,
+    ) -> Result<(), Failure> {
+        let alloc = self.rt.alloc();
+        let (olds, news) = (self.found_in(old, filter)?, self.found_in(new, filter)?);
+        let (old_top, new_top) = (with_slash(alloc, old)?, with_slash(alloc, new)?);
+        let pairs = pairs(alloc, &old_top, &olds.files, &new_top, &news.files)?;
+        for (before, pair) in pairs.iter().enumerate() {
+            self.compare_pair(*pair)?;
+            self.progress.tell(before + 1, pairs.len());
+        }
+        self.progress.clear();
+        Ok(())
+    }
+}
+
+/// The files of two folders that have the same path there, or one that only one of them has.
+type Pair<'a> = (Option<&'a str>, Option<&'a str>);
+
+fn below<'a>(file: &'a str, top: &str) -> &'a str {
+    file.strip_prefix(top).unwrap_or(file)
+}
+
+/// Takes the first file if it is wanted.
+fn take_first<'a>(files: &mut &'a [String], is_wanted: bool) -> Option<&'a str> {
+    let all = *files;
+    let (first, rest) = all.split_first()?;
+    if !is_wanted {
+        return None;
+    }
+    *files = rest;
+    Some(first.as_str())
+}
+
+/// The sorted files of two folders, in the order of their paths there.
+fn pairs<'a>(
+    alloc: Global,
+    old_top: &str,
+    mut olds: &'a [String],
+    new_top: &str,
+    mut news: &'a [String],
+) -> Result<Vec<Pair<'a>>, AllocError> {
+    let mut pairs = Vec::new(alloc);
+    for _turn in 0..usize::MAX {
+        let order = match (olds.first(), news.first()) {
+            (None, None) => break,
+            (Some(_), None) => Ordering::Less,
+            (None, Some(_)) => Ordering::Greater,
+            (Some(old), Some(new)) => below(old, old_top).cmp(below(new, new_top)),
+        };
+        let old = take_first(&mut olds, order != Ordering::Greater);
+        let new = take_first(&mut news, order != Ordering::Less);
+        pairs.push((old, new))?;
+    }
+    Ok(pairs)
+}
+
+/// A folder cannot be compared with what is none.
+fn refused(alloc: Global, folder: &str, other: &str) -> Result<u8, Failure> {
+    let message = format!(in alloc;
+        "{folder} is a folder, and {other} is none: compare two files or two folders"
+    )?;
+    Err(Failure::Usage(message))
+}
+
+/// Lists the changes between two files, or between those of two folders, and gives the status to end with.
+pub(crate) fn compare(
+    rt: &HostRuntime,
+    options: &Options,
+    matches: &ArgMatches<'_>,
+    old: &str,
+    new: &str,
+) -> Result<u8, Failure> {
+    let alloc = rt.alloc();
+    if old == STDIN && new == STDIN {
+        let message = "standard input is read once: only one of the two files can be -";
+        return Err(Failure::Usage(String::from_str(alloc, message)?));
+    }
+    let mut comparison = Comparison {
+        rt,
+        options,
+        is_of_trees: matches.get_flag("tree"),
+        has_docs: matches.get_flag("docs"),
+        status: 0,
+        progress: Progress::new(rt),
+    };
+    match (is_a_folder(rt, old), is_a_folder(rt, new)) {
+        (false, false) => comparison.compare_files(old, new)?,
+        (true, true) => comparison.compare_folders(old, new, Filter::new(matches))?,
+        (true, false) => return refused(alloc, old, new),
+        (false, true) => return refused(alloc, new, old),
+    }
+    Ok(comparison.status)
+}

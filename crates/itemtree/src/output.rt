@@ -1,0 +1,87 @@
+//! What is written on standard output, and told on standard error.
+use crate::commands::Failure;
+use std::alloc::Global;
+use std::fmt::Display;
+use std::io;
+use std::io::{IsTerminal, Write};
+use std::time::Instant;
+
+/// How standard output is called.
+pub(crate) const STDOUT: &str = "standard output";
+
+/// Back to the begin of the line on a terminal, and nothing on it.
+const CLEARED: &str = "\r\x1b[K";
+
+/// Why a file is not written. That nobody reads it is no fault.
+pub(crate) fn unwritten(alloc: Global, path: &str, error: io::Error) -> Failure {
+    if error.kind() == io::ErrorKind::BrokenPipe {
+        return Failure::Closed;
+    }
+    match String::from_str(alloc, path) {
+        Ok(path) => Failure::Unwritten { path, error },
+        Err(error) => Failure::from(error),
+    }
+}
+
+pub(crate) fn write_out(rt: &HostRuntime, text: &str) -> Result<(), Failure> {
+    match rt.stdout().write_all(text.as_bytes()) {
+        Ok(()) => Ok(()),
+        Err(error) => Err(unwritten(rt.alloc(), STDOUT, error)),
+    }
+}
+
+/// Tells on standard error what there is to say of a file.
+pub(crate) fn complain(rt: &HostRuntime, path: &str, what: impl Display + Drop) {
+    let _ = eprintln!(rt; "itemtree: {path}: {what}");
+}
+
+/// Tells on standard error of each fault.
+pub(crate) fn complain_of(rt: &HostRuntime, faults: &[String]) {
+    for fault in faults {
+        let _ = eprintln!(rt; "itemtree: {fault}");
+    }
+}
+
+/// How many files are done: told on standard error once a second, where that is a terminal, and taken away before anything
+/// else is written.
+#[derive(Drop)]
+pub(crate) struct Progress<'a> {
+    rt: &'a HostRuntime,
+    /// When it was told last, or when it began; nothing where nobody sees it.
+    told_at: Option<Instant>,
+    is_shown: bool,
+}
+
+impl<'a> Progress<'a> {
+    pub(crate) fn new(rt: &'a HostRuntime) -> Progress<'a> {
+        let told_at = if rt.stderr().is_terminal() {
+            Instant::now(rt).ok()
+        } else {
+            None
+        };
+        Progress {
+            rt,
+            told_at,
+            is_shown: false,
+        }
+    }
+
+    pub(crate) fn tell(&mut self, done: usize, count: usize) {
+        let (Some(told_at), Ok(now)) = (self.told_at, Instant::now(self.rt)) else {
+            return;
+        };
+        if now.duration_since(told_at).as_secs() == 0 {
+            return;
+        }
+        self.told_at = Some(now);
+        self.is_shown = true;
+        let _ = eprint!(self.rt; "{CLEARED}{done} of {count} files");
+    }
+
+    pub(crate) fn clear(&mut self) {
+        if self.is_shown {
+            self.is_shown = false;
+            let _ = eprint!(self.rt; "{CLEARED}");
+        }
+    }
+}
