@@ -10,7 +10,7 @@ use Rattle.source_session.specs.declared.error.LineError.TheVariants.{NotJson, N
 use Rattle.source_session.specs.declared.splice.ChangeFault.{ChangeFault}
 use Rattle.source_session.specs.Edits.{LineEdit, of_table, set_text, change_text}
 use Rattle.source_session.specs.Inner.{IsFailing, TellsFault}
-use Rattle.source_session.specs.Texts.{Change, FileTexts, leaves, text_after, bytes_of, changed_text, Means, AreMeant, Fails, FailsAt}
+use Rattle.source_session.specs.Texts.{Change, FileTexts, leaves, text_after, bytes_kept, changed_text, Means, AreMeant, Fails, FailsAt}
 
 -- ---- over texts that are the same
 
@@ -18,12 +18,12 @@ module _ (edition : EditionYear) (old new : FileTexts) (same : (file : ℕ) → 
   means_over : (l : LineEdit) (e : EditView) (c : Change) → Means edition old l e c → Means edition new l e c
   means_over (of_table f) e c h = h
   means_over (set_text file text) e c h = h
-  means_over (change_text file range text) e c h = (h.0, subst (λ t. changed_text (bytes_of t) range text ≡ Ok h.0) (same file) h.1, h.2)
+  means_over (change_text file range text) e c h = (h.0, subst (λ t. changed_text (bytes_kept t) range text ≡ Ok h.0) (same file) h.1, h.2)
 
   fails_over : (l : LineEdit) (cause : ChangeFault) → Fails old l cause → Fails new l cause
   fails_over (of_table f) cause h = h
   fails_over (set_text file text) cause h = h
-  fails_over (change_text file range text) cause h = subst (λ t. changed_text (bytes_of t) range text ≡ Err cause) (same file) h
+  fails_over (change_text file range text) cause h = subst (λ t. changed_text (bytes_kept t) range text ≡ Err cause) (same file) h
 
 pub meant_over : (edition : EditionYear) (old new : FileTexts) → ((file : ℕ) → old file ≡ new file) → (ls : List LineEdit) (es : List EditView) (cs : List Change) → AreMeant edition old ls es cs → AreMeant edition new ls es cs
 meant_over edition old new same [] [] [] h = h

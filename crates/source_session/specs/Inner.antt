@@ -49,8 +49,8 @@ TellsFault P (Refused place cause) = ⊥
 TellsFault P TooLong = ⊥
 
 -- the edit at a place has this place, and its text is not changed for this reason
-abbrev pub IsToldOf : Result (List ℕ) ChangeFault → ℕ → ℕ → ChangeFault → Type 0
-IsToldOf changed at place cause = (place ≡ at) × (changed ≡ Err cause)
+abbrev pub IsWhyUnchanged : Result (List ℕ) ChangeFault → ℕ → ℕ → ChangeFault → Type 0
+IsWhyUnchanged changed at place cause = (place ≡ at) × (changed ≡ Err cause)
 
 -- the edit at a place has this place, and means nothing over these texts for this reason
 abbrev pub IsFailing : FileTexts → LineEdit → ℕ → ℕ → ChangeFault → Type 0

@@ -86,8 +86,8 @@ changed_text None range new = Err NoText
 changed_text (Some text) range new = unless_fault (change_fault text range new) (spliced text range new)
 
 -- the bytes of a text
-abbrev pub bytes_of : Option SourceText → Option (List ℕ)
-bytes_of text = option_map (λ t. string_bytes t.text) text
+abbrev pub bytes_kept : Option SourceText → Option (List ℕ)
+bytes_kept text = option_map (λ t. string_bytes t.text) text
 
 -- ---- what edits of a line mean
 
@@ -108,7 +108,7 @@ abbrev pub Means : EditionYear → FileTexts → LineEdit → EditView → Chang
 Means edition texts (of_table e) edit change = (edit ≡ e) × (change ≡ forgets e)
 Means edition texts (set_text file text) edit change = IsReading edition file text edit change
 Means edition texts (change_text file range new) edit change =
-    (text : List ℕ) × (changed_text (bytes_of (texts file)) range new ≡ Ok text) × IsReading edition file text edit change
+    (text : List ℕ) × (changed_text (bytes_kept (texts file)) range new ≡ Ok text) × IsReading edition file text edit change
 
 -- each of them does, over the texts that those before it leave
 abbrev pub AreMeant : EditionYear → FileTexts → List LineEdit → List EditView → List Change → Type 0
@@ -125,7 +125,7 @@ AreMeant edition texts (l ∷ ls) (e ∷ es) [] = ⊥
 abbrev pub Fails : FileTexts → LineEdit → ChangeFault → Type 0
 Fails texts (of_table e) cause = ⊥
 Fails texts (set_text file text) cause = ⊥
-Fails texts (change_text file range new) cause = changed_text (bytes_of (texts file)) range new ≡ Err cause
+Fails texts (change_text file range new) cause = changed_text (bytes_kept (texts file)) range new ≡ Err cause
 
 -- the edit at this place is the first of them that means nothing
 abbrev pub FailsAt : EditionYear → FileTexts → List LineEdit → ℕ → ChangeFault → Type 0

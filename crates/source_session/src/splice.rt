@@ -1,9 +1,9 @@
 //! The text of a file, with what stands in a range of it replaced.
 ghost use Rattle.std.specs.Prelude.{◌≡◌, ◌^◌, ◌+◌, ◌≤◌, true, nat_lt, IfOk, IfErr, Ok, length, option_copied, string_bytes};
 ghost use Rattle.rust_members.specs.Lists.{is_cut};
-ghost use Rattle.source_session.specs.Inner.{TellsFault, IsToldOf};
+ghost use Rattle.source_session.specs.Inner.{TellsFault, IsWhyUnchanged};
 ghost use Rattle.source_session.specs.Texts as spec;
-ghost use Rattle.source_session.specs.Texts.{bytes_of, change_fault, changed_text};
+ghost use Rattle.source_session.specs.Texts.{bytes_kept, change_fault, changed_text};
 
 use crate::edit::MOST_BYTES;
 use crate::error::LineError;
@@ -96,8 +96,8 @@ pub(crate) fn changed(
     new: &str,
     place: usize,
 ) -> Result<String, LineError>
-    ensures made { IfOk result (λ made. changed_text (bytes_of (option_copied text.entry)) range new.now ≡ Ok (string_bytes made)) }
-    ensures fails { IfErr result (TellsFault (IsToldOf (changed_text (bytes_of (option_copied text.entry)) range new.now) place)) }
+    ensures made { IfOk result (λ made. changed_text (bytes_kept (option_copied text.entry)) range new.now ≡ Ok (string_bytes made)) }
+    ensures fails { IfErr result (TellsFault (IsWhyUnchanged (changed_text (bytes_kept (option_copied text.entry)) range new.now) place)) }
 {
     let Some(text) = text else {
         let cause = ChangeFault::NoText;
