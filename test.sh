@@ -83,6 +83,7 @@ try_programs() {
     part 'the outlines' tests/requests.sh "$outlines" outlines
     part 'streams' tests/streams.sh "$program"
     part 'the command line' tests/itemtree.py
+    part 'the manual page' docs/man/make.py --check "$itemtree" docs/man
     part 'the reader' tests/reader.sh "$itemtree"
     part 'deep and wide requests' tests/deep_and_wide.py "$program"
     part 'damaged requests' tests/hostile_bytes.py "$program" --seconds 60 --count "$1"
@@ -107,7 +108,7 @@ if [ -n "$is_quick" ]; then
     mapfile -t tests < <(find "${tests[@]}" -executable 2> /dev/null)
 fi
 
-planned=$((is_quick ? 15 : 17))
+planned=$((is_quick ? 16 : 18))
 part 'the closed words' tests/closed_words.sh
 part 'words with one meaning' tests/one_meaning.py
 part 'the length of documents' tests/sentences.py

@@ -110,17 +110,12 @@ def check_help(folder):
 
 
 def check_documents(offered):
-    """The manual page and docs/ITEMTREE.md name the statuses, and the commands of each option that are offered it."""
-    page = open(os.path.join(TOP, 'docs/man/itemtree.1'), encoding='utf-8').read().replace('\\-', '-')
-    tell(re.findall(r'^\.B (\d)$', page, re.M) == STATUSES, 'the statuses of the manual page')
-    told = dict(re.findall(r'^\.TP\n\.BI? .*?--([\w-]+).*\n\((.*?)\)', page, re.M))
-    wanted = {option: commands for option, commands in offered.items() if option != 'help'}
-    tell({option: named(words) for option, words in told.items()} == wanted, 'the options of the manual page', told, wanted)
+    """docs/ITEMTREE.md names the statuses, and the commands of each option that are offered it."""
     page = open(os.path.join(TOP, 'docs/ITEMTREE.md'), encoding='utf-8').read()
     tell(re.findall(r'^\| (\d) \|', page, re.M) == STATUSES, 'the statuses of docs/ITEMTREE.md')
     told = dict(re.findall(r'^\| `--([\w-]+).*?` \| (.*?) \|', page, re.M))
     wanted = {option: offered[option] for option in told}
-    tell(len(told) == 5 and {option: named(words) for option, words in told.items()} == wanted, 'the options of docs/ITEMTREE.md', told, wanted)
+    tell(len(told) == 7 and {option: named(words) for option, words in told.items()} == wanted, 'the options of docs/ITEMTREE.md', told, wanted)
 
 
 def named(words):

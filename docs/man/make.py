@@ -93,11 +93,9 @@ def page(name, version, top, commands):
 def bash(name, top, commands):
     names = lambda help: " ".join(it for names, *_ in help.options() for it in names)
     lines = [f"# Completions of {name} for bash.", f"_{name}() {{", "    local word=${COMP_WORDS[COMP_CWORD]} before=${COMP_WORDS[COMP_CWORD - 1]} command=${COMP_WORDS[1]}"]
-    lines += ["    case $command:$before in"]
-    for command, help in commands:
-        for words, _, values, _ in help.options():
-            if values:
-                lines.append(f"        {' | '.join(f'{command}:{it}' for it in words)}) mapfile -t COMPREPLY < <(compgen -W '{' '.join(values)}' -- \"$word\"); return ;;")
+    lines += ["    case $before in"]
+    valued = {" | ".join(words): values for _, help in commands for words, _, values, _ in help.options() if values}
+    lines += [f"        {words}) mapfile -t COMPREPLY < <(compgen -W '{' '.join(values)}' -- \"$word\"); return ;;" for words, values in valued.items()]
     lines += ["    esac", "    if ((COMP_CWORD == 1)); then"]
     lines += [f"        mapfile -t COMPREPLY < <(compgen -W '{' '.join([it for it, _ in commands] + names(top).split())}' -- \"$word\")", "        return", "    fi"]
     lines += ["    [[ $word = -* ]] || return", "    case $command in"]

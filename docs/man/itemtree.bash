@@ -1,0 +1,26 @@
+# Completions of itemtree for bash.
+_itemtree() {
+    local word=${COMP_WORDS[COMP_CWORD]} before=${COMP_WORDS[COMP_CWORD - 1]} command=${COMP_WORDS[1]}
+    case $before in
+        --edition) mapfile -t COMPREPLY < <(compgen -W '2015 2018 2021 2024' -- "$word"); return ;;
+        --ids) mapfile -t COMPREPLY < <(compgen -W 'on off' -- "$word"); return ;;
+        --show) mapfile -t COMPREPLY < <(compgen -W 'page tree imports' -- "$word"); return ;;
+    esac
+    if ((COMP_CWORD == 1)); then
+        mapfile -t COMPREPLY < <(compgen -W 'outline page imports find tags changed request serve check -h --help -V --version' -- "$word")
+        return
+    fi
+    [[ $word = -* ]] || return
+    case $command in
+        outline) mapfile -t COMPREPLY < <(compgen -W '--edition --hidden --exclude --cfg --active --no-members --depth --json -h --help' -- "$word") ;;
+        page) mapfile -t COMPREPLY < <(compgen -W '--edition --hidden --exclude --cfg --skip --docs --ids -h --help' -- "$word") ;;
+        imports) mapfile -t COMPREPLY < <(compgen -W '--edition --hidden --exclude --duplicates -h --help' -- "$word") ;;
+        find) mapfile -t COMPREPLY < <(compgen -W '--edition --hidden --exclude --cfg --active --no-members -h --help' -- "$word") ;;
+        tags) mapfile -t COMPREPLY < <(compgen -W '--edition --hidden --exclude --cfg --active --no-members -o --output -h --help' -- "$word") ;;
+        changed) mapfile -t COMPREPLY < <(compgen -W '--edition --hidden --exclude --docs --tree --cfg --skip -h --help' -- "$word") ;;
+        request) mapfile -t COMPREPLY < <(compgen -W '--edition --hidden --exclude --cfg --skip --docs --show --no-bodies -h --help' -- "$word") ;;
+        serve) mapfile -t COMPREPLY < <(compgen -W '-h --help' -- "$word") ;;
+        check) mapfile -t COMPREPLY < <(compgen -W '--edition --hidden --exclude -h --help' -- "$word") ;;
+    esac
+}
+complete -o default -F _itemtree itemtree
