@@ -46,8 +46,8 @@ one_tags() { "$program" tags -o - "$work/files" | sed '/^!_TAG_/d'; }
 
 many_tags() {
     # shellcheck disable=SC2016
-    each_list '[ ! -s {} ] || xargs -d "\n" "$program" tags -o - < {} | sed "/^!_TAG_/d" > {}.out'
-    sort -m "$work"/lists/*.out
+    each_list '[ ! -s {} ] || xargs -d "\n" "$program" tags -o - < {} | sed "/^!_TAG_/d; s/$/\x0b/" > {}.out'
+    sort -m "$work"/lists/*.out | sed "s/\x0b$//"
 }
 
 one_outline() { "$program" outline --json "$work/files"; }
