@@ -1074,7 +1074,7 @@ def check_text(server, program, path, file, cfg):
     outline, imports, problems, page = json.loads(got)['shows']
     items = json.loads(output(program, 'outline', '--json', '--no-members', *cfg, path))['items']
     tell(outline == items and written(outline) in got, f'the outline of {path}', written(outline), written(items))
-    lines, wanted = ''.join(import_line(path, told) for told in imports), output(program, 'imports', *cfg, path)
+    lines, wanted = ''.join(import_line(path, told) for told in imports), output(program, 'imports', path)
     tell(lines == wanted and all(list(told) == sorted(told) for told in imports), f'the imports of {path}', lines, wanted)
     lines = ''.join(f'{path}:{told["line"]}:{told["column"]}: {told["message"]}\n' for told in problems)
     wanted = ''.join(line for line in output(program, 'check', path).splitlines(True) if line.rstrip().split(': ')[-1] in READ)
