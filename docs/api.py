@@ -23,7 +23,7 @@ def docs_above(lines, at):
     while at and re.match(r"\s*(///|#\[|//(?!/)|ghost use)", lines[at - 1]):
         at -= 1
         if "///" in lines[at]:
-            found.append(re.sub(r"^\s*/// ?", "", lines[at]))
+            found.append(re.sub(r"^\s*/// ?", "", lines[at]).replace("# Errors", "**Errors**"))
     return "\n".join(reversed(found))
 
 

@@ -19,11 +19,14 @@ name_cmp = slice_cmp nat_cmp
 abbrev pub entry_cmp : Entry → Entry → Ordering
 entry_cmp = then_cmp (then_cmp (then_cmp (on (λ e. e.name) name_cmp) (on (λ e. e.place) place_cmp)) (on (λ e. e.krate.0) nat_cmp)) (on (λ e. e.id) id_cmp)
 
+-- the order is total
 pub entry_cmp_total : IsTotalOrder entry_cmp
 entry_cmp_total = then_total (then_total (then_total (on_total (λ e. e.name) nat_list_cmp_total) (on_total (λ e. e.place) place_cmp_total)) (on_total (λ e. e.krate.0) nat_cmp_total)) (on_total (λ e. e.id) id_cmp_total)
 
+-- equal in the order is equal
 pub entry_cmp_ties : (a b : Entry) → entry.ghosts.eq a b ≡ eq_by_cmp entry_cmp a b
 entry_cmp_ties a b = grind (arith, nat_tests, texts_ties a.name b.name, place_cmp_ties a.place b.place, id_cmp_ties a.id b.id)
 
+-- the partial order is the same
 pub entry_cmp_partial : IsPartialOrder entry.ghosts.eq (as_partial_cmp entry_cmp)
 entry_cmp_partial = partial_order_from_own_ties (partial_order_from_total entry_cmp_total) entry_cmp_ties

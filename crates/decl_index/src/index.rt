@@ -74,8 +74,11 @@ impl DeclIndex {
     /// Makes this the index of the table as it stands, and gives how many entries the trees have that changed since the last
     /// refresh: items with a name. It reads no other tree, which no clause says.
     ///
-    /// The table is the one that the index was refreshed from before, if it ever was, after any edits. The only error is want of
-    /// memory: then the index stays as it was, and can be refreshed again.
+    /// The table is the one that the index was refreshed from before, if it ever was, after any edits.
+    ///
+    /// # Errors
+    ///
+    /// Only if memory runs out: then the index stays as it was, and can be refreshed again.
     pub fn refresh(&mut self, alloc: Global, sources: &Sources) -> Result<usize, AllocError>
         requires { IsBehind self.old sources.now }
         ensures index { OnOk result (IsIndexOf sources.now self.new) }

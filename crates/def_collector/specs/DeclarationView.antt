@@ -28,9 +28,11 @@ abbrev pub declared_by : Declares → Declared
 declared_by (Name name) = declared_name name.now
 declared_by (Imports imports) = declared_imports (map listed_import imports.items)
 
+-- a declaration as plain data
 abbrev pub declaration_view : Unfolding → code.Declaration → DeclarationView
 declaration_view u d = record { path = map (λ name. name.now) d.path.items; node = node_at u.forest d.id; kind = d.kind; visibility = option_copied d.visibility; declared = declared_by d.declares }
 
+-- the id of a declaration's item
 abbrev pub id_of : code.Declaration → ℕ
 id_of d = d.id
 
@@ -38,6 +40,7 @@ id_of d = d.id
 abbrev pub defined : ℕ × Declaration → ℕ × DeclarationView
 defined d = (d.0, view_of d.1)
 
+-- a listed declaration: the id of its item, and what it says
 abbrev pub collected : Unfolding → code.Declaration → ℕ × DeclarationView
 collected u d = (d.id, declaration_view u d)
 

@@ -29,6 +29,7 @@ abbrev pub trunk_name : {V : Type 0} → Trunk V → Option (List ℕ)
 trunk_name (inline name v) = Some name
 trunk_name extern_block = None
 
+-- the name of an item, if it has one
 abbrev pub node_name : Node → Option (List ℕ)
 node_name (leaf h l) = leaf_name l
 node_name (parent h t f) = trunk_name t

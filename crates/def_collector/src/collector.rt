@@ -36,7 +36,11 @@ pub struct Collected<'tree> {
 /// Collects what each item of a tree declares: a name, or the imports of a use. Impls, macro calls, constants without a name
 /// and extern crates as `_` declare nothing, and an extern block only what stands in it.
 ///
-/// What rust-analyzer's `ModCollector::collect` passes over, without what it resolves. The only error is want of memory.
+/// What rust-analyzer's `ModCollector::collect` passes over, without what it resolves.
+///
+/// # Errors
+///
+/// Only if memory runs out.
 #[tactic(auto, using(item_tree::proofs::Walking::ids_contained))]
 pub fn collect(alloc: Global, tree: &ItemTree) -> Result<Collected<'_>, AllocError>
     ensures all { let all = map defined (declared_at tree.now) in

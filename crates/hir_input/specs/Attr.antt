@@ -57,5 +57,6 @@ meta_step (Meta-F.Cfg condition) = cfg_meta (cfg_view condition)
 meta_step (Meta-F.CfgAttr condition metas) = cfg_attr_meta (cfg_view condition) (metas_from metas.items)
 meta_step (Meta-F.Unsafe inner) = unsafe_meta inner.value
 
+-- a meta as plain data
 abbrev pub meta_view : Meta → MetaView
 meta_view = fold-Meta MetaView meta_step

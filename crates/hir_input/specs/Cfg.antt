@@ -21,6 +21,7 @@ flag name = record { name = name; value = None }
 abbrev pub key_value : List ℕ → List ℕ → AtomView
 key_value key value = record { name = key; value = Some value }
 
+-- an atom as plain data
 abbrev pub atom_view : CfgAtom → AtomView
 atom_view (Flag name) = flag name
 atom_view (KeyValue key value) = key_value key (string_bytes value)
@@ -51,6 +52,7 @@ cfg_step (CfgExpr-F.All members) = all_of (cfgs_from members.items)
 cfg_step (CfgExpr-F.Any members) = any_of (cfgs_from members.items)
 cfg_step (CfgExpr-F.Not inner) = not_of inner.value
 
+-- a condition as plain data
 abbrev pub cfg_view : CfgExpr → CfgView
 cfg_view = fold-CfgExpr CfgView cfg_step
 
@@ -71,6 +73,7 @@ by_commas texts = join_by (λ text. text) (codes ", ") texts
 
 -- a condition's text
 unfoldable mutual
+  -- the text of a condition
   pub shown_cfg : CfgView → List ℕ
   shown_cfg invalid = codes "invalid"
   shown_cfg (atom a) = shown_atom a
@@ -111,6 +114,7 @@ any_answer answers = unwrap_or (find (λ a. not (is_answer false a)) answers) (S
 
 -- whether a condition is true where these atoms are set
 unfoldable mutual
+  -- the value of a condition where these atoms are set, if it has one
   pub truth : List AtomView → CfgView → Option Bool
   truth set invalid = None
   truth set (atom a) = Some (holds set a)

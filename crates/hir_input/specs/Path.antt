@@ -26,6 +26,7 @@ abbrev pub ident_by : PathKind → List (List ℕ) → Option (List ℕ)
 ident_by Plain names = only names
 ident_by _ names = None
 
+-- the one name of a path that is a single name
 abbrev pub ident_of : Path → Option (List ℕ)
 ident_of path = ident_by path.kind path.names
 

@@ -161,9 +161,11 @@ extern_block_from n (Some is) = listed_extern_block n (items_from is)
 
 -- ---- what each node of a syntax is seen as
 
+-- what every node has, from its parts
 abbrev pub node_from : ℕ → ℕ → List Meta → String Global → NodeView
 node_from hash number attrs body = record { hash = hash; number = number; attrs = map meta_view attrs; body = string_bytes body }
 
+-- a node with a name and a visibility, from its parts
 abbrev pub named_from : ℕ → ℕ → List Meta → Option (List ℕ) → Option Visibility → String Global → NamedView
 named_from hash number attrs name visibility body = record { node = node_from hash number attrs body; name = name; visibility = visibility }
 
@@ -248,11 +250,13 @@ tail_view tail.Other = other_tail
 abbrev pub stmts_view : List Stmt → List StmtView
 stmts_view stmts = map stmt_view stmts
 
+-- a syntax as plain data
 abbrev pub syntax_view : Syntax → SyntaxView
 syntax_view (SourceFile attrs items) = source_file (map meta_view attrs.items) (items_view items.items)
 syntax_view (MacroItems items) = macro_items (items_view items.items)
 syntax_view (MacroStmts stmts tail) = macro_stmts (stmts_view stmts.items) (tail_view tail)
 syntax_view Error = error
 
+-- a block as plain data
 abbrev pub block_view : BlockExpr → SyntaxView
 block_view b = block_expr (map meta_view b.attrs.items) (stmts_view b.stmts.items) (tail_view b.tail)

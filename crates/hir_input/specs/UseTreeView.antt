@@ -38,6 +38,7 @@ tree_from node (Some ts) = listed_tree node (trees_from ts)
 abbrev pub use_tree_step : UseTree-F UseTreeView → UseTreeView
 use_tree_step t = tree_from (record { path = t.path; star = t.star; rename = t.rename }) (option_map (λ v. v.items) t.list)
 
+-- a use tree as plain data
 abbrev pub use_tree_view : UseTree → UseTreeView
 use_tree_view = fold-UseTree UseTreeView use_tree_step
 

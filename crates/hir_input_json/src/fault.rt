@@ -46,7 +46,7 @@ impl Fault {
 
     /// A member of the value that was to be read is not of its form, or not there.
     ///
-    /// Where the pointer finds no memory, it is want of memory.
+    /// If memory runs out for the pointer, it is `OutOfMemory`.
     pub fn at(alloc: Global, key: &str) -> Fault
         ensures { IsAt key.now result }
     {
@@ -55,7 +55,7 @@ impl Fault {
 
     /// The fault of a member, told of the object that holds it at this key.
     ///
-    /// Where the longer pointer finds no memory, it is want of memory.
+    /// If memory runs out for the longer pointer, it is `OutOfMemory`.
     pub fn in_member(self, alloc: Global, key: &str) -> Fault
         ensures { IsUnder key.now self result }
     {
@@ -70,7 +70,7 @@ impl Fault {
 
     /// The fault of an item, told of the array that holds it at this place, counted from 0.
     ///
-    /// Where the longer pointer finds no memory, it is want of memory.
+    /// If memory runs out for the longer pointer, it is `OutOfMemory`.
     pub fn in_item(self, alloc: Global, place: usize) -> Fault
         ensures { IsUnder (decimal place) self result }
     {

@@ -1,7 +1,7 @@
 //! Syntax, conditions, attributes and editions, read from their forms in JSON.
 //!
 //! A form is a definition in `specs/`: from a JSON value to plain data, or to a pointer. Each function here that reads one answers
-//! exactly its reading (`Reads`), or says where the first value stands that is not of its form, or that memory was wanting. Texts
+//! exactly its reading (`Reads`), or says where the first value stands that is not of its form, or that memory ran out. Texts
 //! are moved and not copied: what is read is taken out of its object, which leaves a null.
 #![tactic(auto)]
 

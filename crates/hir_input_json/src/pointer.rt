@@ -32,7 +32,9 @@ impl Pointer {
 
     /// To the same value, from the object that holds the other one at this key. No key of a form has to be escaped.
     ///
-    /// The only error is want of memory.
+    /// # Errors
+    ///
+    /// Only if memory runs out.
     pub fn in_member(self, alloc: Global, key: &str) -> Result<Pointer, AllocError>
         ensures { IfOk result (λ p. p ≡ behind key.now self) }
     {
@@ -42,7 +44,9 @@ impl Pointer {
 
     /// To the same value, from the array that holds the other one at this place, counted from 0.
     ///
-    /// The only error is want of memory.
+    /// # Errors
+    ///
+    /// Only if memory runs out.
     pub fn in_item(self, alloc: Global, place: usize) -> Result<Pointer, AllocError>
         ensures { IfOk result (λ p. p ≡ behind (decimal place) self) }
     {

@@ -18,7 +18,7 @@ fn is_copied<T: Clone + PartialEq + Drop>(source: &T) -> bool {
     is_made
 }
 
-// The same, or the source was not made for want of memory.
+// The same, or the source was not made for out of memory.
 fn copies<T: Clone + PartialEq + Drop>(source: Result<T, AllocError>) -> bool {
     match source {
         Ok(source) => is_copied(&source),

@@ -5,7 +5,7 @@ use item_tree_attrs::{AttrError, AttrsOrCfg, MergeRefused};
 use item_tree_samples::attributes::{condition, options, words};
 use std::alloc::Global;
 
-// Whether an answer is as wanted, or refused for want of memory.
+// Whether an answer is as wanted, or refused for out of memory.
 fn is_right(answer: Result<bool, AttrError>) -> bool {
     match answer {
         Ok(is_wanted) => is_wanted,
@@ -57,7 +57,7 @@ fn what_metas_collect_is_whole_or_refused_when_memory_is_refused(rt: HostRuntime
     assert!(rt; is_right(is_whole_or_refused(rt.alloc(), true)));
 }
 
-// Whether both sides are handed back as they were, for want of memory, and can then be joined.
+// Whether both sides are handed back as they were, for out of memory, and can then be joined.
 fn is_handed_back(
     refused: MergeRefused,
     left: &AttrsOrCfg,

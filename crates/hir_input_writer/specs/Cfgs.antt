@@ -13,6 +13,7 @@ abbrev pub atom_by : List ℕ → Option (List ℕ) → Option Data
 atom_by name None = name_data name
 atom_by name (Some value) = option_map (λ d. keyed d value) (name_data name)
 
+-- the JSON of an atom, if it has one
 abbrev pub atom_data : AtomView → Option Data
 atom_data a = atom_by a.name a.value
 

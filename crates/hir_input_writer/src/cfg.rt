@@ -35,7 +35,9 @@ fn written(alloc: Global, atom: &CfgAtom) -> Result<Value, WriteFault>
 
 /// An atom as JSON: the text of a flag, or an object with a key and its value. It is read as the atom again.
 ///
-/// Errors: want of memory alone.
+/// # Errors
+///
+/// Only if memory runs out.
 pub fn atom_value(alloc: Global, atom: &CfgAtom) -> Result<Value, WriteFault>
     ensures written { Writes view result (atom_data (atom_view atom.now)) }
     ensures reads { IfOk result (λ v. Holds atom_form (atom_view atom.now) (view v)) }

@@ -13,7 +13,9 @@ use std::alloc::Global;
 
 /// A name as JSON. It is read as the name again.
 ///
-/// Errors: want of memory alone.
+/// # Errors
+///
+/// Only if memory runs out.
 #[tactic(auto, using(crate::proofs::Names::name_read))]
 pub fn name_value(alloc: Global, name: &Name) -> Result<Value, WriteFault>
     ensures written { Writes view result (name_data name.now) }

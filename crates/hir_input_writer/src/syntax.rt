@@ -148,8 +148,10 @@ fn written(alloc: Global, syntax: &Syntax, bodies: bool) -> Result<Value, WriteF
 ///
 /// Reading the JSON gives the syntax again: with its bodies, or with each of them empty. No number of it is a float.
 ///
-/// Errors: `NoForm` exactly where the syntax has no form: a rename in it is to a name `_`, or the span of a literal is in
-/// another context than its meta. Else want of memory.
+/// # Errors
+///
+/// `NoForm` exactly where the syntax has no form: a rename in it is to a name `_`, or the span of a literal is in another
+/// context than its meta. Else `OutOfMemory`.
 pub fn syntax_value(alloc: Global, syntax: &Syntax, bodies: bool) -> Result<Value, WriteFault>
     ensures written { Writes view result (syntax_data bodies (syntax_view syntax.now)) }
     ensures reads { IfOk result (λ v. IsReadAs (kept bodies (syntax_view syntax.now)) (view v)) }

@@ -15,5 +15,6 @@ leaf_written l = map (λ (x : Import). (x, bare_tree l.node)) (leaf_imports l)
 abbrev pub written_imports : UseTreeView → List (Import × UseTreeView)
 written_imports w = flat_map leaf_written (leaves w)
 
+-- a listed import, beside the leaf that it was written by
 abbrev pub written_by : WrittenImport → Import × UseTreeView
 written_by w = (listed_import w.import, use_tree_view w.leaf.now)

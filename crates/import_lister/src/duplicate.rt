@@ -19,7 +19,11 @@ pub struct Duplicate {
 /// The imports that repeat an earlier one of the list: with the same path, kind and alias, whatever the index. They are in
 /// order, each with the first import that is alike.
 ///
-/// The time may grow with the square of the number of imports. The only error is want of memory.
+/// The time may grow with the square of the number of imports.
+///
+/// # Errors
+///
+/// Only if memory runs out.
 pub fn duplicates(alloc: Global, imports: &[Listed]) -> Result<Vec<Duplicate>, AllocError>
     ensures { IfOk result (λ list. AreDuplicates (map listed_import imports.now) list.items) }
 {

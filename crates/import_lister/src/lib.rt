@@ -28,7 +28,9 @@ pub struct Listed {
 
 /// How many imports a use has.
 ///
-/// The only error is want of memory.
+/// # Errors
+///
+/// Only if memory runs out.
 pub fn count_imports(alloc: Global, item: &Use) -> Result<u32, AllocError>
     ensures { IfOk result (λ count. count ≡ length (imports item.now.tree)) }
 {
@@ -40,7 +42,9 @@ pub fn count_imports(alloc: Global, item: &Use) -> Result<u32, AllocError>
 
 /// The imports of a use, in order.
 ///
-/// The only error is want of memory.
+/// # Errors
+///
+/// Only if memory runs out.
 pub fn list_imports(alloc: Global, item: &Use) -> Result<Vec<Listed>, AllocError>
     ensures { IfOk result (λ list. map listed_import list.items ≡ imports item.now.tree) }
 {

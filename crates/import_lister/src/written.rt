@@ -24,7 +24,9 @@ pub struct WrittenImport<'a> {
 /// The imports of a use, in order, each with the node that it is written as; `None` exactly where the use is not what is
 /// kept of this use tree.
 ///
-/// Errors: those of `lower_use_tree`.
+/// # Errors
+///
+/// Those of `lower_use_tree`.
 pub fn written_imports<'a>(
     alloc: Global,
     item: &Use,

@@ -80,5 +80,6 @@ came_change olds i = change_of (came_as i.own (find (is_same i) olds)) i.row
 abbrev pub changes_between : List Item → List Item → List ChangeView
 changes_between olds news = flat_map (left_change news) olds ++ flat_map (came_change olds) news
 
+-- what differs between two trees
 abbrev pub changes : Unfolding → Unfolding → List ChangeView
 changes old new = changes_between (items old) (items new)

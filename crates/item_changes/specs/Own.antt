@@ -16,6 +16,7 @@ abbrev pub own : Node → Node
 own (leaf h l) = leaf (without_id h) l
 own (parent h t f) = parent (without_id h) t empty
 
+-- nodes in code
 abbrev pub node_code : Coded Node
 node_code = record { code = node_to; inj = node_inj }
 

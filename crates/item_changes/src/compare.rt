@@ -116,7 +116,11 @@ fn push_came<'r, 'tree>(
 /// Two items are the same item where both are the n-th of their kind and name in modules of the same names, at the same
 /// depth. It changed where the trees keep other data of it by itself, which is not its id, nor the items in it. So an
 /// item that was renamed, or moved into another module, was removed and added, and trees that differ in the order of
-/// their items alone may have no changes. The only error is want of memory.
+/// their items alone may have no changes.
+///
+/// # Errors
+///
+/// Only if memory runs out.
 pub fn changes<'tree>(
     alloc: Global,
     old: &'tree ItemTree,

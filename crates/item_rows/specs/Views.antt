@@ -6,10 +6,12 @@ use Rattle.item_rows.specs.declared.subject.Subject.TheVariants.{Nothing, Use, C
 use Rattle.item_rows.specs.declared.rows.Row as code_row
 use Rattle.item_rows.specs.Rows.{Subject, no_subject, used, called, RowView}
 
+-- the subject of a row as plain data
 abbrev pub subject_view : code_subject.Subject → Subject
 subject_view Nothing = no_subject
 subject_view (Use tree) = used (tree_of tree.now)
 subject_view (Call path) = called path.now
 
+-- a row as plain data
 abbrev pub row_view : code_row.Row → RowView
 row_view r = record { level = r.level; scope = map (λ name. name.now) r.scope.items; id = r.id; name = option_copied r.name; subject = subject_view r.subject; visibility = option_copied r.visibility; is_active = r.is_active }

@@ -41,7 +41,9 @@ struct Around<'tree> {
 
 /// The rows of all items of a tree, each before those of the items in it.
 ///
-/// The only error is want of memory.
+/// # Errors
+///
+/// Only if memory runs out.
 #[tactic(auto, using(item_tree::proofs::Walking::ids_contained, item_tree::proofs::Walking::ids_count, crate::proofs::Ids::top_rows))]
 pub fn item_rows(alloc: Global, tree: &ItemTree) -> Result<Vec<Row<'_>>, AllocError>
     ensures { IfOk result (λ v. map row_view v.items ≡ spec.rows tree.now) }

@@ -31,5 +31,6 @@ import index path kind alias = record { index = index.0; path = path; kind = kin
 abbrev pub at_import : {F : Type 0} → (F → UseTreeIdx → Path → ImportKind → Option ImportAlias → Type 0) → F → Import → Type 0
 at_import pre f x = pre f (record { 0 = x.index }) x.path x.kind x.alias
 
+-- a call of a closure with the parts of an import leads from one of its states to another
 abbrev pub by_import : {F : Type 0} → (F → UseTreeIdx → Path → ImportKind → Option ImportAlias → Unit {0} → F → Type 0) → F → Import → F → Type 0
 by_import step f x g = step f (record { 0 = x.index }) x.path x.kind x.alias tt g

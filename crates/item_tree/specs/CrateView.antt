@@ -11,5 +11,6 @@ pub record CrateView : Type 0 where
   pub options : List AtomView
   pub attrs : List MetaView
 
+-- a crate as plain data
 abbrev pub crate_view : CrateData → CrateView
 crate_view k = record { root = k.root; options = k.cfg; attrs = map meta_view k.attrs.items }

@@ -21,6 +21,7 @@ pub record ModValue : Type 0 where
   pub visibility : ℕ
   pub items : Option (List ℕ)
 
+-- a module as a record, with the ids of its items
 abbrev pub mod_value : Mod → ModValue
 mod_value m = record { name = m.name; visibility = m.visibility; items = inline_ids m.kind }
 
@@ -31,6 +32,7 @@ pub record StructValue : Type 0 where
   pub shape : FieldsShape
   pub ctor : Ctor ℕ
 
+-- a struct as a record, with the ids of its constructor's visibility
 abbrev pub struct_value : Struct → StructValue
 struct_value s = record { name = s.name; visibility = s.visibility; shape = s.shape; ctor = ctor_ids s.value_ns_ctor }
 

@@ -248,6 +248,7 @@ zip_rows (k ∷ ks) [] is = []
 zip_rows (k ∷ ks) (c ∷ cs) [] = []
 zip_rows (k ∷ ks) (c ∷ cs) (i ∷ is) = (head_of_key k c, i) ∷ zip_rows ks cs is
 
+-- what the tables of a tree unfold to
 abbrev pub unfold_tables : Tables → Unfolding
 unfold_tables t = record {
   top_attrs = attrs_stored t.column t.top_place;

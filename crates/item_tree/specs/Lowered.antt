@@ -21,10 +21,11 @@ kept_in krate is_root skipped syntax = kept_syntax is_root (crate_view krate) sk
 abbrev pub kept_without_bodies : CrateData → Bool → List (List ℕ) → SyntaxView → Unfolding
 kept_without_bodies krate is_root skipped syntax = kept_in krate is_root skipped (without_bodies syntax)
 
--- no size is passed by the syntax and by what is kept of it; the error names one that is passed, or want of memory
+-- no size is passed by the syntax and by what is kept of it; the error names one that is passed, or out of memory
 abbrev pub FitsIn : CrateData → Bool → List (List ℕ) → SyntaxView → Type 0
 FitsIn krate is_root skipped syntax = FitsWith syntax (kept_in krate is_root skipped syntax)
 
+-- the error names a size that a syntax of this crate passes
 abbrev pub IsTooLargeIn : CrateData → Bool → List (List ℕ) → SyntaxView → LowerError → Type 0
 IsTooLargeIn krate is_root skipped syntax e = IsTooLarge syntax (kept_in krate is_root skipped syntax) e
 

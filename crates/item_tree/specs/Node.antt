@@ -43,6 +43,7 @@ pub record Head : Type 0 where
   pub attrs : Collected
 
 mutual
+  -- an item without items, or one that has a forest of them
   pub data Node : Type 0 where
     leaf : Head → Leaf RawVisibility → Node
     parent : Head → Trunk RawVisibility → Forest → Node
@@ -97,6 +98,7 @@ node_kind (parent h t f) = trunk_kind t
 abbrev pub file_id : AstIdKind → Head → FileAstId
 file_id k h = record { kind = k; hash = h.hash; number = h.number }
 
+-- the id of a node's item in its file
 abbrev pub node_ast : Node → FileAstId
 node_ast n = file_id (node_kind n) (node_head n)
 
@@ -106,6 +108,7 @@ abbrev mutual
   node_count (leaf h l) = 1
   node_count (parent h t f) = suc (count f)
 
+  -- how many nodes a forest has, at every depth
   pub count : Forest → ℕ
   count empty = 0
   count (more n f) = node_count n + count f

@@ -49,6 +49,7 @@ module _ {A : Type 0} (c : Coded A) where
   pub same_decides : (x y : A) → Decides (same c x y) (x ≡ y)
   same_decides x y = (equal_of_same x y, same_of_equal x y)
 
+  -- being the same is an equivalence
   pub same_is_equivalence : IsEquivalence (same c)
   same_is_equivalence = record {
     refl = same_itself;

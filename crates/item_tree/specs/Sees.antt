@@ -57,5 +57,6 @@ abbrev mutual
   CtorsAreSeenIn place no_items = Unit {0}
   CtorsAreSeenIn place (item_and i is) = CtorIsSeenIn place i × CtorsAreSeenIn place is
 
+-- from every place, each constructor is seen exactly as its struct and fields say
 pub record CtorsAreSeen (s : SyntaxView) : Type 0 where
   pub everywhere : (place : Place) → CtorsAreSeenIn place (items_of s)

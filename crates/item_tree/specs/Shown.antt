@@ -70,6 +70,7 @@ abbrev pub lent_module : FileAstId → List ℕ → ℕ → ModKind → Lent
 lent_module a name v (Inline items) = lent_parent a (inline name v) items.items
 lent_module a name v Outline = lent_leaf a (outline name v)
 
+-- what an item's id lends
 abbrev pub lent : ModItemKind → Lent
 lent (item.Function a x) = lent_leaf a (plain syntax.fn_kind x.now.name x.now.visibility)
 lent (item.Union a x) = lent_leaf a (plain syntax.union_kind x.now.name x.now.visibility)

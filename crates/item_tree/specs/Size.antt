@@ -93,7 +93,7 @@ pub record Sizes : Type 0 where
   -- times that `super` stands in the paths from the root of a use tree to one of its nodes
   pub supers : ℕ
 
--- the error names a size that is passed, or want of memory
+-- the error names a size that is passed, or out of memory
 abbrev pub IsPassed : Sizes → LowerError → Type 0
 IsPassed s TooManyItems = item_limit < s.items
 IsPassed s TooManyVisibilities = visibility_limit < s.visibilities
@@ -134,7 +134,7 @@ pub record FitsWith (s : SyntaxView) (u : Unfolding) : Type 0 where
   pub tree : Fits u
   pub use_trees : most_written s ≤ use_tree_limit
 
--- the error names a size that a syntax passes, or what is kept of it, or want of memory
+-- the error names a size that a syntax passes, or what is kept of it, or out of memory
 abbrev pub IsTooLarge : SyntaxView → Unfolding → LowerError → Type 0
 IsTooLarge s u = IsPassed (sizes_of s u)
 

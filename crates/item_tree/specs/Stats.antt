@@ -24,6 +24,7 @@ abbrev mutual
   count_of k empty = 0
   count_of k (more n f) = node_count_of k n + count_of k f
 
+-- how many items of each kind a forest has
 abbrev pub stats_of : Forest → ItemTreeDataStats
 stats_of f = record {
   traits = count_of kind.Trait f;

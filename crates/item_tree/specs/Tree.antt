@@ -47,9 +47,11 @@ kind_step (Prefixed prefix list) = prefixed prefix (branches_from list.items)
 abbrev pub tree_step : UseTree-F Tree Tree → Tree
 tree_step t = t.kind
 
+-- the same of what stands behind its prefix
 abbrev pub tree_of_kind : UseTreeKind → Tree
 tree_of_kind = fold-UseTreeKind Tree Tree kind_step tree_step
 
+-- a use tree of an item tree, without ids
 abbrev pub tree_of : UseTree → Tree
 tree_of = fold-UseTree Tree Tree kind_step tree_step
 

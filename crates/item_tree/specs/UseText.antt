@@ -26,6 +26,7 @@ module _ (reserved : List (List ℕ)) where
 
   -- a use tree
   unfoldable mutual
+    -- the text of a use tree
     pub shown_tree : Tree → List ℕ
     shown_tree (single p alias) = shown_path reserved p ++ shown_rename alias
     shown_tree (glob p) = shown_prefix p ++ codes "*"

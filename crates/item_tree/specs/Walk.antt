@@ -24,6 +24,7 @@ abbrev pub children : Node → Forest
 children (leaf h l) = empty
 children (parent h t f) = f
 
+-- the items in the one with this id
 abbrev pub children_at : Unfolding → ℕ → Forest
 children_at u i = of_id u empty children i
 

@@ -61,8 +61,10 @@ enum Body<'a> {
 ///
 /// Stands for rust-analyzer's `file_item_tree_query`.
 ///
-/// Errors: `TooManyItems`, `TooManyVisibilities`, `TooManyUseTrees`, `TooManyAttributes` and `TooManySupers` only
-/// where that size is passed, and `OutOfMemory`.
+/// # Errors
+///
+/// `TooManyItems`, `TooManyVisibilities`, `TooManyUseTrees`, `TooManyAttributes` and `TooManySupers` only where that size
+/// is passed, and `OutOfMemory`.
 #[tactic(auto, using(crate::proofs::BodyTexts::kept_without_bodies, crate::proofs::Seen::ctors_are_seen))]
 pub fn lower_syntax(
     alloc: Global,
@@ -110,7 +112,11 @@ fn lower_whole(ctx: Ctx, syntax: &ast::Syntax, is_root: bool) -> Result<ItemTree
 /// The tree of a block in a crate: its item statements, and its macro calls in the place of statements, in order, and
 /// a macro call in the tail last. The top attributes are the block's own.
 ///
-/// Stands for rust-analyzer's `block_item_tree_query`. Errors: as `lower_syntax`.
+/// Stands for rust-analyzer's `block_item_tree_query`.
+///
+/// # Errors
+///
+/// As `lower_syntax`.
 #[tactic(auto, using(crate::proofs::BodyTexts::kept_without_bodies, crate::proofs::Seen::ctors_are_seen))]
 pub fn lower_block(
     alloc: Global,

@@ -374,7 +374,11 @@ impl ItemTree {
     /// and a line with its header, the items in it four spaces deeper. There is a blank line between the top attributes
     /// and the items, and between the items of a list. The page of the empty tree is one line feed.
     ///
-    /// Stands for rust-analyzer's `ItemTree::pretty_print`. The only error is out of memory.
+    /// Stands for rust-analyzer's `ItemTree::pretty_print`.
+    ///
+    /// # Errors
+    ///
+    /// Only if memory runs out.
     #[tactic(auto, using(crate::proofs::Walking::ids_contained, crate::proofs::Walking::ids_count))]
     pub fn pretty_print(&self, alloc: Global, edition: &Edition) -> Result<String, AllocError>
         ensures { IfOk result (λ text. string_bytes text ≡ page edition.now.reserved.items self.now) }

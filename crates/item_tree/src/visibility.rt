@@ -138,7 +138,11 @@ impl fmt::Debug for RawVisibilityId {
 
 /// Reads a written visibility. Nothing written, and a path that is not readable, are private and implicit.
 ///
-/// rust-analyzer's `visibility_from_ast`. The only error is out of memory, for a path.
+/// rust-analyzer's `visibility_from_ast`.
+///
+/// # Errors
+///
+/// Only if memory runs out, for a path.
 pub fn visibility_from_ast(
     alloc: Global,
     visibility: Option<&Visibility>,

@@ -87,6 +87,7 @@ abbrev mutual
 
 -- ---- what is collected
 
+-- the first of a list, if it has one
 abbrev pub first : {A : Type 0} → List A → Option A
 first [] = None
 first (x ∷ xs) = Some x
@@ -109,9 +110,11 @@ join_by None before behind = record { attrs = before.attrs ++ behind.attrs; fals
 abbrev pub join : Collected → Collected → Collected
 join before behind = join_by before.false_cfg before behind
 
+-- how three are grouped makes no difference
 abbrev pub IsAssociative : (Collected → Collected → Collected) → Type 0
 IsAssociative f = (a b c : Collected) → f (f a b) c ≡ f a (f b c)
 
+-- joined with it, on either side, each stays what it is
 abbrev pub IsUnit : (Collected → Collected → Collected) → Collected → Type 0
 IsUnit f unit = (c : Collected) → (f unit c ≡ c) × (f c unit ≡ c)
 

@@ -20,6 +20,7 @@ held_code =
     (λ p. record { syntax = p.0; changed = p.1 })
     (λ _. refl)
 
+-- tables in code
 abbrev pub state_code : Coded State
 state_code =
     code_by (List CrateView × (List (List ℕ) × (ℕ × (ℕ × List (Place × Held)))))

@@ -14,6 +14,7 @@ pub data EditView : Type 0 where
   remove : Place → EditView
   set_cfg : ℕ → List AtomView → EditView
 
+-- an edit as plain data
 abbrev pub edit_view : Edit → EditView
 edit_view (SetFile file syntax) = set (File file) (syntax_view syntax)
 edit_view (RemoveFile file) = remove (File file)

@@ -28,14 +28,17 @@ same_place (Block a) (Block b) = a.0 == b.0
 abbrev pub place_cmp : Place → Place → Ordering
 place_cmp = then_cmp (on kind_of nat_cmp) (on own_number nat_cmp)
 
+-- the order is total
 pub place_cmp_total : IsTotalOrder place_cmp
 place_cmp_total = then_total (on_total kind_of nat_cmp_total) (on_total own_number nat_cmp_total)
 
+-- equal in the order is equal
 pub place_cmp_ties : (a b : Place) → place.ghosts.eq a b ≡ eq_by_cmp place_cmp a b
 place_cmp_ties (File a) (File b) = grind (arith, nat_tests)
 place_cmp_ties (File a) (Block b) = refl
 place_cmp_ties (Block a) (File b) = refl
 place_cmp_ties (Block a) (Block b) = grind (arith, nat_tests)
 
+-- the partial order is the same
 pub place_cmp_partial : IsPartialOrder place.ghosts.eq (as_partial_cmp place_cmp)
 place_cmp_partial = partial_order_from_own_ties (partial_order_from_total place_cmp_total) place_cmp_ties

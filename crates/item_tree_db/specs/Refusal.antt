@@ -51,15 +51,16 @@ PassesAfter s before (set_cfg i options) error = (place : Place) × TreePasses s
 abbrev pub FirstFit : State → List EditView → ℕ → Type 0
 FirstFit s edits n = (m : ℕ) → m < n → IfSome (slice_get edits m) (FitsAfter s (take m edits))
 
--- memory is wanting, or this holds of the error
+-- memory runs out, or this holds of the error
 abbrev pub UnlessMemory : (LowerError → Type 0) → LowerError → Type 0
 UnlessMemory P error = (error ≡ OutOfMemory) ⊎ P error
 
--- the table s may refuse the edit for this cause: a size that it passes, or want of memory; a removal for no other than its number
+-- the table s may refuse the edit for this cause: a size that it passes, or out of memory; a removal for no other than its number
 abbrev pub IsCause : State → EditView → EditFault → Type 0
 IsCause s edit TooManyEdits = s.number ≡ last_number
 IsCause s (remove place) (Lower error) = ⊥
 IsCause s edit (Lower error) = UnlessMemory (PassesAfter s [] edit) error
 
+-- a table may refuse an edit so
 abbrev pub IsRefusal : State → EditRefused → Type 0
 IsRefusal s refused = IsCause s (edit_view refused.edit) refused.cause

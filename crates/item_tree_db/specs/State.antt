@@ -20,6 +20,7 @@ pub record Held : Type 0 where
   -- its change number in each crate
   pub changed : List ℕ
 
+-- a table of trees as callers see it: its crates, files and blocks, without trees
 pub record State : Type 0 where
   -- in the order of their numbers, from 0, each with its present options
   pub crates : List CrateView

@@ -194,10 +194,13 @@ impl Sources {
 
     /// Makes an edit, and gives its number.
     ///
-    /// A refusal changes nothing and hands the edit back. Errors: `TooManyEdits` where the table has the last
-    /// number, before all else; a `LowerError` of the syntax in some crate, or, where options are set, of some
-    /// present syntax in their crate. A removal takes no memory. Where the edit names a crate, the caller shows that
-    /// the table knows it.
+    /// A refusal changes nothing and hands the edit back. A removal takes no memory. Where the edit names a crate, the caller
+    /// shows that the table knows it.
+    ///
+    /// # Errors
+    ///
+    /// `TooManyEdits` where the table has the last number, before all else; a `LowerError` of the syntax in some crate, or,
+    /// where options are set, of some present syntax in their crate.
     pub fn edit(&mut self, edit: Edit) -> Result<u64, EditRefused>
         requires { NamesKnown self.old (edit_view edit) }
         ensures in_range { self.old.number ≤ last_number }
@@ -223,8 +226,11 @@ impl Sources {
     /// Makes edits up to the first refused one, and gives the number after the last.
     ///
     /// A refusal names the refused edit's place and hands it back; the edits before it stay made, and those
-    /// after it are dropped. Its errors are those of `edit`. The caller shows that the table knows each crate that an
-    /// edit names.
+    /// after it are dropped. The caller shows that the table knows each crate that an edit names.
+    ///
+    /// # Errors
+    ///
+    /// Those of `edit`.
     pub fn edit_all(&mut self, edits: Vec<Edit>) -> Result<u64, AllRefused>
         requires { AllByRecursion (NamesKnown self.old) (map edit_view edits.items) }
         ensures ok { OnOk result (IsAfter self.old (map edit_view edits.items) self.new) }

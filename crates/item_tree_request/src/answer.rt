@@ -47,7 +47,7 @@ fn read_request(alloc: Global, bytes: &[u8]) -> Result<Request, RunError>
     }
 }
 
-// A refused edit, or want of memory in it.
+// A refused edit, or out of memory in it.
 fn refusal(place: usize, cause: EditFault) -> RunError
     ensures { result ≡ refusal_of place cause }
 {

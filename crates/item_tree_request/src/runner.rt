@@ -35,7 +35,9 @@ pub fn run_with<T: ShowWriter, R: Read, W: Write>(
 
 /// Reads a request in JSON up to the reader's end, makes its edits, and writes the pages and imports of its shows.
 ///
-/// Its errors are those of `run_with`.
+/// # Errors
+///
+/// Those of `run_with`.
 pub fn run<R: Read, W: Write>(alloc: Global, input: &mut R, output: &mut W) -> Result<(), RunError>
     ensures run { HasRun IsPrinted result (R.remaining input.old) (R.remaining input.new)
         (W.contents output.old) (W.contents output.new) }

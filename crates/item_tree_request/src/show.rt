@@ -45,7 +45,9 @@ fn push_tree_imports(
 
 /// Adds the line on a place and a crate, with a change number.
 ///
-/// The only error is want of memory.
+/// # Errors
+///
+/// Only if memory runs out.
 #[tactic(auto, unfolding(crate::specs::Outputs::change_line))]
 pub fn push_change(
     place: Place,
@@ -101,7 +103,9 @@ fn push_lines(changes: ChangedSince<'_>, text: &mut String) -> Result<(), AllocE
 
 /// Adds the lines of what changed since a number.
 ///
-/// The only error is want of memory.
+/// # Errors
+///
+/// Only if memory runs out.
 pub fn push_changes(sources: &Sources, since: u64, text: &mut String) -> Result<(), AllocError>
     ensures { OnOk result (IsAdded (AreChanges sources.now since) (string_bytes text.old) (string_bytes text.new)) }
 {

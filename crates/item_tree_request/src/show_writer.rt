@@ -17,7 +17,9 @@ pub trait ShowWriter {
 
     /// Adds the text of a show over a table.
     ///
-    /// The only error is want of memory.
+    /// # Errors
+    ///
+    /// Only if memory runs out.
     fn push_show(
         &self,
         alloc: Global,

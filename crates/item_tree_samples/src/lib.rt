@@ -1,7 +1,7 @@
 //! Written syntaxes for the tests of other crates, made of plain words and numbers.
 //!
 //! They are ordinary functions of a library, so that they are proved once for all crates of tests. Nothing is promised of
-//! their values: a test is run. Each error is want of memory.
+//! their values: a test is run. Each error is that memory ran out.
 #![tactic(auto)]
 
 pub mod attributes;

@@ -50,7 +50,7 @@ pub fn first_use(tree: &ItemTree) -> Option<&Use> {
     None
 }
 
-// Whether an answer is as wanted, or refused for want of memory.
+// Whether an answer is as wanted, or refused for out of memory.
 pub fn is_right(answer: Result<bool, LowerError>) -> bool {
     match answer {
         Ok(is_wanted) => is_wanted,

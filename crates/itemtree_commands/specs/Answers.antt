@@ -82,6 +82,7 @@ AddsTags o has_members s old new =
 abbrev pub if_ids : Bool → List ℕ → List ℕ
 if_ids has_ids page = if has_ids then page else without_ids page
 
+-- the page of a text's tree
 abbrev pub IsPage : Options → Bool → List ℕ → List ℕ → Type 0
 IsPage o has_ids text out = (t : SourceTree) × HasTree o text t × (out ≡ if_ids has_ids (page o.edition.reserved.items t.tree))
 
@@ -91,7 +92,7 @@ IsCheck o s c =
     (file : SourceFile) × IsSourceFile o.edition.year s.text file × (string_bytes c.text ≡ problem_lines s (source_problems s.text file))
     × (IsTrue c.is_clean ↔ (length (source_problems s.text file) ≡ 0))
 
--- the command has no answer: the text has no tree, or memory is wanting
+-- the command has no answer: the text has no tree, or memory runs out
 abbrev pub HasNoTree : Options → List ℕ → SourceError → Type 0
 HasNoTree o = IsRefused o.krate o.skipped.items o.edition.year
 

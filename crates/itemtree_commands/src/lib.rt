@@ -97,7 +97,9 @@ fn read(alloc: Global, text: &str, options: &Options) -> Result<SourceTree, Sour
 /// `itemtree outline`: a line for each item and each member of one, or for those in fewer than so many items; with or
 /// without members.
 ///
-/// Its errors are those of `source_tree`.
+/// # Errors
+///
+/// Those of `source_tree`.
 #[tactic(auto, using(source_tree::proofs::Refused::no_memory))]
 pub fn outline(
     alloc: Global,
@@ -122,7 +124,9 @@ pub fn outline(
 /// `itemtree outline --json`: one JSON object on one line, with an object for each item and each member of one, or for those in
 /// fewer than so many items; with or without members.
 ///
-/// Its errors are those of `source_tree`.
+/// # Errors
+///
+/// Those of `source_tree`.
 #[tactic(auto, using(source_tree::proofs::Refused::no_memory))]
 pub fn outline_json(
     alloc: Global,
@@ -156,7 +160,9 @@ fn shown_page(alloc: Global, page: String, has_ids: bool) -> Result<String, Allo
 
 /// `itemtree page`: the debug page of the tree, with or without the ids of its items.
 ///
-/// Its errors are those of `source_tree`.
+/// # Errors
+///
+/// Those of `source_tree`.
 #[tactic(auto, using(source_tree::proofs::Refused::no_memory))]
 pub fn page(
     alloc: Global,
@@ -176,7 +182,9 @@ pub fn page(
 /// `itemtree find`: a line for each item that is looked for and each member of one, with or without members; empty where there
 /// is none.
 ///
-/// Its errors are those of `source_tree`.
+/// # Errors
+///
+/// Those of `source_tree`.
 #[tactic(auto, using(source_tree::proofs::Refused::no_memory))]
 pub fn find(
     alloc: Global,
@@ -199,7 +207,9 @@ pub fn find(
 
 /// `itemtree imports`: a line for each import.
 ///
-/// Its errors are those of `source_tree`.
+/// # Errors
+///
+/// Those of `source_tree`.
 #[tactic(auto, using(source_tree::proofs::Refused::no_memory))]
 pub fn imports(alloc: Global, source: Source<'_>, options: &Options) -> Result<String, SourceError>
     ensures text { IfOk result (λ out. spec.AreImports options.now (source_view source.entry) (string_bytes out)) }
@@ -220,7 +230,9 @@ pub fn imports(alloc: Global, source: Source<'_>, options: &Options) -> Result<S
 
 /// `itemtree imports --duplicates`: a line for each import that repeats an earlier one of its module.
 ///
-/// Its errors are those of `source_tree`.
+/// # Errors
+///
+/// Those of `source_tree`.
 #[tactic(auto, using(source_tree::proofs::Refused::no_memory))]
 pub fn duplicates(
     alloc: Global,
@@ -246,7 +258,9 @@ pub fn duplicates(
 /// `itemtree tags`: adds the tags of the file, with or without those of members. The tags before stay as they are, also at an
 /// error, where some of those of the file may stand behind them.
 ///
-/// Its errors are those of `source_tree`.
+/// # Errors
+///
+/// Those of `source_tree`.
 #[tactic(auto, using(source_tree::proofs::Refused::no_memory, source_listing::proofs::Begins::begin_itself))]
 pub fn push_tags(
     alloc: Global,
@@ -318,7 +332,9 @@ pub fn changed(
 
 /// `itemtree check`: a line for each thing that is wrong, in the order of their places.
 ///
-/// Its errors are those of `source_file`: it needs no tree.
+/// # Errors
+///
+/// Those of `source_file`: it needs no tree.
 #[tactic(auto, using(source_tree::proofs::Refused::no_memory_to_read))]
 pub fn check(alloc: Global, source: Source<'_>, options: &Options) -> Result<Checked, SourceError>
     ensures checked { IfOk result (spec.IsCheck options.now (source_view source.entry)) }

@@ -1,6 +1,6 @@
 //! Objects of JSON, made member by member: `json!` with many values is one long function, which is proved slowly.
 //!
-//! The only error of each function is want of memory.
+//! Each function fails only if memory runs out.
 #![tactic(auto)]
 
 ghost use Rattle.std.specs.Prelude.{◌≡◌, IfOk};

@@ -22,7 +22,7 @@ IsWhole bytes = (more : List ℕ) → lines (bytes ++ more) ≡ lines bytes ++ l
 abbrev pub HasNoFeed : List ℕ → Type 0
 HasNoFeed bytes = All (λ byte. byte ≢ 10) bytes
 
--- what is told of a line: its bytes, that it is too long, or that memory was wanting for it
+-- what is told of a line: its bytes, that it is too long, or that memory ran out for it
 pub data Told : Type 0 where
   whole : List ℕ → Told
   too_long : Told
@@ -34,7 +34,7 @@ told (Whole bytes) = whole bytes.items
 told TooLong = too_long
 told OutOfMemory = no_memory
 
--- this may be told of a line: its bytes where it is no longer than the longest, that it is too long where it is longer, and of each but an empty one that memory was wanting
+-- this may be told of a line: its bytes where it is no longer than the longest, that it is too long where it is longer, and of each but an empty one that memory ran out
 abbrev pub IsToldOf : List ℕ → Told → Type 0
 IsToldOf line (whole bytes) = (bytes ≡ line) × (length line ≤ MOST_LINE)
 IsToldOf line too_long = MOST_LINE < length line

@@ -36,7 +36,7 @@ pub trait Service {
 
     /// Answers a line.
     ///
-    /// The text is to be one line: it has no line feed, and `serve` writes one after it. Where memory is wanting
+    /// The text is to be one line: it has no line feed, and `serve` writes one after it. Where memory runs out
     /// for an answer, a fixed text can say so.
     fn answer(&mut self, alloc: Global, line: Line) -> Answer
         ensures { answers self.old (told line) self.new (answer_text result) };

@@ -68,6 +68,7 @@ abbrev pub members_by : Option (List AtomView) → EditionYear → List ℕ → 
 members_by (Some options) edition text (Some p) is_active = listed_members edition options text p is_active
 members_by _ edition text _ is_active = []
 
+-- the members of the item at this place
 abbrev pub members_of : Reading → Option ItemPlace → Bool → List Listed
 members_of x p is_active = members_by x.options x.edition x.text p is_active
 
@@ -76,6 +77,7 @@ abbrev pub impl_header : EditionYear → List ℕ → AstIdKind → Option ItemP
 impl_header edition text kind.Impl (Some p) = header edition text p.range p.body
 impl_header edition text _ _ = []
 
+-- the header of an impl at this place
 abbrev pub header_of : Reading → AstIdKind → Option ItemPlace → List ℕ
 header_of x k p = impl_header x.edition x.text k p
 
@@ -84,5 +86,6 @@ abbrev pub impl_type : EditionYear → List ℕ → AstIdKind → Option ItemPla
 impl_type edition text kind.Impl (Some p) = type_name edition (text_at text p.range)
 impl_type edition text _ _ = None
 
+-- the name of an impl's type
 abbrev pub type_name_of : Reading → AstIdKind → Option ItemPlace → Option (List ℕ)
 type_name_of x k p = impl_type x.edition x.text k p

@@ -20,7 +20,11 @@ pub struct Reading<'a> {
 
 impl Reading<'_> {
     /// What an impl is told by: its type, or its trait, `for` and its type. It is empty for an item of another kind, and where
-    /// the place is not known. The place is the one that the reader gave with the text; the only error is want of memory.
+    /// the place is not known. The place is the one that the reader gave with the text.
+    ///
+    /// # Errors
+    ///
+    /// Only if memory runs out.
     pub fn header(
         self,
         alloc: Global,
@@ -39,7 +43,11 @@ impl Reading<'_> {
 
     /// The name of the type that an impl is of, without `r#`: the last name of its path, as `Circle` of
     /// `impl<T> Display for geo::Circle<T>`. There is none of a type that is no path, of an item of another kind, and where the
-    /// place is not known. The place is the one that the reader gave with the text; the only error is want of memory.
+    /// place is not known. The place is the one that the reader gave with the text.
+    ///
+    /// # Errors
+    ///
+    /// Only if memory runs out.
     pub fn type_name(
         self,
         alloc: Global,
@@ -61,7 +69,11 @@ impl Reading<'_> {
     /// where the place is not known, and where members are not asked for.
     ///
     /// The place is the one that the reader gave with the text, and `is_active` says that no cfg disables the item, nor what it
-    /// stands in. The only error is want of memory.
+    /// stands in.
+    ///
+    /// # Errors
+    ///
+    /// Only if memory runs out.
     pub fn members(
         self,
         alloc: Global,

@@ -24,6 +24,7 @@ abbrev mutual
   node_lines indent (leaf h l) = line indent (node_ast (leaf h l)) (node_name (leaf h l))
   node_lines indent (parent h t f) = line indent (node_ast (parent h t f)) (node_name (parent h t f)) ++ forest_lines (deeper indent) f
 
+  -- the lines of a forest's items, behind this indent
   pub forest_lines : List ℕ → Forest → List ℕ
   forest_lines indent empty = []
   forest_lines indent (more n f) = node_lines indent n ++ forest_lines indent f

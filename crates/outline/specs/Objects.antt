@@ -21,6 +21,7 @@ abbrev mutual
   node_object (leaf h l) = object_form (node_ast (leaf h l)) (node_name (leaf h l)) no_items
   node_object (parent h t f) = object_form (node_ast (parent h t f)) (node_name (parent h t f)) (forest_objects f)
 
+  -- the objects of a forest's items
   pub forest_objects : Forest → Items
   forest_objects empty = no_items
   forest_objects (more n f) = item (node_object n) (forest_objects f)

@@ -18,7 +18,9 @@ use tree_walk::children;
 /// The items of a tree as a JSON array of objects: an item's `id`, its `kind`, its `name` or null, and its `children`, in
 /// order.
 ///
-/// The only error is want of memory.
+/// # Errors
+///
+/// Only if memory runs out.
 #[tactic(auto, using(item_tree::proofs::Walking::ids_contained, crate::proofs::Outlines::ids_objects))]
 pub fn outline_json(alloc: Global, tree: &ItemTree) -> Result<Value, AllocError>
     ensures { IfOk result (λ value. view value ≡ array (forest_objects tree.now.forest)) }

@@ -15,7 +15,9 @@ use tree_walk::children;
 /// A line for each item of a tree, before those of the items in it: four spaces for each item that it stands in, its id,
 /// which begins with the word of its kind, and its name, if it has one.
 ///
-/// The only error is want of memory.
+/// # Errors
+///
+/// Only if memory runs out.
 pub fn outline_text(alloc: Global, tree: &ItemTree) -> Result<String, AllocError>
     ensures { IfOk result (λ text. string_bytes text ≡ forest_lines [] tree.now.forest) }
 {
@@ -26,7 +28,9 @@ pub fn outline_text(alloc: Global, tree: &ItemTree) -> Result<String, AllocError
 
 /// Adds these lines to a text.
 ///
-/// The only error is want of memory.
+/// # Errors
+///
+/// Only if memory runs out.
 #[tactic(auto, using(item_tree::proofs::Walking::ids_contained, crate::proofs::Outlines::top_lines))]
 pub fn push_outline(alloc: Global, tree: &ItemTree, text: &mut String) -> Result<(), AllocError>
     ensures { OnOk result (string_bytes text.new ≡ string_bytes text.old ++ forest_lines [] tree.now.forest) }

@@ -10,7 +10,9 @@ use std::io::{Read, Write};
 
 /// Reads a request in JSON up to the reader's end, makes its edits, and writes the outlines of its shows.
 ///
-/// Its errors are those of `item_tree_request::run_with`.
+/// # Errors
+///
+/// Those of `item_tree_request::run_with`.
 pub fn run<R: Read, W: Write>(alloc: Global, input: &mut R, output: &mut W) -> Result<(), RunError>
     ensures run { HasRun IsOutlined result (R.remaining input.old) (R.remaining input.new)
         (W.contents output.old) (W.contents output.new) }

@@ -124,8 +124,11 @@ fn chars_of(alloc: Global, text: &str) -> Result<Vec<char>, AllocError>
 /// Whether a glob stands for a whole path.
 ///
 /// `*` stands for any characters but `/`, also for none; `**` for any characters; `?` for any one but `/`; and each other
-/// character for itself. It takes time and memory for each pair of characters of the two, and no more. The only error is want
-/// of memory.
+/// character for itself. It takes time and memory for each pair of characters of the two, and no more.
+///
+/// # Errors
+///
+/// Only if memory runs out.
 pub fn is_match(alloc: Global, glob: &str, path: &str) -> Result<bool, AllocError>
     ensures { IfOk result (λ is. is ≡ spec.matches (chars glob.now) (chars path.now)) }
 {

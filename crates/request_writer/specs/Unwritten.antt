@@ -7,17 +7,18 @@ use Rattle.hir_input_writer.specs.declared.fault.WriteFault.TheVariants as write
 use Rattle.request_writer.specs.declared.request.RequestFault.{RequestFault}
 use Rattle.request_writer.specs.declared.request.RequestFault.TheVariants.{NoForm, TooDeep, OutOfMemory}
 
+-- a fault of what is in a request, as one of the request
 abbrev pub fault_of : WriteFault → RequestFault
 fault_of write.NoForm = NoForm
 fault_of write.OutOfMemory = OutOfMemory
 
--- there is no data to be written, or it nests too deep for a text, or memory is wanting
+-- there is no data to be written, or it nests too deep for a text, or memory runs out
 abbrev pub IsUnwritten : Option Data → RequestFault → Type 0
 IsUnwritten wanted NoForm = wanted ≡ None
 IsUnwritten wanted TooDeep = (d : Data) × (wanted ≡ Some d) × (max_depth < depth d)
 IsUnwritten wanted OutOfMemory = Unit {0}
 
--- the data nests too deep for a text, or memory is wanting
+-- the data nests too deep for a text, or memory runs out
 abbrev pub IsNoText : Data → RequestFault → Type 0
 IsNoText d NoForm = ⊥
 IsNoText d TooDeep = max_depth < depth d

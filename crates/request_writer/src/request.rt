@@ -115,8 +115,10 @@ fn written(
 ///
 /// Reading the JSON gives exactly this request, with empty body texts where `bodies` is false.
 ///
-/// Errors: `NoForm` exactly where a part has no form: a syntax, as `syntax_value` says, a show of another crate than 0, or a file
-/// behind 2^32 others. Else want of memory.
+/// # Errors
+///
+/// `NoForm` exactly where a part has no form: a syntax, as `syntax_value` says, a show of another crate than 0, or a file
+/// behind 2^32 others. Else `OutOfMemory`.
 pub fn request_value(
     alloc: Global,
     options: &RequestOptions,
@@ -145,7 +147,9 @@ fn text_of(alloc: Global, value: &Value) -> Result<String, RequestFault>
 
 /// The request as a JSON text, which is read as exactly this request.
 ///
-/// Errors: `NoForm` as in `request_value`, `TooDeep` exactly where the JSON nests deeper than 127, and want of memory.
+/// # Errors
+///
+/// `NoForm` as in `request_value`, `TooDeep` exactly where the JSON nests deeper than 127, and `OutOfMemory`.
 pub fn request_text(
     alloc: Global,
     options: &RequestOptions,

@@ -138,6 +138,7 @@ pub record ExcerptRead : Type 0 where
 abbrev pub excerpt : List ℕ → Bool → Option Tokens → ExcerptRead
 excerpt text is_ended block = record { text = text; is_ended = is_ended; block = block }
 
+-- an excerpt as plain data
 abbrev pub excerpt_view : Excerpt → ExcerptRead
 excerpt_view e = excerpt (string_bytes e.text) e.is_ended e.block
 

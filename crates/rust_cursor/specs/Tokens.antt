@@ -16,6 +16,7 @@ pub record Tokens : Type 0 where
   pub unended : Option ℕ
   pub edition : EditionYear
 
+-- what is left to be read, in code
 abbrev pub coded_tokens : Coded Tokens
 coded_tokens = code_by (ℕ × (List Piece × (Option ℕ × EditionYear)))
     (coded× coded_ℕ (coded× (coded_list coded_piece) (coded× (coded_option coded_ℕ) years.the_row.coded)))

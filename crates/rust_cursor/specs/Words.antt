@@ -52,9 +52,11 @@ symbol ts = by_first 0 symbol_of ts.left
 unfoldable pub word : Tokens → List ℕ
 word ts = by_first [] (λ t. word_by t.kind t.text) ts.left
 
+-- the kind of the next token
 unfoldable pub kind : Tokens → Option TokenKind
 kind ts = by_first None (λ t. Some t.kind) ts.left
 
+-- the text of the next token
 unfoldable pub text : Tokens → List ℕ
 text ts = by_first [] (λ t. t.text) ts.left
 
@@ -62,9 +64,11 @@ text ts = by_first [] (λ t. t.text) ts.left
 unfoldable pub at : Tokens → ℕ
 at ts = by_first ts.past (λ t. t.at) ts.left
 
+-- nothing is left
 unfoldable pub is_empty : Tokens → Bool
 is_empty ts = by_first true (λ _. false) ts.left
 
+-- an opening bracket comes next
 unfoldable pub is_at_open : Tokens → Bool
 is_at_open ts = by_first false is_open ts.left
 
@@ -72,9 +76,11 @@ is_at_open ts = by_first false is_open ts.left
 unfoldable pub is_at_end : Tokens → Bool
 is_at_end ts = by_first true is_close ts.left
 
+-- an identifier comes next
 unfoldable pub is_at_identifier : Tokens → Bool
 is_at_identifier ts = by_first false (λ t. identifies t.kind) ts.left
 
+-- documentation comes next
 unfoldable pub is_at_doc : Tokens → Bool
 is_at_doc ts = by_first false (λ t. documents t.kind) ts.left
 
@@ -94,9 +100,11 @@ bump ts = (tt, bumped ts)
 abbrev pub taken_if : Bool → Reader Bool
 taken_if test ts = (test, if test then bumped ts else ts)
 
+-- whether this punctuation comes next, which is then behind
 unfoldable pub eat : ℕ → Reader Bool
 eat c ts = taken_if (symbol ts == c) ts
 
+-- the same of a word
 unfoldable pub eat_word : List ℕ → Reader Bool
 eat_word w ts = taken_if (bytes_eq (word ts) w) ts
 
@@ -108,6 +116,7 @@ is_glued ts = at ts == ts.past
 unfoldable pub is_pair : ℕ → ℕ → Tokens → Bool
 is_pair a b ts = symbol ts == a && (is_glued (bumped ts) && symbol (bumped ts) == b)
 
+-- the same of two that stand side by side
 unfoldable pub eat_pair : ℕ → ℕ → Reader Bool
 eat_pair a b ts = (is_pair a b ts, if is_pair a b ts then bumped (bumped ts) else ts)
 

@@ -61,7 +61,11 @@ fn shift_of(body: TextRange, range: TextRange, typed: &str, back: &str) -> Optio
 ///
 /// It says `None` if the range is not in the braces of a body, if what stood or stands between these does not stand alone (its braces
 /// match, no token of it takes the `}`, and no inner attribute begins it), and of a text that begins with a byte order mark, `-`, an
-/// end of a line, or a `#` before anything but an attribute. The only error is want of memory.
+/// end of a line, or a `#` before anything but an attribute.
+///
+/// # Errors
+///
+/// Only if memory runs out.
 pub fn edit_inside(
     alloc: Global,
     items: &[ItemPlace],

@@ -60,7 +60,9 @@ impl Shift {
 
     /// Where the items of the old text stand in the new one; the ids are the same. It answers for the items of the old text.
     ///
-    /// The only error is want of memory.
+    /// # Errors
+    ///
+    /// Only if memory runs out.
     pub fn items(
         &self,
         alloc: Global,
@@ -80,7 +82,9 @@ impl Shift {
 
     /// Where the use trees of the old text begin in the new one. It answers for those of the old text.
     ///
-    /// The only error is want of memory.
+    /// # Errors
+    ///
+    /// Only if memory runs out.
     pub fn use_trees(
         &self,
         alloc: Global,

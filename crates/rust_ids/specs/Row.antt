@@ -10,6 +10,7 @@ pub record Row : Type 0 where
   pub kind : AstIdKind
   pub name : List ℕ
 
+-- rows in code
 abbrev pub coded_row : Coded Row
 coded_row = code_by (ℕ × (AstIdKind × List ℕ)) (coded× coded_ℕ (coded× kinds.the_row.coded (coded_list coded_ℕ)))
     (λ r. (r.depth, (r.kind, r.name))) (λ p. record { depth = p.0; kind = p.1.0; name = p.1.1 }) (λ _. refl)

@@ -370,7 +370,7 @@ fn read_text(alloc: Global, text: &str, edition: EditionYear) -> Result<SourceBl
 ///
 /// # Errors
 ///
-/// `AllocError` where memory is refused.
+/// Only if memory runs out.
 #[tactic(auto, using(crate::proofs::BlockPlaces::block_placed))]
 pub fn read_block(
     alloc: Global,

@@ -45,7 +45,9 @@ fn push_return(feeds: &mut String, returns: &mut Vec<usize>, behind: &str) -> Re
 
 /// A text with line feeds alone, and where returns were left out.
 ///
-/// The only error is want of memory.
+/// # Errors
+///
+/// Only if memory runs out.
 pub fn with_feeds(alloc: Global, text: &str) -> Result<(String, LineEnds), AllocError>
     ensures feeds { IfOk result (λ r. string_bytes r.0 ≡ spec.with_feeds text.now) }
     ensures len { IfOk result (λ r. r.1.len ≡ length (spec.with_feeds text.now)) }

@@ -122,7 +122,11 @@ fn read_file(alloc: Global, text: &str, edition: EditionYear) -> Result<SourceFi
 /// Reads the items of a text. The edition tells which words are names.
 ///
 /// It answers for every text: what is no item is passed over and told among the problems. Lines may end with line feeds, or with
-/// carriage returns before them: only places tell which. The only error is that memory runs out.
+/// carriage returns before them: only places tell which.
+///
+/// # Errors
+///
+/// Only if memory runs out.
 #[tactic(auto, using(crate::proofs::FilePlaces::file_placed, crate::proofs::FilePlaces::file_distinct))]
 pub fn read_source_file(
     alloc: Global,

@@ -28,7 +28,7 @@ pub struct Front {
 ///
 /// # Errors
 ///
-/// `AllocError` where memory is refused. The cursor may then stand anywhere.
+/// Only if memory runs out. The cursor may then stand anywhere.
 #[tactic(auto, unfolding(crate::specs::Fronts::front_behind))]
 pub fn front_behind(
     alloc: Global,
@@ -53,7 +53,7 @@ pub fn front_behind(
 ///
 /// # Errors
 ///
-/// `AllocError` where memory is refused. The cursor may then stand anywhere.
+/// Only if memory runs out. The cursor may then stand anywhere.
 #[tactic(auto, unfolding(crate::specs::Fronts::front))]
 pub fn take_front(alloc: Global, cursor: &mut Cursor<'_>) -> Result<Front, AllocError>
     ensures { Gives front_view (spec.front cursor.old) result cursor.new }

@@ -326,7 +326,7 @@ fn implementation<'t>(
 ///
 /// # Errors
 ///
-/// `AllocError` where memory is refused. The cursor may then stand anywhere.
+/// Only if memory runs out. The cursor may then stand anywhere.
 #[tactic(auto, unfolding(crate::specs::Kinds::leaf))]
 pub fn take_leaf<'t>(
     alloc: Global,

@@ -60,7 +60,7 @@ fn named_of<'t>(placed: Option<PlacedName>, text: &'t str) -> Named<'t>
 ///
 /// # Errors
 ///
-/// `AllocError` where memory is refused.
+/// Only if memory runs out.
 #[tactic(auto, unfolding(crate::specs::Leaves::named))]
 pub fn item_name<'t>(alloc: Global, cursor: &mut Cursor<'t>) -> Result<Named<'t>, AllocError>
     ensures { Gives name_view (spec.named cursor.old) result cursor.new }
@@ -229,7 +229,7 @@ fn block_attributes(alloc: Global, block: Option<Cursor<'_>>) -> Result<Vec<Meta
 ///
 /// # Errors
 ///
-/// `AllocError` where memory is refused.
+/// Only if memory runs out.
 pub fn joined(mut attrs: Vec<Meta>, mut more: Vec<Meta>) -> Result<Vec<Meta>, AllocError>
     ensures { IfOk result (λ v. map meta_view v.items ≡ map meta_view attrs.items ++ map meta_view more.items) }
 {

@@ -328,7 +328,7 @@ fn call_tree<'t>(
 ///
 /// # Errors
 ///
-/// `AllocError` where memory is refused. The cursor may then stand anywhere.
+/// Only if memory runs out. The cursor may then stand anywhere.
 #[tactic(auto, unfolding(crate::specs::Statements::statement_call))]
 pub fn statement_call<'t>(
     alloc: Global,

@@ -11,5 +11,6 @@ symbol_from kind.CloseDelim b = b
 symbol_from kind.Punct b = b
 symbol_from _ b = 0
 
+-- the byte of a token that is punctuation, or 0
 abbrev pub symbol_of : Piece → ℕ
 symbol_of t = symbol_from t.kind (slice_index t.text 0)

@@ -34,5 +34,6 @@ is_closed (kind.BlockComment _) text = (block false 0 0 (drop 2 text)).is_closed
 is_closed (kind.Literal k) text = is_literal_closed k text
 is_closed _ text = true
 
+-- a literal or a block comment has its end
 abbrev pub is_terminated : Piece → Bool
 is_terminated t = is_closed t.kind t.text

@@ -98,6 +98,7 @@ is_significant_kind kind.Shebang = false
 is_significant_kind kind.Frontmatter = false
 is_significant_kind k = not (is_blank k)
 
+-- a token is neither white space nor a comment without documentation
 abbrev pub is_significant : Piece → Bool
 is_significant t = is_significant_kind t.kind
 

@@ -6,6 +6,7 @@ use Rattle.rust_members.specs.declared.associated.Told as code_told
 use Rattle.rust_members.specs.Members.{MemberRead}
 use Rattle.rust_members.specs.Parts.{Told}
 
+-- a member as plain data
 abbrev pub member_view : Member → MemberRead
 member_view m = record { kind = m.kind; name = m.name; range = m.range; body = m.body; attrs = map meta_view m.attrs.items; visibility = m.visibility }
 

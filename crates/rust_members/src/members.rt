@@ -140,8 +140,11 @@ fn all_moved(alloc: Global, members: Vec<Member>, by: usize) -> Result<Vec<Membe
 /// Reads the members in the braces of an item of this kind, which are this range of a text of an edition.
 ///
 /// It answers for every text: what is no member is passed over, and in a range that is none of the text is none. An item of
-/// another kind than a trait, an impl, an enum, a struct or a union is read as a trait is. The only error is that memory
-/// runs out.
+/// another kind than a trait, an impl, an enum, a struct or a union is read as a trait is.
+///
+/// # Errors
+///
+/// Only if memory runs out.
 pub fn read_members(
     alloc: Global,
     kind: AstIdKind,

@@ -79,8 +79,10 @@ attribute style = do
 unfoldable pub attributes : DocStyle → Reader (List MetaView)
 attributes style = turns (is_behind style) (one (attribute style))
 
+-- the outer attributes that come next
 unfoldable pub outer_attributes : Reader (List MetaView)
 outer_attributes = attributes Outer
 
+-- the inner attributes that come next
 unfoldable pub inner_attributes : Reader (List MetaView)
 inner_attributes = attributes Inner

@@ -162,7 +162,7 @@ fn attributes(
 ///
 /// # Errors
 ///
-/// `AllocError` where memory is refused. The cursor may then stand anywhere.
+/// Only if memory runs out. The cursor may then stand anywhere.
 #[tactic(auto, unfolding(crate::specs::Attributes::outer_attributes))]
 pub fn outer_attributes(alloc: Global, cursor: &mut Cursor<'_>) -> Result<Vec<Meta>, AllocError>
     ensures { Gives (λ v. map meta_view v.items) (spec.outer_attributes cursor.old) result cursor.new }
@@ -175,7 +175,7 @@ pub fn outer_attributes(alloc: Global, cursor: &mut Cursor<'_>) -> Result<Vec<Me
 ///
 /// # Errors
 ///
-/// `AllocError` where memory is refused. The cursor may then stand anywhere.
+/// Only if memory runs out. The cursor may then stand anywhere.
 #[tactic(auto, unfolding(crate::specs::Attributes::inner_attributes))]
 pub fn inner_attributes(alloc: Global, cursor: &mut Cursor<'_>) -> Result<Vec<Meta>, AllocError>
     ensures { Gives (λ v. map meta_view v.items) (spec.inner_attributes cursor.old) result cursor.new }

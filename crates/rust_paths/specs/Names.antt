@@ -118,5 +118,6 @@ abbrev pub placed : ℕ → Option (List ℕ) → ℕ → Option Placed
 placed start None end = None
 placed start (Some name) end = Some (record { name = name; start = start; end = end })
 
+-- a name with its range, if one comes next
 unfoldable pub placed_name : Reader (Option Placed)
 placed_name ts = (placed (at ts) (name ts).0 (name ts).1.past, (name ts).1)

@@ -88,6 +88,7 @@ is_path_start in_use ts = if is_path_colons in_use ts then true else is_segment 
 abbrev pub path_in : Bool → Reader (Option PathNode)
 path_in in_use ts = if is_path_start in_use ts then (Some (written_path in_use ts).0, (written_path in_use ts).1) else (None, ts)
 
+-- a path, if one comes next
 unfoldable pub path : Reader (Option PathNode)
 path = path_in false
 

@@ -9,12 +9,15 @@ use Rattle.rust_paths.specs.declared.use_trees.TreeStarts.{TreeStarts}
 use Rattle.rust_paths.specs.Names.{Placed}
 use Rattle.rust_paths.specs.UseTrees.{Found}
 
+-- a name with its range, as plain data
 abbrev pub placed_view : PlacedName → Placed
 placed_view p = record { name = p.name; start = p.range.start; end = p.range.end }
 
+-- where a use tree begins, and those in it
 abbrev pub starts_view : TreeStarts → List ℕ
 starts_view s = option_to_list s.own ++ s.below.items
 
+-- a use tree that was found, as plain data
 abbrev pub found_view : FoundUseTree → Found (Option UseTreeView)
 found_view f = record { value = option_map use_tree_view f.tree; starts = starts_view f.starts; too_deep = f.too_deep }
 

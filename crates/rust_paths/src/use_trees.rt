@@ -35,7 +35,11 @@ impl TreeStarts {
         }
     }
 
-    /// Adds them to others, each before those in it. The only error is want of memory.
+    /// Adds them to others, each before those in it.
+    ///
+    /// # Errors
+    ///
+    /// Only if memory runs out.
     pub fn push_to(self, starts: &mut Vec<usize>) -> Result<(), AllocError>
         ensures { OnOk result (starts.new.items ≡ starts.old.items ++ starts_view self) }
     {

@@ -198,8 +198,11 @@ fn text_of(
 /// documentation only where that is asked.
 ///
 /// It tells in a line what was removed of the old file's items and of their members, and then what was added or changed. Where
-/// nothing of that became another, the files differ in the order of these or in what stands in none of them. The only error is
-/// want of memory.
+/// nothing of that became another, the files differ in the order of these or in what stands in none of them.
+///
+/// # Errors
+///
+/// Only if memory runs out.
 pub fn compare(
     alloc: Global,
     old: Source<'_>,

@@ -30,5 +30,6 @@ change_line reserved s c = item_place s.source.path (spot_of s.source.text s.pla
 abbrev pub line_between : List (List ℕ) → Side → Side → ChangeView → List ℕ
 line_between reserved old new c = change_line reserved (side_of c.kind old new) c
 
+-- the lines of changes
 abbrev pub change_lines : List (List ℕ) → Side → Side → List ChangeView → List ℕ
 change_lines reserved old new cs = flat_map (line_between reserved old new) cs

@@ -129,5 +129,6 @@ message problem.MacroPath = codes "the path of this macro call cannot be read"
 abbrev pub problem_line : Source → SourceProblem → List ℕ
 problem_line s p = place_at s p.at ++ message p.kind ++ codes "\n"
 
+-- the lines of problems
 abbrev pub problem_lines : Source → List SourceProblem → List ℕ
 problem_lines s ps = flat_map (problem_line s) ps

@@ -178,5 +178,6 @@ problem_at at kind =
 abbrev pub problem_form : List ℕ → Problem → Data
 problem_form text p = problem_at (position_of text p.at) (told_kind p.kind)
 
+-- the objects of problems
 abbrev pub problem_objects : List ℕ → List Problem → List Data
 problem_objects text ps = map (problem_form text) ps

@@ -46,5 +46,6 @@ lines_at s x reserved c r place =
 abbrev pub whole_lines : Source → Reading → List (List ℕ) → List ItemPlace → Choice → RowView → List ℕ
 whole_lines s x reserved places c r = lines_at s x reserved c r (place_of r.id places)
 
+-- the lines of the rows that are listed
 abbrev pub outline_text : Source → Reading → List (List ℕ) → List ItemPlace → Choice → List RowView → List ℕ
 outline_text s x reserved places c rs = flat_map (whole_lines s x reserved places c) (filter (is_listed c) rs)

@@ -71,5 +71,6 @@ found_at s x reserved q r place =
 abbrev pub whole_found : Source → Reading → List (List ℕ) → List ItemPlace → Query → RowView → List ℕ
 whole_found s x reserved places q r = found_at s x reserved q r (place_of r.id places)
 
+-- the lines of the rows that are looked for
 abbrev pub found_lines : Source → Reading → List (List ℕ) → List ItemPlace → Query → List RowView → List ℕ
 found_lines s x reserved places q rs = flat_map (whole_found s x reserved places q) rs

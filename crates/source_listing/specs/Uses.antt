@@ -11,6 +11,7 @@ pub record FilePlaces : Type 0 where
   pub items : List ItemPlace
   pub use_trees : List ℕ
 
+-- the places of a file's items and of its use trees
 abbrev pub placed : List ItemPlace → List ℕ → FilePlaces
 placed items use_trees = record { items = items; use_trees = use_trees }
 

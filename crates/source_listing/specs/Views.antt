@@ -10,17 +10,22 @@ use Rattle.source_listing.specs.Search.{Query}
 use Rattle.source_listing.specs.declared.changed.Side as code_side
 use Rattle.source_listing.specs.Changed.{Side}
 
+-- a file as plain data
 abbrev pub source_view : code_source.Source → Source
 source_view s = record { path = s.path.now; text = s.text.now }
 
+-- a choice of items as plain data
 abbrev pub choice_view : code_choice.Choice → Choice
 choice_view c = record { depth = c.depth; only_active = c.only_active }
 
+-- what is looked for, as plain data
 abbrev pub query_view : code_query.Query → Query
 query_view q = record { path = q.path.now; is_anywhere = q.is_anywhere; only_active = q.only_active }
 
+-- one of two compared files, as plain data
 abbrev pub side_view : code_side.Side → Side
 side_view s = record { source = source_view s.source; places = s.places.now }
 
+-- a path that is looked for, as plain data
 abbrev pub sought_view : code_sought.SoughtPath → Sought
 sought_view a = record { path = string_bytes a.path; is_anywhere = a.is_anywhere }

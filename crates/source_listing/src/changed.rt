@@ -74,7 +74,11 @@ fn push_between(
 /// removed and else in the new one, then what became of the item, the word of its kind, and its name or what else `outline`
 /// tells it by.
 ///
-/// The places are those that the reader gave with the syntax of each tree. The only error is want of memory.
+/// The places are those that the reader gave with the syntax of each tree.
+///
+/// # Errors
+///
+/// Only if memory runs out.
 pub fn change_lines(
     alloc: Global,
     old: Side<'_>,

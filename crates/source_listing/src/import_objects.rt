@@ -140,7 +140,11 @@ fn push_declaration(
 /// type namespace alone, by `self` in a list), and what it is renamed to as its `alias`, which is null where it is not. What a
 /// cfg disables is not left out.
 ///
-/// The places, and those of the use trees, are what the reader gave with the syntax of the tree. The only error is want of memory.
+/// The places, and those of the use trees, are what the reader gave with the syntax of the tree.
+///
+/// # Errors
+///
+/// Only if memory runs out.
 pub fn import_items(
     alloc: Global,
     text: &str,

@@ -127,7 +127,11 @@ fn push_declaration(
 /// A line for each import of a file, in the order in which they are written: file, line and column of its own use tree, and
 /// the import as a use of it alone would be written. What a cfg disables is not left out.
 ///
-/// The places, and those of the use trees, are what the reader gave with the syntax of the tree. The only error is want of memory.
+/// The places, and those of the use trees, are what the reader gave with the syntax of the tree.
+///
+/// # Errors
+///
+/// Only if memory runs out.
 #[tactic(auto, using(crate::proofs::Imported::lines_of_all))]
 pub fn import_lines(
     alloc: Global,

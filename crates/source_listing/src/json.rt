@@ -422,7 +422,11 @@ fn line_of(alloc: Global, value: &Value) -> Result<String, AllocError>
 /// If cfgs are given for the members, those with a name are listed as far as they are chosen, as the reader reads them. The tree
 /// has none, so their `id` is null.
 ///
-/// The places are those that the reader gave with the syntax of the tree. The only error is want of memory.
+/// The places are those that the reader gave with the syntax of the tree.
+///
+/// # Errors
+///
+/// Only if memory runs out.
 #[tactic(auto, using(item_tree::proofs::Walking::ids_contained, item_tree::proofs::Walking::ids_count))]
 pub fn outline_items(
     alloc: Global,
@@ -468,7 +472,11 @@ pub fn outline_items(
 /// The chosen items of a file's tree as one JSON object on one line: the file's `path`, and its `items`, as `outline_items`
 /// gives them.
 ///
-/// The places are those that the reader gave with the syntax of the tree. The only error is want of memory.
+/// The places are those that the reader gave with the syntax of the tree.
+///
+/// # Errors
+///
+/// Only if memory runs out.
 pub fn outline_json(
     alloc: Global,
     source: Source<'_>,

@@ -187,7 +187,11 @@ impl Printer<'_> {
 /// impl its type and its trait, as `Display for Circle`. If cfgs are given for the members, the chosen ones of those with a
 /// name have lines behind that of their item, one level deeper, as the reader reads them; the tree has none.
 ///
-/// The places are those that the reader gave with the syntax of the tree. The only error is want of memory.
+/// The places are those that the reader gave with the syntax of the tree.
+///
+/// # Errors
+///
+/// Only if memory runs out.
 #[tactic(auto, using(crate::proofs::Outlined::one_more))]
 pub fn outline(
     alloc: Global,

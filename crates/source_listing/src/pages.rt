@@ -52,7 +52,11 @@ fn joined(alloc: Global, lines: &[&str]) -> Result<String, AllocError>
 ///
 /// Each item has one such line, and no other line of an item begins so: it begins with a visibility, a keyword, the path
 /// of a macro or a brace. An attribute begins with `#`, but what a string or a comment in it holds behind a line feed can
-/// begin a line so, and such a line is left out too. The only error is want of memory.
+/// begin a line so, and such a line is left out too.
+///
+/// # Errors
+///
+/// Only if memory runs out.
 pub fn without_ids(alloc: Global, page: &str) -> Result<String, AllocError>
     ensures { IfOk result (λ text. string_bytes text ≡ spec.without_ids page.now) }
 {

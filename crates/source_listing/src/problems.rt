@@ -36,7 +36,9 @@ fn message(kind: SourceProblemKind) -> &'static str
 
 /// A line for each problem of a text: file, line and column, and what is wrong.
 ///
-/// The only error is want of memory.
+/// # Errors
+///
+/// Only if memory runs out.
 pub fn problem_lines(
     alloc: Global,
     source: Source<'_>,
@@ -70,7 +72,9 @@ fn problem_value(
 /// What the reader of items tells of a text as values, each an object with the `line` and the `column` at which it stands, and a `message` that
 /// says what is wrong.
 ///
-/// The only error is want of memory.
+/// # Errors
+///
+/// Only if memory runs out.
 pub fn problem_items(
     alloc: Global,
     text: &str,

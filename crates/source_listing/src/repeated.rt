@@ -236,7 +236,11 @@ fn lines_of(alloc: Global, path: &str, imports: &[Named]) -> Result<String, Allo
 /// and column of its own use tree, the import as a use of it alone would be written, and where the first that is written so
 /// stands. Two modules are the same only if they are one item, whatever their names; what a cfg disables counts as well.
 ///
-/// The places, and those of the use trees, are what the reader gave with the syntax of the tree. The only error is want of memory.
+/// The places, and those of the use trees, are what the reader gave with the syntax of the tree.
+///
+/// # Errors
+///
+/// Only if memory runs out.
 #[tactic(auto, using(item_tree::proofs::Walking::ids_contained, crate::proofs::Repeats::ids_named))]
 pub fn repeated_lines(
     alloc: Global,

@@ -260,7 +260,11 @@ impl Printer<'_> {
 /// a member of an impl the last name of the type's path, if the type is one.
 ///
 /// Members are listed under the cfgs that are given, and only where these are. The places are those that the reader gave with
-/// the syntax of the tree. The only error is want of memory.
+/// the syntax of the tree.
+///
+/// # Errors
+///
+/// Only if memory runs out.
 #[tactic(auto, using(crate::proofs::Pushed::one_more_found))]
 pub fn found_lines(
     alloc: Global,

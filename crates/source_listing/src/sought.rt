@@ -125,7 +125,9 @@ fn sought_from(
 /// The path that a text is: names, also with `r#`, with two colons between each two, from the top on behind `::` or `crate::`,
 /// and else anywhere.
 ///
-/// The only error is want of memory.
+/// # Errors
+///
+/// Only if memory runs out.
 pub fn sought_path(alloc: Global, text: &str) -> Result<Option<SoughtPath>, AllocError>
     ensures { IfOk result (λ sought. option_map sought_view sought ≡ spec.sought text.now) }
 {

@@ -367,7 +367,11 @@ fn push_chosen(
 /// that is a path. A control character or a backslash in the path stands behind a backslash, as Universal Ctags has it too.
 ///
 /// The tags before stay as they are, also at an error, where some of those of the file may stand behind them. The places are
-/// those that the reader gave with the syntax of the tree. The only error is want of memory.
+/// those that the reader gave with the syntax of the tree.
+///
+/// # Errors
+///
+/// Only if memory runs out.
 #[tactic(auto, using(crate::proofs::Tagged::one_more, crate::proofs::Begins::begin_itself, crate::proofs::Begins::begin_later))]
 pub fn push_tags(
     alloc: Global,

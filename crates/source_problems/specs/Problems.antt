@@ -12,6 +12,7 @@ use Rattle.source_problems.specs.declared.problem.SourceProblemKind.TheVariants 
 abbrev pub problem : SourceProblemKind → ℕ → SourceProblem
 problem kind at = record { at = at; kind = kind }
 
+-- the reader's kind of problem, among those that are told
 abbrev pub told_kind : ProblemKind → SourceProblemKind
 told_kind read.NoItem = kind.NoItem
 told_kind read.Unmatched = kind.Unmatched

@@ -100,7 +100,9 @@ fn in_order(alloc: Global, problems: &[SourceProblem]) -> Result<Vec<SourceProbl
 /// that do not match; literals and comments without their ends, also those behind which the text goes on; and the paths
 /// without a meaning and the attributes that are too deep, at the items that have them, or at the beginning of the file.
 ///
-/// The only error is want of memory.
+/// # Errors
+///
+/// Only if memory runs out.
 pub fn source_problems(
     alloc: Global,
     text: &str,

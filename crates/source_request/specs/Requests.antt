@@ -33,7 +33,7 @@ asked o ss shows = meant o.bodies o.skipped.items (edition_view o.edition) (map 
 abbrev pub IsAsked : RequestOptions → List (List ℕ) → List Show → List ℕ → Type 0
 IsAsked o texts shows out = (ss : List SyntaxView) × AreRead o.edition.year texts ss × IsRequest out (asked o ss shows)
 
--- what is read of these has no request in JSON, or one that nests too deep, or memory is wanting
+-- what is read of these has no request in JSON, or one that nests too deep, or memory runs out
 abbrev pub IsUnwritten : RequestOptions → List (List ℕ) → List Show → RequestFault → Type 0
 IsUnwritten o texts shows e =
     (e ≡ OutOfMemory)

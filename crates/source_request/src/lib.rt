@@ -31,7 +31,9 @@ fn syntaxes(
 /// The request of one crate, whose root is file 0, that sets each file to what is read of its text in the options' edition,
 /// numbered from 0, with these shows. The JSON text is read as exactly this request.
 ///
-/// Errors: those of `request_text`, for what is read.
+/// # Errors
+///
+/// Those of `request_text`, for what is read.
 pub fn source_request(
     alloc: Global,
     texts: &[String],

@@ -54,6 +54,7 @@ has_members kind.Struct = true
 has_members kind.Union = true
 has_members _ = false
 
+-- the members of an item of this kind in this body, if it may have some
 abbrev pub members_in : EditionYear → AstIdKind → List ℕ → Bool → Option TextRange → List MemberRead
 members_in edition k text true (Some body) = members edition k text body
 members_in edition k text _ body = []

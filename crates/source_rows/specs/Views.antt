@@ -5,6 +5,7 @@ use Rattle.source_rows.specs.declared.items.Around as code_around
 use Rattle.source_rows.specs.Labels.{Around}
 use Rattle.source_rows.specs.Parts.{Part}
 
+-- a part of an item as plain data
 abbrev pub part_view : code_part.Part → Part
 part_view p = record { label = string_bytes p.label; at = p.at; range = p.range; kept = p.kept; body = p.body }
 

@@ -126,7 +126,11 @@ fn header_in(
 /// `Display for Circle` of an impl.
 ///
 /// The braces are those of an impl, if they are known: its header ends there or at its `where`. Any other also ends at a `{`, a
-/// `;`, a `=` and a `!` that is not its first token. The only error is want of memory.
+/// `;`, a `=` and a `!` that is not its first token.
+///
+/// # Errors
+///
+/// Only if memory runs out.
 pub fn header(
     alloc: Global,
     text: &str,

@@ -107,8 +107,11 @@ fn has_members(kind: AstIdKind) -> bool
     )
 }
 
-/// The members of an item of a text, which has these braces: none, where items of its kind have none. The only error is
-/// want of memory.
+/// The members of an item of a text, which has these braces: none, where items of its kind have none.
+///
+/// # Errors
+///
+/// Only if memory runs out.
 pub fn members_in(
     alloc: Global,
     kind: AstIdKind,

@@ -78,7 +78,7 @@ made_none s u count edition table texts = record { count = count; edition = edit
 pub stopped_none : (s : Session) (asked : List LineEdit) (u : Session) → u.count ≡ s.count → u.edition ≡ s.edition → u.table ≡ s.table → ((file : ℕ) → text_in u.texts file ≡ text_in s.texts file) → IsStopped s asked u
 stopped_none s asked u count edition table texts = record { edits = []; changes = []; count = 0; meant = inl refl; made = made_none s u count edition table texts }
 
--- memory is wanting, or an edit means nothing
+-- memory runs out, or an edit means nothing
 pub unmeant : (s : Session) (asked : List LineEdit) (e : LineError) → TellsFault (FailsAt s.edition.0 (text_in s.texts) asked) e → IsUnedited s asked s e
 unmeant s asked (NotChanged place cause) h = (h, refl)
 unmeant s asked why.OutOfMemory h = stopped_none s asked s refl refl refl (λ file. refl)
@@ -87,7 +87,7 @@ unmeant s asked (NotRequest pointer) h = absurd h
 unmeant s asked (Refused place cause) h = absurd h
 unmeant s asked TooLong h = absurd h
 
--- all is made, and memory is wanting behind it
+-- all is made, and memory runs out behind it
 pub stopped_all : (s : Session) (asked : List LineEdit) (u : Session) → IsEdited s asked u → IsStopped s asked u
 stopped_all s asked u e = record {
   edits = e.edits;
@@ -98,7 +98,7 @@ stopped_all s asked u e = record {
       (subst (λ cs. AreMade s e.edits cs u) (sym (take_all (length e.edits) e.changes (omega (arith, same_length s.edition.0 (text_in s.texts) asked e.edits e.changes e.meant)))) e.made);
 }
 
--- an edit is refused, or memory is wanting in it
+-- an edit is refused, or memory runs out in it
 module _ (s : Session) (asked : List LineEdit) (u : Session) (edits : List EditView) (changes : List Change) (place : ℕ) (meant : AreMeant s.edition.0 (text_in s.texts) asked edits changes) (made : AreMade s (take place edits) (take place changes) u) where
   pub refused_at : (cause : EditFault) → IsUnmade s.table edits (refusal_of place cause) → IsUnedited s asked u (line_refusal place cause)
   refused_at TooManyEdits h = record { edits = edits; changes = changes; meant = meant; made = made; none_before = h.0; passes = h.1 }

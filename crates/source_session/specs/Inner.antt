@@ -39,7 +39,7 @@ IsPlaced text = IfSome text (λ t. AreDistinct t.places.items)
 abbrev pub LeavesPlaced : Change → Type 0
 LeavesPlaced change = IfSome change (λ c. IsPlaced c.1)
 
--- memory is wanting, or the error tells what P says of its place and cause
+-- memory runs out, or the error tells what P says of its place and cause
 abbrev pub TellsFault : (ℕ → ChangeFault → Type 0) → LineError → Type 0
 TellsFault P (NotChanged place cause) = P place cause
 TellsFault P OutOfMemory = Unit {0}

@@ -7,7 +7,7 @@ use Rattle.item_tree_db.specs.declared.edit.AllRefused.{AllRefused}
 use Rattle.source_session.specs.declared.error.LineError.{LineError}
 use Rattle.source_session.specs.declared.error.LineError.TheVariants.{Refused, OutOfMemory}
 
--- want of memory in an edit is want of memory; all else refuses the edit
+-- memory that runs out in an edit is out of memory; all else refuses the edit
 abbrev pub line_refusal : ℕ → EditFault → LineError
 line_refusal place (Lower lowering.OutOfMemory) = OutOfMemory
 line_refusal place cause = Refused place cause

@@ -80,7 +80,7 @@ abbrev pub IsOutcome : Open → Reading (Session × Asked) → Open → Outcome 
 IsOutcome old (wrong pointer) new outcome = (new ≡ old) × (outcome ≡ Err (NotRequest pointer))
 IsOutcome old (right (s, a)) new outcome = (u : Session) × (new ≡ Some u) × IsDone s a u outcome
 
--- nothing changes, and memory is wanting
+-- nothing changes, and memory runs out
 abbrev pub IsWanting : Open → Open → Outcome → Type 0
 IsWanting old new outcome = (new ≡ old) × (outcome ≡ Err OutOfMemory)
 
@@ -135,6 +135,6 @@ IsReply old (whole bytes) new r = IsRefusedAs OutOfMemory old new r ⊎ (IsNotJs
 IsReply old too_long new r = IsRefusedAs TooLong old new r
 IsReply old no_memory new r = IsRefusedAs OutOfMemory old new r
 
--- the answers of a conversation: the text of a reply, or the text for want of memory
+-- the answers of a conversation: the text of a reply, or the text for out of memory
 abbrev pub Replies : Answering Open
 Replies old told new text = (r : Reply) × IsReply old told new r × ((text ≡ reply_text r.id (number_of new) r.outcome) ⊎ (text ≡ out_of_memory))

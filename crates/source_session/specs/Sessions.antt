@@ -49,7 +49,7 @@ pub record IsRefused (s : Session) (asked : List LineEdit) (u : Session) (place 
   pub none_before : NonePasses s.table edits place
   pub passes : PassesAt s.table edits place cause
 
--- the first of the edits of a line are made, down to none, and memory is wanting
+-- the first of the edits of a line are made, down to none, and memory runs out
 pub record IsStopped (s : Session) (asked : List LineEdit) (u : Session) : Type 0 where
   pub edits : List EditView
   pub changes : List Change

@@ -92,7 +92,9 @@ fn fault_text(cause: ChangeFault) -> &'static str
 
 /// The object of an error.
 ///
-/// The only error is want of memory.
+/// # Errors
+///
+/// Only if memory runs out.
 pub(crate) fn error_value(alloc: Global, error: LineError) -> Result<Value, AllocError>
     ensures { IfOk result (λ value. view value ≡ error_form error) }
 {

@@ -120,7 +120,7 @@ fn meaning_of(
 
 /// What edits of a line over these texts mean that name crates of this many, in an edition.
 ///
-/// `NotChanged` comes exactly where one of them means nothing, and tells the first. The only other error is want of memory.
+/// `NotChanged` comes exactly where one of them means nothing, and tells the first. The only other error is that memory runs out.
 pub(crate) fn meanings_of(
     alloc: Global,
     edits: Vec<LineEdit>,

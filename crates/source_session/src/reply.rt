@@ -60,7 +60,9 @@ fn push_outcome(alloc: Global, outcome: Outcome, text: &mut String) -> Result<()
 
 /// The text of a reply, where the last edit has this number.
 ///
-/// The only error is want of memory.
+/// # Errors
+///
+/// Only if memory runs out.
 pub(crate) fn reply_text(
     alloc: Global,
     reply: Reply,

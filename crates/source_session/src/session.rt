@@ -56,7 +56,7 @@ fn made_count(made: &Result<u64, AllRefused>, count: usize) -> usize
     }
 }
 
-// Why not all edits of the table were made: one of them was refused, or memory was wanting in it.
+// Why not all edits of the table were made: one of them was refused, or memory ran out in it.
 fn outcome(made: Result<u64, AllRefused>) -> Result<(), LineError>
     ensures { result ≡ outcome_of made }
 {

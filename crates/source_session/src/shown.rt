@@ -170,7 +170,9 @@ impl Session {
 
     /// The values of shows, in their order.
     ///
-    /// The only error is want of memory.
+    /// # Errors
+    ///
+    /// Only if memory runs out.
     pub(crate) fn show_all(
         &mut self,
         alloc: Global,

@@ -87,7 +87,7 @@ fn spliced(alloc: Global, text: &str, range: TextRange, new: &str) -> Result<Str
 
 /// The text of a file with what stands in a range of it replaced, for the edit at this place of a line.
 ///
-/// `NotChanged` comes exactly where the range cannot be replaced, and the only other error is want of memory.
+/// `NotChanged` comes exactly where the range cannot be replaced, and the only other error is that memory runs out.
 #[tactic(auto, using(crate::proofs::Spliced::fault_none))]
 pub(crate) fn changed(
     alloc: Global,

@@ -15,6 +15,7 @@ pub record RowView : Type 0 where
 abbrev pub same_text : List ℕ → List ℕ → Bool
 same_text = pointwise nat_eq
 
+-- two lists of texts are one
 abbrev pub same_texts : List (List ℕ) → List (List ℕ) → Bool
 same_texts = pointwise same_text
 
@@ -68,5 +69,6 @@ came_change olds i = change_of (came_as i.row.own (find (is_same i) olds)) i.row
 abbrev pub changes_between : List Item → List Item → List ChangeView
 changes_between olds news = flat_map (left_change news) olds ++ flat_map (came_change olds) news
 
+-- what differs between two lists of rows
 abbrev pub changes : List RowView → List RowView → List ChangeView
 changes olds news = changes_between (items olds) (items news)

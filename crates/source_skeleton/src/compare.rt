@@ -116,7 +116,11 @@ fn push_came<'r>(
 /// that were added or changed, in the order of the new one.
 ///
 /// Two rows are the same row where both are the n-th of their label. Texts that differ in the order of their rows alone may
-/// have no changes. The only error is want of memory.
+/// have no changes.
+///
+/// # Errors
+///
+/// Only if memory runs out.
 pub fn changes<'r>(
     alloc: Global,
     old: &'r [Row<'_>],

@@ -16,7 +16,7 @@ pub too_large : (krate : CrateData) (skipped : List (List ℕ)) (edition : Editi
     length text ≤ 2 ^ 32 → IsSourceFile edition text file → IsTooLargeIn krate false skipped (syntax_view file.syntax) e → IsRefused krate skipped edition text (Lower e)
 too_large krate skipped edition text file e short is_read large = (short, inr (file, is_read, large))
 
--- memory is wanting
+-- memory runs out
 pub no_memory : (krate : CrateData) (skipped : List (List ℕ)) (edition : EditionYear) (text : List ℕ) → length text ≤ 2 ^ 32 → IsRefused krate skipped edition text (Lower OutOfMemory)
 no_memory krate skipped edition text short = (short, inl refl)
 

@@ -24,12 +24,12 @@ pub record IsTreeOf (krate : CrateData) (skipped : List (List ℕ)) (edition : E
 abbrev pub HasOwnIds : SourceTree → Type 0
 HasOwnIds t = AllPairs (λ p q. p.id ≢ q.id) t.places.items
 
--- a text that is not read is too long, or memory is wanting
+-- a text that is not read is too long, or memory runs out
 abbrev pub IsUnread : List ℕ → SourceError → Type 0
 IsUnread text TooLong = 2 ^ 32 < length text
 IsUnread text (Lower e) = (length text ≤ 2 ^ 32) × (e ≡ OutOfMemory)
 
--- a text without a tree is too long, or what is read of it passes a size of the tree, or memory is wanting
+-- a text without a tree is too long, or what is read of it passes a size of the tree, or memory runs out
 abbrev pub IsRefused : CrateData → List (List ℕ) → EditionYear → List ℕ → SourceError → Type 0
 IsRefused krate skipped edition text TooLong = 2 ^ 32 < length text
 IsRefused krate skipped edition text (Lower e) =

@@ -85,7 +85,9 @@ fn tree_of(
 
 /// Reads a text of an edition.
 ///
-/// Errors: `TooLong` exactly where the text has more than 2^32 bytes, and want of memory.
+/// # Errors
+///
+/// `TooLong` exactly where the text has more than 2^32 bytes, and `OutOfMemory`.
 pub fn source_file(
     alloc: Global,
     text: &str,
@@ -106,7 +108,9 @@ pub fn source_file(
 /// Reads a text of an edition and makes its tree in a crate: the items that are kept, with the attributes that their metas
 /// collect under the crate's options, without those of the skipped names.
 ///
-/// Errors: `TooLong` exactly where the text has more than 2^32 bytes, and those of `lower_syntax`.
+/// # Errors
+///
+/// `TooLong` exactly where the text has more than 2^32 bytes, and those of `lower_syntax`.
 pub fn source_tree(
     alloc: Global,
     text: &str,

@@ -7,6 +7,7 @@ abbrev mutual
   node_preorder (leaf h l) = leaf h l ∷ []
   node_preorder (parent h t f) = parent h t f ∷ preorder f
 
+  -- the nodes of a forest, each before those in it
   pub preorder : Forest → List Node
   preorder empty = []
   preorder (more n f) = node_preorder n ++ preorder f

@@ -75,7 +75,9 @@ fn count_one(tree: &ItemTree, id: ModItemId) -> usize
 
 /// The ids of all items of a tree, each once, and before those that stand in it.
 ///
-/// The only error is want of memory.
+/// # Errors
+///
+/// Only if memory runs out.
 #[tactic(auto, using(item_tree::proofs::Walking::ids_contained, crate::proofs::Below::preorder_ids))]
 pub fn preorder(alloc: Global, tree: &ItemTree) -> Result<Vec<ModItemId>, AllocError>
     ensures stand { IfOk result (λ ids. map (node_at tree.now.forest) ids.items ≡ map Some (preorder tree.now.forest)) }
@@ -115,7 +117,9 @@ fn add_one(tree: &ItemTree, id: ModItemId, found: &mut Vec<ModItemId>) -> Result
 
 /// The ids in the file of all items of a tree, each before those that stand in it.
 ///
-/// The only error is want of memory.
+/// # Errors
+///
+/// Only if memory runs out.
 pub fn outline(alloc: Global, tree: &ItemTree) -> Result<Vec<FileAstId>, AllocError>
     ensures { IfOk result (λ ast_ids. ast_ids.items ≡ map node_ast (preorder tree.now.forest)) }
 {
@@ -155,7 +159,9 @@ pub fn both_items<'a>(
 /// Whether two syntaxes have the same tree, as files of a crate that are not its root: then they differ at
 /// most in what no tree shows, as in bodies.
 ///
-/// Errors: where a syntax has no tree, the reason that `lower_syntax` gives, the left one's first.
+/// # Errors
+///
+/// Where a syntax has no tree, the reason that `lower_syntax` gives, the left one's first.
 pub fn is_same_tree(
     alloc: Global,
     krate: &CrateData,

@@ -23,8 +23,10 @@ use std::alloc::{AllocError, Global};
 /// star; a rename without a name is `_`. A node whose path is unreadable is dropped, with all below it. Kept nodes and
 /// written ones are counted each before those below it, the root as 0.
 ///
-/// Errors, where the root is kept: `TooManyUseTrees` where more than 2^32 - 1 nodes are written, `TooManySupers` where
-/// `super` stands more than 2^32 - 1 times in the kept paths from the root to a node, and `OutOfMemory`.
+/// # Errors
+///
+/// If the root is kept: `TooManyUseTrees` where more than 2^32 - 1 nodes are written, `TooManySupers` where `super` stands
+/// more than 2^32 - 1 times in the kept paths from the root to a node, and `OutOfMemory`.
 pub fn lower_use_tree(
     alloc: Global,
     node: &ast::UseTree,

@@ -17,11 +17,12 @@ impl Use {
     /// that imports, the whole path, the kind and the alias. The index is the place of the node among all nodes of
     /// the use tree, each counted before those below it. Where the words of a path cannot follow those above it, as
     /// in `a::{super::b}`, nothing is imported, and `f` is not called.
-    ///
-    /// The only error is out of memory: then the calls made are a beginning of those that would have been made.
-    ///
     /// rust-analyzer's `Use::expand`. The caller shows that `f` may be called at each import, in each state that the
     /// calls before can leave; a closure without a `requires` may.
+    ///
+    /// # Errors
+    ///
+    /// Only if memory runs out: then the calls made are a beginning of those that would have been made.
     pub fn expand<F: FnMut(UseTreeIdx, ModPath, ImportKind, Option<ImportAlias>)>(
         &self,
         alloc: Global,

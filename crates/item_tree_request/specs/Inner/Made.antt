@@ -21,7 +21,7 @@ pub record IsServed (IsText : ShowText) (q : Request) (text : List ℕ) : Type 0
   pub none_passes : NonePasses (first_table q) q.edits (length q.edits)
   pub is_output : IsOutput IsText q text
 
--- the edit at the place is the first that passes a size, or memory is wanting
+-- the edit at the place is the first that passes a size, or memory runs out
 abbrev pub IsUnmade : State → List EditView → RunError → Type 0
 IsUnmade s edits (Refused place cause) = NonePasses s edits place × PassesAt s edits place cause
 IsUnmade s edits OutOfMemory = Unit {0}
@@ -30,7 +30,7 @@ IsUnmade s edits NotRequest = ⊥
 IsUnmade s edits Read = ⊥
 IsUnmade s edits Write = ⊥
 
--- want of memory in an edit is want of memory; all else refuses the edit
+-- memory that runs out in an edit is out of memory; all else refuses the edit
 abbrev pub refusal_of : ℕ → EditFault → RunError
 refusal_of place (Lower lowering.OutOfMemory) = OutOfMemory
 refusal_of place cause = Refused place cause

@@ -60,7 +60,7 @@ fn function(alloc: Global, is_marked: bool) -> Result<Syntax, AllocError> {
     one_function(alloc, attrs)
 }
 
-// What became of an edit: it is made, or the edit of the file, or of the crate's options, is handed back for want of memory.
+// What became of an edit: it is made, or the edit of the file, or of the crate's options, is handed back for out of memory.
 #[derive(Clone, Copy)]
 pub enum Answer {
     Made(u64),
