@@ -11,7 +11,7 @@ use Rattle.rust_lexer.specs.Symbol.{symbol_from}
 use Rattle.rust_lexer.specs.Tokens.{has_mark, is_shebang, tokens_from}
 use Rattle.rust_cursor.proofs.Leads.{when}
 use Rattle.rust_items.specs.LineEnds.{with_feeds}
-use Rattle.rust_edits.specs.Inner.{begins_bare}
+use Rattle.rust_edits.specs.Edits.{begins_bare}
 
 -- neither a byte order mark, frontmatter nor a shebang line
 abbrev pub IsBare : List ℕ → Type 0

@@ -1,5 +1,5 @@
 -- What was found to stand alone in braces does.
-use Rattle.std.proofs.Common.{◌≡◌, ◌≤◌, ◌+◌, ◌-◌, ◌==◌, ℕ, zero, suc, true, false, Some, List, [], ◌∷◌, ◌++◌, length, IsUtf8, refl, ap, sym, subst, ◌∙◌, arith, length-append}
+use Rattle.std.proofs.Common.{◌≡◌, ◌≤◌, ◌+◌, ◌-◌, ◌==◌, ℕ, zero, suc, true, false, Option, Some, None, List, [], ◌∷◌, ◌++◌, length, IsUtf8, refl, ap, sym, subst, ◌∙◌, arith, length-append}
 use Rattle.std.specs.Prelude.{nat_le, slice_index}
 use Rattle.std.proofs.lemmas.Bool.{and_parts, eqb-true}
 use Rattle.std.proofs.lemmas.Bool.Decides.{nat_tests}
@@ -15,6 +15,7 @@ use Rattle.rust_typing.specs.Laws.{first_plain, BeginsPlain}
 use Rattle.rust_typing.proofs.Full.{feeds_full, feeds_lead}
 use Rattle.rust_typing.proofs.Returns.{feeds_body}
 use Rattle.rust_edits.specs.Inner.{in_braces, closes_at, begins_plain, is_alone}
+use Rattle.rust_edits.proofs.Steps.{both_true}
 
 -- a text before a `}` at this place, which closes braces that are open so many deep: its braces match, and none of its tokens takes the `}`
 inside : (last d left at from : ℕ) (x : List ℕ) → at + length x ≡ last → 1 ≤ d → closes_at last d (tokens_from left at (x ++ 125 ∷ [])) ≡ true
@@ -52,6 +53,55 @@ plain_inside zero at from (b ∷ x) w e =
     let t = piece (first_cut b z) at b z in
     when (is_significant t) (λ s. let one = rw s at e in rw s one) (λ s. let more = rw s at e in rw s (plain_inside (whole (first_cut b z) z) (suc at) (suc from) x w more))
 
+-- and the other way round
+same_some : (m n : ℕ) → ◌≡◌ {A = Option ℕ} (Some m) (Some n) → m ≡ n
+same_some m n e = cc
+
+still_open : (d : ℕ) → (d - 1 == 0) ≡ false → 1 ≤ d - 1
+still_open d e = grind (arith, nat_tests)
+
+not_last : (d : ℕ) → (d - 1 == 0) ≡ false → nat_le d 1 ≡ false
+not_last d e = grind (arith, nat_tests)
+
+outside : (last d left at from : ℕ) (x : List ℕ) → at + length x ≡ last → 1 ≤ d → overhang left x (125 ∷ []) ≡ 0 → braces_from (d - 1) (front left from x (125 ∷ [])) ≡ Some 0
+    → closes_at last d (tokens_from left at (x ++ 125 ∷ [])) ≡ true
+unfolding first_cut is_wide_start
+outside last d zero at from [] h some o e =
+    let none = same_some (d - 1) 0 e in
+    let one : nat_le d 1 ≡ true = grind (arith, nat_tests) in
+    let here : (at == last) ≡ true = grind (arith, nat_tests) in
+    rw (one, here) refl
+outside last d (suc left) at from [] h some o e = absurd cc
+outside last d (suc left) at from (b ∷ x) h some o e = outside last d left (suc at) (suc from) x (omega (arith, h)) some o e
+outside last d zero at from (b ∷ x) h some o e =
+    let z = x ++ 125 ∷ [] in
+    let n = whole (first_cut b z) z in
+    let t = piece (first_cut b z) at b z in
+    let fs = front n (suc from) x (125 ∷ []) in
+    let next : suc at + length x ≡ last = omega (arith, h) in
+    when (symbol_of t == 123)
+    (λ i. let inner : braces_from (suc (d - 1)) fs ≡ Some 0 = rw i at e in
+    let deeper : d + 1 - 1 ≡ suc (d - 1) = omega arith in
+    rw i (outside last (d + 1) n (suc at) (suc from) x next (omega arith) o (ap (λ (k : ℕ). braces_from k fs) deeper ∙ inner)))
+    (λ i. when (symbol_of t == 125)
+    (λ j. when (d - 1 == 0)
+    (λ k. let no : ◌≡◌ {A = Option ℕ} None (Some 0) = rw (i, j, k) at e in absurd cc)
+    (λ k. let inner : braces_from (d - 1 - 1) fs ≡ Some 0 = rw (i, j, k) at e in
+    let more = still_open d k in
+    let l : nat_le d 1 ≡ false = not_last d k in
+    rw (i, j, l) (outside last (d - 1) n (suc at) (suc from) x next more o inner)))
+    (λ j. let inner : braces_from (d - 1) fs ≡ Some 0 = rw (i, j) at e in rw (i, j) (outside last d n (suc at) (suc from) x next some o inner)))
+
+plain_outside : (left at from : ℕ) (x : List ℕ) → overhang left x (125 ∷ []) ≡ 0 → first_plain (front left from x (125 ∷ [])) ≡ true → first_plain (tokens_from left at (x ++ 125 ∷ [])) ≡ true
+unfolding first_cut is_wide_start
+plain_outside zero at from [] o e = refl
+plain_outside (suc left) at from [] o e = absurd cc
+plain_outside (suc left) at from (b ∷ x) o e = plain_outside left (suc at) (suc from) x o e
+plain_outside zero at from (b ∷ x) o e =
+    let z = x ++ 125 ∷ [] in
+    let t = piece (first_cut b z) at b z in
+    when (is_significant t) (λ s. let one = rw s at e in rw s one) (λ s. let more = rw s at e in rw s (plain_outside (whole (first_cut b z) z) (suc at) (suc from) x o more))
+
 brace_tokens : (z : List ℕ) → tokens (123 ∷ z) ≡ tokens_from 0 0 (123 ∷ z)
 unfolding first_cut is_wide_start
 brace_tokens z = plain_is (123 ∷ z) refl refl refl
@@ -64,6 +114,10 @@ brace_whole (b ∷ x) w e = rw e refl
 closes_behind : (last : ℕ) (z : List ℕ) → closes_at last 0 (tokens_from 0 0 (123 ∷ z)) ≡ closes_at last 1 (tokens_from (whole (first_cut 123 z) z) 1 z)
 unfolding first_cut is_wide_start
 closes_behind last z = refl
+
+plain_behind : (z : List ℕ) → begins_plain (tokens_from 0 0 (123 ∷ z)) ≡ first_plain (tokens_from (whole (first_cut 123 z) z) 1 z)
+unfolding first_cut is_wide_start
+plain_behind z = refl
 
 -- what was found of a text in braces
 pub alone_is : (m : List ℕ) → IsUtf8 m → is_alone (with_feeds (in_braces m)) ≡ true → StandsAlone (with_feeds m) × BeginsPlain (with_feeds m)
@@ -98,3 +152,28 @@ alone_is m u e = (record { full = feeds_full m u; begins = lead; ends = matched.
 
     matched : (overhang 0 x (125 ∷ []) ≡ 0) × (braces_from 0 (front 0 0 x (125 ∷ [])) ≡ Some 0)
     matched = inside (length (123 ∷ z) - 1) 1 0 1 0 x last (omega arith) closed
+
+-- and what may stand in a body is found so
+pub is_found : (m : List ℕ) → StandsAlone (with_feeds m) × BeginsPlain (with_feeds m) → is_alone (with_feeds (in_braces m)) ≡ true
+is_found m h = subst (λ (w : List ℕ). is_alone w ≡ true) (sym (feeds_body [] m [])) (both_true (closes_at (length (123 ∷ z) - 1) 0 (tokens (123 ∷ z))) (begins_plain (tokens (123 ∷ z))) closed plain)
+  where
+    x : List ℕ
+    x = with_feeds m
+
+    z : List ℕ
+    z = with_feeds m ++ 125 ∷ []
+
+    none : whole (first_cut 123 z) z ≡ 0
+    none = brace_whole (with_feeds m) [] h.0.begins
+
+    last : 1 + length x ≡ length (123 ∷ z) - 1
+    last = let long = length-append (with_feeds m) (125 ∷ []) in omega (arith, long)
+
+    inner : closes_at (length (123 ∷ z) - 1) 1 (tokens_from 0 1 z) ≡ true
+    inner = outside (length (123 ∷ z) - 1) 1 0 1 0 x last (omega arith) h.0.ends h.0.matched
+
+    closed : closes_at (length (123 ∷ z) - 1) 0 (tokens (123 ∷ z)) ≡ true
+    closed = ap (λ ts. closes_at (length (123 ∷ z) - 1) 0 ts) (brace_tokens z) ∙ closes_behind (length (123 ∷ z) - 1) z ∙ ap (λ n. closes_at (length (123 ∷ z) - 1) 1 (tokens_from n 1 z)) none ∙ inner
+
+    plain : begins_plain (tokens (123 ∷ z)) ≡ true
+    plain = ap begins_plain (brace_tokens z) ∙ plain_behind z ∙ ap (λ n. first_plain (tokens_from n 1 z)) none ∙ plain_outside 0 1 0 x h.0.ends h.1

@@ -1,5 +1,5 @@
 -- An edit inside a body moves what is read.
-use Rattle.std.proofs.Common.{◌≡◌, ◌+◌, ℕ, suc, true, List, ◌∷◌, ◌++◌, length, take, drop, IsUtf8, ap, sym, subst, ◌∙◌, map, arith, append_assoc, length-append}
+use Rattle.std.proofs.Common.{◌≡◌, ◌<◌, ◌+◌, ◌^◌, ℕ, suc, true, List, ◌∷◌, ◌++◌, length, take, drop, IsUtf8, ap, sym, subst, ◌∙◌, map, arith, append_assoc, length-append}
 use Rattle.std.proofs.lemmas.List.{take_at, drop_at}
 use Rattle.std.proofs.lemmas.Str.{IsUtf8-append}
 use Rattle.hir_input.specs.declared.edition.EditionYear.{EditionYear}
@@ -19,10 +19,11 @@ use Rattle.rust_typing.proofs.Told.{body_is_told}
 use Rattle.rust_typing.proofs.Typing.{typing_inside}
 use Rattle.rust_edits.specs.declared.parts.Parts.{Parts}
 use Rattle.rust_edits.specs.declared.shift.Shift.{Shift}
-use Rattle.rust_edits.specs.Edits.{edited, shifted_place, Shifts}
-use Rattle.rust_edits.specs.Inner.{in_braces, is_alone, begins_bare, AreCut, IsShift}
+use Rattle.rust_edits.specs.Edits.{edited, shifted_place, begins_bare, Shifts, PlacesAreKept}
+use Rattle.rust_edits.specs.Inner.{in_braces, is_alone, AreCut, IsShift}
 use Rattle.rust_edits.proofs.Closed.{alone_is}
 use Rattle.rust_edits.proofs.Bare.{IsBare, bare_is}
+use Rattle.rust_edits.proofs.Kept.{read_kept}
 
 -- ---- the texts
 
@@ -73,18 +74,31 @@ module _ (old typed : List ℕ) (items : List ItemPlace) (body range : TextRange
   unfolding q m' s
   new_is = edited_is old p.before.now p.front.now p.replaced.now p.back.now p.behind.now range typed parts.whole parts.starts parts.ends
 
-  by_shift : shifted_place shift ≡ shifted_by q m m'
-  unfolding q m m'
-  by_shift =
+  opening : shift.opening ≡ length q
+  unfolding q
+  opening = moves.opening ∙ sym parts.opens
+
+  closing : shift.closing ≡ close_at q m
+  unfolding q m
+  closing =
       let opens = parts.opens in
       let starts = parts.starts in
       let ends = parts.ends in
       let a = length-append p.front.now (p.replaced.now ++ p.back.now) in
       let b = length-append p.replaced.now p.back.now in
+      moves.closing ∙ omega (arith, a, b, opens, starts, ends)
+
+  closing_new : shift.closing_new ≡ close_at q m'
+  unfolding q m'
+  closing_new =
+      let opens = parts.opens in
+      let starts = parts.starts in
       let c = length-append p.front.now (typed ++ p.back.now) in
       let d = length-append typed p.back.now in
-      shift_is shift (length p.before.now) (close_at p.before.now (p.front.now ++ (p.replaced.now ++ p.back.now))) (close_at p.before.now (p.front.now ++ (typed ++ p.back.now)))
-      (moves.opening ∙ sym opens) (moves.closing ∙ omega (arith, a, b, starts, ends)) (moves.closing_new ∙ omega (arith, c, d, starts))
+      moves.closing_new ∙ omega (arith, c, d, opens, starts)
+
+  by_shift : shifted_place shift ≡ shifted_by q m m'
+  by_shift = shift_is shift (length q) (close_at q m) (close_at q m') opening closing closing_new
 
   typed_is : (edition : EditionYear) (read : SourceFile) → read.places.items ≡ items → IsSourceFile edition (with_body q m s) read → IsTyped edition (with_feeds q) (with_feeds m) (with_feeds m') (with_feeds s)
   unfolding q m m'
@@ -115,3 +129,8 @@ module _ (old typed : List ℕ) (items : List ItemPlace) (body range : TextRange
         items = moved.places ∙ ap (λ (k : ℕ → ℕ). map (moved_place k) read.places.items) (sym by_shift);
         use_trees = moved.use_trees ∙ ap (λ (k : ℕ → ℕ). map k read.use_trees.items) (sym by_shift);
       }
+
+  pub edit_keeps : PlacesAreKept items old range typed shift
+  edit_keeps edition read e f short =
+      let f' : IsSourceFile edition (with_body q m s) read = subst (λ (t : List ℕ). IsSourceFile edition t read) old_is f in
+      read_kept q m m' s shift opening closing closing_new (subst (λ (t : List ℕ). length t < 2 ^ 64) new_is short) edition read (typed_is edition read e f') f'

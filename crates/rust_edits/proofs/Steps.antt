@@ -1,10 +1,16 @@
 -- Steps of the functions.
-use Rattle.std.proofs.Common.{◌≡◌, ◌<◌, ◌==◌, ℕ, zero, suc, true, Option, Some, None, List, [], ◌∷◌, length, get_or, IfSome, refl, ap, sym, ◌∙◌, arith}
+use Rattle.std.proofs.Common.{◌≡◌, ◌<◌, ◌==◌, ◌&&◌, ℕ, zero, suc, Bool, true, false, Option, Some, None, List, [], ◌∷◌, length, get_or, IfSome, refl, ap, sym, ◌∙◌, arith}
+use Rattle.std.specs.Prelude.{◌↔◌, IfNone, IsSome, is_some}
+use Rattle.std.proofs.lemmas.Bool.{false≢true}
 use Rattle.std.proofs.lemmas.Bool.Decides.{nat_tests}
 use Rattle.rust_cursor.proofs.Leads.{when}
 use Rattle.rust_paths.specs.declared.names.TextRange.{TextRange}
 use Rattle.rust_items.specs.declared.source_file.ItemPlace.{ItemPlace}
 use Rattle.rust_items.specs.Typed.{begins_at, has_body_at}
+
+pub both_true : (b c : Bool) → b ≡ true → c ≡ true → (b && c) ≡ true
+both_true true c e f = f
+both_true false c e f = e
 
 -- the braces of one of these items are those of one of them
 held_at : (items : List ItemPlace) (i : ℕ) (item : ItemPlace) (r : TextRange) → item.body ≡ Some r → i < length items → item ≡ get_or items i item → has_body_at r.start items ≡ true
@@ -27,3 +33,11 @@ body_held items i item h e = by_some item.body (λ r b. held_at items i item r b
 pub some_so : {A : Type 0} {P Q : A → Type 0} (o : Option A) → ((a : A) → P a → Q a) → IfSome o P → IfSome o Q
 some_so None f h = tt
 some_so (Some a) f h = f a h
+
+-- what is exactly so where there is a value is not so where there is none
+pub off : {A : Type 0} (o : Option A) (P : Type 0) → IsSome o ↔ P → o ≡ None → P → ⊥
+off o P t e p = false≢true (sym (ap (λ z. is_some z) e) ∙ t.1 p)
+
+pub if_none : {A : Type 0} (o : Option A) (P : Type 0) → P → IfNone o P
+if_none None P p = p
+if_none (Some a) P p = tt

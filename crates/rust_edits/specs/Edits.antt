@@ -1,12 +1,17 @@
 -- What an edit inside a body leaves.
-use Rattle.std.specs.Prelude.{◌≡◌, ℕ, List, ◌++◌, map, take, drop}
+use Rattle.std.specs.Prelude.{◌≡◌, ◌==◌, ◌<◌, ◌≤◌, ◌+◌, ◌^◌, ◌&&◌, ◌||◌, not, ℕ, suc, Bool, true, nat_le, nat_lt, if◌then◌else◌, Option, Some, None, option_and_then, List, [], ◌∷◌, ◌++◌, map, take, drop, length, slice_index, IsUtf8}
+use Rattle.std.specs.List.{list_all}
+use Rattle.std.specs.Option.{option_or}
 use Rattle.hir_input.specs.declared.edition.EditionYear.{EditionYear}
 use Rattle.hir_input.specs.Bodies.{without_bodies}
 use Rattle.hir_input.specs.Syntax.{syntax_view}
+use Rattle.rust_lexer.specs.Alone.{StandsAlone}
 use Rattle.rust_paths.specs.declared.names.TextRange.{TextRange}
 use Rattle.rust_items.specs.declared.source_file.ItemPlace.{ItemPlace}
 use Rattle.rust_items.specs.declared.source_file.SourceFile.{SourceFile}
+use Rattle.rust_items.specs.LineEnds.{with_feeds}
 use Rattle.rust_items.specs.SourceFiles.{IsSourceFile}
+use Rattle.rust_typing.specs.Laws.{BeginsPlain}
 use Rattle.rust_typing.specs.Moved.{shifted, moved_place}
 use Rattle.rust_edits.specs.declared.shift.Shift.{Shift}
 
@@ -28,3 +33,96 @@ pub record IsMovedBy (shift : Shift) (read again : SourceFile) : Type 0 where
 abbrev pub Shifts : List ItemPlace → List ℕ → TextRange → List ℕ → Shift → Type 0
 Shifts items old range typed shift = (edition : EditionYear) (read again : SourceFile) → read.places.items ≡ items
     → IsSourceFile edition old read → IsSourceFile edition (edited old range typed) again → IsMovedBy shift read again
+
+-- ---- which places are in the new text
+
+-- a place up to the `{`, or one from the `}` on whose place in the new text fits into memory
+abbrev pub has_place : Shift → ℕ → Bool
+has_place s at = nat_le at s.opening || (nat_le s.closing at && nat_lt (shifted_place s at) (2 ^ 64))
+
+-- both ends of a range are such places
+abbrev pub has_range : Shift → TextRange → Bool
+has_range s r = has_place s r.start && has_place s r.end
+
+-- so are those of a range that there may be
+abbrev pub has_some_range : Shift → Option TextRange → Bool
+has_some_range s None = true
+has_some_range s (Some r) = has_range s r
+
+-- and all places of an item
+abbrev pub has_item : Shift → ItemPlace → Bool
+has_item s p = has_range s p.range && (has_some_range s p.name && has_some_range s p.body)
+
+-- all places of what was read of a text are in the new one
+pub record HasPlaces (shift : Shift) (read : SourceFile) : Type 0 where
+  pub items : list_all (has_item shift) read.places.items ≡ true
+  pub use_trees : list_all (has_place shift) read.use_trees.items ≡ true
+
+-- Where these are the places of what is read of a text, in some edition, all of that has places in the text with the edit, unless this one
+-- is too long for memory.
+abbrev pub PlacesAreKept : List ItemPlace → List ℕ → TextRange → List ℕ → Shift → Type 0
+PlacesAreKept items old range typed shift =
+    (edition : EditionYear) (read : SourceFile) → read.places.items ≡ items → IsSourceFile edition old read → length (edited old range typed) < 2 ^ 64 → HasPlaces shift read
+
+-- ---- which edits are told
+
+-- from a place on each item begins where the one before it begins, or behind that
+abbrev pub BeginFrom : ℕ → List ItemPlace → Type 0
+BeginFrom at [] = Unit {0}
+BeginFrom at (p ∷ ps) = (at ≤ p.range.start) × BeginFrom p.range.start ps
+
+-- items are in the order in which they begin
+abbrev pub BeginInOrder : List ItemPlace → Type 0
+BeginInOrder items = BeginFrom 0 items
+
+-- So are those of what is read of any text.
+abbrev pub ItemsAreInOrder : Type 0
+ItemsAreInOrder = (edition : EditionYear) (text : List ℕ) (read : SourceFile) → IsSourceFile edition text read → BeginInOrder read.places.items
+
+-- the last of the items that begin up to a place
+abbrev pub last_begun : ℕ → List ItemPlace → Option ItemPlace
+last_begun at [] = None
+last_begun at (p ∷ ps) = if nat_le p.range.start at then option_or (last_begun at ps) (Some p) else last_begun at ps
+
+-- the braces that it ends with, if it ends with braces
+abbrev pub body_about : ℕ → List ItemPlace → Option TextRange
+body_about at items = option_and_then (λ p. p.body) (last_begun at items)
+
+-- a text clearly begins with neither a byte order mark, a shebang line nor frontmatter
+abbrev pub begins_bare : List ℕ → Bool
+begins_bare z =
+    if slice_index z 0 == 35 then slice_index z 1 == 91 || (slice_index z 1 == 33 && slice_index z 2 == 91)
+    else not (slice_index z 0 == 45 || (slice_index z 0 == 10 || (slice_index z 0 == 13 || slice_index z 0 == 239)))
+
+-- What may stand in a body: its braces match, no token of it takes the `}` behind it, and no inner attribute begins it.
+abbrev pub MayStandInside : List ℕ → Type 0
+MayStandInside m = StandsAlone (with_feeds m) × BeginsPlain (with_feeds m)
+
+-- A range of a text stands in these braces, and cuts no character. The parts of the text are what stands before the `{`, between it and the
+-- range, in the range, between this and the `}`, and behind the `}`.
+pub record ArePartsAbout (text : List ℕ) (body range : TextRange) (before front replaced back behind : List ℕ) : Type 0 where
+  pub whole : text ≡ before ++ 123 ∷ (front ++ (replaced ++ (back ++ 125 ∷ behind)))
+  pub opens : length before ≡ body.start
+  pub starts : suc (length before) + length front ≡ range.start
+  pub ends : range.start + length replaced ≡ range.end
+  pub closes : range.end + suc (length back) ≡ body.end
+  pub front_utf8 : IsUtf8 front
+  pub replaced_utf8 : IsUtf8 replaced
+  pub back_utf8 : IsUtf8 back
+
+-- An edit is one inside a body: a range of a text stands in the braces of the last item that begins up to it, and what stood and what stands
+-- then in these may stand there. The text clearly has nothing of its own in front, and the places of the `}` fit into memory.
+pub record MayEdit (items : List ItemPlace) (old : List ℕ) (range : TextRange) (typed : List ℕ) : Type 0 where
+  pub body : TextRange
+  pub before : List ℕ
+  pub front : List ℕ
+  pub replaced : List ℕ
+  pub back : List ℕ
+  pub behind : List ℕ
+  pub bare : begins_bare old ≡ true
+  pub about : body_about range.start items ≡ Some body
+  pub parts : ArePartsAbout old body range before front replaced back behind
+  pub stood : MayStandInside (front ++ (replaced ++ back))
+  pub stands : MayStandInside (front ++ (typed ++ back))
+  pub closing_fits : range.end + length back < 2 ^ 64
+  pub closing_new_fits : range.start + length typed + length back < 2 ^ 64

@@ -1,5 +1,5 @@
 -- For the crate's own functions.
-use Rattle.std.specs.Prelude.{◌≡◌, ℕ, suc, ◌+◌, ◌-◌, Bool, true, false, not, ◌==◌, ◌&&◌, ◌||◌, nat_le, if◌then◌else◌, List, [], ◌∷◌, ◌++◌, length, slice_index, IsUtf8}
+use Rattle.std.specs.Prelude.{◌≡◌, ◌<◌, ℕ, suc, ◌+◌, ◌-◌, ◌^◌, Bool, true, false, ◌==◌, ◌&&◌, nat_le, if◌then◌else◌, List, [], ◌∷◌, ◌++◌, length, IsUtf8}
 use Rattle.rust_lexer.specs.Piece.{Piece}
 use Rattle.rust_lexer.specs.Symbol.{symbol_of}
 use Rattle.rust_lexer.specs.Tokens.{tokens}
@@ -7,6 +7,7 @@ use Rattle.rust_paths.specs.declared.names.TextRange.{TextRange}
 use Rattle.rust_typing.specs.Laws.{first_plain}
 use Rattle.rust_edits.specs.declared.parts.Parts.{Parts}
 use Rattle.rust_edits.specs.declared.shift.Shift.{Shift}
+use Rattle.rust_edits.specs.Edits.{ArePartsAbout}
 
 -- a text in braces
 abbrev pub in_braces : List ℕ → List ℕ
@@ -28,25 +29,32 @@ begins_plain (t ∷ ts) = first_plain ts
 abbrev pub is_alone : List ℕ → Bool
 is_alone w = closes_at (length w - 1) 0 (tokens w) && begins_plain (tokens w)
 
--- a text clearly begins with neither a byte order mark, a shebang line nor frontmatter
-abbrev pub begins_bare : List ℕ → Bool
-begins_bare z =
-    if slice_index z 0 == 35 then slice_index z 1 == 91 || (slice_index z 1 == 33 && slice_index z 2 == 91)
-    else not (slice_index z 0 == 45 || (slice_index z 0 == 10 || (slice_index z 0 == 13 || slice_index z 0 == 239)))
-
 -- these are the parts of a text about a range in these braces
 pub record AreCut (text : List ℕ) (body range : TextRange) (p : Parts) : Type 0 where
   pub whole : text ≡ p.before.now ++ 123 ∷ (p.front.now ++ (p.replaced.now ++ (p.back.now ++ 125 ∷ p.behind.now)))
   pub opens : length p.before.now ≡ body.start
   pub starts : suc (length p.before.now) + length p.front.now ≡ range.start
   pub ends : range.start + length p.replaced.now ≡ range.end
+  pub closes : range.end + suc (length p.back.now) ≡ body.end
   pub before_utf8 : IsUtf8 p.before.now
   pub front_utf8 : IsUtf8 p.front.now
   pub replaced_utf8 : IsUtf8 p.replaced.now
   pub back_utf8 : IsUtf8 p.back.now
+
+-- a range of a text does not stand in these braces, or cuts a character
+abbrev pub IsUncut : List ℕ → TextRange → TextRange → Type 0
+IsUncut text body range = (before front replaced back behind : List ℕ) → ArePartsAbout text body range before front replaced back behind → ⊥
+
+-- a text does not begin with a byte of ASCII
+abbrev pub LacksByte : List ℕ → ℕ → Type 0
+LacksByte text byte = byte < 128 → (rest : List ℕ) → text ≡ byte ∷ rest → ⊥
 
 -- the shift of an edit in these braces, by how many bytes were typed, and how many stand between the range and the `}`
 pub record IsShift (body range : TextRange) (typed back : ℕ) (s : Shift) : Type 0 where
   pub opening : s.opening ≡ body.start
   pub closing : s.closing ≡ range.end + back
   pub closing_new : s.closing_new ≡ range.start + typed + back
+
+-- the places of the `}` in both texts fit into memory
+abbrev pub EndsFit : TextRange → ℕ → ℕ → Type 0
+EndsFit range typed back = (range.end + back < 2 ^ 64) × (range.start + typed + back < 2 ^ 64)

@@ -1,6 +1,6 @@
 //! Edits inside bodies.
 
-ghost use Rattle.std.specs.Prelude.{◌≡◌, true, IfOk, IfSome, length, slice_index};
+ghost use Rattle.std.specs.Prelude.{◌≡◌, ◌↔◌, true, IsSome, IfOk, IfSome, length, slice_index};
 ghost use Rattle.rust_items.specs.Typed.{has_body_at};
 ghost use Rattle.rust_edits.specs.Edits as spec;
 ghost use Rattle.rust_edits.specs.Inner as inner;
@@ -13,7 +13,8 @@ use std::alloc::{AllocError, Global};
 
 /// The braces of the last item that begins up to a place, if it ends with braces.
 fn body_about(items: &[ItemPlace], at: usize) -> Option<TextRange>
-    ensures { IfSome result (λ body. has_body_at body.start items.now ≡ true) }
+    ensures held { IfSome result (λ body. has_body_at body.start items.now ≡ true) }
+    ensures told { spec.BeginInOrder items.now → result ≡ spec.body_about at items.now }
 {
     let count = items.partition_point(|item| item.range.start <= at);
     let item = items.get(count.checked_sub(1)?)?;
@@ -30,7 +31,7 @@ fn byte(text: &str, at: usize) -> u8
 
 /// Whether a text clearly begins with neither a byte order mark, a shebang line nor frontmatter.
 fn begins_bare(text: &str) -> bool
-    ensures { result ≡ inner.begins_bare text.now }
+    ensures { result ≡ spec.begins_bare text.now }
 {
     match byte(text, 0) {
         b'#' => byte(text, 1) == b'[' || byte(text, 1) == b'!' && byte(text, 2) == b'[',
@@ -40,7 +41,8 @@ fn begins_bare(text: &str) -> bool
 }
 
 fn shift_of(body: TextRange, range: TextRange, typed: &str, back: &str) -> Option<Shift>
-    ensures { IfSome result (λ shift. inner.IsShift body range (length typed.now) (length back.now) shift) }
+    ensures value { IfSome result (λ shift. inner.IsShift body range (length typed.now) (length back.now) shift) }
+    ensures told { IsSome result ↔ inner.EndsFit range (length typed.now) (length back.now) }
 {
     let closing = range.end.checked_add(back.len())?;
     let typed_end = range.start.checked_add(typed.len())?;
@@ -60,8 +62,9 @@ fn shift_of(body: TextRange, range: TextRange, typed: &str, back: &str) -> Optio
 /// where the answer says. It takes as long as the body is long, and a search among the items.
 ///
 /// It says `None` if the range is not in the braces of a body, if what stood or stands between these does not stand alone (its braces
-/// match, no token of it takes the `}`, and no inner attribute begins it), and of a text that begins with a byte order mark, `-`, an
-/// end of a line, or a `#` before anything but an attribute.
+/// match, no token of it takes the `}`, and no inner attribute begins it), if the place of the `}` would not fit into memory, and of a
+/// text that begins with a byte order mark, `-`, an end of a line, or a `#` before anything but an attribute. Else it answers, if
+/// the items are in the order in which they begin; those that are read of a text are.
 ///
 /// # Errors
 ///
@@ -73,7 +76,9 @@ pub fn edit_inside(
     range: TextRange,
     typed: &str,
 ) -> Result<Option<Shift>, AllocError>
-    ensures { IfOk result (λ found. IfSome found (λ shift. spec.Shifts items.now old.now range typed.now shift)) }
+    ensures shifts { IfOk result (λ found. IfSome found (λ shift. spec.Shifts items.now old.now range typed.now shift)) }
+    ensures keeps { IfOk result (λ found. IfSome found (λ shift. spec.PlacesAreKept items.now old.now range typed.now shift)) }
+    ensures told { spec.BeginInOrder items.now → IfOk result (λ found. IsSome found ↔ spec.MayEdit items.now old.now range typed.now) }
 {
     if !begins_bare(old) {
         return Ok(None);

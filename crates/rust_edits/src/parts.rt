@@ -1,6 +1,6 @@
 //! The parts of a text about an edit.
 
-ghost use Rattle.std.specs.Prelude.{◌≡◌, ◌++◌, ◌∷◌, IfSome, length};
+ghost use Rattle.std.specs.Prelude.{◌≡◌, ◌↔◌, ◌++◌, ◌∷◌, IfNone, IfSome, IsCharBoundary, IsSome, length};
 ghost use Rattle.rust_edits.specs.Inner as spec;
 
 use rust_items::TextRange;
@@ -24,13 +24,15 @@ pub(crate) struct Parts<'t> {
 fn cut(text: &str, len: usize) -> Option<(&str, &str)>
     ensures whole { IfSome result (λ p. text.now ≡ p.0.now ++ p.1.now) }
     ensures len { IfSome result (λ p. length p.0.now ≡ len) }
+    ensures told { IsSome result ↔ IsCharBoundary text.now len }
 {
     text.split_at_checked(len)
 }
 
 /// What stands behind a byte, if a text begins with it.
 fn behind_byte(text: &str, byte: u8) -> Option<&str>
-    ensures { IfSome result (λ rest. text.now ≡ byte ∷ rest.now) }
+    ensures whole { IfSome result (λ rest. text.now ≡ byte ∷ rest.now) }
+    ensures none { IfNone result (spec.LacksByte text.now byte) }
 {
     match text.as_bytes() {
         [first, ..] if *first == byte => {
@@ -43,7 +45,8 @@ fn behind_byte(text: &str, byte: u8) -> Option<&str>
 
 /// The parts of a text about a range in these braces.
 pub(crate) fn parts_of(text: &str, body: TextRange, range: TextRange) -> Option<Parts<'_>>
-    ensures { IfSome result (λ p. spec.AreCut text.now body range p) }
+    ensures parts { IfSome result (λ p. spec.AreCut text.now body range p) }
+    ensures none { IfNone result (spec.IsUncut text.now body range) }
 {
     let (before, rest) = cut(text, body.start)?;
     let rest = behind_byte(rest, b'{')?;

@@ -1,9 +1,10 @@
 //! How places move with an edit between braces.
 
-ghost use Rattle.std.specs.Prelude.{◌≡◌, IfOk, IfSome, map, option_map};
+ghost use Rattle.std.specs.Prelude.{◌≡◌, IfOk, IfSome, is_some, map, option_map};
+ghost use Rattle.std.specs.List.{list_all};
 ghost use Rattle.rust_items.specs.LineEnds.{moved_range};
 ghost use Rattle.rust_typing.specs.Moved.{moved_place};
-ghost use Rattle.rust_edits.specs.Edits.{shifted_place};
+ghost use Rattle.rust_edits.specs.Edits.{shifted_place, has_place, has_range, has_some_range, has_item};
 
 use rust_items::{ItemPlace, TextRange};
 use std::alloc::{AllocError, Global};
@@ -22,7 +23,8 @@ pub struct Shift {
 impl Shift {
     /// Where a place of the old text is in the new one. None stands between the braces, and none past what fits into memory.
     pub fn place(&self, at: usize) -> Option<usize>
-        ensures { IfSome result (λ to. to ≡ shifted_place self.now at) }
+        ensures value { IfSome result (λ to. to ≡ shifted_place self.now at) }
+        ensures told { is_some result ≡ has_place self.now at }
     {
         if at <= self.opening {
             return Some(at);
@@ -31,7 +33,8 @@ impl Shift {
     }
 
     fn range(&self, range: TextRange) -> Option<TextRange>
-        ensures { IfSome result (λ to. to ≡ moved_range (shifted_place self.now) range) }
+        ensures value { IfSome result (λ to. to ≡ moved_range (shifted_place self.now) range) }
+        ensures told { is_some result ≡ has_range self.now range }
     {
         let start = self.place(range.start)?;
         let end = self.place(range.end)?;
@@ -39,7 +42,8 @@ impl Shift {
     }
 
     fn some_range(&self, range: Option<TextRange>) -> Option<Option<TextRange>>
-        ensures { IfSome result (λ to. to ≡ option_map (moved_range (shifted_place self.now)) range) }
+        ensures value { IfSome result (λ to. to ≡ option_map (moved_range (shifted_place self.now)) range) }
+        ensures told { is_some result ≡ has_some_range self.now range }
     {
         match range {
             Some(range) => Some(Some(self.range(range)?)),
@@ -48,7 +52,8 @@ impl Shift {
     }
 
     fn item(&self, item: ItemPlace) -> Option<ItemPlace>
-        ensures { IfSome result (λ to. to ≡ moved_place (shifted_place self.now) item) }
+        ensures value { IfSome result (λ to. to ≡ moved_place (shifted_place self.now) item) }
+        ensures told { is_some result ≡ has_item self.now item }
     {
         Some(ItemPlace {
             id: item.id,
@@ -68,7 +73,8 @@ impl Shift {
         alloc: Global,
         items: &[ItemPlace],
     ) -> Result<Option<Vec<ItemPlace>>, AllocError>
-        ensures { IfOk result (λ moved. IfSome moved (λ v. v.items ≡ map (moved_place (shifted_place self.now)) items.now)) }
+        ensures value { IfOk result (λ moved. IfSome moved (λ v. v.items ≡ map (moved_place (shifted_place self.now)) items.now)) }
+        ensures told { IfOk result (λ moved. is_some moved ≡ list_all (has_item self.now) items.now) }
     {
         let mut moved = Vec::with_capacity(alloc, items.len())?;
         for item in items {
@@ -90,7 +96,8 @@ impl Shift {
         alloc: Global,
         starts: &[usize],
     ) -> Result<Option<Vec<usize>>, AllocError>
-        ensures { IfOk result (λ moved. IfSome moved (λ v. v.items ≡ map (shifted_place self.now) starts.now)) }
+        ensures value { IfOk result (λ moved. IfSome moved (λ v. v.items ≡ map (shifted_place self.now) starts.now)) }
+        ensures told { IfOk result (λ moved. is_some moved ≡ list_all (has_place self.now) starts.now) }
     {
         let mut moved = Vec::with_capacity(alloc, starts.len())?;
         for start in starts {

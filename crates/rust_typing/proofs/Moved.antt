@@ -31,7 +31,7 @@ place_is q m m' s n k l (moves c low e f) =
     ap (place_in (with_body q m' s)) f ∙ place_moves q m m' s c (omega (arith, some, low)) (omega (arith, e, long, l)) ∙ ap (λ i. shifted_by q m m' (place_in (with_body q m s) i)) (sym e)
 
 -- use trees begin in the text
-uses_below : {R : ℕ → UseTreeView → Type 0} {from to : ℕ} {is : ItemViews} {ps : List ItemPlace} {us : List ℕ} (end : ℕ) → to ≤ end → UsesIn R from to is ps us → All (λ n. n ≤ end) us
+pub uses_below : {R : ℕ → UseTreeView → Type 0} {from to : ℕ} {is : ItemViews} {ps : List ItemPlace} {us : List ℕ} (end : ℕ) → to ≤ end → UsesIn R from to is ps us → All (λ n. n ≤ end) us
 uses_below end h no_uses = All-nil (λ n. n ≤ end)
 uses_below end h (leaf_uses {p = p} own behind e none w own_in each later) =
     let ends = w.ends in

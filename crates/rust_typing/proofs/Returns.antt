@@ -86,7 +86,7 @@ place_low q m s n l =
     place_is (with_body q m s) n (omega arith) ∙ ap (λ k. n + k) (before_low 123 refl refl n 0 q (m ++ 125 ∷ s) (omega arith))
 
 -- and one behind them
-place_high : (q m s : List ℕ) (c : ℕ) → 0 < c → c ≤ suc (length (with_feeds s)) → place_in (with_body q m s) (c + close_at (with_feeds q) (with_feeds m)) ≡ close_at q m + (c + before c 1 s)
+pub place_high : (q m s : List ℕ) (c : ℕ) → 0 < c → c ≤ suc (length (with_feeds s)) → place_in (with_body q m s) (c + close_at (with_feeds q) (with_feeds m)) ≡ close_at q m + (c + before c 1 s)
 place_high q m s c some l =
     let long = feeds_length q m s in
     let n = c + close_at (with_feeds q) (with_feeds m) in

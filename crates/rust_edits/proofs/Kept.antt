@@ -1,0 +1,119 @@
+-- What was read of a text has places in the text with an edit in a body.
+use Rattle.std.proofs.Common.{◌≡◌, ◌≤◌, ◌<◌, ◌+◌, ◌-◌, ◌^◌, ◌&&◌, ℕ, true, false, Option, List, [], ◌∷◌, length, refl, ap, sym, subst, ◌∙◌, map, arith}
+use Rattle.std.specs.Prelude.{All, nat_le, nat_lt, option_map}
+use Rattle.std.specs.List.{list_all}
+use Rattle.std.proofs.lemmas.Bool.Decides.{nat_tests}
+use Rattle.std.proofs.lemmas.List.Elements.{All-head, All-tail}
+use Rattle.hir_input.specs.declared.edition.EditionYear.{EditionYear}
+use Rattle.hir_input.specs.declared.ids.FileAstId.{FileAstId}
+use Rattle.rust_cursor.proofs.Ordered.{close_some}
+use Rattle.rust_cursor.proofs.Places.{AreAlike, no_more, one_more, IsAlike, neither, both, unmoved, moves}
+use Rattle.rust_paths.specs.declared.names.TextRange.{TextRange}
+use Rattle.rust_leaves.proofs.Beside.{SameRange}
+use Rattle.rust_items.specs.declared.source_file.SourceFile.{SourceFile}
+use Rattle.rust_items.specs.LineEnds.{with_feeds, place_in, moved_range, moved_span}
+use Rattle.rust_items.specs.SourceFiles.{places, found_in, IsFile}
+use Rattle.rust_items.proofs.FilePlaces.{text_found}
+use Rattle.rust_items.proofs.LineEnds.{before, place_le, place_rises_in, place_within}
+use Rattle.rust_items.proofs.UntilItems.{SpanAlike}
+use Rattle.rust_items.proofs.Within.{IsIn, IsMaybeIn, AreIn, spans_in}
+use Rattle.rust_typing.specs.Laws.{with_body, IsTyped}
+use Rattle.rust_typing.specs.Moved.{close_at}
+use Rattle.rust_typing.proofs.Moved.{uses_below}
+use Rattle.rust_typing.proofs.Returns.{is_le, not_le, feeds_body, body_length, place_high, place_open}
+use Rattle.rust_typing.proofs.Texts.{IsMoved}
+use Rattle.rust_typing.proofs.Typing.{both_read}
+use Rattle.rust_edits.specs.declared.shift.Shift.{Shift}
+use Rattle.rust_edits.specs.Edits.{has_place, has_range, has_some_range, has_item, HasPlaces}
+use Rattle.rust_edits.proofs.Steps.{both_true}
+
+is_lt : (m n : ℕ) → m < n → nat_lt m n ≡ true
+is_lt m n h = grind (arith, nat_tests)
+
+has_low : (s : Shift) (at : ℕ) → at ≤ s.opening → has_place s at ≡ true
+has_low s at h = let e : nat_le at s.opening ≡ true = is_le at s.opening h in rw e refl
+
+has_high : (s : Shift) (at : ℕ) → s.opening < at → s.closing ≤ at → s.closing_new + (at - s.closing) < 2 ^ 64 → has_place s at ≡ true
+has_high s at a b c =
+    let e : nat_le at s.opening ≡ false = not_le at s.opening a in
+    let f : nat_le s.closing at ≡ true = is_le s.closing at b in
+    let g : nat_lt (s.closing_new + (at - s.closing)) (2 ^ 64) ≡ true = is_lt (s.closing_new + (at - s.closing)) (2 ^ 64) c in
+    rw (e, f, g) refl
+
+module _ (q m m' s : List ℕ) (shift : Shift) (opening : shift.opening ≡ length q) (closing : shift.closing ≡ close_at q m) (closing_new : shift.closing_new ≡ close_at q m') (short : length (with_body q m' s) < 2 ^ 64) where
+  abbrev x : List ℕ
+  x = with_body (with_feeds q) (with_feeds m) (with_feeds s)
+
+  abbrev place : ℕ → ℕ
+  place = place_in (with_body q m s)
+
+  abbrev Same : ℕ → ℕ → Type 0
+  Same = IsMoved (with_feeds q) (with_feeds m) (with_feeds m') (with_feeds s)
+
+  -- in the text as it is
+  long : length x ≡ length (with_feeds (with_body q m s))
+  long = ap length (sym (feeds_body q m s))
+
+  rising : (n k : ℕ) → n ≤ k → k ≤ length x → place n ≤ place k
+  rising n k h l = place_le place (length (with_feeds (with_body q m s))) (place_rises_in (with_body q m s)) n k h (omega (arith, long, l))
+
+  low : (n : ℕ) → n ≤ length (with_feeds q) → place n ≤ length q
+  low n h =
+      let all = body_length (with_feeds q) (with_feeds m) (with_feeds s) in
+      let below = rising n (length (with_feeds q)) h (omega (arith, all)) in
+      let begins = place_open q m s in
+      omega (arith, below, begins)
+
+  top : (n : ℕ) → n ≤ length x → place n ≤ length (with_body q m s)
+  top n l =
+      let below = rising n (length x) l (omega arith) in
+      let end = place_within (with_body q m s) in
+      let same : place (length x) ≡ place (length (with_feeds (with_body q m s))) = ap place long in
+      omega (arith, below, end, same)
+
+  place_kept : (n k : ℕ) → n ≤ length x → Same n k → has_place shift (place n) ≡ true
+  place_kept n k l (unmoved i e) = let here = low n i in has_low shift (place n) (omega (arith, here, opening))
+  place_kept n k l (moves c some e f) =
+      let first = close_some (with_feeds s) in
+      let all = body_length (with_feeds q) (with_feeds m) (with_feeds s) in
+      let old = body_length q m s in
+      let new = body_length q m' s in
+      let high : place n ≡ close_at q m + (c + before c 1 s) = ap place e ∙ place_high q m s c (omega (arith, first, some)) (omega (arith, e, all, l)) in
+      let below = top n l in
+      has_high shift (place n) (omega (arith, high, opening)) (omega (arith, high, closing)) (omega (arith, below, high, closing, closing_new, old, new, short))
+
+  range_kept : (r t : TextRange) → IsIn (length x) r → SameRange Same r t → has_range shift (moved_range place r) ≡ true
+  range_kept r t l h = both_true (has_place shift (place r.start)) (has_place shift (place r.end)) (place_kept r.start t.start l.0 h.start) (place_kept r.end t.end l.1 h.end)
+
+  maybe_kept : (o p : Option TextRange) → IsMaybeIn (length x) o → IsAlike (SameRange Same) o p → has_some_range shift (option_map (moved_range place) o) ≡ true
+  maybe_kept o p l neither = refl
+  maybe_kept o p l (both {x = r} {y = t} h) = range_kept r t l h
+
+  span_kept : (a t : _) → SpanAlike Same a t → IsIn (length x) a.range × (IsMaybeIn (length x) a.name × IsMaybeIn (length x) a.body)
+      → (has_range shift (moved_range place a.range) && (has_some_range shift (option_map (moved_range place) a.name) && has_some_range shift (option_map (moved_range place) a.body))) ≡ true
+  span_kept a t h l =
+      both_true (has_range shift (moved_range place a.range)) (has_some_range shift (option_map (moved_range place) a.name) && has_some_range shift (option_map (moved_range place) a.body)) (range_kept a.range t.range l.0 h.range)
+      (both_true (has_some_range shift (option_map (moved_range place) a.name)) (has_some_range shift (option_map (moved_range place) a.body)) (maybe_kept a.name t.name l.1.0 h.name) (maybe_kept a.body t.body l.1.1 h.body))
+
+  items_kept : (ids : List FileAstId) {ss ts : List _} → AreIn (length x) ss → AreAlike (SpanAlike Same) ss ts → list_all (has_item shift) (places ids (map (moved_span place) ss)) ≡ true
+  items_kept [] l a = refl
+  items_kept (id ∷ ids) l no_more = refl
+  items_kept (id ∷ ids) l (one_more {x = a} {y = t} {xs = ss} {ys = ts} h k) =
+      both_true (has_range shift (moved_range place a.range) && (has_some_range shift (option_map (moved_range place) a.name) && has_some_range shift (option_map (moved_range place) a.body)))
+      (list_all (has_item shift) (places ids (map (moved_span place) ss))) (span_kept a t h l.0) (items_kept ids l.1 k)
+
+  starts_kept : {ns ts : List ℕ} → All (λ n. n ≤ length x) ns → AreAlike Same ns ts → list_all (has_place shift) (map place ns) ≡ true
+  starts_kept l no_more = refl
+  starts_kept l (one_more {x = n} {y = k} {xs = ns} {ys = ts} h r) =
+      both_true (has_place shift (place n)) (list_all (has_place shift) (map place ns)) (place_kept n k (All-head (λ i. i ≤ length x) n ns l) h) (starts_kept (All-tail (λ i. i ≤ length x) n ns l) r)
+
+  pub read_kept : (edition : EditionYear) (read : SourceFile) → IsTyped edition (with_feeds q) (with_feeds m) (with_feeds m') (with_feeds s) → IsFile edition (with_feeds (with_body q m s)) (place_in (with_body q m s)) read → HasPlaces shift read
+  read_kept edition read t f =
+      let f' = subst (λ (z : List ℕ). IsFile edition z place read) (feeds_body q m s) f in
+      let r = both_read edition (with_feeds q) (with_feeds m) (with_feeds m') (with_feeds s) t in
+      let own = text_found edition x in
+      let below : All (λ n. n ≤ length x) (found_in edition x).use_trees = subst (All (λ n. n ≤ length x)) (sym own.more) (uses_below (length x) (omega arith) own.uses) in
+      record {
+        items = ap (list_all (has_item shift)) f'.places ∙ items_kept f'.ids (spans_in edition x) r.found.spans;
+        use_trees = ap (list_all (has_place shift)) f'.use_trees ∙ starts_kept below r.found.use_trees;
+      }

@@ -1,0 +1,82 @@
+-- Which edits are told.
+use Rattle.std.proofs.Common.{◌≡◌, ℕ, true, false, Option, Some, None, List, ◌++◌, length, IsUtf8, ap, sym, subst, ◌∙◌}
+use Rattle.std.specs.Prelude.{◌↔◌, IsSome}
+use Rattle.std.proofs.lemmas.Bool.{false≢true}
+use Rattle.std.proofs.lemmas.Option.{none-some, same_Some}
+use Rattle.std.proofs.lemmas.Str.{IsUtf8-append}
+use Rattle.rust_items.specs.LineEnds.{with_feeds}
+use Rattle.rust_items.specs.declared.source_file.ItemPlace.{ItemPlace}
+use Rattle.rust_paths.specs.declared.names.TextRange.{TextRange}
+use Rattle.rust_edits.specs.declared.parts.Parts.{Parts}
+use Rattle.rust_edits.specs.Edits.{body_about, begins_bare, ArePartsAbout, MayStandInside, MayEdit}
+use Rattle.rust_edits.specs.Inner.{in_braces, is_alone, AreCut, IsUncut, EndsFit}
+use Rattle.rust_edits.proofs.Closed.{alone_is, is_found}
+use Rattle.rust_edits.proofs.Cuts.{SameParts, same_parts}
+
+pub none_told : (A P : Type 0) → (P → ⊥) → IsSome {T = A} None ↔ P
+none_told A P f = (λ e. absurd (false≢true e), λ p. absurd (f p))
+
+module _ (items : List ItemPlace) (old typed : List ℕ) (range : TextRange) where
+  pub not_bare : begins_bare old ≡ false → MayEdit items old range typed → ⊥
+  not_bare e m = false≢true (sym e ∙ m.bare)
+
+  pub no_body : None ≡ body_about range.start items → MayEdit items old range typed → ⊥
+  no_body e m = none-some m.body (e ∙ m.about)
+
+  module _ (body : TextRange) (about : Some body ≡ body_about range.start items) where
+    own_parts : (m : MayEdit items old range typed) → ArePartsAbout old body range m.before m.front m.replaced m.back m.behind
+    own_parts m = subst (λ (r : TextRange). ArePartsAbout old r range m.before m.front m.replaced m.back m.behind) (same_Some m.body body (sym m.about ∙ sym about)) m.parts
+
+    pub not_cut : IsUncut old body range → MayEdit items old range typed → ⊥
+    not_cut f m = f m.before m.front m.replaced m.back m.behind (own_parts m)
+
+    module _ (p : Parts) (cut : AreCut old body range p) where
+      same : (m : MayEdit items old range typed) → SameParts p m.front m.replaced m.back
+      same m = same_parts old body range p m.before m.front m.replaced m.back m.behind cut (own_parts m)
+
+      stood_is : (m : MayEdit items old range typed) → m.front ++ (m.replaced ++ m.back) ≡ p.front.now ++ (p.replaced.now ++ p.back.now)
+      stood_is m = ap (λ (l : List ℕ). l ++ (m.replaced ++ m.back)) (same m).front ∙ ap (λ (l : List ℕ). p.front.now ++ (l ++ m.back)) (same m).replaced ∙ ap (λ (l : List ℕ). p.front.now ++ (p.replaced.now ++ l)) (same m).back
+
+      stands_is : (m : MayEdit items old range typed) → m.front ++ (typed ++ m.back) ≡ p.front.now ++ (typed ++ p.back.now)
+      stands_is m = ap (λ (l : List ℕ). l ++ (typed ++ m.back)) (same m).front ∙ ap (λ (l : List ℕ). p.front.now ++ (typed ++ l)) (same m).back
+
+      pub not_stood : is_alone (with_feeds (in_braces (p.front.now ++ (p.replaced.now ++ p.back.now)))) ≡ false → MayEdit items old range typed → ⊥
+      not_stood e m = false≢true (sym e ∙ is_found (p.front.now ++ (p.replaced.now ++ p.back.now)) (subst MayStandInside (stood_is m) m.stood))
+
+      pub not_stands : is_alone (with_feeds (in_braces (p.front.now ++ (typed ++ p.back.now)))) ≡ false → MayEdit items old range typed → ⊥
+      not_stands e m = false≢true (sym e ∙ is_found (p.front.now ++ (typed ++ p.back.now)) (subst MayStandInside (stands_is m) m.stands))
+
+      fits : (m : MayEdit items old range typed) → EndsFit range (length typed) (length p.back.now)
+      fits m = subst (λ (l : List ℕ). EndsFit range (length typed) (length l)) (same m).back (m.closing_fits, m.closing_new_fits)
+
+      -- all that is asked holds
+      pub all_told : {A : Type 0} (o : Option A) → IsSome o ↔ EndsFit range (length typed) (length p.back.now) → begins_bare old ≡ true → IsUtf8 typed
+          → is_alone (with_feeds (in_braces (p.front.now ++ (p.replaced.now ++ p.back.now)))) ≡ true → is_alone (with_feeds (in_braces (p.front.now ++ (typed ++ p.back.now)))) ≡ true
+          → IsSome o ↔ MayEdit items old range typed
+      all_told o t bare u stood stands = (
+        λ e. record {
+          body = body;
+          before = p.before.now;
+          front = p.front.now;
+          replaced = p.replaced.now;
+          back = p.back.now;
+          behind = p.behind.now;
+          bare = bare;
+          about = sym about;
+          parts = record {
+            whole = cut.whole;
+            opens = cut.opens;
+            starts = cut.starts;
+            ends = cut.ends;
+            closes = cut.closes;
+            front_utf8 = cut.front_utf8;
+            replaced_utf8 = cut.replaced_utf8;
+            back_utf8 = cut.back_utf8;
+          };
+          stood = alone_is (p.front.now ++ (p.replaced.now ++ p.back.now)) (IsUtf8-append _ _ cut.front_utf8 (IsUtf8-append _ _ cut.replaced_utf8 cut.back_utf8)) stood;
+          stands = alone_is (p.front.now ++ (typed ++ p.back.now)) (IsUtf8-append _ _ cut.front_utf8 (IsUtf8-append _ _ u cut.back_utf8)) stands;
+          closing_fits = (t.0 e).0;
+          closing_new_fits = (t.0 e).1;
+        },
+        λ m. t.1 (fits m),
+      )
