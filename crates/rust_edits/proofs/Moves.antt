@@ -14,7 +14,7 @@ use Rattle.rust_typing.specs.Moved.{shifted, shifted_by, close_at, moved_place}
 use Rattle.rust_typing.proofs.Full.{feeds_full}
 use Rattle.rust_typing.proofs.Moved.{places_move}
 use Rattle.rust_typing.proofs.Opened.{body_opens}
-use Rattle.rust_typing.proofs.Returns.{feeds_body, place_open}
+use Rattle.rust_typing.proofs.Returns.{feeds_body, body_length, place_open}
 use Rattle.rust_typing.proofs.Told.{body_is_told}
 use Rattle.rust_typing.proofs.Typing.{typing_inside}
 use Rattle.rust_edits.specs.declared.parts.Parts.{Parts}
@@ -130,7 +130,18 @@ module _ (old typed : List ℕ) (items : List ItemPlace) (body range : TextRange
         use_trees = moved.use_trees ∙ ap (λ (k : ℕ → ℕ). map k read.use_trees.items) (sym by_shift);
       }
 
-  pub edit_keeps : PlacesAreKept items old range typed shift
-  edit_keeps edition read e f short =
+  short : length old < 2 ^ 63 → length typed < 2 ^ 63 → length (with_body q m' s) < 2 ^ 64
+  unfolding q m m' s
+  short small small_typed =
+      let was = ap length old_is ∙ body_length p.before.now (p.front.now ++ (p.replaced.now ++ p.back.now)) p.behind.now in
+      let is = body_length p.before.now (p.front.now ++ (typed ++ p.back.now)) p.behind.now in
+      let a = length-append p.front.now (p.replaced.now ++ p.back.now) in
+      let b = length-append p.replaced.now p.back.now in
+      let c = length-append p.front.now (typed ++ p.back.now) in
+      let d = length-append typed p.back.now in
+      omega (arith, was, is, a, b, c, d, small, small_typed)
+
+  pub edit_keeps : length old < 2 ^ 63 → length typed < 2 ^ 63 → PlacesAreKept items old range typed shift
+  edit_keeps small small_typed edition read e f =
       let f' : IsSourceFile edition (with_body q m s) read = subst (λ (t : List ℕ). IsSourceFile edition t read) old_is f in
-      read_kept q m m' s shift opening closing closing_new (subst (λ (t : List ℕ). length t < 2 ^ 64) new_is short) edition read (typed_is edition read e f') f'
+      read_kept q m m' s shift opening closing closing_new (short small small_typed) edition read (typed_is edition read e f') f'

@@ -1,5 +1,5 @@
 -- Which edits are told.
-use Rattle.std.proofs.Common.{◌≡◌, ℕ, true, false, Option, Some, None, List, ◌++◌, length, IsUtf8, ap, sym, subst, ◌∙◌}
+use Rattle.std.proofs.Common.{◌≡◌, ℕ, true, false, Option, Some, None, List, ◌++◌, length, IsUtf8, ap, sym, subst, ◌∙◌, ◌<◌, ◌^◌, ◌∷◌, arith, length-append}
 use Rattle.std.specs.Prelude.{◌↔◌, IsSome}
 use Rattle.std.proofs.lemmas.Bool.{false≢true}
 use Rattle.std.proofs.lemmas.Option.{none-some, same_Some}
@@ -46,14 +46,23 @@ module _ (items : List ItemPlace) (old typed : List ℕ) (range : TextRange) whe
       pub not_stands : is_alone (with_feeds (in_braces (p.front.now ++ (typed ++ p.back.now)))) ≡ false → MayEdit items old range typed → ⊥
       not_stands e m = false≢true (sym e ∙ is_found (p.front.now ++ (typed ++ p.back.now)) (subst MayStandInside (stands_is m) m.stands))
 
-      fits : (m : MayEdit items old range typed) → EndsFit range (length typed) (length p.back.now)
-      fits m = subst (λ (l : List ℕ). EndsFit range (length typed) (length l)) (same m).back (m.closing_fits, m.closing_new_fits)
+      -- the places of the `}` fit into memory
+      fits : length old < 2 ^ 63 → length typed < 2 ^ 63 → EndsFit range (length typed) (length p.back.now)
+      fits small small_typed =
+          let starts = cut.starts in
+          let ends = cut.ends in
+          let all : length old ≡ length (p.before.now ++ 123 ∷ (p.front.now ++ (p.replaced.now ++ (p.back.now ++ 125 ∷ p.behind.now)))) = ap length cut.whole in
+          let one = length-append p.before.now (123 ∷ (p.front.now ++ (p.replaced.now ++ (p.back.now ++ 125 ∷ p.behind.now)))) in
+          let two = length-append p.front.now (p.replaced.now ++ (p.back.now ++ 125 ∷ p.behind.now)) in
+          let three = length-append p.replaced.now (p.back.now ++ 125 ∷ p.behind.now) in
+          let four = length-append p.back.now (125 ∷ p.behind.now) in
+          (omega (arith, starts, ends, all, one, two, three, four, small), omega (arith, starts, ends, all, one, two, three, four, small, small_typed))
 
       -- all that is asked holds
-      pub all_told : {A : Type 0} (o : Option A) → IsSome o ↔ EndsFit range (length typed) (length p.back.now) → begins_bare old ≡ true → IsUtf8 typed
+      pub all_told : {A : Type 0} (o : Option A) → IsSome o ↔ EndsFit range (length typed) (length p.back.now) → length old < 2 ^ 63 → length typed < 2 ^ 63 → begins_bare old ≡ true → IsUtf8 typed
           → is_alone (with_feeds (in_braces (p.front.now ++ (p.replaced.now ++ p.back.now)))) ≡ true → is_alone (with_feeds (in_braces (p.front.now ++ (typed ++ p.back.now)))) ≡ true
           → IsSome o ↔ MayEdit items old range typed
-      all_told o t bare u stood stands = (
+      all_told o t small small_typed bare u stood stands = (
         λ e. record {
           body = body;
           before = p.before.now;
@@ -75,8 +84,6 @@ module _ (items : List ItemPlace) (old typed : List ℕ) (range : TextRange) whe
           };
           stood = alone_is (p.front.now ++ (p.replaced.now ++ p.back.now)) (IsUtf8-append _ _ cut.front_utf8 (IsUtf8-append _ _ cut.replaced_utf8 cut.back_utf8)) stood;
           stands = alone_is (p.front.now ++ (typed ++ p.back.now)) (IsUtf8-append _ _ cut.front_utf8 (IsUtf8-append _ _ u cut.back_utf8)) stands;
-          closing_fits = (t.0 e).0;
-          closing_new_fits = (t.0 e).1;
         },
-        λ m. t.1 (fits m),
+        λ m. t.1 (fits small small_typed),
       )

@@ -1,5 +1,5 @@
 -- What an edit inside a body leaves.
-use Rattle.std.specs.Prelude.{◌≡◌, ◌==◌, ◌<◌, ◌≤◌, ◌+◌, ◌^◌, ◌&&◌, ◌||◌, not, ℕ, suc, Bool, true, nat_le, nat_lt, if◌then◌else◌, Option, Some, None, option_and_then, List, [], ◌∷◌, ◌++◌, map, take, drop, length, slice_index, IsUtf8}
+use Rattle.std.specs.Prelude.{◌≡◌, ◌==◌, ◌≤◌, ◌+◌, ◌^◌, ◌&&◌, ◌||◌, not, ℕ, suc, Bool, true, nat_le, nat_lt, if◌then◌else◌, Option, Some, None, option_and_then, List, [], ◌∷◌, ◌++◌, map, take, drop, length, slice_index, IsUtf8}
 use Rattle.std.specs.List.{list_all}
 use Rattle.std.specs.Option.{option_or}
 use Rattle.hir_input.specs.declared.edition.EditionYear.{EditionYear}
@@ -58,11 +58,10 @@ pub record HasPlaces (shift : Shift) (read : SourceFile) : Type 0 where
   pub items : list_all (has_item shift) read.places.items ≡ true
   pub use_trees : list_all (has_place shift) read.use_trees.items ≡ true
 
--- Where these are the places of what is read of a text, in some edition, all of that has places in the text with the edit, unless this one
--- is too long for memory.
+-- Where these are the places of what is read of a text, in some edition, all of that has places in the text with the edit.
 abbrev pub PlacesAreKept : List ItemPlace → List ℕ → TextRange → List ℕ → Shift → Type 0
 PlacesAreKept items old range typed shift =
-    (edition : EditionYear) (read : SourceFile) → read.places.items ≡ items → IsSourceFile edition old read → length (edited old range typed) < 2 ^ 64 → HasPlaces shift read
+    (edition : EditionYear) (read : SourceFile) → read.places.items ≡ items → IsSourceFile edition old read → HasPlaces shift read
 
 -- ---- which edits are told
 
@@ -111,7 +110,7 @@ pub record ArePartsAbout (text : List ℕ) (body range : TextRange) (before fron
   pub back_utf8 : IsUtf8 back
 
 -- An edit is one inside a body: a range of a text stands in the braces of the last item that begins up to it, and what stood and what stands
--- then in these may stand there. The text clearly has nothing of its own in front, and the places of the `}` fit into memory.
+-- then in these may stand there. The text clearly has nothing of its own in front.
 pub record MayEdit (items : List ItemPlace) (old : List ℕ) (range : TextRange) (typed : List ℕ) : Type 0 where
   pub body : TextRange
   pub before : List ℕ
@@ -124,5 +123,3 @@ pub record MayEdit (items : List ItemPlace) (old : List ℕ) (range : TextRange)
   pub parts : ArePartsAbout old body range before front replaced back behind
   pub stood : MayStandInside (front ++ (replaced ++ back))
   pub stands : MayStandInside (front ++ (typed ++ back))
-  pub closing_fits : range.end + length back < 2 ^ 64
-  pub closing_new_fits : range.start + length typed + length back < 2 ^ 64

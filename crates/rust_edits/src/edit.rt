@@ -62,9 +62,9 @@ fn shift_of(body: TextRange, range: TextRange, typed: &str, back: &str) -> Optio
 /// where the answer says. It takes as long as the body is long, and a search among the items.
 ///
 /// It says `None` if the range is not in the braces of a body, if what stood or stands between these does not stand alone (its braces
-/// match, no token of it takes the `}`, and no inner attribute begins it), if the place of the `}` would not fit into memory, and of a
-/// text that begins with a byte order mark, `-`, an end of a line, or a `#` before anything but an attribute. Else it answers, if
-/// the items are in the order in which they begin; those that are read of a text are.
+/// match, no token of it takes the `}`, and no inner attribute begins it), and of a text that begins with a byte order mark, `-`, an
+/// end of a line, or a `#` before anything but an attribute. Else it answers, if the items are in the order in which they begin; those
+/// that are read of a text are.
 ///
 /// # Errors
 ///

@@ -1,4 +1,4 @@
-use Rattle.std.proofs.Common.{rules, ◌≡◌, ◌++◌, true, false, Some}
+use Rattle.std.proofs.Common.{rules, length, ◌<◌, ◌^◌, ◌≡◌, ◌++◌, true, false, Some}
 use Rattle.rust_items.specs.LineEnds.{with_feeds}
 use Rattle.rust_items.specs.Typed.{has_body_at}
 use Rattle.rust_edits.specs.declared.shift.Shift.{Shift}
@@ -22,12 +22,14 @@ returns c =
     let parts : AreCut old body range p = search rules in
     let alone : is_alone (with_feeds (in_braces (p.front.now ++ (p.replaced.now ++ p.back.now)))) ≡ true = search rules in
     let alone_new : is_alone (with_feeds (in_braces (p.front.now ++ (typed ++ p.back.now)))) ≡ true = search rules in
+    let small : length old < 2 ^ 63 = search rules in
+    let small_typed : length typed < 2 ^ 63 = search rules in
     record {
       shifts = some_so c.shift_of.result (λ shift moves. edit_shifts old typed items body range p shift bare told parts c.utf8.typed alone alone_new moves) c.shift_of.ensures.value;
-      keeps = some_so c.shift_of.result (λ shift moves. edit_keeps old typed items body range p shift bare told parts c.utf8.typed alone alone_new moves) c.shift_of.ensures.value;
+      keeps = some_so c.shift_of.result (λ shift moves. edit_keeps old typed items body range p shift bare told parts c.utf8.typed alone alone_new moves small small_typed) c.shift_of.ensures.value;
       told = λ ordered.
           let about : Some body ≡ body_about range.start items = search (rules, c.body_about.ensures.told ordered) in
-          all_told items old typed range body about p parts c.shift_of.result c.shift_of.ensures.told bare c.utf8.typed alone alone_new;
+          all_told items old typed range body about p parts c.shift_of.result c.shift_of.ensures.told small small_typed bare c.utf8.typed alone alone_new;
     }
 
 pub returns-then-not-branch-clause-told : goal.returns-then-not-branch-clause-told
