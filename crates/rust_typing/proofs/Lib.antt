@@ -1,7 +1,9 @@
 pub mod Texts
+pub mod ProblemsIn
 pub mod Typing
 pub mod Returns
 pub mod Moved
+pub mod Problems
 pub mod Told
 pub mod Begins
 pub mod BodyStarts

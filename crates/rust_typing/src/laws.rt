@@ -3,6 +3,7 @@
 ghost use Rattle.rust_typing.specs.Laws.{TypingInside};
 ghost use Rattle.rust_typing.specs.Moved.{BodyIsTold, PlacesMove};
 ghost use Rattle.rust_typing.specs.Opened.{BodyOpens};
+ghost use Rattle.rust_typing.specs.Problems.{ProblemsStand};
 
 // Typing inside a body changes no syntax but for its body texts.
 fn typing_inside()
@@ -22,4 +23,9 @@ fn body_is_told()
 // The `{` of a body is a token.
 fn body_opens()
     ensures { BodyOpens }
+{}
+
+// Problems stand in the text.
+fn problems_stand()
+    ensures { ProblemsStand }
 {}
