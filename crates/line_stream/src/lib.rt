@@ -2,12 +2,12 @@
 //! next line is read, up to the end of the reader.
 #![tactic(auto)]
 
-pub mod conversation;
-pub mod error;
+mod conversation;
+mod error;
 mod laws;
-pub mod line;
+mod line;
 mod read;
-pub mod service;
+mod service;
 mod write;
 
 pub use conversation::serve;
