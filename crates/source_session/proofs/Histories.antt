@@ -1,10 +1,14 @@
 -- Edits of two goes, and whole conversations.
-use Rattle.std.proofs.Common.{◌≡◌, ◌⊎◌, ℕ, inl, inr, List, [], ◌∷◌, ◌++◌, Bool, true, false, Option, Some, None, Ok, Err, length, take, refl, sym, ap, subst, ◌∙◌, arith}
+use Rattle.std.proofs.Common.{◌≡◌, ◌⊎◌, ℕ, inl, inr, List, [], ◌∷◌, ◌++◌, Bool, true, false, Option, Some, None, Ok, Err, codes, length, map, take, refl, sym, ap, subst, ◌∙◌, append_assoc, arith}
 use Rattle.std.proofs.lemmas.List.{take_all}
+use Rattle.std.specs.List.{flat_map}
 use Rattle.std.specs.Option.{unwrap_or}
 use Rattle.serde_json.specs.Data.{Data, Members}
 use Rattle.serde_json.specs.Find.{as_object}
 use Rattle.serde_json.specs.Written.{has_float}
+use Rattle.hir_input.specs.declared.edition.EditionYear.{EditionYear}
+use Rattle.hir_input_json.specs.Editions.{EditionView}
+use Rattle.hir_input_json.specs.Reading.{Reading, right, wrong, behind}
 use Rattle.item_tree_db.specs.Edits.{EditView}
 use Rattle.item_tree_db.specs.History.{last_some}
 use Rattle.item_tree_db.proofs.Histories.{after_join, after_none, last_append, or_else}
@@ -13,13 +17,10 @@ use Rattle.line_stream.specs.Lines.{Told, whole, too_long, no_memory, IsToldOf}
 use Rattle.line_stream.specs.Served.{IsServed}
 use Rattle.source_session.specs.declared.error.LineError.{LineError}
 use Rattle.source_session.specs.declared.error.LineError.TheVariants.{NotJson, NotRequest, NotChanged, Refused, TooLong, OutOfMemory}
-use Rattle.source_session.specs.Histories.{Makes, Make, IsLedTo, GoesOn}
-use Rattle.hir_input.specs.declared.edition.EditionYear.{EditionYear}
-use Rattle.hir_input_json.specs.Editions.{EditionView}
-use Rattle.hir_input_json.specs.Reading.{Reading, right, wrong}
-use Rattle.source_session.specs.Lines.{Asked, later_line}
-use Rattle.source_session.specs.Replies.{Open, Outcome, Reply, Replies, IsDone, IsOutcome, IsReplyUnless, IsReplyOf, IsReply, of_session, id_of}
-use Rattle.source_session.specs.Sessions.{Session, AreMade, IsUnedited}
+use Rattle.source_session.specs.Histories.{Says, Exchange, answer_of, AsksNext, AsksFirst, StandAll, StandFirst, Stand, StandOf, OpensNone, IsLedByAnswers}
+use Rattle.source_session.specs.Lines.{Settings, Asked, first_line, later_line}
+use Rattle.source_session.specs.Replies.{Open, Outcome, Reply, Replies, IsDone, IsOutcome, IsRefusedAs, IsReplyUnless, IsReplyOf, IsReply, asked_of, of_session, of_opened, id_of, number_of, reply_text, out_of_memory}
+use Rattle.source_session.specs.Sessions.{Session, new_session, AreMade, IsUnedited}
 use Rattle.source_session.specs.Texts.{Change, FileTexts, text_in, text_after, leaves, AreMeant}
 use Rattle.source_session.proofs.Made.{same_length}
 use Rattle.source_session.proofs.Meant.{meant_over}
@@ -37,119 +38,240 @@ made_join s u v es fs cs ds a b = record {
       ∙ ap (λ o. unwrap_or o (text_in s.texts file)) (sym (last_append (leaves file) cs ds));
 }
 
--- what a line leads to
-record LedBy (s : Session) (line : List ℕ) (new : Open) : Type 0 where
-  session : Session
-  stands : new ≡ Some session
+-- none
+made_none : (s : Session) → AreMade s [] [] s
+made_none s = record { count = refl; edition = refl; table = after_none s.table; texts = λ file. refl }
+
+-- ---- what a line leads to, by its answer
+
+record LedOn (s u : Session) (Asks : Asked → Type 0) (outcome : Outcome) : Type 0 where
   edits : List EditView
   changes : List Change
-  made : AreMade s edits changes session
-  makes : Makes s.edition.0 s.count (text_in s.texts) line edits changes
+  made : AreMade s edits changes u
+  stand : Stand outcome Asks s.edition.0 (text_in s.texts) edits changes
 
-led_still : (s : Session) (line : List ℕ) (new : Open) → new ≡ Some s → LedBy s line new
-led_still s line new e = record { session = s; stands = e; edits = []; changes = []; made = record { count = refl; edition = refl; table = after_none s.table; texts = λ file. refl }; makes = inl (refl, refl) }
+led_still : (s u : Session) (Asks : Asked → Type 0) (outcome : Outcome) → u ≡ s → Stand outcome Asks s.edition.0 (text_in s.texts) [] [] → LedOn s u Asks outcome
+led_still s u Asks outcome same stand = record { edits = []; changes = []; made = subst (λ v. AreMade s [] [] v) (sym same) (made_none s); stand = stand }
+
+-- a line that asks for this
+module _ (s : Session) (Asks : Asked → Type 0) (a : Asked) (asks : Asks a) where
+  stand_stopped : (es : List EditView) (cs : List Change) (n : ℕ) → (n ≡ 0) ⊎ AreMeant s.edition.0 (text_in s.texts) a.edits es cs → Stand (Err OutOfMemory) Asks s.edition.0 (text_in s.texts) (take n es) (take n cs)
+  stand_stopped es cs n (inl z) = inl (ap (λ k. take k es) z, ap (λ k. take k cs) z)
+  stand_stopped es cs n (inr meant) = inr (n, (es, cs, (a, asks, meant), refl, refl))
+
+  led_undone : (u : Session) (e : LineError) → IsUnedited s a.edits u e → LedOn s u Asks (Err e)
+  led_undone u (Refused place cause) h = record { edits = take place h.edits; changes = take place h.changes; made = h.made; stand = (h.edits, h.changes, (a, asks, h.meant), refl, refl) }
+  led_undone u (NotChanged place cause) h = led_still s u Asks (Err (NotChanged place cause)) h.1 (refl, refl)
+  led_undone u OutOfMemory h = record { edits = take h.count h.edits; changes = take h.count h.changes; made = h.made; stand = stand_stopped h.edits h.changes h.count h.meant }
+  led_undone u (NotJson column) h = absurd h
+  led_undone u (NotRequest pointer) h = absurd h
+  led_undone u TooLong h = absurd h
+
+  led_done : (u : Session) (outcome : Outcome) → IsDone s a u outcome → LedOn s u Asks outcome
+  led_done u (Ok values) h = record { edits = h.0.edits; changes = h.0.changes; made = h.0.made; stand = (a, asks, h.0.meant) }
+  led_done u (Err e) h = led_undone u e h
+
+-- if there is no memory for the answer
+stand_unsaid : (Asks : Asked → Type 0) (edition : EditionYear) (texts : FileTexts) (outcome : Outcome) (es : List EditView) (cs : List Change) → Stand outcome Asks edition texts es cs → Stand (Err OutOfMemory) Asks edition texts es cs
+stand_unsaid Asks edition texts (Ok values) es cs h =
+    inr (length es, (es, cs, h, sym (take_all (length es) es (omega arith)), sym (take_all (length es) cs (omega (arith, same_length edition texts h.0.edits es cs h.2)))))
+stand_unsaid Asks edition texts (Err (Refused place cause)) es cs h = inr (place, h)
+stand_unsaid Asks edition texts (Err OutOfMemory) es cs h = h
+stand_unsaid Asks edition texts (Err (NotJson column)) es cs h = inl h
+stand_unsaid Asks edition texts (Err (NotRequest pointer)) es cs h = inl h
+stand_unsaid Asks edition texts (Err (NotChanged place cause)) es cs h = inl h
+stand_unsaid Asks edition texts (Err TooLong) es cs h = inl h
+
+led_unsaid : (s u : Session) (Asks : Asked → Type 0) (outcome : Outcome) → LedOn s u Asks outcome → LedOn s u Asks (Err OutOfMemory)
+led_unsaid s u Asks outcome led = record { edits = led.edits; changes = led.changes; made = led.made; stand = stand_unsaid Asks s.edition.0 (text_in s.texts) outcome led.edits led.changes led.stand }
+
+-- a line that is refused as a whole
+none_stand : (Asks : Asked → Type 0) (edition : EditionYear) (texts : FileTexts) (e : LineError) → OpensNone (Err e) → Stand (Err e) Asks edition texts [] []
+none_stand Asks edition texts (NotJson column) h = (refl, refl)
+none_stand Asks edition texts (NotRequest pointer) h = (refl, refl)
+none_stand Asks edition texts TooLong h = (refl, refl)
+none_stand Asks edition texts OutOfMemory h = inl (refl, refl)
+none_stand Asks edition texts (Refused place cause) h = absurd h
+none_stand Asks edition texts (NotChanged place cause) h = absurd h
 
 -- ---- one line
 
--- a line that is a request
-module _ (s : Session) (line : List ℕ) (d : Data) (text : IsJsonText line d) (a : Asked) (reading : later_line s.count d ≡ right a) where
-  makes_first : (es : List EditView) (cs : List Change) (n : ℕ) → AreMeant s.edition.0 (text_in s.texts) a.edits es cs → Makes s.edition.0 s.count (text_in s.texts) line (take n es) (take n cs)
-  makes_first es cs n meant = inr (record { value = d; text = text; asked = a; reading = reading; all_edits = es; all_changes = cs; meant = meant; made = n; edits_are = refl; changes_are = refl })
+-- what holds of the outcome of a line, if it holds where the line is refused as a whole and where it is asked
+module _ (old : Open) (line : List ℕ) (new : Open) (r : Reply) (P : Outcome → Type 0) (refused : (e : LineError) → OpensNone (Err e) → new ≡ old → P (Err e)) (done : (d : Data) → IsJsonText line d → IsOutcome old (asked_of old d) new r.outcome → P r.outcome) where
+  by_refused : (e : LineError) → OpensNone (Err e) → IsRefusedAs e old new r → P r.outcome
+  by_refused e none h = subst P (sym (ap (λ (x : Reply). x.outcome) h.1)) (refused e none h.0)
 
-  makes_stopped : (es : List EditView) (cs : List Change) (n : ℕ) → (n ≡ 0) ⊎ AreMeant s.edition.0 (text_in s.texts) a.edits es cs → Makes s.edition.0 s.count (text_in s.texts) line (take n es) (take n cs)
-  makes_stopped es cs n (inl z) = inl (ap (λ k. take k es) z, ap (λ k. take k cs) z)
-  makes_stopped es cs n (inr meant) = makes_first es cs n meant
+  by_unless : (d : Data) → IsJsonText line d → (b : Bool) → IsReplyUnless b old d new r → P r.outcome
+  by_unless d text true h = elim h as (λ _. P r.outcome) [ inl w ↦ by_refused OutOfMemory tt w | inr w ↦ by_refused (NotRequest (behind (codes "id") [])) tt w ]
+  by_unless d text false h = elim h.1 as (λ _. P r.outcome) [ inl w ↦ subst P (sym w.1) (refused OutOfMemory tt w.0) | inr o ↦ done d text o ]
 
-  makes_all : (es : List EditView) (cs : List Change) → AreMeant s.edition.0 (text_in s.texts) a.edits es cs → Makes s.edition.0 s.count (text_in s.texts) line es cs
-  makes_all es cs meant =
-      subst (λ xs. Makes s.edition.0 s.count (text_in s.texts) line xs cs) (take_all (length es) es (omega arith))
-      (subst (λ xs. Makes s.edition.0 s.count (text_in s.texts) line (take (length es) es) xs) (take_all (length es) cs (omega (arith, same_length s.edition.0 (text_in s.texts) a.edits es cs meant))) (makes_first es cs (length es) meant))
+  by_value : (d : Data) → IsJsonText line d → (o : Option Members) → IsReplyOf o old d new r → P r.outcome
+  by_value d text None h = by_refused (NotRequest []) tt h
+  by_value d text (Some ms) h = by_unless d text (has_float (id_of d)) h
 
-  led_undone : (u : Session) (e : LineError) (new : Open) → new ≡ Some u → IsUnedited s a.edits u e → LedBy s line new
-  led_undone u (Refused place cause) new o h = record { session = u; stands = o; edits = take place h.edits; changes = take place h.changes; made = h.made; makes = makes_first h.edits h.changes place h.meant }
-  led_undone u (NotChanged place cause) new o h = led_still s line new (o ∙ ap Some h.1)
-  led_undone u OutOfMemory new o h = record { session = u; stands = o; edits = take h.count h.edits; changes = take h.count h.changes; made = h.made; makes = makes_stopped h.edits h.changes h.count h.meant }
-  led_undone u (NotJson column) new o h = absurd h
-  led_undone u (NotRequest pointer) new o h = absurd h
-  led_undone u TooLong new o h = absurd h
-
-  led_done : (u : Session) (outcome : Outcome) (new : Open) → new ≡ Some u → IsDone s a u outcome → LedBy s line new
-  led_done u (Ok values) new o h = record { session = u; stands = o; edits = h.0.edits; changes = h.0.changes; made = h.0.made; makes = makes_all h.0.edits h.0.changes h.0.meant }
-  led_done u (Err e) new o h = led_undone u e new o h
-
--- what is asked of an open session is asked of it
-led_asked : (s : Session) (line : List ℕ) (d : Data) → IsJsonText line d → (r : Reading Asked) → later_line s.count d ≡ r → (new : Open) (outcome : Outcome) → IsOutcome (Some s) (of_session s r) new outcome → LedBy s line new
-led_asked s line d text (right a) e new outcome h = led_done s line d text a e h.0 outcome new h.1 h.2
-led_asked s line d text (wrong pointer) e new outcome h = led_still s line new h.0
-
-led_unless : (s : Session) (line : List ℕ) (d : Data) → IsJsonText line d → (b : Bool) (new : Open) (r : Reply) → IsReplyUnless b (Some s) d new r → LedBy s line new
-led_unless s line d text true new r h = elim h as (λ _. LedBy s line new) [ inl w ↦ led_still s line new w.0 | inr w ↦ led_still s line new w.0 ]
-led_unless s line d text false new r h = elim h.1 as (λ _. LedBy s line new) [ inl w ↦ led_still s line new w.0 | inr o ↦ led_asked s line d text (later_line s.count d) refl new r.outcome o ]
-
-led_value : (s : Session) (line : List ℕ) (d : Data) → IsJsonText line d → (o : Option Members) (new : Open) (r : Reply) → IsReplyOf o (Some s) d new r → LedBy s line new
-led_value s line d text None new r h = led_still s line new h.0
-led_value s line d text (Some ms) new r h = led_unless s line d text (has_float (id_of d)) new r h
-
-led_line : (s : Session) (line : List ℕ) (told : Told) (new : Open) (r : Reply) → IsToldOf line told → IsReply (Some s) told new r → LedBy s line new
-led_line s line (whole bytes) new r t h = elim h as (λ _. LedBy s line new) [
-  | inl w ↦ led_still s line new w.0
-  | inr v ↦ elim v as (λ _. LedBy s line new) [
-    | inl n ↦ led_still s line new n.refused.0
-    | inr a ↦ led_value s line a.value (subst (λ bs. IsJsonText bs a.value) t.0 a.text) (as_object a.value) new r a.reply
+  by_told : (told : Told) → IsToldOf line told → IsReply old told new r → P r.outcome
+  by_told (whole bytes) t h = elim h as (λ _. P r.outcome) [
+    | inl w ↦ by_refused OutOfMemory tt w
+    | inr v ↦ elim v as (λ _. P r.outcome) [
+      | inl n ↦ by_refused (NotJson n.column) tt n.refused
+      | inr a ↦ by_value a.value (subst (λ bs. IsJsonText bs a.value) t.0 a.text) (as_object a.value) a.reply
+    ]
   ]
-]
-led_line s line too_long new r t h = led_still s line new h.0
-led_line s line no_memory new r t h = led_still s line new h.0
+  by_told too_long t h = by_refused TooLong tt h
+  by_told no_memory t h = by_refused OutOfMemory tt h
 
--- ---- all lines
+-- the answer to a line
+record Answered (P : Outcome → Type 0) (text : List ℕ) : Type 0 where
+  outcome : Outcome
+  says : Says text outcome
+  holds : P outcome
 
--- over texts that are the same
-makes_over : (edition : EditionYear) (count : ℕ) (old new : FileTexts) → ((file : ℕ) → old file ≡ new file) → (line : List ℕ) (es : List EditView) (cs : List Change) → Makes edition count old line es cs → Makes edition count new line es cs
-makes_over edition count old new same line es cs (inl none) = inl none
-makes_over edition count old new same line es cs (inr m) = inr (record {
-  value = m.value;
-  text = m.text;
-  asked = m.asked;
-  reading = m.reading;
-  all_edits = m.all_edits;
-  all_changes = m.all_changes;
-  meant = meant_over edition old new same m.asked.edits m.all_edits m.all_changes m.meant;
-  made = m.made;
-  edits_are = m.edits_are;
-  changes_are = m.changes_are;
-})
+answered : (P : Outcome → Type 0) (new : Open) (r : Reply) (text : List ℕ) → P r.outcome → (P r.outcome → P (Err OutOfMemory)) → (text ≡ reply_text r.id (number_of new) r.outcome) ⊎ (text ≡ out_of_memory) → Answered P text
+answered P new r text h unsaid (inl e) = record { outcome = r.outcome; says = inl (r.id, number_of new, e); holds = h }
+answered P new r text h unsaid (inr e) = record { outcome = Err OutOfMemory; says = inr (e, refl); holds = unsaid h }
 
-make_over : (edition : EditionYear) (count : ℕ) (old new : FileTexts) → ((file : ℕ) → old file ≡ new file) → (lines : List (List ℕ)) (es : List EditView) (cs : List Change) → Make edition count old lines es cs → Make edition count new lines es cs
-make_over edition count old new same [] es cs h = h
-make_over edition count old new same (line ∷ lines) es cs h = (
+abbrev exchange_of : {P : Outcome → Type 0} → (line text : List ℕ) → Answered P text → Exchange
+exchange_of line text a = record { line = line; answer = text; outcome = a.outcome; says = a.says }
+
+-- of an open session
+abbrev GoesOn : Session → List ℕ → Open → Outcome → Type 0
+GoesOn s line new outcome = (u : Session) × (new ≡ Some u) × LedOn s u (AsksNext s.count line) outcome
+
+goes_refused : (s : Session) (line : List ℕ) (new : Open) (e : LineError) → OpensNone (Err e) → new ≡ Some s → GoesOn s line new (Err e)
+goes_refused s line new e none same = (s, same, led_still s s (AsksNext s.count line) (Err e) refl (none_stand (AsksNext s.count line) s.edition.0 (text_in s.texts) e none))
+
+goes_asked : (s : Session) (line : List ℕ) (d : Data) → IsJsonText line d → (r : Reading Asked) → later_line s.count d ≡ r → (new : Open) (outcome : Outcome) → IsOutcome (Some s) (of_session s r) new outcome → GoesOn s line new outcome
+goes_asked s line d text (right a) e new outcome h = (h.0, h.1, led_done s (AsksNext s.count line) a (d, text, e) h.0 outcome h.2)
+goes_asked s line d text (wrong pointer) e new outcome h =
+    subst (λ o. GoesOn s line new o) (sym h.1) (goes_refused s line new (NotRequest pointer) tt h.0)
+
+goes_line : (s : Session) (line : List ℕ) (told : Told) (new : Open) (text : List ℕ) → IsToldOf line told → Replies (Some s) told new text → Answered (GoesOn s line new) text
+goes_line s line told new text t h =
+    let goes = by_told (Some s) line new h.0 (GoesOn s line new) (goes_refused s line new) (λ d is o. goes_asked s line d is (later_line s.count d) refl new h.0.outcome o) told t h.1 in
+    answered (GoesOn s line new) new h.0 text goes (λ g. (g.0, g.1, led_unsaid s g.0 (AsksNext s.count line) h.0.outcome g.2)) h.2
+
+-- of a conversation without a session
+abbrev Opens : List ℕ → Open → Outcome → Type 0
+Opens line new outcome =
+    (settings : Settings) × (asked : Asked) × AsksFirst settings line asked × ((u : Session) × (new ≡ Some u) × LedOn (new_session settings) u (AsksFirst settings line) outcome)
+
+abbrev Begins : List ℕ → Open → Outcome → Type 0
+Begins line new outcome = ((new ≡ None) × OpensNone outcome) ⊎ Opens line new outcome
+
+begins_asked : (line : List ℕ) (d : Data) → IsJsonText line d → (r : Reading (Settings × Asked)) → first_line d ≡ r → (new : Open) (outcome : Outcome) → IsOutcome None (of_opened r) new outcome → Begins line new outcome
+begins_asked line d text (right (settings, a)) e new outcome h =
+    inr (settings, a, (d, text, e), (h.0, h.1, led_done (new_session settings) (AsksFirst settings line) a (d, text, e) h.0 outcome h.2))
+begins_asked line d text (wrong pointer) e new outcome h = subst (λ o. Begins line new o) (sym h.1) (inl (h.0, tt))
+
+begins_unsaid : (line : List ℕ) (new : Open) (outcome : Outcome) → Begins line new outcome → Begins line new (Err OutOfMemory)
+begins_unsaid line new outcome (inl n) = inl (n.0, tt)
+begins_unsaid line new outcome (inr o) = inr (o.0, o.1, o.2, (o.3.0, o.3.1, led_unsaid (new_session o.0) o.3.0 (AsksFirst o.0 line) outcome o.3.2))
+
+begins_line : (line : List ℕ) (told : Told) (new : Open) (text : List ℕ) → IsToldOf line told → Replies None told new text → Answered (Begins line new) text
+begins_line line told new text t h =
+    let begins = by_told None line new h.0 (Begins line new) (λ e none same. inl (same, none)) (λ d is o. begins_asked line d is (first_line d) refl new h.0.outcome o) told t h.1 in
+    answered (Begins line new) new h.0 text begins (begins_unsaid line new h.0.outcome) h.2
+
+-- ---- over texts that are the same
+
+module _ (edition : EditionYear) (old new : FileTexts) (same : (file : ℕ) → old file ≡ new file) where
+  all_over : (Asks : Asked → Type 0) (es : List EditView) (cs : List Change) → StandAll Asks edition old es cs → StandAll Asks edition new es cs
+  all_over Asks es cs h = (h.0, h.1, meant_over edition old new same h.0.edits es cs h.2)
+
+  first_over : (n : ℕ) (Asks : Asked → Type 0) (es : List EditView) (cs : List Change) → StandFirst n Asks edition old es cs → StandFirst n Asks edition new es cs
+  first_over n Asks es cs h = (h.0, h.1, all_over Asks h.0 h.1 h.2, h.3, h.4)
+
+  stopped_over : (Asks : Asked → Type 0) (es : List EditView) (cs : List Change) → Stand (Err OutOfMemory) Asks edition old es cs → Stand (Err OutOfMemory) Asks edition new es cs
+  stopped_over Asks es cs (inl none) = inl none
+  stopped_over Asks es cs (inr h) = inr (h.0, first_over h.0 Asks es cs h.1)
+
+  stand_over : (outcome : Outcome) (Asks : Asked → Type 0) (es : List EditView) (cs : List Change) → Stand outcome Asks edition old es cs → Stand outcome Asks edition new es cs
+  stand_over (Ok values) Asks es cs h = all_over Asks es cs h
+  stand_over (Err (Refused place cause)) Asks es cs h = first_over place Asks es cs h
+  stand_over (Err OutOfMemory) Asks es cs h = stopped_over Asks es cs h
+  stand_over (Err (NotJson column)) Asks es cs h = h
+  stand_over (Err (NotRequest pointer)) Asks es cs h = h
+  stand_over (Err (NotChanged place cause)) Asks es cs h = h
+  stand_over (Err TooLong) Asks es cs h = h
+
+stand_of_over : (count : ℕ) (edition : EditionYear) (old new : FileTexts) → ((file : ℕ) → old file ≡ new file) → (xs : List Exchange) (es : List EditView) (cs : List Change) → StandOf (AsksNext count) count edition old xs es cs → StandOf (AsksNext count) count edition new xs es cs
+stand_of_over count edition old new same [] es cs h = h
+stand_of_over count edition old new same (x ∷ xs) es cs h = (
   h.0,
   h.1,
   h.2,
   h.3,
-  makes_over edition count old new same line h.0 h.2 h.4,
-  make_over edition count (text_after old h.2) (text_after new h.2) (λ file. ap (unwrap_or (last_some (leaves file) h.2)) (same file)) lines h.1 h.3 h.5,
+  stand_over edition old new same x.outcome (AsksNext count x.line) h.0 h.2 h.4,
+  stand_of_over count edition (text_after old h.2) (text_after new h.2) (λ file. ap (unwrap_or (last_some (leaves file) h.2)) (same file)) xs h.1 h.3 h.5,
   h.6,
   h.7,
 )
 
-led_further : (s : Session) (line : List ℕ) (lines : List (List ℕ)) (next new : Open) (led : LedBy s line next) → ((u : Session) → next ≡ Some u → IsLedTo u lines new) → IsLedTo s (line ∷ lines) new
-led_further s line lines next new led more =
-    let rest = more led.session led.stands in
-    let by_count = subst (λ k. Make led.session.edition.0 k (text_in led.session.texts) lines rest.edits rest.changes) led.made.count rest.by_lines in
-    let by_edition = subst (λ (x : EditionView). Make x.0 s.count (text_in led.session.texts) lines rest.edits rest.changes) led.made.edition by_count in
-    let by_first = make_over s.edition.0 s.count (text_in led.session.texts) (text_after (text_in s.texts) led.changes) led.made.texts lines rest.edits rest.changes by_edition in
+-- ---- all lines
+
+-- what lines lead a session to
+record IsLedOn (Asks : List ℕ → Asked → Type 0) (s : Session) (xs : List Exchange) (new : Open) : Type 0 where
+  session : Session
+  is_open : new ≡ Some session
+  edits : List EditView
+  changes : List Change
+  made : AreMade s edits changes session
+  stand : StandOf Asks s.count s.edition.0 (text_in s.texts) xs edits changes
+
+led_further : (Asks : List ℕ → Asked → Type 0) (s u : Session) (x : Exchange) (xs : List Exchange) (new : Open) → LedOn s u (Asks x.line) x.outcome → IsLedOn (AsksNext u.count) u xs new → IsLedOn Asks s (x ∷ xs) new
+led_further Asks s u x xs new led rest =
+    let by_count = subst (λ k. StandOf (AsksNext k) k u.edition.0 (text_in u.texts) xs rest.edits rest.changes) led.made.count rest.stand in
+    let by_edition = subst (λ (e : EditionView). StandOf (AsksNext s.count) s.count e.0 (text_in u.texts) xs rest.edits rest.changes) led.made.edition by_count in
+    let by_texts = stand_of_over s.count s.edition.0 (text_in u.texts) (text_after (text_in s.texts) led.changes) led.made.texts xs rest.edits rest.changes by_edition in
     record {
       session = rest.session;
-      stands = rest.stands;
+      is_open = rest.is_open;
       edits = led.edits ++ rest.edits;
       changes = led.changes ++ rest.changes;
-      made = made_join s led.session rest.session led.edits rest.edits led.changes rest.changes led.made rest.made;
-      by_lines = (led.edits, rest.edits, led.changes, rest.changes, led.makes, by_first, refl, refl);
+      made = made_join s u rest.session led.edits rest.edits led.changes rest.changes led.made rest.made;
+      stand = (led.edits, rest.edits, led.changes, rest.changes, led.stand, by_texts, refl, refl);
     }
 
-pub goes_on : (s : Session) → GoesOn s
-goes_on s [] new text h =
-    record { session = s; stands = h.0; edits = []; changes = []; made = record { count = refl; edition = refl; table = after_none s.table; texts = λ file. refl }; by_lines = (refl, refl) }
+-- these are the exchanges of the lines and of the text of their answers
+abbrev AreOf : List (List ℕ) → List ℕ → List Exchange → Type 0
+AreOf lines text xs = (lines ≡ map (λ x. x.line) xs) × (text ≡ flat_map answer_of xs)
+
+are_more : (x : Exchange) (xs : List Exchange) (lines : List (List ℕ)) (text later : List ℕ) → text ≡ x.answer ++ 10 ∷ later → AreOf lines later xs → AreOf (x.line ∷ lines) text (x ∷ xs)
+are_more x xs lines text later parts are = (
+  ap (λ ls. x.line ∷ ls) are.0,
+  parts ∙ sym (append_assoc x.answer (10 ∷ []) later) ∙ ap (λ z. answer_of x ++ z) are.1,
+)
+
+goes_on : (s : Session) (lines : List (List ℕ)) (new : Open) (text : List ℕ) → IsServed Replies (Some s) lines new text → (xs : List Exchange) × AreOf lines text xs × IsLedOn (AsksNext s.count) s xs new
+goes_on s [] new text h = ([], (refl, h.1), record { session = s; is_open = h.0; edits = []; changes = []; made = made_none s; stand = (refl, refl) })
 goes_on s (line ∷ lines) new text h =
-    let answer = h.5 in
-    led_further s line lines h.1 new (led_line s line h.0 h.1 answer.0 h.4 answer.1) (λ u e. goes_on u lines new h.3 (subst (λ o. IsServed Replies o lines new h.3) e h.7))
+    let a = goes_line s line h.0 h.1 h.2 h.4 h.5 in
+    let rest = goes_on a.holds.0 lines new h.3 (subst (λ o. IsServed Replies o lines new h.3) a.holds.1 h.7) in (
+      exchange_of line h.2 a ∷ rest.0,
+      are_more (exchange_of line h.2 a) rest.0 lines text h.3 h.6 rest.1,
+      led_further (AsksNext s.count) s a.holds.0 (exchange_of line h.2 a) rest.0 new a.holds.2 rest.2,
+    )
+
+-- behind a line that opens no session
+none_more : (x : Exchange) (lines : List (List ℕ)) (text later : List ℕ) (new : Open) → text ≡ x.answer ++ 10 ∷ later → OpensNone x.outcome → IsLedByAnswers lines later new → IsLedByAnswers (x.line ∷ lines) text new
+none_more x lines text later new parts none rest =
+    let are = are_more x rest.0 lines text later parts (rest.1, rest.2) in
+    (x ∷ rest.0, are.0, are.1, inl (none, rest.3))
+
+-- behind the one that opens it
+opened_more : (x : Exchange) (lines : List (List ℕ)) (text later : List ℕ) (next new : Open) → text ≡ x.answer ++ 10 ∷ later → (o : Opens x.line next x.outcome)
+    → (xs : List Exchange) × AreOf lines later xs × IsLedOn (AsksNext o.3.0.count) o.3.0 xs new
+    → IsLedByAnswers (x.line ∷ lines) text new
+opened_more x lines text later next new parts o rest =
+    let are = are_more x rest.0 lines text later parts rest.1 in
+    let led = led_further (AsksFirst o.0) (new_session o.0) o.3.0 x rest.0 new o.3.2 rest.2 in
+    (x ∷ rest.0, are.0, are.1, inr (record { settings = o.0; asked = o.1; opens = o.2; edits = led.edits; changes = led.changes; stand = led.stand; session = led.session; is_open = led.is_open; made = led.made }))
+
+pub led_by_answers : (lines : List (List ℕ)) (new : Open) (text : List ℕ) → IsServed Replies None lines new text → IsLedByAnswers lines text new
+led_by_answers [] new text h = ([], refl, h.1, h.0)
+led_by_answers (line ∷ lines) new text h =
+    let a = begins_line line h.0 h.1 h.2 h.4 h.5 in
+    elim a.holds as (λ _. IsLedByAnswers (line ∷ lines) text new) [
+      | inl n ↦ none_more (exchange_of line h.2 a) lines text h.3 new h.6 n.1 (led_by_answers lines new h.3 (subst (λ o. IsServed Replies o lines new h.3) n.0 h.7))
+      | inr o ↦ opened_more (exchange_of line h.2 a) lines text h.3 h.1 new h.6 o (goes_on o.3.0 lines new h.3 (subst (λ o. IsServed Replies o lines new h.3) o.3.1 h.7))
+    ]

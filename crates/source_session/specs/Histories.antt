@@ -1,53 +1,104 @@
--- Whole conversations: all edits that stand by then.
-use Rattle.std.specs.Prelude.{◌≡◌, ◌⊎◌, ℕ, List, [], ◌∷◌, ◌++◌, take, Some}
+-- Whole conversations: where they lead, by the edits that stand after each answer.
+use Rattle.std.specs.Prelude.{◌≡◌, ◌⊎◌, ℕ, List, [], ◌∷◌, ◌++◌, length, map, take, Option, Some, None, Ok, Err}
+use Rattle.std.specs.List.{flat_map}
 use Rattle.serde_json.specs.Data.{Data}
 use Rattle.hir_input.specs.declared.edition.EditionYear.{EditionYear}
+use Rattle.hir_input_json.specs.Reading.{right}
 use Rattle.item_tree_db.specs.Edits.{EditView}
 use Rattle.item_tree_request.specs.Requests.{IsJsonText}
-use Rattle.line_stream.specs.Served.{IsServed}
-use Rattle.hir_input_json.specs.Reading.{right}
-use Rattle.source_session.specs.Lines.{Asked, later_line}
-use Rattle.source_session.specs.Replies.{Open, Replies}
-use Rattle.source_session.specs.Sessions.{Session, AreMade}
+use Rattle.source_session.specs.declared.error.LineError.TheVariants.{NotJson, NotRequest, NotChanged, Refused, TooLong, OutOfMemory}
+use Rattle.source_session.specs.Lines.{Settings, Asked, first_line, later_line}
+use Rattle.source_session.specs.Replies.{Open, Outcome, reply_text, out_of_memory}
+use Rattle.source_session.specs.Sessions.{Session, new_session, AreMade}
 use Rattle.source_session.specs.Texts.{Change, FileTexts, text_in, text_after, AreMeant}
 
--- nothing is made
-abbrev pub MakesNone : List EditView → List Change → Type 0
-MakesNone edits changes = (edits ≡ []) × (changes ≡ [])
+-- an answer says this outcome, under some id and number; or there was no memory for an answer
+abbrev pub Says : List ℕ → Outcome → Type 0
+Says text outcome =
+    ((id : Data) × (number : Option ℕ) × (text ≡ reply_text id number outcome)) ⊎ ((text ≡ out_of_memory) × (outcome ≡ Err OutOfMemory))
 
--- the line is a request to a session of an edition with this many crates and these texts, and makes the first of what its edits mean
-pub record MakesFirst (edition : EditionYear) (count : ℕ) (texts : FileTexts) (line : List ℕ) (edits : List EditView) (changes : List Change) : Type 0 where
-  pub value : Data
-  pub text : IsJsonText line value
-  pub asked : Asked
-  pub reading : later_line count value ≡ right asked
-  pub all_edits : List EditView
-  pub all_changes : List Change
-  pub meant : AreMeant edition texts asked.edits all_edits all_changes
-  pub made : ℕ
-  pub edits_are : edits ≡ take made all_edits
-  pub changes_are : changes ≡ take made all_changes
+-- a line, its answer, and what that says
+pub record Exchange : Type 0 where
+  pub line : List ℕ
+  pub answer : List ℕ
+  pub outcome : Outcome
+  pub says : Says answer outcome
 
--- a line makes these edits of the table, which leave this of the texts
-abbrev pub Makes : EditionYear → ℕ → FileTexts → List ℕ → List EditView → List Change → Type 0
-Makes edition count texts line edits changes = MakesNone edits changes ⊎ MakesFirst edition count texts line edits changes
+-- the answer with its line feed
+abbrev pub answer_of : Exchange → List ℕ
+answer_of x = x.answer ++ 10 ∷ []
 
--- lines do, one after another
-abbrev pub Make : EditionYear → ℕ → FileTexts → List (List ℕ) → List EditView → List Change → Type 0
-Make edition count texts [] edits changes = MakesNone edits changes
-Make edition count texts (line ∷ lines) edits changes =
+-- ---- what a line asks for
+
+-- of an open session with this many crates
+abbrev pub AsksNext : ℕ → List ℕ → Asked → Type 0
+AsksNext count line asked = (d : Data) × IsJsonText line d × (later_line count d ≡ right asked)
+
+-- of the session that it opens with these settings
+abbrev pub AsksFirst : Settings → List ℕ → Asked → Type 0
+AsksFirst settings line asked = (d : Data) × IsJsonText line d × (first_line d ≡ right (settings, asked))
+
+-- ---- which of its edits stand, where `Asks` tells what it asks for
+
+-- none of them
+abbrev pub StandNone : List EditView → List Change → Type 0
+StandNone edits changes = (edits ≡ []) × (changes ≡ [])
+
+-- all of them
+abbrev pub StandAll : (Asked → Type 0) → EditionYear → FileTexts → List EditView → List Change → Type 0
+StandAll Asks edition texts edits changes = (asked : Asked) × Asks asked × AreMeant edition texts asked.edits edits changes
+
+-- the first n of them
+abbrev pub StandFirst : ℕ → (Asked → Type 0) → EditionYear → FileTexts → List EditView → List Change → Type 0
+StandFirst n Asks edition texts edits changes =
+    (es : List EditView) × (cs : List Change) × StandAll Asks edition texts es cs × (edits ≡ take n es) × (changes ≡ take n cs)
+
+-- by its answer: all if it has shows, those before an edit that is refused, none after another error, and some first ones if memory ran out
+abbrev pub Stand : Outcome → (Asked → Type 0) → EditionYear → FileTexts → List EditView → List Change → Type 0
+Stand (Ok values) Asks edition texts edits changes = StandAll Asks edition texts edits changes
+Stand (Err (Refused place cause)) Asks edition texts edits changes = StandFirst place Asks edition texts edits changes
+Stand (Err OutOfMemory) Asks edition texts edits changes = StandNone edits changes ⊎ ((n : ℕ) × StandFirst n Asks edition texts edits changes)
+Stand (Err (NotJson column)) Asks edition texts edits changes = StandNone edits changes
+Stand (Err (NotRequest pointer)) Asks edition texts edits changes = StandNone edits changes
+Stand (Err (NotChanged place cause)) Asks edition texts edits changes = StandNone edits changes
+Stand (Err TooLong) Asks edition texts edits changes = StandNone edits changes
+
+-- those of lines, one after another; behind the first each asks the open session
+abbrev pub StandOf : (List ℕ → Asked → Type 0) → ℕ → EditionYear → FileTexts → List Exchange → List EditView → List Change → Type 0
+StandOf Asks count edition texts [] edits changes = StandNone edits changes
+StandOf Asks count edition texts (x ∷ xs) edits changes =
     (es : List EditView) × (fs : List EditView) × (cs : List Change) × (ds : List Change)
-    × Makes edition count texts line es cs × Make edition count (text_after texts cs) lines fs ds × (edits ≡ es ++ fs) × (changes ≡ cs ++ ds)
+    × Stand x.outcome (Asks x.line) edition texts es cs × StandOf (AsksNext count) count edition (text_after texts cs) xs fs ds × (edits ≡ es ++ fs) × (changes ≡ cs ++ ds)
 
--- a session is open to which the edits that these lines make lead from the session s
-pub record IsLedTo (s : Session) (lines : List (List ℕ)) (new : Open) : Type 0 where
-  pub session : Session
-  pub stands : new ≡ Some session
+-- ---- whole conversations
+
+-- after such an answer there may still be no session
+abbrev pub OpensNone : Outcome → Type 0
+OpensNone (Ok values) = ⊥
+OpensNone (Err (Refused place cause)) = ⊥
+OpensNone (Err (NotChanged place cause)) = ⊥
+OpensNone (Err (NotJson column)) = Unit {0}
+OpensNone (Err (NotRequest pointer)) = Unit {0}
+OpensNone (Err TooLong) = Unit {0}
+OpensNone (Err OutOfMemory) = Unit {0}
+
+-- a line opens a session, and all edits that stand from there on lead from the new session to this one
+pub record IsOpenedBy (x : Exchange) (later : List Exchange) (new : Open) : Type 0 where
+  pub settings : Settings
+  pub asked : Asked
+  pub opens : AsksFirst settings x.line asked
   pub edits : List EditView
   pub changes : List Change
-  pub made : AreMade s edits changes session
-  pub by_lines : Make s.edition.0 s.count (text_in s.texts) lines edits changes
+  pub stand : StandOf (AsksFirst settings) (length settings.crates) settings.edition.0 (text_in []) (x ∷ later) edits changes
+  pub session : Session
+  pub is_open : new ≡ Some session
+  pub made : AreMade (new_session settings) edits changes session
 
--- a conversation over an open session, whatever its lines, leads where the edits lead that they make
-abbrev pub GoesOn : Session → Type 0
-GoesOn s = (lines : List (List ℕ)) (new : Open) (text : List ℕ) → IsServed Replies (Some s) lines new text → IsLedTo s lines new
+-- a new conversation leads here: some lines open no session, and the next one opens it
+abbrev pub IsLedBy : List Exchange → Open → Type 0
+IsLedBy [] new = new ≡ None
+IsLedBy (x ∷ later) new = (OpensNone x.outcome × IsLedBy later new) ⊎ IsOpenedBy x later new
+
+-- the same of a conversation of these lines, which this text answers
+abbrev pub IsLedByAnswers : List (List ℕ) → List ℕ → Open → Type 0
+IsLedByAnswers lines text new = (xs : List Exchange) × (lines ≡ map (λ x. x.line) xs) × (text ≡ flat_map answer_of xs) × IsLedBy xs new

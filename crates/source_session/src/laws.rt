@@ -1,8 +1,11 @@
 //! What holds of whole conversations.
-ghost use Rattle.source_session.specs.Histories.{GoesOn};
-ghost use Rattle.source_session.specs.Sessions.{Session};
+ghost use Rattle.std.specs.Prelude.{ℕ, List, None};
+ghost use Rattle.line_stream.specs.Served.{IsServed};
+ghost use Rattle.source_session.specs.Histories.{IsLedByAnswers};
+ghost use Rattle.source_session.specs.Replies.{Open, Replies};
 
-// The state between lines is what the edits lead to that the lines so far made. The function does nothing.
+// A new conversation, whatever its lines, is where the edits lead that stand by its answers. The function does nothing.
 fn conversations()
-    ensures goes_on { (s : Session) → GoesOn s }
+    ensures led { (lines : List (List ℕ)) (new : Open) (text : List ℕ) → IsServed Replies None lines new text
+        → IsLedByAnswers lines text new }
 {}
