@@ -5,5 +5,6 @@ pub mod Items
 pub mod Laws
 pub mod Lists
 pub mod Names
+pub mod Pointers
 pub mod Spans
 pub mod UseTrees

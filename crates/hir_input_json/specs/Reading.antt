@@ -1,5 +1,6 @@
 -- What a form reads of a value.
-use Rattle.std.specs.Prelude.{ℕ, List, [], ◌++◌, codes, Option, Some, None}
+use Rattle.std.specs.Prelude.{ℕ, ◌==◌, List, [], ◌∷◌, ◌++◌, codes, if◌then◌else◌, Option, Some, None}
+use Rattle.std.specs.List.{flat_map}
 
 -- what a value is read as, or where in it the first value stands that is not of its form: a JSON Pointer (RFC 6901)
 pub data Reading (A : Type 0) : Type 0 where
@@ -21,9 +22,17 @@ abbrev pub here : {A : Type 0} → Option A → Reading A
 here (Some a) = right a
 here None = wrong []
 
--- the pointer of what stands behind a step: at a key, none of which is escaped since none holds a `~` or a `/`, or at the number of an item
+-- a byte of a key as a pointer has it: a `~` and a `/` are escaped
+abbrev pub pointer_byte : ℕ → List ℕ
+pointer_byte b = if b == 126 then codes "~0" else (if b == 47 then codes "~1" else b ∷ [])
+
+-- a key as a pointer has it
+abbrev pub pointer_step : List ℕ → List ℕ
+pointer_step key = flat_map pointer_byte key
+
+-- the pointer of what stands behind a step: at a key, or at the number of an item, in which nothing is escaped
 abbrev pub behind : (step pointer : List ℕ) → List ℕ
-behind step pointer = codes "/" ++ step ++ pointer
+behind step pointer = codes "/" ++ pointer_step step ++ pointer
 
 -- a reading of what stands behind a step
 abbrev pub under : {A : Type 0} → List ℕ → Reading A → Reading A

@@ -1,6 +1,6 @@
 //! Where a value of wrong form stands.
-ghost use Rattle.std.specs.Prelude.{◌≡◌, [], IfOk, decimal};
-ghost use Rattle.hir_input_json.specs.Reading.{behind};
+ghost use Rattle.std.specs.Prelude.{◌≡◌, ◌++◌, [], IfOk, OnOk, decimal, encode_utf8, string_bytes};
+ghost use Rattle.hir_input_json.specs.Reading.{behind, pointer_step};
 
 use std::alloc::{AllocError, Global};
 use std::marker::Model;
@@ -20,6 +20,28 @@ impl Model for Pointer {
     ghost view = { λ p. string_bytes p.text };
 }
 
+#[tactic(auto, using(crate::proofs::Pointers::char_stays, crate::proofs::Pointers::slash_step, crate::proofs::Pointers::tilde_step))]
+fn push_char(c: char, step: &mut String) -> Result<(), AllocError>
+    ensures { OnOk result (string_bytes step.new ≡ string_bytes step.old ++ pointer_step (encode_utf8 c)) }
+{
+    match c {
+        '~' => step.push_str("~0"),
+        '/' => step.push_str("~1"),
+        _ => step.push(c),
+    }
+}
+
+// A key as a pointer has it.
+fn step_of(alloc: Global, key: &str) -> Result<String, AllocError>
+    ensures { IfOk result (λ step. string_bytes step ≡ pointer_step key.now) }
+{
+    let mut step = String::new(alloc);
+    for c in key.chars() {
+        push_char(c, &mut step)?;
+    }
+    Ok(step)
+}
+
 impl Pointer {
     /// To the value itself. Takes no memory.
     pub fn new(alloc: Global) -> Pointer
@@ -30,7 +52,7 @@ impl Pointer {
         }
     }
 
-    /// To the same value, from the object that holds the other one at this key. No key of a form has to be escaped.
+    /// To the same value, from the object that holds the other one at this key, whatever key it is.
     ///
     /// # Errors
     ///
@@ -38,7 +60,8 @@ impl Pointer {
     pub fn in_member(self, alloc: Global, key: &str) -> Result<Pointer, AllocError>
         ensures { IfOk result (λ p. p ≡ behind key.now self) }
     {
-        let text = format!(in alloc; "/{key}{}", self.text)?;
+        let step = step_of(alloc, key)?;
+        let text = format!(in alloc; "/{step}{}", self.text)?;
         Ok(Pointer { text })
     }
 
@@ -47,6 +70,7 @@ impl Pointer {
     /// # Errors
     ///
     /// Only if memory runs out.
+    #[tactic(auto, using(crate::proofs::Pointers::digits_stay))]
     pub fn in_item(self, alloc: Global, place: usize) -> Result<Pointer, AllocError>
         ensures { IfOk result (λ p. p ≡ behind (decimal place) self) }
     {

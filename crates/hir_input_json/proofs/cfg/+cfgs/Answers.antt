@@ -1,5 +1,5 @@
 -- what is taken out nests less deep
-use Rattle.std.proofs.Common.{arith, codes, refl, sym}
+use Rattle.std.proofs.Common.{arith, codes, decimal, refl, sym}
 use Rattle.serde_json.specs.View.{view}
 use Rattle.hir_input_json.specs.Held.{held}
 use Rattle.hir_input_json.proofs.Inside.{depth_field, depth_get, field_before}
@@ -72,7 +72,7 @@ cfg_by-returns-in-None t c = grind (arith, field_without, cfg_views)
 
 pub cfgs_of-loop-item-preserved : goal.cfgs_of-loop-item-preserved
 cfgs_of-loop-item-preserved t c = (
-  read_next cfg_view cfg _ _ _ _ _ _ _ _ _ c.loop-item.invariant.0 c.in-Some.ensures.steps.0 c.cfg_of.ensures c.in_ok-read.ensures c.in_ok-push.ensures.items,
+  read_next cfg_view cfg _ _ _ _ _ _ _ (decimal c.len-place.result) _ c.loop-item.invariant.0 c.in-Some.ensures.steps.0 c.cfg_of.ensures c.in_ok-read.ensures c.in_ok-push.ensures.items,
   read_rest _ _ _ _ c.in-Some.ensures.steps.0 c.loop-item.invariant.1,
 )
 

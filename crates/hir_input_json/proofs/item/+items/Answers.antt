@@ -1,5 +1,5 @@
 -- each return by the forms of those inside
-use Rattle.std.proofs.Common.{arith}
+use Rattle.std.proofs.Common.{arith, decimal}
 use Rattle.hir_input.proofs.SyntaxViews.{item_views}
 use Rattle.hir_input_json.proofs.Held.{field_without}
 use Rattle.hir_input_json.proofs.Inside.{depth_found_in}
@@ -60,7 +60,7 @@ module_of-returns t c = grind (arith, field_without, depth_found_in, item_views)
 
 pub items_of-loop-item-preserved : goal.items_of-loop-item-preserved
 items_of-loop-item-preserved t c = (
-  read_next item_view item _ _ _ _ _ _ _ _ _ c.loop-item.invariant.0 c.in-Some.ensures.steps.0 c.item_of.ensures c.in_ok-read.ensures c.in_ok-push.ensures.items,
+  read_next item_view item _ _ _ _ _ _ _ (decimal c.len-place.result) _ c.loop-item.invariant.0 c.in-Some.ensures.steps.0 c.item_of.ensures c.in_ok-read.ensures c.in_ok-push.ensures.items,
   read_rest _ _ _ _ c.in-Some.ensures.steps.0 c.loop-item.invariant.1,
 )
 

@@ -1,5 +1,5 @@
 -- what is taken out nests less deep
-use Rattle.std.proofs.Common.{arith, codes, sym}
+use Rattle.std.proofs.Common.{arith, codes, decimal, sym}
 use Rattle.serde_json.specs.View.{view}
 use Rattle.hir_input_json.specs.Held.{held}
 use Rattle.hir_input_json.proofs.Inside.{depth_field}
@@ -37,7 +37,7 @@ unsafe_of-returns t c = grind (arith, meta_views)
 
 pub metas_of-loop-item-preserved : goal.metas_of-loop-item-preserved
 metas_of-loop-item-preserved t c = (
-  read_next meta_view meta _ _ _ _ _ _ _ _ _ c.loop-item.invariant.0 c.in-Some.ensures.steps.0 c.meta_of.ensures c.in_ok-read.ensures c.in_ok-push.ensures.items,
+  read_next meta_view meta _ _ _ _ _ _ _ (decimal c.len-place.result) _ c.loop-item.invariant.0 c.in-Some.ensures.steps.0 c.meta_of.ensures c.in_ok-read.ensures c.in_ok-push.ensures.items,
   read_rest _ _ _ _ c.in-Some.ensures.steps.0 c.loop-item.invariant.1,
 )
 
