@@ -1,5 +1,5 @@
 -- the loop as far as it has come
-use Rattle.std.proofs.Common.{ℕ, ◌≡◌, ◌∷◌, ◌++◌, [], List, Result, Ok, All, map, length, rules, sym, ap, ◌∙◌, subst}
+use Rattle.std.proofs.Common.{ℕ, ◌≡◌, ◌∷◌, ◌++◌, [], List, Result, Ok, All, map, length, decimal, rules, sym, ap, ◌∙◌, subst}
 use Rattle.std.proofs.lemmas.List.{map-id}
 use Rattle.std.proofs.lemmas.List.Elements.{All-push}
 use Rattle.serde_json.specs.Data.{Data}
@@ -31,6 +31,6 @@ pub loop-item-preserved : goal.loop-item-preserved
 loop-item-preserved c =
     let known : NamesCrate c.args.count c.in_ok-read.read = search rules in
     let pushed = c.in_ok-push.ensures.items in (
-      read_next_same (show c.args.count) _ _ _ _ _ _ _ _ _ c.loop-item.invariant.0 c.in-Some.ensures.steps.0 c.show_of.ensures.reads c.in_ok-read.ensures pushed,
+      read_next_same (show c.args.count) _ _ _ _ _ _ _ (decimal c.len-place.result) _ c.loop-item.invariant.0 c.in-Some.ensures.steps.0 c.show_of.ensures.reads c.in_ok-read.ensures pushed,
       subst (All (NamesCrate c.args.count)) (sym pushed) (All-push (NamesCrate c.args.count) _ _ c.loop-item.invariant.1 known),
     )
