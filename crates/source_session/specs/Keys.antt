@@ -1,7 +1,6 @@
 -- The keys that the objects of a line may have.
-use Rattle.std.specs.Prelude.{ℕ, Bool, ◌==◌, ◌||◌, if◌then◌else◌, List, [], ◌∷◌, codes, encode_utf8, Option, Some, None, is_none, option_and_then}
-use Rattle.std.specs.List.{flat_map, list_any}
-use Rattle.std.specs.Str.{bytes_eq, chars}
+use Rattle.std.specs.Prelude.{ℕ, Bool, ◌||◌, if◌then◌else◌, List, [], ◌∷◌, codes, bytes_eq, Option, Some, None, is_none, option_and_then}
+use Rattle.std.specs.List.{list_any}
 use Rattle.serde_json.specs.Data.{Data, Members, no_members, member}
 use Rattle.serde_json.specs.Find.{as_object}
 use Rattle.hir_input_json.specs.Reading.{Reading, right}
@@ -24,13 +23,6 @@ abbrev pub unknown_key : LineObject → Members → Option (List ℕ)
 unknown_key o no_members = None
 unknown_key o (member key d ms) = if is_none (unless_null d) || is_known o key then unknown_key o ms else Some key
 
--- a character of a key as a pointer has it
-abbrev pub pointer_char : ℕ → List ℕ
-pointer_char c = if c == 126 then codes "~0" else (if c == 47 then codes "~1" else encode_utf8 c)
-
-abbrev pub pointer_step : List ℕ → List ℕ
-pointer_step key = flat_map pointer_char (chars key)
-
 -- the members of an object have its keys alone
 abbrev pub only_known : LineObject → Data → Reading (Unit {0})
-only_known o d = by_first (option_and_then (unknown_key o) (as_object d)) (λ key. wrong_at (pointer_step key)) (right tt)
+only_known o d = by_first (option_and_then (unknown_key o) (as_object d)) (λ key. wrong_at key) (right tt)

@@ -1,5 +1,5 @@
 //! The keys that the objects of a line may have.
-ghost use Rattle.std.specs.Prelude.{◌≡◌, ◌++◌, IfOk, OnOk, is_none, option_map, string_bytes};
+ghost use Rattle.std.specs.Prelude.{◌≡◌, is_none, option_map};
 ghost use Rattle.serde_json.specs.View.{members_view, view};
 ghost use Rattle.hir_input_json.specs.Forms.{unless_null};
 ghost use Rattle.hir_input_json.specs.Held.{held};
@@ -9,7 +9,7 @@ ghost use Rattle.source_session.specs.Keys.{only_known};
 
 use hir_input_json::Fault;
 use serde_json::{Map, Value};
-use std::alloc::{AllocError, Global};
+use std::alloc::Global;
 
 /// An object of a line, each with keys of its own.
 #[derive(Clone, Copy)]
@@ -66,27 +66,6 @@ fn unknown_key(object: LineObject, members: &Map<String, Value>) -> Option<&str>
     None
 }
 
-fn push_char(c: char, step: &mut String) -> Result<(), AllocError>
-    ensures { OnOk result (string_bytes step.new ≡ string_bytes step.old ++ spec.pointer_char c) }
-{
-    match c {
-        '~' => step.push_str("~0"),
-        '/' => step.push_str("~1"),
-        _ => step.push(c),
-    }
-}
-
-// A key as a pointer has it.
-fn pointer_step(alloc: Global, key: &str) -> Result<String, AllocError>
-    ensures { IfOk result (λ step. string_bytes step ≡ spec.pointer_step key.now) }
-{
-    let mut step = String::new(alloc);
-    for c in key.chars() {
-        push_char(c, &mut step)?;
-    }
-    Ok(step)
-}
-
 /// Whether the members of an object have its keys alone.
 ///
 /// `WrongForm` comes only where one has another, and tells the first.
@@ -98,10 +77,7 @@ pub(crate) fn only_known(
     ensures { Reads (λ _. tt) result (only_known object (held members.now)) }
 {
     match unknown_key(object, members) {
-        Some(key) => {
-            let step = pointer_step(alloc, key)?;
-            Err(Fault::at(alloc, step.as_str()))
-        }
+        Some(key) => Err(Fault::at(alloc, key)),
         None => Ok(()),
     }
 }
