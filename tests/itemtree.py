@@ -224,7 +224,7 @@ def check_tags_kept(folder):
         wanted = sorted(['bad.rs', 'good.rs', 'tags', *left]), 'as before'
         tell(got == (status, '', said) and there == wanted, f'tags {words} {more}', (got, there), ((status, '', said), wanted))
 
-    unread = 'stream did not contain valid UTF-8\n'
+    unread = 'not UTF-8 at line 1, column 1\n'
     is_kept(['absent'], 2, 'itemtree: absent: No such file or directory (os error 2)\n'
             'itemtree: kept/tags: not written, because nothing could be read\n', [])
     is_kept(['kept/bad.rs'], 2, f'itemtree: kept/bad.rs: {unread}itemtree: kept/tags: not written, because nothing could be read\n', [])
@@ -269,6 +269,32 @@ def check_arguments(folder):
     tell(got[0] == 2 and got[2].count(f'/{name}.rs: No such file') == 2, 'long arguments', got)
 
 
+def check_not_text(folder):
+    """The first byte of a file that is not UTF-8 is told by its place."""
+    texts = {b'fn f() {}\nfn \xc3\xa4() { \xe4 }\n\xff': (2, 10), b'\xef\xbb\xbffn \xff': (1, 4), b'// a\r\n\r\n// \xf0\x9f\x98': (3, 4),
+             b'\xff\xfef\0n\0': (1, 1), b'a\xc0\x80': (1, 2), b'"\xed\xa0\x80"': (1, 2)}
+    for text, (line, column) in texts.items():
+        write_files(folder, {'odd.rs': text})
+        said = f'not UTF-8 at line {line}, column {column}\n'
+        for words, path, more in ((['outline', 'odd.rs'], 'odd.rs', {}), (['check', '-'], '-', {'input': text}), (['request', 'odd.rs'], 'odd.rs', {}),
+                                  (['changed', 'known.rs', 'odd.rs'], 'odd.rs', {}), (['changed', '--tree', '-', 'known.rs'], '-', {'input': text})):
+            got = run_program(words, folder, **more)
+            wanted = 2, '', f'itemtree: {path}: {said}'
+            tell(got == wanted, f'{words} of {text}', got, wanted)
+
+
+def read_all(shown):
+    """What is shown on a terminal, which is closed then."""
+    got = b''
+    try:
+        while more := os.read(shown, 4096):
+            got += more
+    except OSError:
+        pass
+    os.close(shown)
+    return got
+
+
 def check_progress(folder):
     """What takes longer than a second tells on a terminal how many files are done, and takes it away before it tells of anything else."""
     write_files(folder, {f'many/{at}.rs': b'fn f() {}' if at != 3 else b'\xff' for at in (1, 3, 4)})
@@ -282,16 +308,10 @@ def check_progress(folder):
             time.sleep(1.2 if is_slow else 0)
             file.write('fn f() {}')
         child.wait(60)
-        got = b''
-        try:
-            while more := os.read(shown, 4096):
-                got += more
-        except OSError:
-            pass
-        os.close(shown)
+        got = read_all(shown)
         count = '\r\x1b[K2 of 4 files\r\x1b[K' if is_slow else ''
         more = 'itemtree: /dev/null: written without what could not be read\r\n' if 'tags' in words else ''
-        wanted = f'{count}itemtree: many/3.rs: stream did not contain valid UTF-8\r\n{more}'
+        wanted = f'{count}itemtree: many/3.rs: not UTF-8 at line 1, column 1\r\n{more}'
         tell(got.decode() == wanted, f'progress of {words} on a terminal', repr(got), repr(wanted))
     os.remove(slow)
     got = run('itemtree tags -o /dev/null src', folder)
@@ -320,6 +340,7 @@ def main():
         check_tags_kept(folder)
         check_unwritten(folder)
         check_arguments(folder)
+        check_not_text(folder)
     print(f'itemtree: {passed} passed, {failed} failed')
     return failed > 0
 

@@ -121,7 +121,7 @@ fn active<'a>(alloc: Global) -> Arg<'a> {
 }
 
 fn edition<'a>(alloc: Global) -> Arg<'a> {
-    let help = "The edition, whose keywords are no names and are written as r#NAME";
+    let help = "The edition of the files: its keywords cannot be names, and are written as r#NAME";
     option(alloc, "edition", "YEAR", ArgAction::Set, help)
         .value_parser(YEARS.as_slice())
         .default_value("2024")

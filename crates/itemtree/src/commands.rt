@@ -286,6 +286,20 @@ fn finish(run: Run<'_>, matches: &ArgMatches<'_>) -> Result<u8, Failure> {
     }
 }
 
+/// The word after `--cfg` is none; a shell takes quotes away that stand in no others.
+fn no_cfg(alloc: Global, word: &str) -> Result<Failure, AllocError> {
+    let message = match word.split_once('=') {
+        Some((key, value)) if !key.trim().is_empty() => {
+            let value = value.trim_matches('"');
+            format!(in alloc;
+                "--cfg {word}: this is neither NAME nor KEY=\"VALUE\"; in a shell, write --cfg '{key}=\"{value}\"'"
+            )?
+        }
+        _ => format!(in alloc; "--cfg {word}: this is neither NAME nor KEY=\"VALUE\"")?,
+    };
+    Ok(Failure::Usage(message))
+}
+
 /// Does what a command line asks, and gives the status to end with.
 pub(crate) fn run_command(rt: &HostRuntime, matches: &ArgMatches<'_>) -> Result<u8, Failure> {
     let Some((name, inner)) = matches.subcommand() else {
@@ -296,12 +310,7 @@ pub(crate) fn run_command(rt: &HostRuntime, matches: &ArgMatches<'_>) -> Result<
     }
     let options = match read_options(rt.alloc(), inner)? {
         Ok(options) => options,
-        Err(word) => {
-            let message = format!(in rt.alloc();
-                "--cfg {word}: this is neither NAME nor KEY=\"VALUE\""
-            )?;
-            return Err(Failure::Usage(message));
-        }
+        Err(word) => return Err(no_cfg(rt.alloc(), word)?),
     };
     if let (Some(old), Some(new)) = (inner.get_str("old"), inner.get_str("new")) {
         return compare(rt, &options, inner, old, new);

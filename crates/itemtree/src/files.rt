@@ -1,11 +1,13 @@
 //! The files that a command line names, and the Rust files below folders.
 use clap::ArgMatches;
+use line_index::{LineIndex, Position};
 use path_glob::is_match;
 use std::alloc::{AllocError, Global};
 use std::fmt::Display;
-use std::io::{BufRead, BufReader};
+use std::io::{BufRead, BufReader, Read};
 use std::rt::Files;
 use std::{fs, io};
+use thiserror::Error;
 
 /// What stands for standard input.
 pub(crate) const STDIN: &str = "-";
@@ -241,11 +243,36 @@ pub(crate) fn is_a_folder(rt: &HostRuntime, path: &str) -> bool {
     path != STDIN && fs::metadata(rt, path).is_ok_and(|found| found.is_dir())
 }
 
+/// Why there is no text of a file.
+#[derive(Debug, Drop, Error)]
+pub(crate) enum ReadError {
+    #[error(transparent)]
+    Unread(#[from] io::Error),
+    /// Where the first byte stands that is not UTF-8.
+    #[error("not UTF-8 at line {line}, column {column}")]
+    NotText { line: usize, column: usize },
+}
+
+/// The error of bytes, of which so many at the beginning are UTF-8.
+fn not_text(bytes: &[u8], count: usize) -> ReadError {
+    let front = str::from_utf8(bytes.get(..count).unwrap_or(&[])).unwrap_or("");
+    let Position { line, column } = LineIndex::new(front).position(front.len());
+    ReadError::NotText { line, column }
+}
+
+fn read_bytes(rt: &HostRuntime, path: &str) -> io::Result<Vec<u8>> {
+    if path != STDIN {
+        return fs::read(rt, path);
+    }
+    let mut bytes = Vec::new(rt.alloc());
+    rt.stdin().read_to_end(&mut bytes)?;
+    Ok(bytes)
+}
+
 /// The text of a file, or of standard input.
-pub(crate) fn read(rt: &HostRuntime, path: &str) -> io::Result<String> {
-    if path == STDIN {
-        io::read_to_string(rt.alloc(), rt.stdin())
-    } else {
-        fs::read_to_string(rt, path)
+pub(crate) fn read(rt: &HostRuntime, path: &str) -> Result<String, ReadError> {
+    match String::from_utf8(read_bytes(rt, path)?) {
+        Ok(text) => Ok(text),
+        Err(error) => Err(not_text(error.as_bytes(), error.utf8_error().valid_up_to())),
     }
 }
