@@ -70,8 +70,45 @@ def refused(number, error, told=None):
     return written({'id': told, 'number': number, 'error': error})
 
 
+# What is expected where a pointer leads, by its last step, or by the one before where that is a place in a list.
+EXPECTED_LINE = {
+    'a list': 'crates skipped edits shows reserved cfg attrs stmts', 'an object': 'edition syntax', 'two byte places': 'range',
+    'a number below 2^32': 'file block root', 'a number below 2^64': 'start since', 'the number of a crate': 'crate', 'a string': 'text',
+    'a name or path': 'name', 'a kind of edit': 'edit', 'a kind of show': 'show', 'text or json': 'as', '2015, 2018, 2021 or 2024': 'year',
+    'a value without a float': 'id',
+}
+EXPECTED_SYNTAX = {
+    'a list': 'attrs items stmts metas list all any', 'a number below 2^16': 'hash', 'a number below 2^32': 'number',
+    'true or false': 'semicolon trait star', 'a string': 'body tokens rendered string', 'a name': 'name rename key', 'a path': 'path in',
+    'a visibility': 'vis', 'a condition': 'cfg not', 'a kind of item': 'is', 'a kind of meta': 'meta',
+}
+EXPECTED_IN = {
+    'an object without a float': 'edits shows', 'an object': 'crates attrs items metas list', 'a name': 'skipped reserved',
+    'a number below 2^64': 'range',
+}
+
+
+def expected(pointer, is_open):
+    """What an error tells of a pointer, with a session open or not."""
+    steps = pointer.split('/')[1:]
+    if not steps:
+        return 'an object'
+    known = {1: LINE_KEYS, 3: {'edits': EDIT_KEYS, 'shows': SHOW_KEYS}.get(steps[0])}.get(len(steps))
+    if known is not None and steps[-1] not in known:
+        return 'no such key'
+    if is_open and len(steps) == 1 and steps[0] in ('crates', 'skipped', 'edition', 'start'):
+        return 'nothing: the session is open'
+    table, key = ((EXPECTED_IN, steps[-2]) if steps[-1].isdigit() else (EXPECTED_LINE if len(steps) <= 3 else EXPECTED_SYNTAX, steps[-1]))
+    return next((words for words, keys in table.items() if key in keys.split()), 'another value')
+
+
+def not_request(number, pointer):
+    """The error for a value of wrong form."""
+    return {'expected': expected(pointer, number is not None), 'kind': 'not a request', 'pointer': pointer}
+
+
 def no_request(number, pointer, told=None):
-    return refused(number, {'kind': 'not a request', 'pointer': pointer}, told)
+    return refused(number, not_request(number, pointer), told)
 
 
 def not_changed(number, cause, place=0, told=None):
@@ -259,8 +296,17 @@ def wrong_name(value):
     return None if isinstance(value, str) and value and '\n' not in value else []
 
 
-def wrong_asked_name(value):
-    return wrong_name(value.removeprefix('r#') if isinstance(value, str) else value)
+def is_word(word):
+    """Whether a word is an identifier or a keyword, also behind `r#`. Python's identifiers are those of Rust."""
+    return word.removeprefix('r#').isidentifier()
+
+
+def wrong_asked_path(value):
+    """Names with two colons between each two, from the top on behind two more or `crate::`."""
+    if not isinstance(value, str):
+        return []
+    names = value[2:] if value.startswith('::') else value.removeprefix('crate::')
+    return None if all(map(is_word, names.split('::'))) else []
 
 
 def wrong_truth(value):
@@ -373,8 +419,8 @@ def wrong_show(value, crates):
     krate, file, block = ('crate', number_up_to(crates - 1), True), ('file', wrong_u32, True), ('block', wrong_u32, True)
     place = file if isinstance(value, dict) and value.get('file') is not None else block
     return wrong_kind(value, 'show', {
-        'page': [krate, place], 'tree': [krate, place], 'imports': [krate, place], 'changed': [('since', wrong_u64, True)],
-        'outline': [krate, file], 'import_places': [krate, file], 'problems': [file], 'find': [('name', wrong_asked_name, True)]})
+        **{kind: [krate, place, AS] for kind in ('page', 'tree', 'imports')}, 'changed': [('since', wrong_u64, True), AS],
+        'outline': [krate, file], 'import_places': [krate, file], 'problems': [file], 'find': [('name', wrong_asked_path, True)]})
 
 
 def wrong_crate(value):
@@ -397,6 +443,7 @@ PATHS = {'plain': [wrong_name], 'super': [wrong_u32], 'crate': [], 'abs': [], 'd
 CFGS = {'key': [('key', wrong_name, True), ('value', wrong_string, True)], 'all': [('all', list_of(wrong_cfg), True)],
         'any': [('any', list_of(wrong_cfg), True)], 'not': [('not', wrong_cfg, False)]}
 NAME, VIS, PATH, CTXT = ('name', wrong_name, False), ('vis', wrong_vis, False), ('path', wrong_path, False), ('ctxt', wrong_ctxt, False)
+AS = ('as', one_of('text', 'json'), False)
 ATTRS, ITEM_LIST, CFG = ('attrs', list_of(wrong_meta), False), ('items', list_of(wrong_item), False), ('cfg', wrong_cfg, False)
 METAS = {
     'path': [PATH, CTXT],
@@ -433,7 +480,7 @@ EDITS = {
 }
 LINE_KEYS = ['id', 'crates', 'skipped', 'edition', 'start', 'edits', 'shows']
 EDIT_KEYS = ['edit', 'file', 'block', 'crate', 'syntax', 'attrs', 'stmts', 'tail', 'cfg', 'text', 'range']
-SHOW_KEYS = ['show', 'crate', 'file', 'block', 'since', 'name']
+SHOW_KEYS = ['show', 'crate', 'file', 'block', 'since', 'as', 'name']
 
 
 # ---- errors
@@ -441,6 +488,7 @@ SHOW_KEYS = ['show', 'crate', 'file', 'block', 'since', 'name']
 FUNCTION = {'is': 'fn', 'name': 'f', 'hash': 48783}
 SET = {'edit': 'set_file', 'file': 1, 'syntax': {'root': 'source_file', 'items': [FUNCTION]}}
 PAGE = {'show': 'page', 'crate': 0, 'file': 1}
+REQUESTED = [PAGE, {**PAGE, 'show': 'tree'}, {**PAGE, 'show': 'imports'}, {'show': 'changed', 'since': 0}]
 PAGED = '// AstId: Fn[BE8F, 0]\npub(self) fn f;\n'
 FAR = {'edit': 'set_file', 'file': 1, 'syntax': {'root': 'source_file', 'items': [
     {'is': 'use', 'tree': {'path': ['super', 2**32 - 1], 'list': [{'path': ['super', 1, 'x']}]}}]}}
@@ -633,7 +681,11 @@ WRONG_SHOWS = [
     ({'show': 'problems'}, '/file'), ({'show': 'problems', 'file': -1}, '/file'), ({'show': 'problems', 'block': 0}, '/file'),
     ({'show': 'find'}, '/name'), ({'show': 'find', 'name': 1}, '/name'), ({'show': 'find', 'name': None}, '/name'),
     ({'show': 'find', 'name': ''}, '/name'), ({'show': 'find', 'name': 'a\nb'}, '/name'), ({'show': 'find', 'name': 'r#'}, '/name'),
-    ({'show': 'find', 'name': 'r#\n'}, '/name'),
+    *(({'show': 'find', 'name': name}, '/name') for name in (
+        'r#\n', 'a b', '"', '#f', 'r#r#f', 'R#f', '::', 'a::', 'crate::', '::crate::', 'a:b', 'a:::b', 'a::::b', ':::a', 'a::b c', 'a<b>',
+        'a::r#', '1', 'a-b', ' a', 'a ', '$crate::a')),
+    *(({**show, 'as': word}, '/as') for show in REQUESTED for word in ('', 'xml', 'JSON', 0, True, ['json'], {})),
+    ({'show': 'changed', 'since': '', 'as': ''}, '/since'), ({'show': 'tree', 'crate': 0, 'as': 0}, '/block'),
 ]
 # Values of right form, each form at least once in every way.
 GOOD_CFGS = [
@@ -685,7 +737,11 @@ GOOD_SHOWS = [
     PAGE, {'show': 'page', 'crate': 0, 'file': None, 'block': 0}, {'show': 'tree', 'crate': 0, 'file': 2**32 - 1, 'block': ''},
     {'show': 'imports', 'crate': 0, 'block': 2**32 - 1}, {'show': 'changed', 'since': LAST, 'crate': 9},
     {'show': 'outline', 'crate': 0, 'file': 0}, {'show': 'import_places', 'crate': 0, 'file': 0, 'block': -1},
-    {'show': 'problems', 'file': 0, 'crate': -1}, {'show': 'find', 'name': '"'}, {'show': 'find', 'name': 'r#r#'},
+    {'show': 'problems', 'file': 0, 'crate': -1}, {'show': 'outline', 'crate': 0, 'file': 0, 'as': 0},
+    *({**show, 'as': word} for show in REQUESTED for word in ('text', 'json', None)),
+    *({'show': 'find', 'name': name, 'as': ''} for name in (
+        'f', '_', 'é', 'r#fn', 'fn', 'a::b', '::a', '::a::r#b', 'crate', 'crate::a', 'r#crate::a', 'crate::crate', 'self::a',
+        'a::crate::b')),
 ]
 GOOD_OPENING = {
     'crates': [{'root': 0, 'noted': {}}, {'root': 2**32 - 1, 'cfg': ['a', {'key': 'a', 'value': ''}], 'attrs': GOOD_METAS},
@@ -915,6 +971,7 @@ def check_refused_edits(program):
 def check_errors(options):
     check_no_json(options.program)
     check_forms()
+    check_expected(options.program)
     check_wrong_forms(options.program)
     check_deep_forms(options.program)
     check_first_wrong_form(options.program)
@@ -1091,19 +1148,20 @@ def check_names(server, program, outlines, paths):
     for file, outline in enumerate(outlines):
         for item in all_items(outline):
             if item['name'] is not None:
-                wanted[item['name']].append({'crate': 0, 'file': file, 'id': item['id']})
+                at = {key: item[key] for key in ('column', 'line', 'range')}
+                wanted[item['name']].append(dict(sorted({**at, 'crate': 0, 'file': file, 'id': item['id']}.items())))
     for name, entries in sorted(wanted.items()):
         got = json.loads(server.ask({'shows': [{'show': 'find', 'name': name}]}))['shows'][0]
         tell([entry['file'] for entry in got] == [entry['file'] for entry in entries] and all(list(entry) == sorted(entry) for entry in got)
              and sorted(map(written, got)) == sorted(map(written, entries)), f'find {name}', got, entries)
         raw = json.loads(server.ask({'shows': [{'show': 'find', 'name': f'r#{name}'}]}))['shows'][0]
         tell(raw == got, f'find r#{name}', raw, got)
-    for name in ('r', '#f', 'r#r#f', 'R#f'):
-        got = json.loads(server.ask({'shows': [{'show': 'find', 'name': name}]}))['shows'][0]
-        tell(len(got) == len(wanted[name]), f'find {name}', got, wanted[name])
-    for name in ('f', 'area', 'Circle'):
-        lines = output(program, 'find', '--no-members', name, *paths).splitlines()
-        tell(len(lines) == len(wanted[name]), f'find {name}, and itemtree find', lines, wanted[name])
+    for path in ('f', 'area', 'Circle', '::f', 'crate::area', 'round::area', 'inner::area', '::round::inner::area', 'round::Circle',
+                 'r#type', 'tests::f', 'a::b', '::a'):
+        got = json.loads(server.ask({'shows': [{'show': 'find', 'name': path}]}))['shows'][0]
+        lines = output(program, 'find', '--no-members', path, *paths).splitlines()
+        places = [f'{paths[entry["file"]]}:{entry["line"]}:{entry["column"]}' for entry in got]
+        tell(sorted(line.split(': ')[0] for line in lines) == sorted(places), f'find {path}, and itemtree find', lines, places)
     got = server.ask({'shows': [{'show': 'find', 'name': 'nowhere'}]})
     tell(json.loads(got)['shows'] == [[]], 'find nowhere', got)
 
@@ -1129,7 +1187,8 @@ def check_found(program):
     text = {'edit': 'set_text', 'file': 10, 'text': 'struct g;\nfn f() {}'}
     block = {'edit': 'set_block', 'block': 3, 'stmts': [{'item': FUNCTION}]}
     asked = [{'show': 'find', 'name': 'f'}]
-    places = [{'file': 1}, {'file': 9}, {'file': 10}, {'block': 3}, {'block': 20}]
+    at = {'line': 2, 'column': 4, 'range': [10, 19]}
+    places = [{'file': 1}, {'file': 9}, {'file': 10, **at}, {'block': 3}, {'block': 20}]
     found = [[dict(sorted({**place, 'crate': krate, 'id': 'Fn[BE8F, 0]'}.items())) for krate in (0, 1)] for place in places]
     check_lines(program, 'find in many places', [
         ({'crates': [{'root': 0}, {'root': 1, 'cfg': ['test']}], 'edits': [{**block, 'block': 20}, text], 'shows': asked},
@@ -1139,6 +1198,110 @@ def check_found(program):
          answered(7, [found[0] + found[2] + found[3]] * 2)),
         ({'edits': [{**text, 'text': 'fn g() {}'}, {'edit': 'set_cfg', 'crate': 0, 'cfg': ['test']}], 'shows': asked},
          answered(9, [found[0] + found[3]]))])
+
+
+def check_found_paths(program):
+    """Paths are those of the modules around an item. What a text sets has its place in it."""
+    module = {'is': 'module', 'name': 'a', 'items': [FUNCTION, {'is': 'extern_block', 'items': [{**FUNCTION, 'name': 'g'}]}]}
+    edits = [{'edit': 'set_text', 'file': 0, 'text': 'mod a {\n    #[b] fn f() {}\n}'},
+             {'edit': 'set_text', 'file': 1, 'text': '/* é */ fn f() {}'},
+             {**SET, 'file': 2, 'syntax': {'root': 'source_file', 'items': [{'is': 'module', 'name': 'b', 'items': [module]}]}},
+             {'edit': 'set_text', 'file': 3, 'text': '\ufeffmod xa { fn f() {} }\r\nmod a;'},
+             {'edit': 'set_block', 'block': 1, 'stmts': [{'item': FUNCTION}]}]
+    f = [{'column': 13, 'crate': 0, 'file': 0, 'id': 'Fn[BE8F, 0]', 'line': 2, 'range': [12, 26]},
+         {'column': 12, 'crate': 0, 'file': 1, 'id': 'Fn[BE8F, 0]', 'line': 1, 'range': [9, 18]},
+         {'crate': 0, 'file': 2, 'id': 'Fn[BE8F, 0]'},
+         {'column': 13, 'crate': 0, 'file': 3, 'id': 'Fn[BE8F, 0]', 'line': 1, 'range': [12, 21]},
+         {'block': 1, 'crate': 0, 'id': 'Fn[BE8F, 0]'}]
+    wanted = {'f': f, 'r#f': f, '::f': [f[1], f[4]], 'crate::f': [f[1], f[4]], 'a::f': [f[0], f[2]], 'r#a::r#f': [f[0], f[2]],
+              '::a::f': [f[0]], 'crate::a::f': [f[0]], 'b::a::f': [f[2]], '::b::a::f': [f[2]], 'crate::r#b::a::f': [f[2]],
+              '::xa::f': [f[3]], 'xa::f': [f[3]],
+              'a::g': [{'crate': 0, 'file': 2, 'id': 'Fn[BE8F, 0]'}], '::g': [], 'b::f': [], 'c::b::a::f': [],
+              'crate::crate::f': [], 'a::a::f': [], 'f::f': []}
+    check_lines(program, 'find by paths', [
+        ({**OPENED, 'edits': edits, 'shows': [{'show': 'find', 'name': name} for name in wanted]}, answered(5, list(wanted.values()))),
+        ({'edits': [{**edits[0], 'text': 'mod b { mod a { fn f() {} } }'}, {**edits[2], 'file': 1}],
+          'shows': [{'show': 'find', 'name': name} for name in ('a::f', '::a::f', '::b::a::f')]},
+         answered(7, [[{**f[0], 'column': 20, 'line': 1, 'range': [16, 25]}, {**f[2], 'file': 1}, f[2]], [],
+                      [{**f[0], 'column': 20, 'line': 1, 'range': [16, 25]}, {**f[2], 'file': 1}, f[2]]]))])
+
+
+def check_values(program):
+    """What is shown as JSON values, beside its texts."""
+    text = {'edit': 'set_text', 'file': 1, 'text': 'use a::{b, c as d};\n/// e\npub fn f() {}'}
+    star = {'is': 'use', 'tree': {'path': ['plain', 'a'], 'star': True}}
+    block = {'edit': 'set_block', 'block': 2, 'stmts': [{'item': FUNCTION}, {'item': star}]}
+    function = {'active': True, 'children': [], 'column': None, 'id': 'Fn[BE8F, 0]', 'kind': 'fn', 'line': None, 'name': 'f', 'path': None,
+                'range': None, 'visibility': None}
+    used = {**function, 'id': 'Use[0000, 0]', 'kind': 'use', 'name': None, 'path': 'a::*'}
+    items = [{**used, 'column': 1, 'line': 1, 'path': 'a::{..}', 'range': [0, 19]},
+             {**function, 'column': 8, 'line': 3, 'range': [20, 39], 'visibility': 'pub'}]
+    imports = [{'alias': None, 'column': 9, 'kind': 'plain', 'line': 1, 'path': 'a::b'},
+               {'alias': 'd', 'column': 12, 'kind': 'plain', 'line': 1, 'path': 'a::c'}]
+    globbed = [{'alias': None, 'column': None, 'kind': 'glob', 'line': None, 'path': 'a'}]
+    file, other = {'crate': 0, 'file': 1}, {'crate': 0, 'block': 2}
+    changes = [{'change': 2, 'crate': 0, 'file': 0}, {'change': 3, 'crate': 0, 'file': 1}, {'block': 2, 'change': 1, 'crate': 0}]
+    lines = ['crate 0 file 0 change 2\n', 'crate 0 file 1 change 3\n', 'crate 0 block 2 change 1\n']
+    with Server(program) as server:
+        server.ask({**OPENED, 'edits': [block, {**SET, 'file': 0}, text]})
+        got = json.loads(server.ask({'shows': [{'show': 'outline', **file}]}))['shows'][0]
+        items = [{**item, 'id': told['id']} for item, told in zip(items, got)]
+        for asked, by_text, by_values in (
+                ({'show': 'changed', 'since': 0}, ''.join(lines), changes),
+                ({'show': 'changed', 'since': 1}, ''.join(lines[:2]), changes[:2]),
+                ({'show': 'changed', 'since': 3}, '', []),
+                ({'show': 'imports', **file}, None, imports), ({'show': 'imports', **other}, 'Use[0000, 0]\n0 a glob\n', globbed),
+                ({'show': 'imports', 'crate': 0, 'file': 9}, '', []),
+                ({'show': 'tree', **file}, None, {'change': 3, 'crate': 0, 'file': 1, 'items': items}),
+                ({'show': 'tree', **other}, None, {'block': 2, 'change': 1, 'crate': 0, 'items': [function, used]}),
+                ({'show': 'tree', 'crate': 0, 'file': 9}, 'crate 0 file 9 change 0\n\n', {'change': 0, 'crate': 0, 'file': 9, 'items': []}),
+                ({'show': 'page', 'crate': 0, 'file': 0}, PAGED, PAGED)):
+            shows = [asked, {**asked, 'as': None}, {**asked, 'as': 'text'}, {**asked, 'as': 'json'}]
+            got = server.ask({'shows': shows})
+            text = json.loads(got)['shows'][0] if by_text is None else by_text
+            wanted = answered(3, [text, text, text, by_values])
+            tell(got == wanted and isinstance(text, str), f'the values of {asked}', got, wanted)
+        ends_well(server, 'values')
+
+
+# What is expected where a value is of wrong form, by hand: on a first line, and on a later one where that differs.
+EXPECTED = [
+    (b'[]', '', 'an object'), ({'id': 0.5}, '/id', 'a value without a float'), ({'crates': 1}, '/crates', 'a list'),
+    ({'crates': [1]}, '/crates/0', 'an object'), ({'crates': [{}]}, '/crates/0/root', 'a number below 2^32'),
+    ({'crates': [{'root': 0, 'cfg': 0}]}, '/crates/0/cfg', 'a list'), ({'skipped': ['']}, '/skipped/0', 'a name'),
+    ({'edition': 1}, '/edition', 'an object'), ({'edition': {'year': 1}}, '/edition/year', '2015, 2018, 2021 or 2024'),
+    ({'edition': {'reserved': [0]}}, '/edition/reserved/0', 'a name'), ({'start': -1}, '/start', 'a number below 2^64'),
+    ({'edit': []}, '/edit', 'no such key'), ({'5': []}, '/5', 'no such key'), ({'edits': {}}, '/edits', 'a list'),
+    ({'shows': 1}, '/shows', 'a list'), ({'edits': [0.5]}, '/edits/0', 'an object without a float'),
+    ({'edits': [{'edit': 'x'}]}, '/edits/0/edit', 'a kind of edit'), ({'edits': [{'shows': 0}]}, '/edits/0/shows', 'no such key'),
+    ({'edits': [{'edit': 'set_text', 'file': 'a'}]}, '/edits/0/file', 'a number below 2^32'),
+    ({'edits': [{'edit': 'set_text', 'file': 0, 'text': 1}]}, '/edits/0/text', 'a string'),
+    ({'edits': [{'edit': 'change_text', 'file': 0, 'range': [0]}]}, '/edits/0/range', 'two byte places'),
+    ({'edits': [{'edit': 'change_text', 'file': 0, 'range': [0, 'a']}]}, '/edits/0/range/1', 'a number below 2^64'),
+    ({'edits': [{'edit': 'set_cfg', 'crate': 9}]}, '/edits/0/crate', 'the number of a crate'),
+    ({'edits': [{'edit': 'set_file', 'file': 0}]}, '/edits/0/syntax', 'an object'),
+    ({'edits': [file_of({})]}, '/edits/0/syntax/items/0/is', 'a kind of item'),
+    ({'edits': [file_of({'is': 'fn', 'hash': -1})]}, '/edits/0/syntax/items/0/hash', 'a number below 2^16'),
+    ({'edits': [file_of({'is': 'fn', 'name': ''})]}, '/edits/0/syntax/items/0/name', 'a name'),
+    ({'edits': [file_of({'is': 'struct', 'fields': 1})]}, '/edits/0/syntax/items/0/fields', 'another value'),
+    ({'edits': [file_of(0)]}, '/edits/0/syntax/items/0', 'an object'), ({'shows': [{'show': 'x'}]}, '/shows/0/show', 'a kind of show'),
+    ({'shows': [{'show': 'find', 'name': 'a b'}]}, '/shows/0/name', 'a name or path'),
+    ({'shows': [{'show': 'changed', 'since': -1}]}, '/shows/0/since', 'a number below 2^64'),
+    ({'shows': [{'show': 'changed', 'since': 0, 'as': 0}]}, '/shows/0/as', 'text or json'),
+    ({'shows': [{'show': 'page', 'nam': 0}]}, '/shows/0/nam', 'no such key'),
+]
+
+
+def check_expected(program):
+    """An error tells what was expected."""
+    for opening in ([], [({}, answered(0, []))]):
+        lines, number = list(opening), 0 if opening else None
+        for line, pointer, words in EXPECTED:
+            top = pointer.split('/')[1:2]
+            if opening and top and top[0] in ('crates', 'skipped', 'edition', 'start'):
+                pointer, words = f'/{top[0]}', 'nothing: the session is open'
+            lines.append((line, refused(number, {'expected': words, 'kind': 'not a request', 'pointer': pointer})))
+        check_lines(program, 'what is expected', lines)
 
 
 def check_forgotten(server, request, outlines):
@@ -1204,6 +1367,8 @@ def check_skipped(program):
 def check_places(options):
     program, found = options.program, texts()
     check_found(program)
+    check_found_paths(program)
+    check_values(program)
     check_editions(program)
     check_skipped(program)
     with tempfile.TemporaryDirectory() as folder:
@@ -1401,7 +1566,8 @@ class Random:
     def show(self):
         chance = self.chance
         if not self.crates or chance.random() < 0.3:
-            return {'show': 'changed', 'since': min(LAST, max(0, self.number() - chance.randrange(-1, 5)))}
+            since = min(LAST, max(0, self.number() - chance.randrange(-1, 5)))
+            return {'show': 'changed', 'since': since, 'as': chance.choice([None, 'json'])}
         place = {'file': chance.randrange(5)} if chance.random() < 0.8 else {'block': chance.randrange(3)}
         return {'show': chance.choice(['page', 'tree', 'tree', 'imports']), 'crate': chance.randrange(len(self.crates)), **place}
 
@@ -1452,7 +1618,16 @@ def tool_texts(tool, case, shows):
     want(done.returncode == 0, f'{tool}: status {done.returncode}', done.stderr)
     text = done.stdout.decode()
     # Without crates nothing changes.
-    return text.split(mark)[:-1] if case.crates else [text] * len(shows)
+    return [as_asked(show, text) for show, text in zip(shows, text.split(mark)[:-1] if case.crates else [text] * len(shows))]
+
+
+def as_asked(show, text):
+    """The text of a show, or the values that it tells of if these are asked for."""
+    if show.get('as') != 'json':
+        return text
+    told = (line.split(' ') for line in text.splitlines())
+    return [dict(sorted({'crate': int(krate), place: int(number), 'change': int(change)}.items()))
+            for _, krate, place, number, _, change in told]
 
 
 def try_wrong_line(server, case, is_first):
@@ -1462,7 +1637,7 @@ def try_wrong_line(server, case, is_first):
     number = None if is_first else case.number()
     wanted = refused(number, {'column': error.get('column'), 'kind': kind} if kind == 'not JSON' else
                      {'cause': 'no text', 'kind': kind, 'place': pointer} if kind == 'text not changed' else
-                     {'kind': kind, 'pointer': pointer})
+                     not_request(number, pointer))
     want(got == wanted, 'a line of wrong form', line if isinstance(line, bytes) else written(line), got, wanted)
 
 
@@ -1496,7 +1671,9 @@ def try_at_once(server, program, case):
     places = [{'file': file} for file in range(4)]
     shows = [{'show': kind, 'crate': krate, **place} for krate in range(len(case.crates)) for place in places
              for kind in ('outline', 'import_places', 'tree')]
-    shows += [{'show': 'problems', **place} for place in places] + [{'show': 'find', 'name': name} for name in NAMES]
+    shows += [{**show, 'as': 'json'} for show in shows if show['show'] == 'tree']
+    shows += [{'show': 'problems', **place} for place in places]
+    shows += [{'show': 'find', 'name': path} for name in NAMES for path in (name, f'::{name}', f'a::{name}', f'crate::f::{name}')]
     got = server.ask({'shows': shows})
     with Server(program) as other:
         wanted = other.ask({**case.opening, 'edits': case.sent, 'shows': shows})

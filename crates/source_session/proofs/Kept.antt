@@ -6,8 +6,17 @@ use Rattle.std.specs.Option.{unwrap_or}
 use Rattle.item_tree_db.specs.History.{last_some}
 use Rattle.item_tree_db.proofs.Histories.{last_append, or_else}
 use Rattle.source_session.specs.declared.texts.SourceText.{SourceText}
-use Rattle.source_session.specs.Inner.{HasSlot, HasSlotFor}
-use Rattle.source_session.specs.Texts.{Texts, FileTexts, Change, text_in, leaves, text_after}
+use Rattle.item_tree_db.specs.declared.place.Place.{Place}
+use Rattle.item_tree_db.specs.declared.place.Place.TheVariants.{File, Block}
+use Rattle.source_session.specs.Inner.{HasSlot, HasSlotFor, IsPlaced}
+use Rattle.source_session.specs.Texts.{Texts, FileTexts, Change, text_at, text_in, leaves, text_after}
+
+-- ---- places
+
+-- the text of a place has items with different ids, as that of each file has
+pub placed_at : (texts : Texts) → ((file : ℕ) → IsPlaced (text_in texts file)) → (place : Place) → IsPlaced (text_at texts place)
+placed_at texts placed (File file) = placed file.0
+placed_at texts placed (Block block) = tt
 
 -- ---- room
 

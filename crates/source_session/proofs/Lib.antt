@@ -1,4 +1,6 @@
 pub mod Readings
+pub mod Pieces
+pub mod Paths
 pub mod Kept
 pub mod Ranges
 pub mod Spliced

@@ -2,34 +2,35 @@
 use Rattle.std.proofs.Common.{◌≡◌, ℕ, ◌+◌, ◌<◌, suc, true, false, ◌||◌, List, [], ◌∷◌, ◌++◌, Option, Some, None, All, Result, Ok, Err, IfOk, length, map, filter, take, get_or, refl, sym, ap, subst, ◌∙◌, arith}
 use Rattle.std.proofs.lemmas.List.{take_more}
 use Rattle.std.specs.List.{AllByRecursion, AllZip}
-use Rattle.std.specs.Option.{option_map_or}
-use Rattle.serde_json.specs.Data.{Data, string, null}
+use Rattle.serde_json.specs.Data.{Data}
 use Rattle.serde_json.specs.View.{items_of}
 use Rattle.serde_json.specs.Written.{has_float, items_have_float}
 use Rattle.hir_input.specs.declared.ids.Crate.{Crate}
 use Rattle.hir_input.specs.declared.ids.HirFileId.{HirFileId}
-use Rattle.hir_input.specs.Id.{shown_id}
-use Rattle.item_tree.specs.Layout.{node_at}
-use Rattle.item_tree.specs.Node.{Node, node_ast}
+use Rattle.hir_input.specs.declared.ids.FileAstId.{FileAstId}
 use Rattle.item_tree_db.specs.declared.edit.Edit.{Edit}
 use Rattle.item_tree_db.specs.declared.edit.Edit.TheVariants.{SetFile, RemoveFile, SetBlock, RemoveBlock, SetCfg}
 use Rattle.item_tree_db.specs.declared.place.Place.{Place}
 use Rattle.item_tree_db.specs.declared.place.Place.TheVariants.{File, Block}
 use Rattle.item_tree_db.specs.Edits.{edit_view}
 use Rattle.item_tree_db.specs.Refusal.{NamesKnown}
-use Rattle.item_tree_db.specs.State.{State, unfolding_at}
+use Rattle.item_tree_db.specs.Since.{Change}
+use Rattle.item_tree_db.specs.State.{State, change_number}
 use Rattle.item_tree_request.specs.declared.request.show.Show.{Show}
 use Rattle.item_tree_request.specs.declared.request.show.Show.TheVariants.{OfTree, Changed}
 use Rattle.item_tree_request.specs.Named as request
 use Rattle.item_tree_request.specs.Outputs.{Knows}
 use Rattle.decl_index.specs.declared.entry.Entry.{Entry}
-use Rattle.source_session.specs.Inner.{AreUnfloating, Knowing}
-use Rattle.decl_index.specs.Lookup.{has_name}
+use Rattle.rust_items.specs.declared.source_file.ItemPlace.{ItemPlace}
 use Rattle.source_listing.specs.Outlines.{reading}
 use Rattle.source_listing.proofs.NoFloats.{no_float_in_outline, no_float_in_imports, no_float_in_problems}
+use Rattle.source_session.specs.Found.{ast_of, found_form, found_in, id_form, in_file, place_in, IsFound}
+use Rattle.source_session.specs.Inner.{AreUnfloating, Knowing}
 use Rattle.source_session.specs.Sessions.{Session}
-use Rattle.source_session.specs.Shown.{text_bytes, text_places, all_places, text_problems, tree_of, all_items, pathless, outline_form, imports_form, problems_form, id_form, found_in, found_form, IsFound}
-use Rattle.source_session.specs.Texts.{text_in}
+use Rattle.source_session.specs.Shown.{all_items, change_form, change_with, imports_form, item_objects, items_member, outline_form, pathless, problems_form, tree_form, tree_of, AreChanges}
+use Rattle.source_session.specs.Sought.{SoughtItem, is_sought}
+use Rattle.source_session.specs.SourceTexts.{text_bytes, text_places, all_places, text_problems}
+use Rattle.source_session.specs.Texts.{Texts, text_at, text_in}
 
 -- ---- crates
 
@@ -50,20 +51,34 @@ edits_known count table known (e ∷ es) named = (edit_known count table known e
 
 -- ---- floats
 
-no_float_or_null : (o : Option Node) → has_float (option_map_or (λ n. string (shown_id (node_ast n))) o null) ≡ false
-no_float_or_null None = refl
-no_float_or_null (Some n) = refl
+no_float_id : (id : Option FileAstId) → has_float (id_form id) ≡ false
+no_float_id None = refl
+no_float_id (Some id) = refl
 
-no_float_id : (s : State) (e : Entry) → has_float (id_form s e) ≡ false
-no_float_id s e = no_float_or_null (node_at (unfolding_at s e.place e.krate.0).forest e.id)
+no_float_in_file : (file : HirFileId) (krate : Crate) (id : Data) (text : List ℕ) (place : Option ItemPlace) → has_float id ≡ false → has_float (in_file file krate id text place) ≡ false
+no_float_in_file file krate id text None h = ap (λ b. b || false) h
+no_float_in_file file krate id text (Some place) h = ap (λ b. b || false) h
 
-no_float_found : (place : Place) (s : State) (e : Entry) → has_float (found_in place e.krate (id_form s e)) ≡ false
-no_float_found (File file) s e = ap (λ b. b || false) (no_float_id s e)
-no_float_found (Block block) s e = ap (λ b. b || false) (no_float_id s e)
+no_float_found : (texts : Texts) (place : Place) (krate : Crate) (id : Option FileAstId) → has_float (found_in texts place krate id) ≡ false
+no_float_found texts (File file) krate id = let t = text_in texts file.0 in no_float_in_file file krate (id_form id) (text_bytes t) (place_in t id) (no_float_id id)
+no_float_found texts (Block block) krate id = ap (λ b. b || false) (no_float_id id)
 
-pub no_float_in_found : (s : State) (entries : List Entry) → AreUnfloating (map (found_form s) entries)
-no_float_in_found s [] = refl
-no_float_in_found s (e ∷ es) = rw (no_float_found e.place s e, no_float_in_found s es) refl
+pub no_float_in_found : (s : State) (texts : Texts) (entries : List Entry) → AreUnfloating (map (found_form s texts) entries)
+no_float_in_found s texts [] = refl
+no_float_in_found s texts (e ∷ es) = rw (no_float_found texts e.place e.krate (ast_of s e), no_float_in_found s texts es) refl
+
+-- a change holds none beside what its items hold
+no_float_change : (items : List Data) (c : Change) → AreUnfloating items → has_float (change_with (items_member items) c) ≡ false
+no_float_change items (File file, krate, n) h = ap (λ b. b || false) h
+no_float_change items (Block block, krate, n) h = ap (λ b. b || false) h
+
+no_float_change_form : (c : Change) → has_float (change_form c) ≡ false
+no_float_change_form (File file, krate, n) = refl
+no_float_change_form (Block block, krate, n) = refl
+
+no_float_in_changes : (changes : List Change) → AreUnfloating (map change_form changes)
+no_float_in_changes [] = refl
+no_float_in_changes (c ∷ cs) = rw (no_float_change_form c, no_float_in_changes cs) refl
 
 -- ---- shows
 
@@ -72,19 +87,28 @@ pub if_ok : {A E : Type 0} (P Q : A → Type 0) (r : Result A E) → ((a : A) �
 if_ok P Q (Ok a) more h = more a h
 if_ok P Q (Err e) more h = tt
 
-pub no_float_outline : (u : Session) (krate : Crate) (file : HirFileId) → has_float (outline_form u krate file) ≡ false
-no_float_outline u krate file =
-    let t = text_in u.texts file.0 in
-    let s = pathless (text_bytes t) in no_float_in_outline s (reading s u.edition.0 None) u.edition.1 (text_places t) all_items (tree_of u krate file)
+no_float_items : (u : Session) (krate : Crate) (place : Place) → AreUnfloating (item_objects u krate place)
+no_float_items u krate place =
+    let t = text_at u.texts place in
+    let s = pathless (text_bytes t) in no_float_in_outline s (reading s u.edition.0 None) u.edition.1 (text_places t) all_items (tree_of u krate place)
 
-pub no_float_imports : (u : Session) (krate : Crate) (file : HirFileId) → has_float (imports_form u krate file) ≡ false
-no_float_imports u krate file = let t = text_in u.texts file.0 in no_float_in_imports (text_bytes t) u.edition.1 (all_places t) (tree_of u krate file).forest
+pub no_float_outline : (u : Session) (krate : Crate) (file : HirFileId) → has_float (outline_form u krate file) ≡ false
+no_float_outline u krate file = no_float_items u krate (File file)
+
+pub no_float_tree : (u : Session) (krate : Crate) (place : Place) → has_float (tree_form u krate place) ≡ false
+no_float_tree u krate place = no_float_change (item_objects u krate place) (place, krate, change_number u.table place krate.0) (no_float_items u krate place)
+
+pub no_float_imports : (u : Session) (krate : Crate) (place : Place) → has_float (imports_form u krate place) ≡ false
+no_float_imports u krate place = let t = text_at u.texts place in no_float_in_imports (text_bytes t) u.edition.1 (all_places t) (tree_of u krate place).forest
+
+pub no_float_changes : (s : State) (since : ℕ) (d : Data) → AreChanges s since d → has_float d ≡ false
+no_float_changes s since d h = ap has_float h.2 ∙ no_float_in_changes h.0
 
 pub no_float_problems : (u : Session) (file : HirFileId) → has_float (problems_form u file) ≡ false
 no_float_problems u file = let t = text_in u.texts file.0 in no_float_in_problems (text_bytes t) (text_problems t)
 
-pub no_float_found_value : (s : State) (name : List ℕ) (d : Data) → IsFound s name d → has_float d ≡ false
-no_float_found_value s name d h = ap has_float h.2 ∙ no_float_in_found s (filter (has_name name) h.0)
+pub no_float_found_value : (s : State) (texts : Texts) (q : SoughtItem) (d : Data) → IsFound s texts q d → has_float d ≡ false
+no_float_found_value s texts q d h = ap has_float h.2 ∙ no_float_in_found s texts (filter (is_sought s q) h.0)
 
 -- ---- one value more
 

@@ -1,5 +1,5 @@
 -- The objects of errors.
-use Rattle.std.specs.Prelude.{ℕ, List, codes}
+use Rattle.std.specs.Prelude.{ℕ, Bool, List, codes}
 use Rattle.serde_json.specs.Data.{Data, string, object, no_members, member}
 use Rattle.hir_input_json.specs.declared.fault.Fault.{Fault}
 use Rattle.hir_input_json.specs.declared.fault.Fault.TheVariants.{WrongForm}
@@ -8,6 +8,7 @@ use Rattle.item_tree.specs.declared.fault.EditFault.{EditFault}
 use Rattle.item_tree.specs.declared.fault.EditFault.TheVariants.{TooManyEdits, Lower}
 use Rattle.item_tree.specs.declared.fault.LowerError.TheVariants as lowering
 use Rattle.source_listing.specs.Objects.{count_form}
+use Rattle.source_session.specs.Expected.{expected}
 use Rattle.source_session.specs.declared.error.LineError.{LineError}
 use Rattle.source_session.specs.declared.splice.ChangeFault.{ChangeFault}
 use Rattle.source_session.specs.declared.splice.ChangeFault.TheVariants as change
@@ -39,11 +40,11 @@ abbrev pub line_error : Fault → LineError
 line_error (WrongForm pointer) = NotRequest pointer
 line_error fault.OutOfMemory = OutOfMemory
 
--- the object of an error; its members are in the order of their keys
-abbrev pub error_form : LineError → Data
-error_form (NotJson column) = object (member (codes "column") (count_form column) (member (codes "kind") (string (codes "not JSON")) no_members))
-error_form (NotRequest pointer) = object (member (codes "kind") (string (codes "not a request")) (member (codes "pointer") (string pointer) no_members))
-error_form (NotChanged place cause) = object (member (codes "cause") (string (fault_text cause)) (member (codes "kind") (string (codes "text not changed")) (member (codes "place") (count_form place) no_members)))
-error_form (Refused place cause) = object (member (codes "cause") (string (cause_text cause)) (member (codes "kind") (string (codes "edit refused")) (member (codes "place") (count_form place) no_members)))
-error_form TooLong = kind_form (codes "line too long")
-error_form OutOfMemory = kind_form (codes "out of memory")
+-- the object of an error, with a session open or not; its members are in the order of their keys
+abbrev pub error_form : Bool → LineError → Data
+error_form is_open (NotJson column) = object (member (codes "column") (count_form column) (member (codes "kind") (string (codes "not JSON")) no_members))
+error_form is_open (NotRequest pointer) = object (member (codes "expected") (string (expected is_open pointer)) (member (codes "kind") (string (codes "not a request")) (member (codes "pointer") (string pointer) no_members)))
+error_form is_open (NotChanged place cause) = object (member (codes "cause") (string (fault_text cause)) (member (codes "kind") (string (codes "text not changed")) (member (codes "place") (count_form place) no_members)))
+error_form is_open (Refused place cause) = object (member (codes "cause") (string (cause_text cause)) (member (codes "kind") (string (codes "edit refused")) (member (codes "place") (count_form place) no_members)))
+error_form is_open TooLong = kind_form (codes "line too long")
+error_form is_open OutOfMemory = kind_form (codes "out of memory")

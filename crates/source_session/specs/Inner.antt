@@ -1,25 +1,30 @@
 -- Words that private contracts alone cite.
-use Rattle.std.specs.Prelude.{◌≡◌, ℕ, ◌<◌, ◌^◌, false, List, length, map, Option, Some, None, IsSome, IfSome, Result, Ok, Err, IfOk}
+use Rattle.std.specs.Prelude.{◌≡◌, ℕ, ◌<◌, ◌^◌, false, if◌then◌else◌, List, [], ◌∷◌, length, map, Option, Some, None, IsSome, IfSome, Result, Ok, Err, IfOk}
 use Rattle.std.specs.declared.alloc.Global.{Global}
 use Rattle.std.specs.declared.vec.Vec.{Vec}
 use Rattle.serde_json.specs.declared.value.Value.{Value}
 use Rattle.serde_json.specs.Data.{Data}
 use Rattle.serde_json.specs.View.{items_of, view}
 use Rattle.serde_json.specs.Written.{items_have_float}
-use Rattle.hir_input.specs.declared.edition.EditionYear.{EditionYear}
 use Rattle.hir_input_json.specs.Editions.{EditionView}
 use Rattle.item_tree_db.specs.State.{State}
 use Rattle.source_listing.specs.Places.{AreDistinct}
+use Rattle.def_collector.specs.declared.collector.Declaration as code
+use Rattle.decl_index.specs.declared.entry.Entry.{Entry}
 use Rattle.decl_index.specs.Entries.{IndexView, IsBehind}
 use Rattle.source_session.specs.declared.error.LineError.{LineError}
 use Rattle.source_session.specs.declared.error.LineError.TheVariants.{NotJson, NotRequest, NotChanged, Refused, TooLong, OutOfMemory}
 use Rattle.source_session.specs.declared.splice.ChangeFault.{ChangeFault}
 use Rattle.source_session.specs.Edits.{LineEdit}
+use Rattle.source_session.specs.declared.expected.Steps as code_steps
+use Rattle.source_session.specs.Expected.{Steps}
+use Rattle.source_session.specs.Found.{found_form}
+use Rattle.source_session.specs.Sought.{SoughtItem, is_at, path_of}
 use Rattle.source_session.specs.declared.texts.SourceText.{SourceText}
 use Rattle.source_session.specs.declared.reply.Reply as reply
 use Rattle.source_session.specs.Replies.{Outcome, Reply}
 use Rattle.source_session.specs.Sessions.{Session}
-use Rattle.source_session.specs.Texts.{Texts, Change, FileTexts, slot_in, text_in, Fails, FailsAt}
+use Rattle.source_session.specs.Texts.{Texts, Change, FileTexts, slot_in, text_in, Fails}
 
 -- something is kept for a file
 abbrev pub HasSlot : Texts → ℕ → Type 0
@@ -69,6 +74,18 @@ pub record AreTogether (count : ℕ) (table : State) (texts : Texts) (index : In
   pub known : Knowing count table
   pub behind : IsBehind index table
   pub placed : (file : ℕ) → IsPlaced (text_in texts file)
+
+-- the id of a declared item, and the names of the modules around it
+abbrev pub declared_scope : code.Declaration → ℕ × List (List ℕ)
+declared_scope d = (d.id, map (λ name. name.now) d.path.items)
+
+-- the object of an entry, if its item has the path that is looked for
+abbrev pub found_one : State → Texts → SoughtItem → Entry → List Data
+found_one s texts q e = if is_at q.path (path_of s e) then found_form s texts e ∷ [] else []
+
+-- the steps of a pointer as data
+abbrev pub steps_view : code_steps.Steps → Steps
+steps_view s = record { count = s.count; list = s.list.now; before = s.before.now; last = s.last.now }
 
 -- no value of a list holds a float
 abbrev pub AreUnfloating : List Data → Type 0

@@ -1,10 +1,15 @@
 pub mod Keys
 pub mod Edits
+pub mod Parts
+pub mod Sought
 pub mod Shows
 pub mod Lines
+pub mod Expected
 pub mod Errors
 pub mod Texts
 pub mod Sessions
+pub mod SourceTexts
+pub mod Found
 pub mod Shown
 pub mod Replies
 pub mod Histories

@@ -1,5 +1,5 @@
 -- What a line is answered with, and what it leaves of a session.
-use Rattle.std.specs.Prelude.{◌≡◌, ◌⊎◌, ℕ, ◌++◌, List, [], codes, decimal, Bool, true, false, Option, Some, None, Result, Ok, Err}
+use Rattle.std.specs.Prelude.{◌≡◌, ◌⊎◌, ℕ, ◌++◌, List, [], codes, decimal, Bool, true, false, Option, Some, None, is_some, Result, Ok, Err}
 use Rattle.std.specs.List.{AllZip}
 use Rattle.std.specs.Option.{unwrap_or}
 use Rattle.serde_json.specs.Data.{Data, Members, null, array}
@@ -24,10 +24,10 @@ use Rattle.source_session.specs.Shown.{IsShown}
 abbrev pub Outcome : Type 0
 Outcome = Result (List Data) LineError
 
--- an outcome as the last member of an answer
-abbrev pub outcome_text : Outcome → List ℕ
-outcome_text (Ok values) = codes "\"shows\":" ++ compact_text (array (items_of values))
-outcome_text (Err e) = codes "\"error\":" ++ compact_text (error_form e)
+-- an outcome as the last member of an answer, with a session open or not
+abbrev pub outcome_text : Bool → Outcome → List ℕ
+outcome_text is_open (Ok values) = codes "\"shows\":" ++ compact_text (array (items_of values))
+outcome_text is_open (Err e) = codes "\"error\":" ++ compact_text (error_form is_open e)
 
 -- the number of the last edit, if a session is open
 abbrev pub number_text : Option ℕ → List ℕ
@@ -36,7 +36,7 @@ number_text (Some n) = decimal n
 
 -- an answer
 abbrev pub reply_text : Data → Option ℕ → Outcome → List ℕ
-reply_text id number outcome = codes "{\"id\":" ++ compact_text id ++ codes ",\"number\":" ++ number_text number ++ codes "," ++ outcome_text outcome ++ codes "}"
+reply_text id number outcome = codes "{\"id\":" ++ compact_text id ++ codes ",\"number\":" ++ number_text number ++ codes "," ++ outcome_text (is_some number) outcome ++ codes "}"
 
 -- where there is no memory for an answer
 abbrev pub out_of_memory : List ℕ

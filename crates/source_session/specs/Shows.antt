@@ -1,19 +1,24 @@
 -- The shows of a line.
-use Rattle.std.specs.Prelude.{ℕ, ◌^◌, ◌<◌, List, [], codes, if◌then◌else◌}
-use Rattle.std.specs.Option.{unwrap_or}
+use Rattle.std.specs.Prelude.{ℕ, ◌^◌, ◌<◌, Bool, true, false, List, [], codes, if◌then◌else◌}
 use Rattle.serde_json.specs.Data.{Data}
 use Rattle.serde_json.specs.Written.{has_float}
 use Rattle.hir_input.specs.declared.ids.Crate.{Crate}
 use Rattle.hir_input.specs.declared.ids.HirFileId.{HirFileId}
 use Rattle.hir_input_json.specs.Reading.{Reading, right, wrong, reading_map, here, under, ◌>>=◌}
-use Rattle.hir_input_json.specs.Forms.{required_at, on_word, id_at, below, text, name_in, members_in}
+use Rattle.hir_input_json.specs.Forms.{required_at, optional_at, on_word, id_at, below, text, members_in}
+use Rattle.item_tree_db.specs.declared.place.Place.TheVariants.{File}
 use Rattle.item_tree_request.specs.Named as request
 use Rattle.item_tree_request.specs.Shows as request_shows
-use Rattle.rust_paths.specs.Names.{behind_hash}
+use Rattle.item_tree_request.specs.declared.request.show.Show.{Show}
+use Rattle.item_tree_request.specs.declared.request.show.Show.TheVariants.{OfTree, Changed}
+use Rattle.item_tree_request.specs.declared.request.show.ShowKind.{ShowKind}
+use Rattle.item_tree_request.specs.declared.request.show.ShowKind.TheVariants.{Page, Tree, Imports}
+use Rattle.item_tree_request.specs.declared.request.show.TreeShow.{TreeShow}
 use Rattle.source_session.specs.declared.keys.LineObject.TheVariants.{OfShows}
 use Rattle.source_session.specs.Keys.{only_known}
 use Rattle.source_session.specs.declared.show.LineShow.{LineShow}
-use Rattle.source_session.specs.declared.show.LineShow.TheVariants.{Table, Outline, ImportPlaces, Problems, Find}
+use Rattle.source_session.specs.declared.show.LineShow.TheVariants.{Table, Outline, TreeItems, ImportPlaces, Changes, Problems, Find}
+use Rattle.source_session.specs.Sought.{asked_path_in}
 
 -- one of this many crates, which are numbered from 0
 abbrev pub crate_in : ℕ → Data → Reading Crate
@@ -26,16 +31,6 @@ crate_in count d = do
 abbrev pub file_in : Data → Reading HirFileId
 file_in d = reading_map (λ number. record { 0 = number }) (id_at (codes "file") d)
 
--- a name, which may stand behind `r#`
-abbrev pub asked_name : Data → Reading (List ℕ)
-asked_name d = do
-  s ← text d
-  here (name_in (unwrap_or (behind_hash s) s))
-
--- the name that is looked for, which is required
-abbrev pub asked_name_in : Data → Reading (List ℕ)
-asked_name_in = required_at (codes "name") asked_name
-
 -- a show of a crate's tree of a file
 abbrev pub tree_show : (Crate → HirFileId → LineShow) → ℕ → Data → Reading LineShow
 tree_show of count d = do
@@ -43,14 +38,52 @@ tree_show of count d = do
   file ← file_in d
   right (of krate file)
 
+-- the places of imports of a file
+abbrev pub import_places : Crate → HirFileId → LineShow
+import_places krate file = ImportPlaces krate (File file)
+
+-- ---- shows of a request
+
+-- whether a word asks for values, and not for a text
+abbrev pub values_by : List ℕ → Reading Bool
+values_by word = on_word word (codes "json") (right true) (on_word word (codes "text") (right false) (wrong []))
+
+abbrev pub values : Data → Reading Bool
+values d = do
+  word ← text d
+  values_by word
+
+-- whether a show is to be answered by values, by default by a text
+abbrev pub as_values : Data → Reading Bool
+as_values = optional_at false (codes "as") values
+
+-- what is answered by values; a page has its text alone
+abbrev pub tree_values : ShowKind → TreeShow → LineShow
+tree_values Page show = Table (OfTree show)
+tree_values Tree show = TreeItems show.krate show.place
+tree_values Imports show = ImportPlaces show.krate show.place
+
+abbrev pub answered_by : Bool → Show → LineShow
+answered_by false show = Table show
+answered_by true (OfTree show) = tree_values show.kind show
+answered_by true (Changed since) = Changes since
+
+abbrev pub request_show : ℕ → Data → Reading LineShow
+request_show count d = do
+  show ← request_shows.show count d
+  by_values ← as_values d
+  right (answered_by by_values show)
+
+-- ---- shows
+
 -- by the word for what is shown
 abbrev pub show_by : ℕ → List ℕ → Data → Reading LineShow
 show_by count word d =
     on_word word (codes "outline") (tree_show Outline count d)
-    (on_word word (codes "import_places") (tree_show ImportPlaces count d)
+    (on_word word (codes "import_places") (tree_show import_places count d)
     (on_word word (codes "problems") (reading_map Problems (file_in d))
-    (on_word word (codes "find") (reading_map Find (asked_name_in d))
-    (reading_map Table (request_shows.show count d)))))
+    (on_word word (codes "find") (reading_map Find (asked_path_in d))
+    (request_show count d))))
 
 -- a show after edits of a table of this many crates, by its word
 abbrev pub show : ℕ → Data → Reading LineShow
@@ -74,6 +107,8 @@ IsNamed count krate = (krate.0 < count) × (krate.0 < 2 ^ 32)
 abbrev pub NamesCrate : ℕ → LineShow → Type 0
 NamesCrate count (Table show) = request.NamesCrate count show
 NamesCrate count (Outline krate file) = IsNamed count krate
-NamesCrate count (ImportPlaces krate file) = IsNamed count krate
+NamesCrate count (TreeItems krate place) = IsNamed count krate
+NamesCrate count (ImportPlaces krate place) = IsNamed count krate
+NamesCrate count (Changes since) = Unit {0}
 NamesCrate count (Problems file) = Unit {0}
-NamesCrate count (Find name) = Unit {0}
+NamesCrate count (Find sought) = Unit {0}

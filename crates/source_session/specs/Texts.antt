@@ -6,6 +6,7 @@ use Rattle.std.specs.Option.{option_and_then, unwrap_or}
 use Rattle.std.specs.Ordering.{nat_cmp}
 use Rattle.hir_input.specs.declared.edition.EditionYear.{EditionYear}
 use Rattle.hir_input.specs.Syntax.{syntax_view}
+use Rattle.item_tree_db.specs.declared.place.Place.{Place}
 use Rattle.item_tree_db.specs.declared.place.Place.TheVariants.{File, Block}
 use Rattle.item_tree_db.specs.Edits.{EditView, set, remove, set_cfg}
 use Rattle.item_tree_db.specs.History.{last_some}
@@ -29,6 +30,11 @@ slot_in texts file = lookup (is_at (nat_cmp file)) texts
 -- the text of a file
 abbrev pub text_in : Texts → ℕ → Option SourceText
 text_in texts file = option_and_then (λ text. text) (slot_in texts file)
+
+-- the text of a place; a block has none
+abbrev pub text_at : Texts → Place → Option SourceText
+text_at texts (File file) = text_in texts file.0
+text_at texts (Block block) = None
 
 -- what an edit leaves of the text of a file, if it sets or removes the file
 abbrev pub Change : Type 0

@@ -3,6 +3,7 @@ ghost use Rattle.std.specs.Prelude.{◌≡◌, IfOk};
 ghost use Rattle.serde_json.specs.View.{view};
 ghost use Rattle.source_session.specs.Errors.{cause_text, error_form, fault_text};
 
+use crate::expected::expected;
 use crate::splice::ChangeFault;
 use hir_input_json::{Fault, Pointer};
 use item_tree::{EditFault, LowerError};
@@ -90,19 +91,24 @@ fn fault_text(cause: ChangeFault) -> &'static str
     }
 }
 
-/// The object of an error.
+/// The object of an error, with a session open or not.
 ///
 /// # Errors
 ///
 /// Only if memory runs out.
-pub(crate) fn error_value(alloc: Global, error: LineError) -> Result<Value, AllocError>
-    ensures { IfOk result (λ value. view value ≡ error_form error) }
+pub(crate) fn error_value(
+    alloc: Global,
+    error: LineError,
+    is_open: bool,
+) -> Result<Value, AllocError>
+    ensures { IfOk result (λ value. view value ≡ error_form is_open error) }
 {
     match error {
         LineError::NotJson { column } => json!(in alloc; {"column": column, "kind": "not JSON"}),
         LineError::NotRequest { pointer } => {
             let pointer = pointer.text();
-            json!(in alloc; {"kind": "not a request", "pointer": pointer})
+            let expected = expected(alloc, pointer, is_open)?;
+            json!(in alloc; {"expected": expected, "kind": "not a request", "pointer": pointer})
         }
         LineError::NotChanged { place, cause } => {
             let cause = fault_text(cause);

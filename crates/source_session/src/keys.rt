@@ -19,7 +19,8 @@ pub(crate) enum LineObject {
     OfShows,
 }
 
-fn is_known(object: LineObject, key: &str) -> bool
+/// Whether such an object may have a key.
+pub(crate) fn is_known(object: LineObject, key: &str) -> bool
     ensures { result ≡ spec.is_known object key.now }
 {
     match object {
@@ -43,7 +44,7 @@ fn is_known(object: LineObject, key: &str) -> bool
         ),
         LineObject::OfShows => matches!(
             key,
-            "show" | "crate" | "file" | "block" | "since" | "name"
+            "show" | "crate" | "file" | "block" | "since" | "as" | "name"
         ),
     }
 }

@@ -5,14 +5,18 @@
 mod conversation;
 mod edit;
 mod error;
+mod expected;
+mod found;
 mod keys;
 mod laws;
 mod line;
 mod meaning;
+mod parts;
 mod reply;
 mod session;
 mod show;
 mod shown;
+mod sought;
 mod splice;
 mod texts;
 
@@ -20,5 +24,6 @@ pub use conversation::Conversation;
 pub use edit::LineEdit;
 pub use error::LineError;
 pub use show::LineShow;
+pub use sought::SoughtItem;
 pub use splice::ChangeFault;
 pub use texts::SourceText;

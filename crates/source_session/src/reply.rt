@@ -41,9 +41,14 @@ fn push_number(number: Option<u64>, text: &mut String) -> Result<(), AllocError>
     }
 }
 
-fn push_outcome(alloc: Global, outcome: Outcome, text: &mut String) -> Result<(), AllocError>
+fn push_outcome(
+    alloc: Global,
+    outcome: Outcome,
+    is_open: bool,
+    text: &mut String,
+) -> Result<(), AllocError>
     requires { IsUnfloating outcome }
-    ensures { OnOk result (string_bytes text.new ≡ string_bytes text.old ++ outcome_text (outcome_view outcome)) }
+    ensures { OnOk result (string_bytes text.new ≡ string_bytes text.old ++ outcome_text is_open (outcome_view outcome)) }
 {
     match outcome {
         Ok(values) => {
@@ -52,7 +57,7 @@ fn push_outcome(alloc: Global, outcome: Outcome, text: &mut String) -> Result<()
         }
         Err(error) => {
             text.push_str("\"error\":")?;
-            let value = error_value(alloc, error)?;
+            let value = error_value(alloc, error, is_open)?;
             push_value(alloc, &value, text)
         }
     }
@@ -77,7 +82,7 @@ pub(crate) fn reply_text(
     text.push_str(",\"number\":")?;
     push_number(number, &mut text)?;
     text.push_str(",")?;
-    push_outcome(alloc, reply.outcome, &mut text)?;
+    push_outcome(alloc, reply.outcome, number.is_some(), &mut text)?;
     text.push_str("}")?;
     Ok(text)
 }

@@ -1,40 +1,46 @@
 //! Shows of a line, read from their forms.
-ghost use Rattle.std.specs.Prelude.{◌≡◌, IfOk, codes, option_map};
-ghost use Rattle.std.specs.Option.{unwrap_or};
+ghost use Rattle.std.specs.Prelude.{◌≡◌, ℕ, IfOk};
 ghost use Rattle.serde_json.specs.View.{view};
 ghost use Rattle.hir_input_json.specs.Held.{held};
 ghost use Rattle.hir_input_json.specs.Reads.{Reads};
-ghost use Rattle.rust_paths.specs.Names.{behind_hash};
-ghost use Rattle.source_session.specs.Shows.{NamesCrate, IsNamed, asked_name as asked_form, asked_name_in, crate_in, file_in, show as show_form, show_by, line_show};
+ghost use Rattle.item_tree_request.specs.Named as request;
+ghost use Rattle.source_session.specs.Sought.{asked_path_in};
+ghost use Rattle.source_session.specs.Shows as spec;
+ghost use Rattle.source_session.specs.Shows.{NamesCrate, IsNamed};
 
 use crate::keys::{LineObject, only_known};
-use hir_input::{Crate, HirFileId, Name};
+use crate::sought::{SoughtItem, sought_of};
+use hir_input::{Crate, HirFileId};
 use hir_input_json::float::has_float;
-use hir_input_json::member::{id_at, members_of, required_at, word_at};
-use hir_input_json::name::name_of;
+use hir_input_json::member::{field, id_at, members_of, word_at};
 use hir_input_json::{Fault, ReadIn};
-use item_tree_request::request::show::{Show, show_in};
+use item_tree_db::Place;
+use item_tree_request::request::show::{Show, ShowKind, TreeShow, show_in};
 use serde_json::{Map, Value};
 use std::alloc::Global;
 
 /// A show of a line.
 #[derive(Debug, Drop)]
 pub enum LineShow {
-    /// One of a request.
+    /// One of a request, by its text.
     Table(Show),
     /// The items of a crate's tree of a file.
     Outline { krate: Crate, file: HirFileId },
-    /// The imports of a crate's tree of a file, with the places of their use trees.
-    ImportPlaces { krate: Crate, file: HirFileId },
+    /// When a crate's tree of a place changed last, and its items.
+    TreeItems { krate: Crate, place: Place },
+    /// The imports of a crate's tree of a place, with the places of their use trees.
+    ImportPlaces { krate: Crate, place: Place },
+    /// What changed since a number.
+    Changes { since: u64 },
     /// What is wrong with the text of a file.
     Problems { file: HirFileId },
-    /// The items that have a name.
-    Find { name: Name },
+    /// The items that have a path.
+    Find { sought: SoughtItem },
 }
 
 // One of this many crates.
 fn crate_at(alloc: Global, members: &Map<String, Value>, count: usize) -> Result<Crate, Fault>
-    ensures reads { Reads (λ krate. krate) result (crate_in count (held members.now)) }
+    ensures reads { Reads (λ krate. krate) result (spec.crate_in count (held members.now)) }
     ensures known { IfOk result (IsNamed count) }
 {
     let krate = id_at(alloc, members, "crate")?;
@@ -45,57 +51,95 @@ fn crate_at(alloc: Global, members: &Map<String, Value>, count: usize) -> Result
 }
 
 fn file_at(alloc: Global, members: &Map<String, Value>) -> Result<HirFileId, Fault>
-    ensures { Reads (λ file. file) result (file_in (held members.now)) }
+    ensures { Reads (λ file. file) result (spec.file_in (held members.now)) }
 {
     Ok(HirFileId(id_at(alloc, members, "file")?))
 }
 
-fn behind_hash(text: &str) -> Option<&str>
-    ensures { option_map (λ word. word.now) result ≡ behind_hash text.now }
+// The path that is looked for.
+fn sought_at(alloc: Global, members: &Map<String, Value>) -> Result<SoughtItem, Fault>
+    ensures { Reads (λ sought. sought) result (asked_path_in (held members.now)) }
 {
-    match text.strip_prefix('r') {
-        Some(rest) => rest.strip_prefix('#'),
-        None => None,
+    match field(members, "name") {
+        Some(found) => sought_of(alloc, found).in_member(alloc, "name"),
+        None => Err(Fault::at(alloc, "name")),
     }
 }
 
-// A name without the `r#` that it may stand behind.
-fn without_hash(text: &str) -> &str
-    ensures { result.now ≡ unwrap_or (behind_hash text.now) text.now }
-{
-    match behind_hash(text) {
-        Some(name) => name,
-        None => text,
-    }
-}
+// ---- shows of a request
 
-fn asked_name(alloc: Global, value: Value) -> Result<Name, Fault>
-    ensures { Reads (λ name. name) result (asked_form (view value)) }
+// Whether a word asks for values, and not for a text.
+fn values_of(alloc: Global, value: &Value) -> Result<bool, Fault>
+    ensures { Reads (λ by_values. by_values) result (spec.values (view value.now)) }
 {
-    match value {
-        Value::String(text) => {
-            let name = Value::try_from_str(alloc, without_hash(text.as_str()))?;
-            name_of(alloc, name)
-        }
+    let Some(word) = value.as_str() else {
+        return Err(Fault::here(alloc));
+    };
+    match word {
+        "json" => Ok(true),
+        "text" => Ok(false),
         _ => Err(Fault::here(alloc)),
     }
 }
 
-// Takes the name out that is looked for.
-fn name_at(alloc: Global, members: &mut Map<String, Value>) -> Result<Name, Fault>
-    ensures { Reads (λ name. name) result (asked_name_in (held members.old)) }
+// Whether a show is to be answered by values.
+fn as_values(alloc: Global, members: &Map<String, Value>) -> Result<bool, Fault>
+    ensures { Reads (λ by_values. by_values) result (spec.as_values (held members.now)) }
 {
-    let name = required_at(alloc, members, "name")?;
-    asked_name(alloc, name).in_member(alloc, "name")
+    match field(members, "as") {
+        Some(found) => values_of(alloc, found).in_member(alloc, "as"),
+        None => Ok(false),
+    }
 }
 
-// A show after edits of a table of this many crates, whose members are taken out.
-fn members_show(
+// What a show of a tree is answered by, if by values.
+fn tree_values(show: TreeShow) -> LineShow
+    ensures shown { result ≡ spec.tree_values show.kind show }
+    ensures known { (count : ℕ) → IsNamed count show.krate → NamesCrate count result }
+{
+    let (krate, place) = (show.krate, show.place);
+    match show.kind {
+        ShowKind::Page => LineShow::Table(Show::OfTree(show)),
+        ShowKind::Tree => LineShow::TreeItems { krate, place },
+        ShowKind::Imports => LineShow::ImportPlaces { krate, place },
+    }
+}
+
+fn answered_by(by_values: bool, show: Show) -> LineShow
+    ensures shown { result ≡ spec.answered_by by_values show }
+    ensures known { (count : ℕ) → request.NamesCrate count show → NamesCrate count result }
+{
+    if !by_values {
+        return LineShow::Table(show);
+    }
+    match show {
+        Show::OfTree(show) => tree_values(show),
+        Show::Changed { since } => LineShow::Changes { since },
+    }
+}
+
+fn request_show(
     alloc: Global,
-    members: &mut Map<String, Value>,
+    members: &Map<String, Value>,
     count: usize,
 ) -> Result<LineShow, Fault>
-    ensures reads { Reads (λ show. show) result (show_form count (held members.old)) }
+    ensures reads { Reads (λ show. show) result (spec.request_show count (held members.now)) }
+    ensures known { IfOk result (NamesCrate count) }
+{
+    let show = show_in(alloc, members, count)?;
+    let by_values = as_values(alloc, members)?;
+    Ok(answered_by(by_values, show))
+}
+
+// ---- shows
+
+// A show after edits of a table of this many crates, of these members.
+fn members_show(
+    alloc: Global,
+    members: &Map<String, Value>,
+    count: usize,
+) -> Result<LineShow, Fault>
+    ensures reads { Reads (λ show. show) result (spec.show count (held members.now)) }
     ensures known { IfOk result (NamesCrate count) }
 {
     only_known(alloc, members, LineObject::OfShows)?;
@@ -107,16 +151,16 @@ fn members_show(
         }
         "import_places" => {
             let krate = crate_at(alloc, members, count)?;
-            let file = file_at(alloc, members)?;
-            Ok(LineShow::ImportPlaces { krate, file })
+            let place = Place::File(file_at(alloc, members)?);
+            Ok(LineShow::ImportPlaces { krate, place })
         }
         "problems" => Ok(LineShow::Problems {
             file: file_at(alloc, members)?,
         }),
         "find" => Ok(LineShow::Find {
-            name: name_at(alloc, members)?,
+            sought: sought_at(alloc, members)?,
         }),
-        _ => Ok(LineShow::Table(show_in(alloc, members, count)?)),
+        _ => request_show(alloc, members, count),
     }
 }
 
@@ -124,12 +168,12 @@ fn members_show(
 ///
 /// `WrongForm` comes only where it is not of its form (`Shows.line_show`), and tells where.
 pub(crate) fn show_of(alloc: Global, value: Value, count: usize) -> Result<LineShow, Fault>
-    ensures reads { Reads (λ show. show) result (line_show count (view value)) }
+    ensures reads { Reads (λ show. show) result (spec.line_show count (view value)) }
     ensures known { IfOk result (NamesCrate count) }
 {
     if has_float(&value) {
         return Err(Fault::here(alloc));
     }
-    let mut members = members_of(alloc, value)?;
-    members_show(alloc, &mut members, count)
+    let members = members_of(alloc, value)?;
+    members_show(alloc, &members, count)
 }

@@ -3,18 +3,19 @@ ghost use Rattle.std.specs.Prelude.{◌≡◌, All, IfOk, false, map};
 ghost use Rattle.std.specs.List.{AllZip};
 ghost use Rattle.serde_json.specs.View.{view};
 ghost use Rattle.serde_json.specs.Written.{has_float};
-ghost use Rattle.decl_index.specs.Entries.{IsDeclared};
 ghost use Rattle.item_tree_request.specs.Outputs.{IsPrinted, Knows};
+ghost use Rattle.source_session.specs.Found.{IsFound};
 ghost use Rattle.source_session.specs.Inner.{AreUnfloating};
 ghost use Rattle.source_session.specs.Shows.{IsNamed, NamesCrate};
-ghost use Rattle.source_session.specs.Shown.{IsFound, IsShown, IsText, found_form, found_in, imports_form, outline_form, problems_form};
+ghost use Rattle.source_session.specs.Shown.{AreChanges, IsShown, IsText, change_form, change_with, imports_form, item_objects, items_member, outline_form, problems_form, tree_form};
 
+use crate::found::found_values;
 use crate::session::Session;
 use crate::show::LineShow;
-use crate::texts::text_of;
-use decl_index::Entry;
-use hir_input::{Crate, Edition, HirFileId, Name};
-use item_tree_db::{Place, Sources, file_item_tree};
+use crate::sought::SoughtItem;
+use crate::texts::{text_at, text_of};
+use hir_input::{Crate, Edition, HirFileId};
+use item_tree_db::{ChangedSince, Place, Sources};
 use item_tree_request::request::show::Show;
 use item_tree_request::show::Pages;
 use item_tree_request::show_writer::ShowWriter;
@@ -37,55 +38,81 @@ fn table_value(
     Ok(Value::String(text))
 }
 
-// ---- the items of a name
+// ---- changes
 
-fn found_value(alloc: Global, sources: &Sources, entry: &Entry) -> Result<Value, AllocError>
-    requires { IsDeclared sources.now entry.now }
-    ensures { IfOk result (λ value. view value ≡ found_form sources.now entry.now) }
+fn change_value(alloc: Global, place: Place, krate: Crate, change: u64) -> Result<Value, AllocError>
+    ensures { IfOk result (λ value. view value ≡ change_form (place, krate, change)) }
 {
-    let tree = sources.tree(entry.place, entry.krate);
-    let id = entry.id.ast_id(tree).to_string(alloc)?;
-    let krate = entry.krate.0;
-    match entry.place {
+    let krate = krate.0;
+    match place {
         Place::File(file) => {
             let file = file.0;
-            json!(in alloc; {"crate": krate, "file": file, "id": id})
+            json!(in alloc; {"change": change, "crate": krate, "file": file})
         }
         Place::Block(block) => {
             let block = block.0;
-            json!(in alloc; {"block": block, "crate": krate, "id": id})
+            json!(in alloc; {"block": block, "change": change, "crate": krate})
         }
     }
 }
 
-fn found_values(
-    alloc: Global,
-    sources: &Sources,
-    entries: &[Entry],
-) -> Result<Vec<Value>, AllocError>
-    requires { All (IsDeclared sources.now) entries.now }
-    ensures { IfOk result (λ values. map view values.items ≡ map (found_form sources.now) entries.now) }
+fn change_values(alloc: Global, changes: ChangedSince<'_>) -> Result<Vec<Value>, AllocError>
+    ensures { IfOk result (λ values. map view values.items ≡ map change_form changes.entry) }
 {
-    let mut values = Vec::with_capacity(alloc, entries.len())?;
-    for entry in entries {
-        values.push(found_value(alloc, sources, entry)?)?;
+    let mut values = Vec::new(alloc);
+    for (place, krate, change) in changes {
+        values.push(change_value(alloc, place, krate, change)?)?;
     }
     Ok(values)
+}
+
+// What changed since a number.
+fn changes_value(alloc: Global, sources: &Sources, since: u64) -> Result<Value, AllocError>
+    ensures { IfOk result (λ value. AreChanges sources.now since (view value)) }
+{
+    let values = change_values(alloc, sources.changed_since(since))?;
+    Ok(Value::Array(values))
+}
+
+// A change, with the items that the tree has since then.
+fn tree_value(
+    alloc: Global,
+    place: Place,
+    krate: Crate,
+    change: u64,
+    items: Vec<Value>,
+) -> Result<Value, AllocError>
+    ensures { let more = items_member (map view items.items) in
+        IfOk result (λ value. view value ≡ change_with more (place, krate, change)) }
+{
+    let krate = krate.0;
+    let items = Value::Array(items);
+    match place {
+        Place::File(file) => {
+            let file = file.0;
+            json!(in alloc; {"change": change, "crate": krate, "file": file, "items": items})
+        }
+        Place::Block(block) => {
+            let block = block.0;
+            json!(in alloc; {"block": block, "change": change, "crate": krate, "items": items})
+        }
+    }
 }
 
 // ---- a session's
 
 impl Session {
-    fn outline(&self, alloc: Global, krate: Crate, file: HirFileId) -> Result<Value, AllocError>
+    // The objects of the items of a place.
+    fn items(&self, alloc: Global, krate: Crate, place: Place) -> Result<Vec<Value>, AllocError>
         requires { IsNamed self.now.count krate }
-        ensures { IfOk result (λ value. view value ≡ outline_form self.now krate file) }
+        ensures { IfOk result (λ items. map view items.items ≡ item_objects self.now krate place) }
     {
         let choice = Choice {
             depth: None,
             only_active: false,
         };
-        let tree = file_item_tree(&self.sources, file, krate);
-        let items = match text_of(&self.texts, file.0) {
+        let tree = self.sources.tree(place, krate);
+        match text_at(&self.texts, place) {
             Some(text) => {
                 let source = Source {
                     path: "",
@@ -99,27 +126,38 @@ impl Session {
                     &self.edition,
                     None,
                     choice,
-                )?
+                )
             }
             None => {
                 let source = Source { path: "", text: "" };
-                outline_items(alloc, source, &[], tree, &self.edition, None, choice)?
+                outline_items(alloc, source, &[], tree, &self.edition, None, choice)
             }
-        };
+        }
+    }
+
+    fn outline(&self, alloc: Global, krate: Crate, file: HirFileId) -> Result<Value, AllocError>
+        requires { IsNamed self.now.count krate }
+        ensures { IfOk result (λ value. view value ≡ outline_form self.now krate file) }
+    {
+        let items = self.items(alloc, krate, Place::File(file))?;
         Ok(Value::Array(items))
     }
 
-    fn import_places(
-        &self,
-        alloc: Global,
-        krate: Crate,
-        file: HirFileId,
-    ) -> Result<Value, AllocError>
+    fn tree_items(&self, alloc: Global, krate: Crate, place: Place) -> Result<Value, AllocError>
         requires { IsNamed self.now.count krate }
-        ensures { IfOk result (λ value. view value ≡ imports_form self.now krate file) }
+        ensures { IfOk result (λ value. view value ≡ tree_form self.now krate place) }
     {
-        let tree = file_item_tree(&self.sources, file, krate);
-        let items = match text_of(&self.texts, file.0) {
+        let items = self.items(alloc, krate, place)?;
+        let change = self.sources.changed(place, krate);
+        tree_value(alloc, place, krate, change, items)
+    }
+
+    fn import_places(&self, alloc: Global, krate: Crate, place: Place) -> Result<Value, AllocError>
+        requires { IsNamed self.now.count krate }
+        ensures { IfOk result (λ value. view value ≡ imports_form self.now krate place) }
+    {
+        let tree = self.sources.tree(place, krate);
+        let items = match text_at(&self.texts, place) {
             Some(text) => import_items(
                 alloc,
                 text.text.as_str(),
@@ -133,6 +171,12 @@ impl Session {
         Ok(Value::Array(items))
     }
 
+    fn changes(&self, alloc: Global, since: u64) -> Result<Value, AllocError>
+        ensures { IfOk result (λ value. AreChanges self.now.table since (view value)) }
+    {
+        changes_value(alloc, &self.sources, since)
+    }
+
     fn problems(&self, alloc: Global, file: HirFileId) -> Result<Value, AllocError>
         ensures { IfOk result (λ value. view value ≡ problems_form self.now file) }
     {
@@ -143,12 +187,13 @@ impl Session {
         Ok(Value::Array(items))
     }
 
-    fn find(&mut self, alloc: Global, name: &Name) -> Result<Value, AllocError>
-        ensures found { IfOk result (λ value. IsFound self.old.table name.now (view value)) }
+    fn find(&mut self, alloc: Global, sought: &SoughtItem) -> Result<Value, AllocError>
+        ensures found { IfOk result (λ value. IsFound self.old.table self.old.texts sought.now (view value)) }
         ensures same { self.new ≡ self.old }
     {
         self.index.refresh(alloc, &self.sources)?;
-        let values = found_values(alloc, &self.sources, self.index.lookup(name))?;
+        let entries = self.index.lookup(sought.name());
+        let values = found_values(alloc, &self.sources, &self.texts, sought, entries)?;
         Ok(Value::Array(values))
     }
 
@@ -162,9 +207,11 @@ impl Session {
         match show {
             LineShow::Table(show) => table_value(alloc, &self.sources, &self.edition, *show),
             LineShow::Outline { krate, file } => self.outline(alloc, *krate, *file),
-            LineShow::ImportPlaces { krate, file } => self.import_places(alloc, *krate, *file),
+            LineShow::TreeItems { krate, place } => self.tree_items(alloc, *krate, *place),
+            LineShow::ImportPlaces { krate, place } => self.import_places(alloc, *krate, *place),
+            LineShow::Changes { since } => self.changes(alloc, *since),
             LineShow::Problems { file } => self.problems(alloc, *file),
-            LineShow::Find { name } => self.find(alloc, name),
+            LineShow::Find { sought } => self.find(alloc, sought),
         }
     }
 

@@ -1,8 +1,9 @@
 //! The texts of files, with what was read of them.
 ghost use Rattle.std.specs.Prelude.{◌≡◌, ℕ, ◌==◌, ◌∷◌, List, All, IfSome, OnOk, if◌then◌else◌, take, option_copied, option_map};
 ghost use Rattle.source_session.specs.Inner.{HasSlot, HasSlotFor};
-ghost use Rattle.source_session.specs.Texts.{Change as ChangeView, leaves, text_after, text_in};
+ghost use Rattle.source_session.specs.Texts.{Change as ChangeView, leaves, text_after, text_at, text_in};
 
+use item_tree_db::Place;
 use rust_items::{ItemPlace, Problem};
 use std::alloc::AllocError;
 use std::collections::BTreeMap;
@@ -32,6 +33,16 @@ pub(crate) fn text_of(texts: &Texts, file: u32) -> Option<&SourceText>
     match texts.get(&file) {
         Some(text) => text.as_ref(),
         None => None,
+    }
+}
+
+/// The text of a place. A block has none.
+pub(crate) fn text_at(texts: &Texts, place: Place) -> Option<&SourceText>
+    ensures { option_copied result ≡ text_at texts.now.entries place }
+{
+    match place {
+        Place::File(file) => text_of(texts, file.0),
+        Place::Block(_) => None,
     }
 }
 

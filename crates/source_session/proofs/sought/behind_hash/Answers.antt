@@ -1,7 +1,7 @@
 use Rattle.std.proofs.Common.{sym, Some, None, arith}
 use Rattle.std.proofs.lemmas.Str.Pattern.{strip_prefix_char}
 use Rattle.rust_paths.proofs.Naming.{hash_no_r, hash_then}
-use Rattle.source_session.proofs.show.behind_hash.Goals as goal
+use Rattle.source_session.proofs.sought.behind_hash.Goals as goal
 
 pub returns-in-Some : goal.returns-in-Some
 returns-in-Some c =

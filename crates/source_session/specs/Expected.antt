@@ -1,0 +1,114 @@
+-- What was expected where a value of a line is of wrong form.
+use Rattle.std.specs.Prelude.{ℕ, ◌==◌, ◌-◌, Bool, false, not, ◌&&◌, nat_le, if◌then◌else◌, List, [], ◌∷◌, length, codes, Option, Some, None}
+use Rattle.std.specs.List.{list_any}
+use Rattle.std.specs.Option.{option_map_or}
+use Rattle.std.specs.Str.{bytes_eq}
+use Rattle.source_session.specs.declared.keys.LineObject.{LineObject}
+use Rattle.source_session.specs.declared.keys.LineObject.TheVariants.{Whole, OfEdits, OfShows}
+use Rattle.source_session.specs.Keys.{is_known}
+use Rattle.source_session.specs.Parts.{parts, part_at, last_part}
+
+-- ---- tables
+
+-- words, and what is told of each of them
+abbrev pub Row : Type 0
+Row = List (List ℕ) × List ℕ
+
+abbrev pub other : List ℕ
+other = codes "another value"
+
+-- what the first row tells that has the word
+abbrev pub told_of : List Row → List ℕ → List ℕ
+told_of [] word = other
+told_of (row ∷ rows) word = if list_any (bytes_eq word) row.0 then row.1 else told_of rows word
+
+-- by the keys of lines, and of what stands in their lists
+abbrev pub line_keys : List Row
+line_keys =
+    (codes "crates" ∷ codes "skipped" ∷ codes "edits" ∷ codes "shows" ∷ codes "reserved" ∷ codes "cfg" ∷ codes "attrs" ∷ codes "stmts" ∷ [], codes "a list")
+    ∷ (codes "edition" ∷ codes "syntax" ∷ [], codes "an object")
+    ∷ (codes "file" ∷ codes "block" ∷ codes "root" ∷ [], codes "a number below 2^32")
+    ∷ (codes "start" ∷ codes "since" ∷ [], codes "a number below 2^64")
+    ∷ (codes "crate" ∷ [], codes "the number of a crate")
+    ∷ (codes "text" ∷ [], codes "a string")
+    ∷ (codes "range" ∷ [], codes "two byte places")
+    ∷ (codes "name" ∷ [], codes "a name or path")
+    ∷ (codes "edit" ∷ [], codes "a kind of edit")
+    ∷ (codes "show" ∷ [], codes "a kind of show")
+    ∷ (codes "as" ∷ [], codes "text or json")
+    ∷ (codes "year" ∷ [], codes "2015, 2018, 2021 or 2024")
+    ∷ (codes "id" ∷ [], codes "a value without a float")
+    ∷ []
+
+-- by the keys of what stands in syntaxes
+abbrev pub syntax_keys : List Row
+syntax_keys =
+    (codes "attrs" ∷ codes "items" ∷ codes "stmts" ∷ codes "metas" ∷ codes "list" ∷ codes "all" ∷ codes "any" ∷ [], codes "a list")
+    ∷ (codes "hash" ∷ [], codes "a number below 2^16")
+    ∷ (codes "number" ∷ [], codes "a number below 2^32")
+    ∷ (codes "semicolon" ∷ codes "trait" ∷ codes "star" ∷ [], codes "true or false")
+    ∷ (codes "body" ∷ codes "tokens" ∷ codes "rendered" ∷ codes "string" ∷ [], codes "a string")
+    ∷ (codes "name" ∷ codes "rename" ∷ codes "key" ∷ [], codes "a name")
+    ∷ (codes "path" ∷ codes "in" ∷ [], codes "a path")
+    ∷ (codes "vis" ∷ [], codes "a visibility")
+    ∷ (codes "cfg" ∷ codes "not" ∷ [], codes "a condition")
+    ∷ (codes "is" ∷ [], codes "a kind of item")
+    ∷ (codes "meta" ∷ [], codes "a kind of meta")
+    ∷ []
+
+-- by the keys of lists, of what stands in them
+abbrev pub lists : List Row
+lists =
+    (codes "edits" ∷ codes "shows" ∷ [], codes "an object without a float")
+    ∷ (codes "crates" ∷ codes "attrs" ∷ codes "items" ∷ codes "metas" ∷ codes "list" ∷ [], codes "an object")
+    ∷ (codes "skipped" ∷ codes "reserved" ∷ [], codes "a name")
+    ∷ (codes "range" ∷ [], codes "a number below 2^64")
+    ∷ []
+
+-- ---- pointers
+
+-- the steps of a pointer, from the text before the first on: how many, the first, and the last two
+pub record Steps : Type 0 where
+  pub count : ℕ
+  pub list : List ℕ
+  pub before : List ℕ
+  pub last : List ℕ
+
+abbrev pub steps_of : List (List ℕ) → Steps
+steps_of ps = record { count = length ps; list = part_at ps 1; before = part_at ps (length ps - 2); last = last_part ps }
+
+-- an edit or a show
+abbrev pub listed : List ℕ → Option LineObject
+listed list = if bytes_eq list (codes "edits") then Some OfEdits else (if bytes_eq list (codes "shows") then Some OfShows else None)
+
+-- the object whose key the last step is, if none but its keys may stand in it
+abbrev pub object_at : Steps → Option LineObject
+object_at s = if s.count == 2 then Some Whole else (if s.count == 4 then listed s.list else None)
+
+-- whether that object has no such key
+abbrev pub is_unknown : Steps → Bool
+is_unknown s = option_map_or (λ o. not (is_known o s.last)) (object_at s) false
+
+-- whether a line has a key that opens a session
+abbrev pub opens : Steps → Bool
+opens s = s.count == 2 && list_any (bytes_eq s.last) (codes "crates" ∷ codes "skipped" ∷ codes "edition" ∷ codes "start" ∷ [])
+
+-- whether a step leads into a list
+abbrev pub is_place : List ℕ → Bool
+is_place [] = false
+is_place (b ∷ bs) = nat_le 48 b && nat_le b 57
+
+-- by the last step, or the one before where it leads into a list
+abbrev pub told_at : Steps → List ℕ
+told_at s = if is_place s.last then told_of lists s.before else (if nat_le s.count 4 then told_of line_keys s.last else told_of syntax_keys s.last)
+
+-- what was expected, with a session open or not
+abbrev pub expected_at : Bool → Steps → List ℕ
+expected_at is_open s =
+    if s.count == 1 then codes "an object"
+    else (if is_unknown s then codes "no such key"
+    else (if is_open && opens s then codes "nothing: the session is open" else told_at s))
+
+-- the same by the pointer
+abbrev pub expected : Bool → List ℕ → List ℕ
+expected is_open pointer = expected_at is_open (steps_of (parts 47 pointer))

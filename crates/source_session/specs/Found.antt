@@ -1,0 +1,71 @@
+-- The objects of what is found.
+use Rattle.std.specs.Prelude.{◌≡◌, ℕ, List, codes, filter, map, Option, Some, None, option_map}
+use Rattle.std.specs.Option.{option_and_then, option_map_or}
+use Rattle.serde_json.specs.Data.{Data, null, string, array, object, no_items, item, no_members, member}
+use Rattle.serde_json.specs.View.{items_of}
+use Rattle.hir_input.specs.declared.ids.BlockId.{BlockId}
+use Rattle.hir_input.specs.declared.ids.Crate.{Crate}
+use Rattle.hir_input.specs.declared.ids.FileAstId.{FileAstId}
+use Rattle.hir_input.specs.declared.ids.HirFileId.{HirFileId}
+use Rattle.hir_input.specs.Id.{shown_id}
+use Rattle.item_tree.specs.Layout.{node_at}
+use Rattle.item_tree.specs.Node.{node_ast}
+use Rattle.item_tree_db.specs.declared.place.Place.{Place}
+use Rattle.item_tree_db.specs.declared.place.Place.TheVariants.{File, Block}
+use Rattle.item_tree_db.specs.State.{State, unfolding_at}
+use Rattle.line_index.specs.declared.Position.{Position}
+use Rattle.line_index.specs.Positions.{position_of}
+use Rattle.decl_index.specs.declared.entry.Entry.{Entry}
+use Rattle.decl_index.specs.Entries.{IsListing}
+use Rattle.rust_items.specs.declared.source_file.ItemPlace.{ItemPlace}
+use Rattle.source_listing.specs.Objects.{count_form}
+use Rattle.source_listing.specs.Places.{place_of, stands_at}
+use Rattle.source_session.specs.declared.texts.SourceText.{SourceText}
+use Rattle.source_session.specs.SourceTexts.{text_bytes, text_places}
+use Rattle.source_session.specs.Sought.{SoughtItem, is_sought}
+use Rattle.source_session.specs.Texts.{Texts, text_in}
+
+-- the id of an entry's item in its file
+abbrev pub ast_of : State → Entry → Option FileAstId
+ast_of s e = option_map node_ast (node_at (unfolding_at s e.place e.krate.0).forest e.id)
+
+-- an id as it is displayed
+abbrev pub id_form : Option FileAstId → Data
+id_form id = option_map_or (λ a. string (shown_id a)) id null
+
+-- where the item of an id stands in a text
+abbrev pub place_in : Option SourceText → Option FileAstId → Option ItemPlace
+place_in t id = option_and_then (λ a. place_of a (text_places t)) id
+
+-- an item of a file at a line and a column, with its bytes; the members of all objects are in the order of their keys
+abbrev pub placed_form : HirFileId → Crate → Data → Position → ItemPlace → Data
+placed_form file krate id at place =
+    object
+    (member (codes "column") (count_form at.column)
+    (member (codes "crate") (count_form krate.0)
+    (member (codes "file") (count_form file.0)
+    (member (codes "id") id
+    (member (codes "line") (count_form at.line)
+    (member (codes "range") (array (item (count_form place.range.start) (item (count_form place.range.end) no_items))) no_members))))))
+
+-- an item of a file, with its place where that is known
+abbrev pub in_file : HirFileId → Crate → Data → List ℕ → Option ItemPlace → Data
+in_file file krate id text None = object (member (codes "crate") (count_form krate.0) (member (codes "file") (count_form file.0) (member (codes "id") id no_members)))
+in_file file krate id text (Some place) = placed_form file krate id (position_of text (stands_at place)) place
+
+-- an item of a block
+abbrev pub in_block : BlockId → Crate → Data → Data
+in_block block krate id = object (member (codes "block") (count_form block.0) (member (codes "crate") (count_form krate.0) (member (codes "id") id no_members)))
+
+-- an item of the tree of a place
+abbrev pub found_in : Texts → Place → Crate → Option FileAstId → Data
+found_in texts (File file) krate id = let t = text_in texts file.0 in in_file file krate (id_form id) (text_bytes t) (place_in t id)
+found_in texts (Block block) krate id = in_block block krate (id_form id)
+
+-- the object of an entry
+abbrev pub found_form : State → Texts → Entry → Data
+found_form s texts e = found_in texts e.place e.krate (ast_of s e)
+
+-- the objects of the entries of a table that are looked for
+abbrev pub IsFound : State → Texts → SoughtItem → Data → Type 0
+IsFound s texts q d = (entries : List Entry) × IsListing s entries × (d ≡ array (items_of (map (found_form s texts) (filter (is_sought s q) entries))))

@@ -1,0 +1,74 @@
+-- Paths of names that are looked for.
+use Rattle.std.specs.Prelude.{ℕ, Bool, false, ◌==◌, ◌&&◌, if◌then◌else◌, List, [], ◌∷◌, ◌++◌, codes, map}
+use Rattle.std.specs.List.{flat_map}
+use Rattle.std.specs.Option.{unwrap_or}
+use Rattle.serde_json.specs.Data.{Data}
+use Rattle.hir_input_json.specs.Reading.{Reading, right, here, ◌>>=◌}
+use Rattle.hir_input_json.specs.Forms.{required_at, text, name_in}
+use Rattle.item_tree.specs.Node.{Unfolding}
+use Rattle.item_tree_db.specs.State.{State, unfolding_at}
+use Rattle.def_collector.specs.Declarations.{Declaration, declared_at}
+use Rattle.decl_index.specs.declared.entry.Entry.{Entry}
+use Rattle.decl_index.specs.Lookup.{has_name}
+use Rattle.rust_paths.specs.Names.{behind_hash}
+use Rattle.source_listing.specs.Search.{segment, is_path}
+use Rattle.source_listing.specs.Sought.{Sought, sought}
+use Rattle.source_session.specs.Parts.{parts, last_part}
+
+-- a path that is looked for, and its last name
+pub record SoughtItem : Type 0 where
+  pub path : Sought
+  pub name : List ℕ
+
+-- ---- how it is written
+
+-- a word without `r#`
+abbrev pub without_hash : List ℕ → List ℕ
+without_hash word = unwrap_or (behind_hash word) word
+
+-- the last name of a path: what stands behind its last colon
+abbrev pub last_name : List ℕ → Reading (List ℕ)
+last_name s = here (name_in (without_hash (last_part (parts 58 s))))
+
+-- a path as the command takes it
+abbrev pub asked_path : Data → Reading SoughtItem
+asked_path d = do
+  s ← text d
+  path ← here (sought s)
+  name ← last_name s
+  right (record { path = path; name = name })
+
+-- the path that is looked for, which is required
+abbrev pub asked_path_in : Data → Reading SoughtItem
+asked_path_in = required_at (codes "name") asked_path
+
+-- ---- what it finds
+
+-- the path of a declaration, with the id of its item
+abbrev pub scope_of : ℕ × Declaration → ℕ × List (List ℕ)
+scope_of d = (d.0, d.1.path)
+
+-- that of the item of this id
+abbrev pub scope_in : ℕ → List (ℕ × List (List ℕ)) → List (List ℕ)
+scope_in i [] = []
+scope_in i (d ∷ ds) = if d.0 == i then d.1 else scope_in i ds
+
+-- the names of the inline modules around the item of an id
+abbrev pub scope_at : Unfolding → ℕ → List (List ℕ)
+scope_at u i = scope_in i (map scope_of (declared_at u))
+
+-- these names and then this one
+abbrev pub path_in : Unfolding → ℕ → List ℕ → List ℕ
+path_in u i name = flat_map segment (scope_at u i) ++ segment name
+
+-- the path of an entry's item
+abbrev pub path_of : State → Entry → List ℕ
+path_of s e = path_in (unfolding_at s e.place e.krate.0) e.id e.name
+
+-- whether a path is the one that is looked for, or ends as that may
+abbrev pub is_at : Sought → List ℕ → Bool
+is_at q path = is_path (record { path = q.path; is_anywhere = q.is_anywhere; only_active = false }) path
+
+-- whether the entry has the last name, and its item the path
+abbrev pub is_sought : State → SoughtItem → Entry → Bool
+is_sought s q e = has_name q.name e && is_at q.path (path_of s e)

@@ -1,0 +1,191 @@
+//! What was expected where a value of a line is of wrong form.
+ghost use Rattle.std.specs.Prelude.{◌≡◌, IfOk, map};
+ghost use Rattle.source_session.specs.Expected as spec;
+ghost use Rattle.source_session.specs.Expected.{line_keys, lists, syntax_keys, told_of};
+ghost use Rattle.source_session.specs.Inner.{steps_view};
+
+use crate::keys::{LineObject, is_known};
+use crate::parts::{part_at, parts};
+use std::alloc::{AllocError, Global};
+
+/// The steps of a pointer, from the text before the first on.
+#[derive(Clone, Copy)]
+pub(crate) struct Steps<'a> {
+    count: usize,
+    /// The first step.
+    list: &'a str,
+    before: &'a str,
+    last: &'a str,
+}
+
+// ---- tables
+
+const OTHER: &str = "another value";
+
+// By the keys of lines, and of what stands in their lists.
+fn of_line(key: &str) -> &'static str
+    ensures { result.now ≡ told_of line_keys key.now }
+{
+    match key {
+        "crates" | "skipped" | "edits" | "shows" | "reserved" | "cfg" | "attrs" | "stmts" => {
+            "a list"
+        }
+        "edition" | "syntax" => "an object",
+        "file" | "block" | "root" => "a number below 2^32",
+        "start" | "since" => "a number below 2^64",
+        "crate" => "the number of a crate",
+        "text" => "a string",
+        "range" => "two byte places",
+        "name" => "a name or path",
+        "edit" => "a kind of edit",
+        "show" => "a kind of show",
+        "as" => "text or json",
+        "year" => "2015, 2018, 2021 or 2024",
+        "id" => "a value without a float",
+        _ => OTHER,
+    }
+}
+
+// By the keys of what stands in syntaxes.
+fn of_syntax(key: &str) -> &'static str
+    ensures { result.now ≡ told_of syntax_keys key.now }
+{
+    match key {
+        "attrs" | "items" | "stmts" | "metas" | "list" | "all" | "any" => "a list",
+        "hash" => "a number below 2^16",
+        "number" => "a number below 2^32",
+        "semicolon" | "trait" | "star" => "true or false",
+        "body" | "tokens" | "rendered" | "string" => "a string",
+        "name" | "rename" | "key" => "a name",
+        "path" | "in" => "a path",
+        "vis" => "a visibility",
+        "cfg" | "not" => "a condition",
+        "is" => "a kind of item",
+        "meta" => "a kind of meta",
+        _ => OTHER,
+    }
+}
+
+// By the keys of lists, of what stands in them.
+fn of_list(key: &str) -> &'static str
+    ensures { result.now ≡ told_of lists key.now }
+{
+    match key {
+        "edits" | "shows" => "an object without a float",
+        "crates" | "attrs" | "items" | "metas" | "list" => "an object",
+        "skipped" | "reserved" => "a name",
+        "range" => "a number below 2^64",
+        _ => OTHER,
+    }
+}
+
+// ---- pointers
+
+#[tactic(auto, using(crate::proofs::Pieces::same_count))]
+fn steps_of<'a>(parts: &[&'a str]) -> Steps<'a>
+    ensures { steps_view result ≡ spec.steps_of (map (λ p. p.now) parts.now) }
+{
+    let count = parts.len();
+    Steps {
+        count,
+        list: part_at(parts, 1),
+        before: part_at(parts, count.saturating_sub(2)),
+        last: part_at(parts, count.saturating_sub(1)),
+    }
+}
+
+// An edit or a show.
+fn listed(list: &str) -> Option<LineObject>
+    ensures { result ≡ spec.listed list.now }
+{
+    match list {
+        "edits" => Some(LineObject::OfEdits),
+        "shows" => Some(LineObject::OfShows),
+        _ => None,
+    }
+}
+
+// Whether a step leads into a list.
+fn is_place(step: &str) -> bool
+    ensures { result ≡ spec.is_place step.now }
+{
+    match step.as_bytes() {
+        [first, ..] => 48 <= *first && *first <= 57,
+        [] => false,
+    }
+}
+
+impl Steps<'_> {
+    // The object whose key the last step is, if none but its keys may stand in it.
+    fn object(self) -> Option<LineObject>
+        ensures { result ≡ spec.object_at (steps_view self.entry) }
+    {
+        match self.count {
+            2 => Some(LineObject::Whole),
+            4 => listed(self.list),
+            _ => None,
+        }
+    }
+
+    fn is_unknown(self) -> bool
+        ensures { result ≡ spec.is_unknown (steps_view self.entry) }
+    {
+        match self.object() {
+            Some(object) => !is_known(object, self.last),
+            None => false,
+        }
+    }
+
+    // Whether the line has a key that opens a session.
+    fn opens(self) -> bool
+        ensures { result ≡ spec.opens (steps_view self.entry) }
+    {
+        if self.count != 2 {
+            return false;
+        }
+        matches!(self.last, "crates" | "skipped" | "edition" | "start")
+    }
+
+    fn told(self) -> &'static str
+        ensures { result.now ≡ spec.told_at (steps_view self.entry) }
+    {
+        if is_place(self.last) {
+            return of_list(self.before);
+        }
+        if self.count <= 4 {
+            return of_line(self.last);
+        }
+        of_syntax(self.last)
+    }
+
+    fn expected(self, is_open: bool) -> &'static str
+        ensures { result.now ≡ spec.expected_at is_open (steps_view self.entry) }
+    {
+        if self.count == 1 {
+            return "an object";
+        }
+        if self.is_unknown() {
+            return "no such key";
+        }
+        if is_open && self.opens() {
+            return "nothing: the session is open";
+        }
+        self.told()
+    }
+}
+
+/// What was expected where a pointer leads to, with a session open or not.
+///
+/// # Errors
+///
+/// Only if memory runs out.
+pub(crate) fn expected(
+    alloc: Global,
+    pointer: &str,
+    is_open: bool,
+) -> Result<&'static str, AllocError>
+    ensures { IfOk result (λ words. words.now ≡ spec.expected is_open pointer.now) }
+{
+    let parts = parts(alloc, pointer, '/')?;
+    Ok(steps_of(&parts).expected(is_open))
+}
