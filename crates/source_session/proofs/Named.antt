@@ -24,10 +24,10 @@ use Rattle.decl_index.specs.declared.entry.Entry.{Entry}
 use Rattle.rust_items.specs.declared.source_file.ItemPlace.{ItemPlace}
 use Rattle.source_listing.specs.Outlines.{reading}
 use Rattle.source_listing.proofs.NoFloats.{no_float_in_outline, no_float_in_imports, no_float_in_problems}
-use Rattle.source_session.specs.Found.{ast_of, found_form, found_in, id_form, in_file, place_in, IsFound}
+use Rattle.source_session.specs.Found.{ast_of, found_form, found_in, id_form, in_file, place_by_id, IsFound}
 use Rattle.source_session.specs.Inner.{AreUnfloating, Knowing}
 use Rattle.source_session.specs.Sessions.{Session}
-use Rattle.source_session.specs.Shown.{all_items, change_form, change_with, imports_form, item_objects, items_member, outline_form, pathless, problems_form, tree_form, tree_of, AreChanges}
+use Rattle.source_session.specs.Shown.{all_items, change_form, change_with, imports_form, item_objects, items_member, outline_form, pathless, problems_form, tree_form, tree_of, AreChangeValues}
 use Rattle.source_session.specs.Sought.{SoughtItem, is_sought}
 use Rattle.source_session.specs.SourceTexts.{text_bytes, text_places, all_places, text_problems}
 use Rattle.source_session.specs.Texts.{Texts, text_at, text_in}
@@ -60,7 +60,7 @@ no_float_in_file file krate id text None h = ap (λ b. b || false) h
 no_float_in_file file krate id text (Some place) h = ap (λ b. b || false) h
 
 no_float_found : (texts : Texts) (place : Place) (krate : Crate) (id : Option FileAstId) → has_float (found_in texts place krate id) ≡ false
-no_float_found texts (File file) krate id = let t = text_in texts file.0 in no_float_in_file file krate (id_form id) (text_bytes t) (place_in t id) (no_float_id id)
+no_float_found texts (File file) krate id = let t = text_in texts file.0 in no_float_in_file file krate (id_form id) (text_bytes t) (place_by_id t id) (no_float_id id)
 no_float_found texts (Block block) krate id = ap (λ b. b || false) (no_float_id id)
 
 pub no_float_in_found : (s : State) (texts : Texts) (entries : List Entry) → AreUnfloating (map (found_form s texts) entries)
@@ -101,7 +101,7 @@ no_float_tree u krate place = no_float_change (item_objects u krate place) (plac
 pub no_float_imports : (u : Session) (krate : Crate) (place : Place) → has_float (imports_form u krate place) ≡ false
 no_float_imports u krate place = let t = text_at u.texts place in no_float_in_imports (text_bytes t) u.edition.1 (all_places t) (tree_of u krate place).forest
 
-pub no_float_changes : (s : State) (since : ℕ) (d : Data) → AreChanges s since d → has_float d ≡ false
+pub no_float_changes : (s : State) (since : ℕ) (d : Data) → AreChangeValues s since d → has_float d ≡ false
 no_float_changes s since d h = ap has_float h.2 ∙ no_float_in_changes h.0
 
 pub no_float_problems : (u : Session) (file : HirFileId) → has_float (problems_form u file) ≡ false

@@ -27,7 +27,7 @@ use Rattle.source_listing.proofs.Pushed.{segments_of}
 use Rattle.source_session.specs.declared.texts.SourceText.{SourceText}
 use Rattle.source_session.specs.Found.{ast_of, found_form, found_in, in_block, in_file}
 use Rattle.source_session.specs.Inner.{declared_scope}
-use Rattle.source_session.specs.Sought.{scope_of, scope_in, scope_at, path_in, path_of, is_at}
+use Rattle.source_session.specs.Sought.{own_scope, scope_by_id, scope_at, path_within, path_of, is_at}
 use Rattle.source_session.specs.SourceTexts.{text_bytes, text_places}
 use Rattle.source_session.specs.Texts.{Texts, text_in}
 
@@ -56,19 +56,19 @@ scopes_of : (u : Unfolding) (ds : List code.Declaration) → map declared_scope 
 scopes_of u [] = refl
 scopes_of u (d ∷ ds) = ap (λ xs. declared_scope d ∷ xs) (scopes_of u ds)
 
-scopes_are : (ds : List (ℕ × Declaration)) → map (λ (d : ℕ × DeclarationView). (d.0, d.1.path)) (map defined ds) ≡ map scope_of ds
+scopes_are : (ds : List (ℕ × Declaration)) → map (λ (d : ℕ × DeclarationView). (d.0, d.1.path)) (map defined ds) ≡ map own_scope ds
 scopes_are [] = refl
-scopes_are (d ∷ ds) = ap (λ xs. scope_of d ∷ xs) (scopes_are ds)
+scopes_are (d ∷ ds) = ap (λ xs. own_scope d ∷ xs) (scopes_are ds)
 
 -- what is collected of a tree tells what is around its items
-pub all_scopes : (u : Unfolding) (ds : List code.Declaration) → map (collected u) ds ≡ map defined (declared_at u) → map declared_scope ds ≡ map scope_of (declared_at u)
+pub all_scopes : (u : Unfolding) (ds : List code.Declaration) → map (collected u) ds ≡ map defined (declared_at u) → map declared_scope ds ≡ map own_scope (declared_at u)
 all_scopes u ds e = scopes_of u ds ∙ ap (map (λ (d : ℕ × DeclarationView). (d.0, d.1.path))) e ∙ scopes_are (declared_at u)
 
 -- the path of an item, pushed one after another
 pub path_made : (u : Unfolding) (ds : List code.Declaration) (i : ℕ) (name : List ℕ) (scope : List (Bor (List ℕ))) (empty around whole : List ℕ) → map (collected u) ds ≡ map defined (declared_at u)
-    → map (λ n. n.now) scope ≡ scope_in i (map declared_scope ds) → empty ≡ [] → around ≡ empty ++ flat_map (λ n. segment n.now) scope → whole ≡ around ++ segment name → whole ≡ path_in u i name
+    → map (λ n. n.now) scope ≡ scope_by_id i (map declared_scope ds) → empty ≡ [] → around ≡ empty ++ flat_map (λ n. segment n.now) scope → whole ≡ around ++ segment name → whole ≡ path_within u i name
 path_made u ds i name scope empty around whole c s z a b =
-    let segments : flat_map (λ n. segment n.now) scope ≡ flat_map segment (scope_at u i) = sym (segments_of (λ n. n.now) scope) ∙ ap (flat_map segment) (s ∙ ap (scope_in i) (all_scopes u ds c)) in
+    let segments : flat_map (λ n. segment n.now) scope ≡ flat_map segment (scope_at u i) = sym (segments_of (λ n. n.now) scope) ∙ ap (flat_map segment) (s ∙ ap (scope_by_id i) (all_scopes u ds c)) in
     b ∙ ap (λ p. p ++ segment name) (a ∙ ap (λ p. p ++ flat_map (λ n. segment n.now) scope) z ∙ segments)
 
 -- ---- objects

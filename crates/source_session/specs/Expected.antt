@@ -18,9 +18,9 @@ abbrev pub other : List ℕ
 other = codes "another value"
 
 -- what the first row tells that has the word
-abbrev pub told_of : List Row → List ℕ → List ℕ
-told_of [] word = other
-told_of (row ∷ rows) word = if list_any (bytes_eq word) row.0 then row.1 else told_of rows word
+abbrev pub told_by_row : List Row → List ℕ → List ℕ
+told_by_row [] word = other
+told_by_row (row ∷ rows) word = if list_any (bytes_eq word) row.0 then row.1 else told_by_row rows word
 
 -- by the keys of lines, and of what stands in their lists
 abbrev pub line_keys : List Row
@@ -82,12 +82,12 @@ abbrev pub listed : List ℕ → Option LineObject
 listed list = if bytes_eq list (codes "edits") then Some OfEdits else (if bytes_eq list (codes "shows") then Some OfShows else None)
 
 -- the object whose key the last step is, if none but its keys may stand in it
-abbrev pub object_at : Steps → Option LineObject
-object_at s = if s.count == 2 then Some Whole else (if s.count == 4 then listed s.list else None)
+abbrev pub object_of_key : Steps → Option LineObject
+object_of_key s = if s.count == 2 then Some Whole else (if s.count == 4 then listed s.list else None)
 
 -- whether that object has no such key
 abbrev pub is_unknown : Steps → Bool
-is_unknown s = option_map_or (λ o. not (is_known o s.last)) (object_at s) false
+is_unknown s = option_map_or (λ o. not (is_known o s.last)) (object_of_key s) false
 
 -- whether a line has a key that opens a session
 abbrev pub opens : Steps → Bool
@@ -100,7 +100,7 @@ is_place (b ∷ bs) = nat_le 48 b && nat_le b 57
 
 -- by the last step, or the one before where it leads into a list
 abbrev pub told_at : Steps → List ℕ
-told_at s = if is_place s.last then told_of lists s.before else (if nat_le s.count 4 then told_of line_keys s.last else told_of syntax_keys s.last)
+told_at s = if is_place s.last then told_by_row lists s.before else (if nat_le s.count 4 then told_by_row line_keys s.last else told_by_row syntax_keys s.last)
 
 -- what was expected, with a session open or not
 abbrev pub expected_at : Bool → Steps → List ℕ

@@ -34,8 +34,8 @@ abbrev pub id_form : Option FileAstId → Data
 id_form id = option_map_or (λ a. string (shown_id a)) id null
 
 -- where the item of an id stands in a text
-abbrev pub place_in : Option SourceText → Option FileAstId → Option ItemPlace
-place_in t id = option_and_then (λ a. place_of a (text_places t)) id
+abbrev pub place_by_id : Option SourceText → Option FileAstId → Option ItemPlace
+place_by_id t id = option_and_then (λ a. place_of a (text_places t)) id
 
 -- an item of a file at a line and a column, with its bytes; the members of all objects are in the order of their keys
 abbrev pub placed_form : HirFileId → Crate → Data → Position → ItemPlace → Data
@@ -59,7 +59,7 @@ in_block block krate id = object (member (codes "block") (count_form block.0) (m
 
 -- an item of the tree of a place
 abbrev pub found_in : Texts → Place → Crate → Option FileAstId → Data
-found_in texts (File file) krate id = let t = text_in texts file.0 in in_file file krate (id_form id) (text_bytes t) (place_in t id)
+found_in texts (File file) krate id = let t = text_in texts file.0 in in_file file krate (id_form id) (text_bytes t) (place_by_id t id)
 found_in texts (Block block) krate id = in_block block krate (id_form id)
 
 -- the object of an entry

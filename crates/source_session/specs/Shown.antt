@@ -74,8 +74,8 @@ abbrev pub tree_form : Session → Crate → Place → Data
 tree_form u krate place = change_with (items_member (item_objects u krate place)) (place, krate, change_number u.table place krate.0)
 
 -- the objects of all changes since a number
-abbrev pub AreChanges : State → ℕ → Data → Type 0
-AreChanges s since d = (changes : List Change) × IsSince s since changes × (d ≡ array (items_of (map change_form changes)))
+abbrev pub AreChangeValues : State → ℕ → Data → Type 0
+AreChangeValues s since d = (changes : List Change) × IsSince s since changes × (d ≡ array (items_of (map change_form changes)))
 
 -- ---- shows
 
@@ -89,6 +89,6 @@ IsShown u (Table show) d = IsText (IsPrinted u.edition.1 u.table show) d
 IsShown u (Outline krate file) d = d ≡ outline_form u krate file
 IsShown u (TreeItems krate place) d = d ≡ tree_form u krate place
 IsShown u (ImportPlaces krate place) d = d ≡ imports_form u krate place
-IsShown u (Changes since) d = AreChanges u.table since d
+IsShown u (Changes since) d = AreChangeValues u.table since d
 IsShown u (Problems file) d = d ≡ problems_form u file
 IsShown u (Find sought) d = IsFound u.table u.texts sought d

@@ -48,14 +48,14 @@ import_places krate file = ImportPlaces krate (File file)
 abbrev pub values_by : List ℕ → Reading Bool
 values_by word = on_word word (codes "json") (right true) (on_word word (codes "text") (right false) (wrong []))
 
-abbrev pub values : Data → Reading Bool
-values d = do
+abbrev pub wants_values : Data → Reading Bool
+wants_values d = do
   word ← text d
   values_by word
 
 -- whether a show is to be answered by values, by default by a text
 abbrev pub as_values : Data → Reading Bool
-as_values = optional_at false (codes "as") values
+as_values = optional_at false (codes "as") wants_values
 
 -- what is answered by values; a page has its text alone
 abbrev pub tree_values : ShowKind → TreeShow → LineShow

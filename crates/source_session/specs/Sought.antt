@@ -45,25 +45,25 @@ asked_path_in = required_at (codes "name") asked_path
 -- ---- what it finds
 
 -- the path of a declaration, with the id of its item
-abbrev pub scope_of : ℕ × Declaration → ℕ × List (List ℕ)
-scope_of d = (d.0, d.1.path)
+abbrev pub own_scope : ℕ × Declaration → ℕ × List (List ℕ)
+own_scope d = (d.0, d.1.path)
 
 -- that of the item of this id
-abbrev pub scope_in : ℕ → List (ℕ × List (List ℕ)) → List (List ℕ)
-scope_in i [] = []
-scope_in i (d ∷ ds) = if d.0 == i then d.1 else scope_in i ds
+abbrev pub scope_by_id : ℕ → List (ℕ × List (List ℕ)) → List (List ℕ)
+scope_by_id i [] = []
+scope_by_id i (d ∷ ds) = if d.0 == i then d.1 else scope_by_id i ds
 
 -- the names of the inline modules around the item of an id
 abbrev pub scope_at : Unfolding → ℕ → List (List ℕ)
-scope_at u i = scope_in i (map scope_of (declared_at u))
+scope_at u i = scope_by_id i (map own_scope (declared_at u))
 
 -- these names and then this one
-abbrev pub path_in : Unfolding → ℕ → List ℕ → List ℕ
-path_in u i name = flat_map segment (scope_at u i) ++ segment name
+abbrev pub path_within : Unfolding → ℕ → List ℕ → List ℕ
+path_within u i name = flat_map segment (scope_at u i) ++ segment name
 
 -- the path of an entry's item
 abbrev pub path_of : State → Entry → List ℕ
-path_of s e = path_in (unfolding_at s e.place e.krate.0) e.id e.name
+path_of s e = path_within (unfolding_at s e.place e.krate.0) e.id e.name
 
 -- whether a path is the one that is looked for, or ends as that may
 abbrev pub is_at : Sought → List ℕ → Bool

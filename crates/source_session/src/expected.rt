@@ -1,7 +1,7 @@
 //! What was expected where a value of a line is of wrong form.
 ghost use Rattle.std.specs.Prelude.{◌≡◌, IfOk, map};
 ghost use Rattle.source_session.specs.Expected as spec;
-ghost use Rattle.source_session.specs.Expected.{line_keys, lists, syntax_keys, told_of};
+ghost use Rattle.source_session.specs.Expected.{line_keys, lists, syntax_keys, told_by_row};
 ghost use Rattle.source_session.specs.Inner.{steps_view};
 
 use crate::keys::{LineObject, is_known};
@@ -24,7 +24,7 @@ const OTHER: &str = "another value";
 
 // By the keys of lines, and of what stands in their lists.
 fn of_line(key: &str) -> &'static str
-    ensures { result.now ≡ told_of line_keys key.now }
+    ensures { result.now ≡ told_by_row line_keys key.now }
 {
     match key {
         "crates" | "skipped" | "edits" | "shows" | "reserved" | "cfg" | "attrs" | "stmts" => {
@@ -48,7 +48,7 @@ fn of_line(key: &str) -> &'static str
 
 // By the keys of what stands in syntaxes.
 fn of_syntax(key: &str) -> &'static str
-    ensures { result.now ≡ told_of syntax_keys key.now }
+    ensures { result.now ≡ told_by_row syntax_keys key.now }
 {
     match key {
         "attrs" | "items" | "stmts" | "metas" | "list" | "all" | "any" => "a list",
@@ -68,7 +68,7 @@ fn of_syntax(key: &str) -> &'static str
 
 // By the keys of lists, of what stands in them.
 fn of_list(key: &str) -> &'static str
-    ensures { result.now ≡ told_of lists key.now }
+    ensures { result.now ≡ told_by_row lists key.now }
 {
     match key {
         "edits" | "shows" => "an object without a float",
@@ -118,7 +118,7 @@ fn is_place(step: &str) -> bool
 impl Steps<'_> {
     // The object whose key the last step is, if none but its keys may stand in it.
     fn object(self) -> Option<LineObject>
-        ensures { result ≡ spec.object_at (steps_view self.entry) }
+        ensures { result ≡ spec.object_of_key (steps_view self.entry) }
     {
         match self.count {
             2 => Some(LineObject::Whole),

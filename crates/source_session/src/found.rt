@@ -9,7 +9,7 @@ ghost use Rattle.source_listing.specs.Places.{is_id, place_of, stands_at};
 ghost use Rattle.source_listing.specs.Search.{segment};
 ghost use Rattle.source_session.specs.Found as spec;
 ghost use Rattle.source_session.specs.Inner.{declared_scope, found_one};
-ghost use Rattle.source_session.specs.Sought.{is_at, path_in, path_of as path_is, scope_in};
+ghost use Rattle.source_session.specs.Sought.{is_at, path_within, path_of as path_is, scope_by_id};
 
 use crate::sought::SoughtItem;
 use crate::texts::{Texts, text_of};
@@ -43,7 +43,7 @@ fn push_scope(scope: &[&Name], path: &mut String) -> Result<(), AllocError>
 
 // The names of the modules around the item of an id, one of these declarations.
 fn scope_of<'a, 'tree>(declarations: &'a [Declaration<'tree>], id: ModItemId) -> &'a [&'tree Name]
-    ensures { map (λ n. n.now) result.now ≡ scope_in id (map declared_scope declarations.now) }
+    ensures { map (λ n. n.now) result.now ≡ scope_by_id id (map declared_scope declarations.now) }
 {
     let mut left = declarations;
     while let [declaration, rest @ ..] = left {
@@ -57,7 +57,7 @@ fn scope_of<'a, 'tree>(declarations: &'a [Declaration<'tree>], id: ModItemId) ->
 
 // The path of the item of an id, which has this name.
 fn path_of(alloc: Global, tree: &ItemTree, id: ModItemId, name: &Name) -> Result<String, AllocError>
-    ensures { IfOk result (λ path. string_bytes path ≡ path_in tree.now id name.now) }
+    ensures { IfOk result (λ path. string_bytes path ≡ path_within tree.now id name.now) }
 {
     let collected = collect(alloc, tree)?;
     let mut path = String::new(alloc);

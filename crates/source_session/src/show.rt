@@ -70,7 +70,7 @@ fn sought_at(alloc: Global, members: &Map<String, Value>) -> Result<SoughtItem, 
 
 // Whether a word asks for values, and not for a text.
 fn values_of(alloc: Global, value: &Value) -> Result<bool, Fault>
-    ensures { Reads (λ by_values. by_values) result (spec.values (view value.now)) }
+    ensures { Reads (λ by_values. by_values) result (spec.wants_values (view value.now)) }
 {
     let Some(word) = value.as_str() else {
         return Err(Fault::here(alloc));

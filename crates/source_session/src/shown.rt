@@ -7,7 +7,7 @@ ghost use Rattle.item_tree_request.specs.Outputs.{IsPrinted, Knows};
 ghost use Rattle.source_session.specs.Found.{IsFound};
 ghost use Rattle.source_session.specs.Inner.{AreUnfloating};
 ghost use Rattle.source_session.specs.Shows.{IsNamed, NamesCrate};
-ghost use Rattle.source_session.specs.Shown.{AreChanges, IsShown, IsText, change_form, change_with, imports_form, item_objects, items_member, outline_form, problems_form, tree_form};
+ghost use Rattle.source_session.specs.Shown.{AreChangeValues, IsShown, IsText, change_form, change_with, imports_form, item_objects, items_member, outline_form, problems_form, tree_form};
 
 use crate::found::found_values;
 use crate::session::Session;
@@ -68,7 +68,7 @@ fn change_values(alloc: Global, changes: ChangedSince<'_>) -> Result<Vec<Value>,
 
 // What changed since a number.
 fn changes_value(alloc: Global, sources: &Sources, since: u64) -> Result<Value, AllocError>
-    ensures { IfOk result (λ value. AreChanges sources.now since (view value)) }
+    ensures { IfOk result (λ value. AreChangeValues sources.now since (view value)) }
 {
     let values = change_values(alloc, sources.changed_since(since))?;
     Ok(Value::Array(values))
@@ -172,7 +172,7 @@ impl Session {
     }
 
     fn changes(&self, alloc: Global, since: u64) -> Result<Value, AllocError>
-        ensures { IfOk result (λ value. AreChanges self.now.table since (view value)) }
+        ensures { IfOk result (λ value. AreChangeValues self.now.table since (view value)) }
     {
         changes_value(alloc, &self.sources, since)
     }

@@ -3,7 +3,7 @@ use Rattle.serde_json.specs.View.{view}
 use Rattle.serde_json.specs.Written.{has_float}
 use Rattle.source_session.specs.declared.show.LineShow.TheVariants.{Table, Outline, TreeItems, ImportPlaces}
 use Rattle.source_session.specs.Found.{IsFound}
-use Rattle.source_session.specs.Shown.{AreChanges, IsShown, imports_form, outline_form, problems_form, tree_form}
+use Rattle.source_session.specs.Shown.{AreChangeValues, IsShown, imports_form, outline_form, problems_form, tree_form}
 use Rattle.source_session.specs.Shows.{NamesCrate}
 use Rattle.source_session.proofs.Named.{if_ok, no_float_changes, no_float_found_value, no_float_imports, no_float_outline, no_float_problems, no_float_tree, show_known}
 use Rattle.source_session.proofs.session.Session.show.Goals as goal
@@ -65,7 +65,7 @@ returns-in-ImportPlaces-clause-no_float c =
 pub returns-in-Changes-clause-no_float : goal.returns-in-Changes-clause-no_float
 returns-in-Changes-clause-no_float c =
     let s = c.args.self.now.table in
-    if_ok (λ value. AreChanges s c.in-Changes.since (view value)) (λ value. has_float (view value) ≡ false) c.changes.result (λ value h. no_float_changes s c.in-Changes.since (view value) h) c.changes.ensures
+    if_ok (λ value. AreChangeValues s c.in-Changes.since (view value)) (λ value. has_float (view value) ≡ false) c.changes.result (λ value h. no_float_changes s c.in-Changes.since (view value) h) c.changes.ensures
 
 pub returns-in-Problems-clause-no_float : goal.returns-in-Problems-clause-no_float
 returns-in-Problems-clause-no_float c =
