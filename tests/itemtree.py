@@ -295,6 +295,41 @@ def read_all(shown):
     return got
 
 
+def on_terminal(words, folder, **variables):
+    """What a run shows whose standard output is a terminal."""
+    shown, other = pty.openpty()
+    env = {name: value for name, value in os.environ.items() if name not in ('NO_COLOR', 'TERM')}
+    child = subprocess.Popen([PROGRAM, *words], cwd=folder, stdout=other, env=dict(env, **variables))
+    os.close(other)
+    got = read_all(shown)
+    child.wait(60)
+    return got.decode().replace('\r\n', '\n')
+
+
+def check_colors(folder):
+    """Colours are there on a terminal, unless nobody wants them, and are nothing but sequences in the lines."""
+    files = 'shapes.rs members.rs tagged.rs known.rs repeated.rs broken.rs src'
+    plain = run(f'itemtree outline --cfg a {files}', folder)
+    colored = run(f'NO_COLOR=1 TERM=dumb itemtree outline --cfg a --color always {files}', folder)
+    left = re.sub(r'\x1b\[(?:2|36|1|0)m', '', colored)
+    tell(left == plain and plain.count('\n') > 50, 'the lines without their colours', left, plain)
+    untold = [line for line in colored.splitlines() if not re.fullmatch(
+        r'\x1b\[2m[^\x1b]*:\d+:\d+: \x1b\[0m *(?:pub(?:\([^\x1b]*\))? )?\x1b\[36m[a-z_ ]+\x1b\[0m\x1b\[1m(?: [^\x1b]+)?\x1b\[0m(?: \(inactive\))?', line)]
+    tell(not untold, 'the colours of lines', '\n'.join(untold))
+    plain = run('itemtree outline shapes.rs', folder)
+    colored = run('itemtree outline --color always shapes.rs', folder)
+    for words, variables, wanted in (([], {}, colored), ([], {'TERM': 'xterm'}, colored), ([], {'NO_COLOR': ''}, colored), ([], {'TERM': 'dumber'}, colored),
+                                     ([], {'NO_COLOR': '0'}, plain), ([], {'NO_COLOR': 'yes'}, plain), ([], {'TERM': 'dumb'}, plain),
+                                     (['--color', 'auto'], {}, colored), (['--color=never'], {}, plain),
+                                     (['--color', 'always'], {'NO_COLOR': '1', 'TERM': 'dumb'}, colored)):
+        got = on_terminal(['outline', *words, 'shapes.rs'], folder, **variables)
+        tell(got == wanted, f'{words} on a terminal with {variables}', repr(got), repr(wanted))
+    for words in (['outline', '--json'], ['outline', '--json', '--color', 'always'], ['find', 'area'], ['imports'], ['page']):
+        got = on_terminal([*words, 'shapes.rs'], folder)
+        wanted = run(shlex.join(['itemtree', *words, 'shapes.rs']), folder)
+        tell(got == wanted and '\x1b' not in got, f'{words} on a terminal', repr(got), repr(wanted))
+
+
 def check_progress(folder):
     """What takes longer than a second tells on a terminal how many files are done, and takes it away before it tells of anything else."""
     write_files(folder, {f'many/{at}.rs': b'fn f() {}' if at != 3 else b'\xff' for at in (1, 3, 4)})
@@ -333,6 +368,7 @@ def main():
         check_vim(folder)
         check_ctags(folder)
         check_progress(folder)
+        check_colors(folder)
         check_request(folder)
         check_documents(check_help(folder))
         check_tools(folder)

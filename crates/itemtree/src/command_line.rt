@@ -8,6 +8,8 @@ static SHOWS: [&str; 3] = ["page", "tree", "imports"];
 
 static IDS: [&str; 2] = ["on", "off"];
 
+static COLORS: [&str; 3] = ["auto", "always", "never"];
+
 const STATUSES: &str = "Statuses:
   0  done: a name is found, nothing is wrong, nothing differs
   1  find: nothing is found; check: something is wrong; changed: something differs
@@ -131,8 +133,8 @@ fn skip<'a>(alloc: Global) -> Arg<'a> {
     option(alloc, "skip", "NAME", ArgAction::Append, SKIP)
 }
 
-fn docs<'a>(alloc: Global) -> Arg<'a> {
-    flag(alloc, "docs", "Keep documentation, if --skip is not given")
+fn docs<'a>(alloc: Global, help: &'static str) -> Arg<'a> {
+    flag(alloc, "docs", help)
 }
 
 fn no_members<'a>(alloc: Global) -> Arg<'a> {
@@ -195,7 +197,7 @@ fn on_trees<'a>(
     let command = on_texts(alloc, name, about, after)?
         .arg(cfg_option(alloc))?
         .arg(skip(alloc))?
-        .arg(docs(alloc))?;
+        .arg(docs(alloc, "Keep documentation, if --skip is not given"))?;
     Ok(command)
 }
 
@@ -206,10 +208,15 @@ fn outline<'a>(alloc: Global) -> Result<Command<'a>, Error> {
     let depth = option(alloc, "depth", "N", ArgAction::Set, help).value_parser(clap::value_parser!(
         u32
     ));
+    let help = "Whether lines are in colour; auto: on a terminal, unless NO_COLOR is set";
+    let color = option(alloc, "color", "WHEN", ArgAction::Set, help)
+        .value_parser(COLORS.as_slice())
+        .default_value("auto");
     let help = "Write a JSON object for each file, on a line of its own";
     let about = "Lists the items of files and their members";
     let command = on_items(alloc, "outline", about, AFTER_OUTLINE)?
         .arg(depth)?
+        .arg(color)?
         .arg(flag(alloc, "json", help))?
         .arg(files(alloc))?;
     Ok(command)
@@ -265,8 +272,9 @@ fn changed<'a>(alloc: Global) -> Result<Command<'a>, Error> {
         "Compare the item trees alone, which keep no signatures, fields, variants, values or members";
     let about =
         "Lists the items and members that differ between two files, but for bodies of functions";
+    let of_docs = "Compare documentation too; with --tree, if --skip is not given";
     let command = on_texts(alloc, "changed", about, AFTER_CHANGED)?
-        .arg(docs(alloc))?
+        .arg(docs(alloc, of_docs))?
         .arg(flag(alloc, "tree", help))?
         .arg(cfg_option(alloc).requires_arg("tree")?)?
         .arg(skip(alloc).requires_arg("tree")?)?

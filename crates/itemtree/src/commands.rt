@@ -2,7 +2,7 @@
 use crate::changed::compare;
 use crate::files::{Filter, STDIN, files_of, read};
 use crate::options::read_options;
-use crate::output::{Progress, STDOUT, complain, complain_of, write_out};
+use crate::output::{Progress, STDOUT, complain, complain_of, is_colored, write_out};
 use crate::request::write_request;
 use crate::serve::answer_lines;
 use crate::tags::write_tags;
@@ -57,6 +57,7 @@ enum Action {
         depth: Option<usize>,
         has_members: bool,
         is_json: bool,
+        is_colored: bool,
     },
     Page {
         has_ids: bool,
@@ -87,11 +88,12 @@ impl Action {
                 depth,
                 has_members,
                 is_json,
+                is_colored,
             } => {
                 let text = if *is_json {
                     outline_json(alloc, source, options, *depth, *has_members)?
                 } else {
-                    outline(alloc, source, options, *depth, *has_members)?
+                    outline(alloc, source, options, *depth, *has_members, *is_colored)?
                 };
                 Ok((text, true))
             }
@@ -213,18 +215,20 @@ fn finding(alloc: Global, matches: &ArgMatches<'_>) -> Result<Action, Failure> {
     })
 }
 
-fn action_of(alloc: Global, name: &str, matches: &ArgMatches<'_>) -> Result<Action, Failure> {
+/// What is done to list items.
+fn outlining(rt: &HostRuntime, matches: &ArgMatches<'_>) -> Action {
+    Action::Outline {
+        depth: matches.get_one::<usize>("depth"),
+        has_members: has_members(matches),
+        is_json: matches.get_flag("json"),
+        is_colored: is_colored(rt, matches.get_str("color")),
+    }
+}
+
+fn action_of(rt: &HostRuntime, name: &str, matches: &ArgMatches<'_>) -> Result<Action, Failure> {
+    let alloc = rt.alloc();
     match name {
-        "outline" => {
-            let depth = matches.get_one::<usize>("depth");
-            let is_json = matches.get_flag("json");
-            let has_members = has_members(matches);
-            Ok(Action::Outline {
-                depth,
-                has_members,
-                is_json,
-            })
-        }
+        "outline" => Ok(outlining(rt, matches)),
         "page" => {
             let has_ids = matches.get_str("ids") != Some("off");
             Ok(Action::Page { has_ids })
@@ -318,7 +322,7 @@ pub(crate) fn run_command(rt: &HostRuntime, matches: &ArgMatches<'_>) -> Result<
     if name == "request" {
         return write_request(rt, options, inner);
     }
-    let action = action_of(rt.alloc(), name, inner)?;
+    let action = action_of(rt, name, inner)?;
     let mut run = Run {
         rt,
         action,

@@ -1,9 +1,11 @@
 //! What is written on standard output, and told on standard error.
 use crate::commands::Failure;
 use std::alloc::Global;
+use std::env::FillError;
 use std::fmt::Display;
 use std::io;
 use std::io::{IsTerminal, Write};
+use std::rt::Env;
 use std::time::Instant;
 
 /// How standard output is called.
@@ -27,6 +29,34 @@ pub(crate) fn write_out(rt: &HostRuntime, text: &str) -> Result<(), Failure> {
     match rt.stdout().write_all(text.as_bytes()) {
         Ok(()) => Ok(()),
         Err(error) => Err(unwritten(rt.alloc(), STDOUT, error)),
+    }
+}
+
+/// Whether the variable `NO_COLOR` is set, and not empty.
+fn wants_no_color(rt: &HostRuntime) -> bool {
+    let mut begin = [0u8; 1];
+    match rt.var("NO_COLOR", &mut begin) {
+        Ok(length) => length > 0,
+        Err(FillError::TooLong) => true,
+        Err(FillError::NotPresent) => false,
+    }
+}
+
+/// Whether the variable `TERM` tells of a terminal that knows no colours.
+fn is_dumb(rt: &HostRuntime) -> bool {
+    let mut name = [0u8; 4];
+    match rt.var("TERM", &mut name) {
+        Ok(length) => length == 4 && name.as_slice() == b"dumb".as_slice(),
+        Err(_) => false,
+    }
+}
+
+/// Whether standard output is in colour, by the word of `--color`.
+pub(crate) fn is_colored(rt: &HostRuntime, word: Option<&str>) -> bool {
+    match word {
+        Some("always") => true,
+        Some("never") => false,
+        _ => rt.stdout().is_terminal() && !wants_no_color(rt) && !is_dumb(rt),
     }
 }
 

@@ -8,7 +8,7 @@ use Rattle.listed_members.specs.Listed.{Reading}
 use Rattle.source_listing.specs.Changed.{Side, change_lines}
 use Rattle.source_listing.specs.Imports.{import_lines}
 use Rattle.source_listing.specs.Lines.{Choice, Source, problem_lines}
-use Rattle.source_listing.specs.Outlines.{outline_text, reading}
+use Rattle.source_listing.specs.Outlines.{Look, outline_text, reading}
 use Rattle.source_listing.specs.Objects.{json_line}
 use Rattle.source_listing.specs.Pages.{without_ids}
 use Rattle.source_listing.specs.Repeated.{repeated_lines}
@@ -35,6 +35,10 @@ HasTree o = IsTreeOf o.krate o.skipped.items o.edition.year
 abbrev pub choice : Options → Option ℕ → Choice
 choice o depth = record { depth = depth; only_active = o.only_active }
 
+-- which lines are written, and whether in colour
+abbrev pub look_of : Options → Option ℕ → Bool → Look
+look_of o depth is_colored = record { choice = choice o depth; is_colored = is_colored }
+
 -- the cfgs under which members are listed, if they are
 abbrev pub if_members : Options → Bool → Option (List AtomView)
 if_members o has_members = if has_members then Some o.krate.cfg else None
@@ -42,11 +46,11 @@ if_members o has_members = if has_members then Some o.krate.cfg else None
 abbrev pub reading_in : Options → Bool → Source → Reading
 reading_in o has_members s = reading s o.edition.year (if_members o has_members)
 
--- the lines of the listed items, with or without those of their listed members
-abbrev pub IsOutline : Options → Option ℕ → Bool → Source → List ℕ → Type 0
-IsOutline o depth has_members s out =
+-- the lines of the listed items, with or without those of their listed members, and with or without colours
+abbrev pub IsOutline : Options → Option ℕ → Bool → Bool → Source → List ℕ → Type 0
+IsOutline o depth has_members is_colored s out =
     (t : SourceTree) × HasTree o s.text t
-    × (out ≡ outline_text s (reading_in o has_members s) o.edition.reserved.items t.places.items (choice o depth) (rows t.tree))
+    × (out ≡ outline_text s (reading_in o has_members s) o.edition.reserved.items t.places.items (look_of o depth is_colored) (rows t.tree))
 
 -- their objects, on one line
 abbrev pub IsJson : Options → Option ℕ → Bool → Source → List ℕ → Type 0

@@ -5,13 +5,13 @@ ghost use Rattle.std.specs.Prelude.{◌≡◌, ◌≤◌, ◌^◌, length, map, 
 ghost use Rattle.itemtree_commands.specs.Answers as spec;
 ghost use Rattle.itemtree_commands.specs.Typing.{IsSameInBody, IsSameWhereTyped};
 ghost use Rattle.source_listing.specs.Ends.{IsBeginOf};
-ghost use Rattle.source_listing.specs.Views.{choice_view, query_view, source_view};
+ghost use Rattle.source_listing.specs.Views.{choice_view, look_view, query_view, source_view};
 ghost use Rattle.source_tree.specs.Trees.{HasOwnIds, IsUnread};
 
 use hir_input::{CfgOptions, Edition, Name};
 use item_tree::CrateData;
 use listed_members::Reading;
-use source_listing::{Choice, Query, Side, Source, without_ids};
+use source_listing::{Choice, Look, Query, Side, Source, without_ids};
 use source_problems::source_problems;
 use source_tree::{SourceError, SourceTree, source_file, source_tree};
 use std::alloc::{AllocError, Global};
@@ -34,6 +34,15 @@ impl Options {
         Choice {
             depth,
             only_active: self.only_active,
+        }
+    }
+
+    fn look(&self, depth: Option<usize>, is_colored: bool) -> Look
+        ensures { look_view result ≡ spec.look_of self.now depth is_colored }
+    {
+        Look {
+            choice: self.choice(depth),
+            is_colored,
         }
     }
 
@@ -95,7 +104,7 @@ fn read(alloc: Global, text: &str, options: &Options) -> Result<SourceTree, Sour
 }
 
 /// `itemtree outline`: a line for each item and each member of one, or for those in fewer than so many items; with or
-/// without members.
+/// without members, and with or without colours.
 ///
 /// # Errors
 ///
@@ -107,17 +116,18 @@ pub fn outline(
     options: &Options,
     depth: Option<usize>,
     has_members: bool,
+    is_colored: bool,
 ) -> Result<String, SourceError>
-    ensures text { let outline = spec.IsOutline options.now depth has_members (source_view source.entry) in
+    ensures text { let outline = spec.IsOutline options.now depth has_members is_colored (source_view source.entry) in
         IfOk result (λ out. outline (string_bytes out)) }
     ensures refused { IfErr result (spec.HasNoTree options.now source.entry.text.now) }
 {
     let file = read(alloc, source.text, options)?;
-    let choice = options.choice(depth);
+    let look = options.look(depth, is_colored);
     let members = options.members(has_members);
     let edition = &options.edition;
     let (places, tree) = (&file.places, &file.tree);
-    let text = source_listing::outline(alloc, source, places, tree, edition, members, choice)?;
+    let text = source_listing::outline(alloc, source, places, tree, edition, members, look)?;
     Ok(text)
 }
 

@@ -10,21 +10,21 @@ use Rattle.rust_items.specs.declared.source_file.ItemPlace.{ItemPlace}
 use Rattle.listed_members.specs.Listed.{Listed, Reading}
 use Rattle.source_listing.specs.Lines.{Source, Choice, is_chosen, is_listed}
 use Rattle.source_listing.specs.Objects.{member_object, member_objects}
-use Rattle.source_listing.specs.Outlines.{member_line, member_lines, outline_text, whole_lines}
+use Rattle.source_listing.specs.Outlines.{Look, member_line, member_lines, outline_text, whole_lines}
 
 -- the lines of one more item
-pub one_more : (s : Source) (x : Reading) (reserved : List (List ℕ)) (places : List ItemPlace) (c : Choice) (rs : List RowView) (r : RowView)
-    → outline_text s x reserved places c (rs ++ r ∷ []) ≡ outline_text s x reserved places c rs ++ outline_text s x reserved places c (r ∷ [])
-one_more s x reserved places c rs r =
-    ap (flat_map (whole_lines s x reserved places c)) (filter-append (is_listed c) rs (r ∷ []))
-    ∙ flat_map-append (whole_lines s x reserved places c) (filter (is_listed c) rs) (filter (is_listed c) (r ∷ []))
+pub one_more : (s : Source) (x : Reading) (reserved : List (List ℕ)) (places : List ItemPlace) (k : Look) (rs : List RowView) (r : RowView)
+    → outline_text s x reserved places k (rs ++ r ∷ []) ≡ outline_text s x reserved places k rs ++ outline_text s x reserved places k (r ∷ [])
+one_more s x reserved places k rs r =
+    ap (flat_map (whole_lines s x reserved places k)) (filter-append (is_listed k.choice) rs (r ∷ []))
+    ∙ flat_map-append (whole_lines s x reserved places k) (filter (is_listed k.choice) rs) (filter (is_listed k.choice) (r ∷ []))
 
 -- the same of members
-pub one_more_member : (s : Source) (reserved : List (List ℕ)) (c : Choice) (level : ℕ) (ms : List Listed) (m : Listed)
-    → member_lines s reserved c level (ms ++ m ∷ []) ≡ member_lines s reserved c level ms ++ member_lines s reserved c level (m ∷ [])
-one_more_member s reserved c level ms m =
-    ap (flat_map (member_line s reserved level)) (filter-append (λ x. is_chosen c (level + 1) x.is_active) ms (m ∷ []))
-    ∙ flat_map-append (member_line s reserved level) (filter (λ x. is_chosen c (level + 1) x.is_active) ms) (filter (λ x. is_chosen c (level + 1) x.is_active) (m ∷ []))
+pub one_more_member : (s : Source) (reserved : List (List ℕ)) (k : Look) (level : ℕ) (ms : List Listed) (m : Listed)
+    → member_lines s reserved k level (ms ++ m ∷ []) ≡ member_lines s reserved k level ms ++ member_lines s reserved k level (m ∷ [])
+one_more_member s reserved k level ms m =
+    ap (flat_map (member_line s reserved k.is_colored level)) (filter-append (λ x. is_chosen k.choice (level + 1) x.is_active) ms (m ∷ []))
+    ∙ flat_map-append (member_line s reserved k.is_colored level) (filter (λ x. is_chosen k.choice (level + 1) x.is_active) ms) (filter (λ x. is_chosen k.choice (level + 1) x.is_active) (m ∷ []))
 
 -- the same of their objects
 pub one_more_object : (text : List ℕ) (reserved : List (List ℕ)) (c : Choice) (level : ℕ) (ms : List Listed) (m : Listed)

@@ -12,9 +12,9 @@ use Rattle.listed_members.specs.Listed.{Listed, Reading}
 use Rattle.source_listing.specs.Tags.{scope_field}
 use Rattle.source_listing.specs.Search.{Query, segment, is_member_found, whole_found, found_lines, found_member, found_members}
 
-pub seven_pushed : (o p i v w n s e o1 o2 o3 o4 o5 o6 o7 : List ℕ) → o1 ≡ o ++ p → o2 ≡ o1 ++ i → o3 ≡ o2 ++ v → o4 ≡ o3 ++ w → o5 ≡ o4 ++ n → o6 ≡ o5 ++ s → o7 ≡ o6 ++ e
-    → o7 ≡ o ++ (p ++ i ++ v ++ w ++ n ++ s ++ e)
-seven_pushed o p i v w n s e o1 o2 o3 o4 o5 o6 o7 a b c d f g h = rw (h, g, f, d, c, b, a) (simp append_assoc)
+pub six_pushed : (o p i v w n e o1 o2 o3 o4 o5 o6 : List ℕ) → o1 ≡ o ++ p → o2 ≡ o1 ++ i → o3 ≡ o2 ++ v → o4 ≡ o3 ++ w → o5 ≡ o4 ++ n → o6 ≡ o5 ++ e
+    → o6 ≡ o ++ (p ++ i ++ v ++ w ++ n ++ e)
+six_pushed o p i v w n e o1 o2 o3 o4 o5 o6 a b c d f g = rw (g, f, d, c, b, a) (simp append_assoc)
 
 -- the lines of one more item and its members that are looked for
 pub one_more_found : (s : Source) (x : Reading) (reserved : List (List ℕ)) (places : List ItemPlace) (q : Query) (rs : List RowView) (r : RowView)

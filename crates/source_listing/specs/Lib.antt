@@ -1,5 +1,6 @@
 pub mod Ends
 pub mod Places
+pub mod Colors
 pub mod Lines
 pub mod Outlines
 pub mod Changed

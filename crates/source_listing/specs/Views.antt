@@ -6,6 +6,8 @@ use Rattle.source_listing.specs.declared.search.Query as code_query
 use Rattle.source_listing.specs.declared.sought.SoughtPath as code_sought
 use Rattle.source_listing.specs.Sought.{Sought}
 use Rattle.source_listing.specs.Lines.{Source, Choice}
+use Rattle.source_listing.specs.declared.outlines.Look as code_look
+use Rattle.source_listing.specs.Outlines.{Look}
 use Rattle.source_listing.specs.Search.{Query}
 use Rattle.source_listing.specs.declared.changed.Side as code_side
 use Rattle.source_listing.specs.Changed.{Side}
@@ -17,6 +19,10 @@ source_view s = record { path = s.path.now; text = s.text.now }
 -- a choice of items as plain data
 abbrev pub choice_view : code_choice.Choice → Choice
 choice_view c = record { depth = c.depth; only_active = c.only_active }
+
+-- which lines are written and how, as plain data
+abbrev pub look_view : code_look.Look → Look
+look_view k = record { choice = choice_view k.choice; is_colored = k.is_colored }
 
 -- what is looked for, as plain data
 abbrev pub query_view : code_query.Query → Query

@@ -2,6 +2,7 @@
 #![tactic(auto)]
 
 mod changed;
+mod colors;
 mod finder;
 mod import_objects;
 mod imports;
@@ -25,7 +26,7 @@ pub use import_objects::import_items;
 pub use imports::import_lines;
 pub use json::{outline_items, outline_json};
 pub use lines::{Choice, Source};
-pub use outlines::outline;
+pub use outlines::{Look, outline};
 pub use pages::without_ids;
 pub use problems::{problem_items, problem_lines};
 pub use repeated::repeated_lines;

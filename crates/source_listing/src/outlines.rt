@@ -1,21 +1,23 @@
 //! Outlines as lines of text.
-ghost use Rattle.std.specs.Prelude.{◌≡◌, ◌++◌, ◌∷◌, [], IfOk, OnOk, option_copied, string_bytes, map};
+ghost use Rattle.std.specs.Prelude.{◌≡◌, ◌++◌, ◌∷◌, [], IfOk, OnOk, Some, option_copied, string_bytes, map};
 ghost use Rattle.item_rows.specs.Rows as rows;
 ghost use Rattle.item_rows.specs.Views.{row_view};
 ghost use Rattle.listed_members.specs.Views.{listed_view, reading_view};
+ghost use Rattle.source_listing.specs.Colors.{bold, colored, faint};
 ghost use Rattle.source_listing.specs.Inner.{IsSameFile, file_of, places_of, reserved_of};
-ghost use Rattle.source_listing.specs.Lines.{place_at};
+ghost use Rattle.source_listing.specs.Lines.{name_text, place_at};
 ghost use Rattle.source_listing.specs.Outlines as spec;
 ghost use Rattle.source_listing.specs.Places.{AreDistinct};
-ghost use Rattle.source_listing.specs.Views.{choice_view, source_view};
+ghost use Rattle.source_listing.specs.Views.{look_view, source_view};
 
+use crate::colors::{BOLD, CYAN, FAINT, USUAL, push_colored};
 use crate::finder::stands_at;
 use crate::lines::{
     Choice, Printer, Source, push_end, push_indent, push_name, push_place, push_spot,
     push_visibility, word,
 };
 use crate::subjects::push_subject;
-use hir_input::{AstIdKind, CfgOptions, Edition};
+use hir_input::{CfgOptions, Edition, Name};
 use item_rows::{Row, item_rows};
 use item_tree::ItemTree;
 use listed_members::{ListedMember, Reading};
@@ -23,16 +25,75 @@ use rust_items::ItemPlace;
 use source_rows::member_word;
 use std::alloc::{AllocError, Global};
 
-/// The word of a kind, and the header of an impl.
-fn push_kind(kind: AstIdKind, header: &str, out: &mut String) -> Result<(), AllocError>
-    ensures { OnOk result (string_bytes out.new ≡ string_bytes out.old ++ spec.kind_text kind header.now) }
+/// Which items and members have lines, and how these are written.
+#[derive(Clone, Copy, Debug, PartialEq, Eq)]
+pub struct Look {
+    pub choice: Choice,
+    /// Whether places are faint, the words of kinds cyan, and names bold, by the sequences of a terminal.
+    pub is_colored: bool,
+}
+
+/// The header of an impl, behind a blank.
+fn push_header(header: &str, out: &mut String) -> Result<(), AllocError>
+    ensures { OnOk result (string_bytes out.new ≡ string_bytes out.old ++ spec.header_text header.now) }
 {
-    out.push_str(word(kind))?;
     if header.is_empty() {
         return Ok(());
     }
     out.push_str(" ")?;
     out.push_str(header)
+}
+
+/// What follows the word of a kind.
+fn push_title(
+    edition: &Edition,
+    row: &Row<'_>,
+    header: &str,
+    out: &mut String,
+) -> Result<(), AllocError>
+    ensures { let text = spec.title edition.now.reserved.items header.now (row_view row.now) in
+        OnOk result (string_bytes out.new ≡ string_bytes out.old ++ text) }
+{
+    push_header(header, out)?;
+    push_name(edition, row.name, out)?;
+    push_subject(edition, row.subject, out)
+}
+
+/// The same, bold if colours are wanted.
+fn push_bold_title(
+    is_colored: bool,
+    edition: &Edition,
+    row: &Row<'_>,
+    header: &str,
+    out: &mut String,
+) -> Result<(), AllocError>
+    ensures { let text = spec.title edition.now.reserved.items header.now (row_view row.now) in
+        OnOk result (string_bytes out.new ≡ string_bytes out.old ++ colored is_colored bold text) }
+{
+    if !is_colored {
+        return push_title(edition, row, header, out);
+    }
+    out.push_str(BOLD)?;
+    push_title(edition, row, header, out)?;
+    out.push_str(USUAL)
+}
+
+/// A name behind a blank, bold if colours are wanted.
+fn push_bold_name(
+    is_colored: bool,
+    edition: &Edition,
+    name: &Name,
+    out: &mut String,
+) -> Result<(), AllocError>
+    ensures { let text = name_text edition.now.reserved.items (Some name.now) in
+        OnOk result (string_bytes out.new ≡ string_bytes out.old ++ colored is_colored bold text) }
+{
+    if !is_colored {
+        return push_name(edition, Some(name), out);
+    }
+    out.push_str(BOLD)?;
+    push_name(edition, Some(name), out)?;
+    out.push_str(USUAL)
 }
 
 impl Printer<'_> {
@@ -59,80 +120,118 @@ impl Printer<'_> {
         }
     }
 
+    /// The same of a byte and of an item, faint if colours are wanted.
+    fn push_faint_at(
+        &mut self,
+        is_colored: bool,
+        at: usize,
+        out: &mut String,
+    ) -> Result<(), AllocError>
+        ensures text { let text = place_at (file_of self.old) at in
+            OnOk result (string_bytes out.new ≡ string_bytes out.old ++ colored is_colored faint text) }
+        ensures same { IsSameFile self.old self.new }
+    {
+        if !is_colored {
+            return self.push_at(at, out);
+        }
+        out.push_str(FAINT)?;
+        self.push_at(at, out)?;
+        out.push_str(USUAL)
+    }
+
+    fn push_faint_stand(
+        &mut self,
+        is_colored: bool,
+        place: Option<ItemPlace>,
+        out: &mut String,
+    ) -> Result<(), AllocError>
+        ensures text { let text = spec.stand_text (file_of self.old) place in
+            OnOk result (string_bytes out.new ≡ string_bytes out.old ++ colored is_colored faint text) }
+        ensures same { IsSameFile self.old self.new }
+    {
+        if !is_colored {
+            return self.push_stand(place, out);
+        }
+        out.push_str(FAINT)?;
+        self.push_stand(place, out)?;
+        out.push_str(USUAL)
+    }
+
     /// The line of an item, which stands there.
     fn push_item(
         &mut self,
+        is_colored: bool,
         row: &Row<'_>,
         place: Option<ItemPlace>,
         header: &str,
         out: &mut String,
     ) -> Result<(), AllocError>
-        ensures text { let line = spec.item_line (file_of self.old) (reserved_of self.old) place header.now in
+        ensures text { let line = spec.item_line (file_of self.old) (reserved_of self.old) is_colored place header.now in
             OnOk result (string_bytes out.new ≡ string_bytes out.old ++ line (row_view row.now)) }
         ensures same { IsSameFile self.old self.new }
     {
-        self.push_stand(place, out)?;
+        self.push_faint_stand(is_colored, place, out)?;
         push_indent(row.level, out)?;
         push_visibility(self.edition, row.visibility, out)?;
-        push_kind(row.id.kind, header, out)?;
-        push_name(self.edition, row.name, out)?;
-        push_subject(self.edition, row.subject, out)?;
+        push_colored(is_colored, CYAN, word(row.id.kind), out)?;
+        push_bold_title(is_colored, self.edition, row, header, out)?;
         push_end(row.is_active, out)
     }
 
     /// The line of a member of an item in so many others.
     fn push_member(
         &mut self,
+        is_colored: bool,
         level: usize,
         member: &ListedMember,
         out: &mut String,
     ) -> Result<(), AllocError>
-        ensures text { let line = spec.member_line (file_of self.old) (reserved_of self.old) level in
+        ensures text { let line = spec.member_line (file_of self.old) (reserved_of self.old) is_colored level in
             OnOk result (string_bytes out.new ≡ string_bytes out.old ++ line (listed_view member.now)) }
         ensures same { IsSameFile self.old self.new }
     {
-        self.push_at(member.at, out)?;
+        self.push_faint_at(is_colored, member.at, out)?;
         push_indent(level, out)?;
         out.push_str("    ")?;
         push_visibility(self.edition, Some(&member.visibility), out)?;
-        out.push_str(member_word(member.kind))?;
-        push_name(self.edition, Some(&member.name), out)?;
+        push_colored(is_colored, CYAN, member_word(member.kind), out)?;
+        push_bold_name(is_colored, self.edition, &member.name, out)?;
         push_end(member.is_active, out)
     }
 
     /// The line of a member, if that is chosen.
     fn push_chosen_member(
         &mut self,
-        choice: Choice,
+        look: Look,
         level: usize,
         member: &ListedMember,
         out: &mut String,
     ) -> Result<(), AllocError>
-        ensures text { let lines = spec.member_lines (file_of self.old) (reserved_of self.old) (choice_view choice) level in
+        ensures text { let lines = spec.member_lines (file_of self.old) (reserved_of self.old) (look_view look) level in
             OnOk result (string_bytes out.new ≡ string_bytes out.old ++ lines (listed_view member.now ∷ [])) }
         ensures same { IsSameFile self.old self.new }
     {
-        if !choice.takes_inside(level, member.is_active) {
+        if !look.choice.takes_inside(level, member.is_active) {
             return Ok(());
         }
-        self.push_member(level, member, out)
+        self.push_member(look.is_colored, level, member, out)
     }
 
     /// The lines of the chosen members of an item in so many others.
     #[tactic(auto, using(crate::proofs::Outlined::one_more_member))]
     fn push_members(
         &mut self,
-        choice: Choice,
+        look: Look,
         level: usize,
         members: &[ListedMember],
         out: &mut String,
     ) -> Result<(), AllocError>
-        ensures text { let lines = spec.member_lines (file_of self.old) (reserved_of self.old) (choice_view choice) level in
+        ensures text { let lines = spec.member_lines (file_of self.old) (reserved_of self.old) (look_view look) level in
             OnOk result (string_bytes out.new ≡ string_bytes out.old ++ lines (map listed_view members.now)) }
         ensures same { IsSameFile self.old self.new }
     {
         for member in members {
-            self.push_chosen_member(choice, level, member, out)?;
+            self.push_chosen_member(look, level, member, out)?;
         }
         Ok(())
     }
@@ -142,21 +241,21 @@ impl Printer<'_> {
         &mut self,
         alloc: Global,
         reading: Reading<'_>,
-        choice: Choice,
+        look: Look,
         row: &Row<'_>,
         out: &mut String,
     ) -> Result<(), AllocError>
         requires { AreDistinct (places_of self.old) }
         ensures text { let lines = spec.whole_lines (file_of self.old) (reading_view reading.entry) (reserved_of self.old) in
-            let lines = lines (places_of self.old) (choice_view choice) (row_view row.now) in
+            let lines = lines (places_of self.old) (look_view look) (row_view row.now) in
             OnOk result (string_bytes out.new ≡ string_bytes out.old ++ lines) }
         ensures same { IsSameFile self.old self.new }
     {
         let place = self.finder.places.find(row.id);
         let header = reading.header(alloc, row.id.kind, place)?;
-        self.push_item(row, place, &header, out)?;
+        self.push_item(look.is_colored, row, place, &header, out)?;
         let members = reading.members(alloc, place, row.is_active)?;
-        self.push_members(choice, row.level, &members, out)
+        self.push_members(look, row.level, &members, out)
     }
 
     /// The line of an item and those of its members, if the item is chosen.
@@ -164,20 +263,20 @@ impl Printer<'_> {
         &mut self,
         alloc: Global,
         reading: Reading<'_>,
-        choice: Choice,
+        look: Look,
         row: &Row<'_>,
         out: &mut String,
     ) -> Result<(), AllocError>
         requires { AreDistinct (places_of self.old) }
         ensures text { let lines = spec.outline_text (file_of self.old) (reading_view reading.entry) (reserved_of self.old) in
-            let lines = lines (places_of self.old) (choice_view choice) (row_view row.now ∷ []) in
+            let lines = lines (places_of self.old) (look_view look) (row_view row.now ∷ []) in
             OnOk result (string_bytes out.new ≡ string_bytes out.old ++ lines) }
         ensures same { IsSameFile self.old self.new }
     {
-        if !choice.lists(row) {
+        if !look.choice.lists(row) {
             return Ok(());
         }
-        self.push_whole(alloc, reading, choice, row, out)
+        self.push_whole(alloc, reading, look, row, out)
     }
 }
 
@@ -185,7 +284,8 @@ impl Printer<'_> {
 /// each item that it stands in, its visibility as it was written, the word of its kind, its name, and whether a cfg
 /// disables it. A use has its tree in place of a name, where `{..}` stands for a list, a macro call the macro's path, and an
 /// impl its type and its trait, as `Display for Circle`. If cfgs are given for the members, the chosen ones of those with a
-/// name have lines behind that of their item, one level deeper, as the reader reads them; the tree has none.
+/// name have lines behind that of their item, one level deeper, as the reader reads them; the tree has none. In colour, places
+/// are faint, the words of kinds cyan, and what follows these bold.
 ///
 /// The places are those that the reader gave with the syntax of the tree.
 ///
@@ -200,13 +300,13 @@ pub fn outline(
     tree: &ItemTree,
     edition: &Edition,
     members: Option<&CfgOptions>,
-    choice: Choice,
+    look: Look,
 ) -> Result<String, AllocError>
     requires { AreDistinct places.now }
     ensures { let s = source_view source.entry in
         let reading = spec.reading s edition.now.year (option_copied members.entry) in
         let lines = spec.outline_text s reading edition.now.reserved.items places.now in
-        IfOk result (λ text. string_bytes text ≡ lines (choice_view choice) (rows.rows tree.now)) }
+        IfOk result (λ text. string_bytes text ≡ lines (look_view look) (rows.rows tree.now)) }
 {
     let reading = Reading {
         text: source.text,
@@ -217,7 +317,7 @@ pub fn outline(
     let mut out = String::new(alloc);
     let rows = item_rows(alloc, tree)?;
     for row in &rows {
-        printer.push_chosen(alloc, reading, choice, row, &mut out)?;
+        printer.push_chosen(alloc, reading, look, row, &mut out)?;
     }
     Ok(out)
 }

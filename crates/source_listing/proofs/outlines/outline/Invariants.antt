@@ -3,11 +3,11 @@ use Rattle.std.specs.Prelude.{option_copied}
 use Rattle.item_rows.specs.Views.{row_view}
 use Rattle.source_listing.specs.Outlines as spec
 use Rattle.source_listing.specs.Inner.{IsPrinterOf}
-use Rattle.source_listing.specs.Views.{choice_view, source_view}
+use Rattle.source_listing.specs.Views.{look_view, source_view}
 use Rattle.source_listing.proofs.outlines.outline.Given as goal
 
 abbrev pub invariant-loop-row : goal.invariant-loop-row
 invariant-loop-row l = let s = source_view l.fn.source in let x = spec.reading s l.fn.edition.year (option_copied l.fn.members) in record {
-  text : string_bytes l.out ≡ spec.outline_text s x l.fn.edition.reserved.items l.fn.places (choice_view l.fn.choice) (map row_view (take l.row-index l.row-items));
+  text : string_bytes l.out ≡ spec.outline_text s x l.fn.edition.reserved.items l.fn.places (look_view l.fn.look) (map row_view (take l.row-index l.row-items));
   is : IsPrinterOf s l.fn.places l.fn.edition l.printer;
 }

@@ -2,11 +2,11 @@ use Rattle.std.proofs.Common.{◌≡◌, ◌++◌, map, take, string_bytes}
 use Rattle.listed_members.specs.Views.{listed_view}
 use Rattle.source_listing.specs.Outlines.{member_lines}
 use Rattle.source_listing.specs.Inner.{IsSameFile, file_of, reserved_of}
-use Rattle.source_listing.specs.Views.{choice_view}
+use Rattle.source_listing.specs.Views.{look_view}
 use Rattle.source_listing.proofs.lines.Printer.push_members.Given as goal
 
 abbrev pub invariant-loop-member : goal.invariant-loop-member
 invariant-loop-member l = record {
-  text : string_bytes l.out ≡ string_bytes l.fn.out ++ member_lines (file_of l.fn.self) (reserved_of l.fn.self) (choice_view l.fn.choice) l.fn.level (map listed_view (take l.member-index l.fn.members));
+  text : string_bytes l.out ≡ string_bytes l.fn.out ++ member_lines (file_of l.fn.self) (reserved_of l.fn.self) (look_view l.fn.look) l.fn.level (map listed_view (take l.member-index l.fn.members));
   same : IsSameFile l.fn.self l.self;
 }

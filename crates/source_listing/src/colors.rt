@@ -1,0 +1,32 @@
+//! Texts in colours of a terminal.
+ghost use Rattle.std.specs.Prelude.{◌≡◌, ◌++◌, OnOk, string_bytes};
+ghost use Rattle.source_listing.specs.Colors as spec;
+
+use std::alloc::AllocError;
+
+/// After each of these a terminal writes so.
+pub(crate) const FAINT: &str = "\x1b[2m";
+
+pub(crate) const CYAN: &str = "\x1b[36m";
+
+pub(crate) const BOLD: &str = "\x1b[1m";
+
+pub(crate) const USUAL: &str = "\x1b[0m";
+
+/// A text, in a colour if colours are wanted.
+pub(crate) fn push_colored(
+    is_colored: bool,
+    color: &str,
+    text: &str,
+    out: &mut String,
+) -> Result<(), AllocError>
+    ensures { let text = spec.colored is_colored color.now text.now in
+        OnOk result (string_bytes out.new ≡ string_bytes out.old ++ text) }
+{
+    if !is_colored {
+        return out.push_str(text);
+    }
+    out.push_str(color)?;
+    out.push_str(text)?;
+    out.push_str(USUAL)
+}
