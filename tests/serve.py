@@ -1208,10 +1208,14 @@ def check_found_paths(program):
              {**SET, 'file': 2, 'syntax': {'root': 'source_file', 'items': [{'is': 'module', 'name': 'b', 'items': [module]}]}},
              {'edit': 'set_text', 'file': 3, 'text': '\ufeffmod xa { fn f() {} }\r\nmod a;'},
              {'edit': 'set_block', 'block': 1, 'stmts': [{'item': FUNCTION}]}]
-    f = [{'column': 13, 'crate': 0, 'file': 0, 'id': 'Fn[BE8F, 0]', 'line': 2, 'range': [12, 26]},
+    # The id of an item in a module is that of its outline.
+    with Server(program) as server:
+        got = server.ask({**OPENED, 'edits': edits, 'shows': [{'show': 'outline', 'crate': 0, 'file': file} for file in (0, 3)]})
+        inner = [outline[0]['children'][0]['id'] for outline in json.loads(got)['shows']]
+    f = [{'column': 13, 'crate': 0, 'file': 0, 'id': inner[0], 'line': 2, 'range': [12, 26]},
          {'column': 12, 'crate': 0, 'file': 1, 'id': 'Fn[BE8F, 0]', 'line': 1, 'range': [9, 18]},
          {'crate': 0, 'file': 2, 'id': 'Fn[BE8F, 0]'},
-         {'column': 13, 'crate': 0, 'file': 3, 'id': 'Fn[BE8F, 0]', 'line': 1, 'range': [12, 21]},
+         {'column': 13, 'crate': 0, 'file': 3, 'id': inner[1], 'line': 1, 'range': [12, 21]},
          {'block': 1, 'crate': 0, 'id': 'Fn[BE8F, 0]'}]
     wanted = {'f': f, 'r#f': f, '::f': [f[1], f[4]], 'crate::f': [f[1], f[4]], 'a::f': [f[0], f[2]], 'r#a::r#f': [f[0], f[2]],
               '::a::f': [f[0]], 'crate::a::f': [f[0]], 'b::a::f': [f[2]], '::b::a::f': [f[2]], 'crate::r#b::a::f': [f[2]],
