@@ -6,7 +6,7 @@ use Rattle.hir_input_json.specs.Reading.{right}
 use Rattle.item_tree_request.specs.Requests.{IsJsonText, IsRequest, Request, request}
 use Rattle.request_writer.specs.declared.request.RequestFault.{RequestFault}
 use Rattle.request_writer.specs.declared.request.RequestFault.TheVariants.{NoForm, TooDeep, OutOfMemory}
-use Rattle.request_writer.specs.Depth.{nests_past}
+use Rattle.request_writer.specs.Inner.{nests_past}
 use Rattle.request_writer.specs.Unwritten.{IsNoText, IsUnwritten}
 use Rattle.request_writer.proofs.Depths.{past, within}
 

@@ -1,4 +1,4 @@
 pub mod Written
 pub mod Meant
-pub mod Depth
+pub mod Inner
 pub mod Unwritten

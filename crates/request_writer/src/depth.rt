@@ -1,7 +1,7 @@
 //! Whether a value nests too deep.
 ghost use Rattle.std.specs.Prelude.{◌≡◌};
 ghost use Rattle.serde_json.specs.View.{view, items_view, members_view};
-ghost use Rattle.request_writer.specs.Depth.{items_nest_past as items_past, members_nest_past as members_past, nests_past as past};
+ghost use Rattle.request_writer.specs.Inner.{items_nest_past as items_past, members_nest_past as members_past, nests_past as past};
 
 use serde_json::{Map, Value};
 

@@ -7,6 +7,6 @@
 mod depth;
 mod laws;
 mod parts;
-pub mod request;
+mod request;
 
 pub use request::{RequestFault, RequestOptions, request_text, request_value};

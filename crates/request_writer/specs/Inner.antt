@@ -1,4 +1,4 @@
--- Whether data nests too deep.
+-- Words that private contracts alone cite: whether data nests too deep.
 use Rattle.std.specs.Prelude.{ℕ, zero, suc, Bool, true, false, ◌||◌}
 use Rattle.serde_json.specs.Data.{Data, null, boolean, number, string, array, object, Items, no_items, item, Members, no_members, member}
 
