@@ -3,6 +3,7 @@ _itemtree() {
     local word=${COMP_WORDS[COMP_CWORD]} before=${COMP_WORDS[COMP_CWORD - 1]} command=${COMP_WORDS[1]}
     case $before in
         --edition) mapfile -t COMPREPLY < <(compgen -W '2015 2018 2021 2024' -- "$word"); return ;;
+        --color) mapfile -t COMPREPLY < <(compgen -W 'auto always never' -- "$word"); return ;;
         --ids) mapfile -t COMPREPLY < <(compgen -W 'on off' -- "$word"); return ;;
         --show) mapfile -t COMPREPLY < <(compgen -W 'page tree imports' -- "$word"); return ;;
     esac
@@ -12,7 +13,7 @@ _itemtree() {
     fi
     [[ $word = -* ]] || return
     case $command in
-        outline) mapfile -t COMPREPLY < <(compgen -W '--edition --hidden --exclude --cfg --active --no-members --depth --json -h --help' -- "$word") ;;
+        outline) mapfile -t COMPREPLY < <(compgen -W '--edition --hidden --exclude --cfg --active --no-members --depth --color --json -h --help' -- "$word") ;;
         page) mapfile -t COMPREPLY < <(compgen -W '--edition --hidden --exclude --cfg --skip --docs --ids -h --help' -- "$word") ;;
         imports) mapfile -t COMPREPLY < <(compgen -W '--edition --hidden --exclude --duplicates -h --help' -- "$word") ;;
         find) mapfile -t COMPREPLY < <(compgen -W '--edition --hidden --exclude --cfg --active --no-members -h --help' -- "$word") ;;
