@@ -1885,7 +1885,7 @@ def check_noise(options):
                 value = json.loads(got)
                 error = value.get('error', {})
                 tell(list(value) == ['id', 'number', 'error'] and value['id'] is None and value['number'] == number
-                     and (error.get('kind') == 'not JSON' or error == {'kind': 'not a request', 'pointer': ''}), f'noise: {data!r}', got)
+                     and (error.get('kind') == 'not JSON' or error == {'expected': 'an object', 'kind': 'not a request', 'pointer': ''}), f'noise: {data!r}', got)
             got, wanted = noisy.ask(line), quiet.ask(line)
             tell(got == wanted and b'"error"' not in got, 'a good line after noise', got, wanted)
             number = json.loads(got).get('number')
