@@ -23,10 +23,14 @@ edited old range typed = take range.start old ++ (typed ++ drop range.end old)
 abbrev pub shifted_place : Shift → ℕ → ℕ
 shifted_place s = shifted s.opening s.closing s.closing_new
 
+-- the places of an item of the old text, in the new one
+abbrev pub shifted_item : Shift → ItemPlace → ItemPlace
+shifted_item s = moved_place (shifted_place s)
+
 -- what was read of two texts is the same but for body texts, with the same ids, and items and use trees stand where a shift says
 pub record IsMovedBy (shift : Shift) (read again : SourceFile) : Type 0 where
   pub syntax : without_bodies (syntax_view read.syntax) ≡ without_bodies (syntax_view again.syntax)
-  pub items : again.places.items ≡ map (moved_place (shifted_place shift)) read.places.items
+  pub items : again.places.items ≡ map (shifted_item shift) read.places.items
   pub use_trees : again.use_trees.items ≡ map (shifted_place shift) read.use_trees.items
 
 -- Where these are the places of what is read of a text, in some edition, so is what is read of the text with an edit.

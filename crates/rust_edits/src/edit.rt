@@ -3,6 +3,7 @@
 ghost use Rattle.std.specs.Prelude.{◌≡◌, ◌↔◌, true, IsSome, IfOk, IfSome, length, slice_index};
 ghost use Rattle.rust_items.specs.Typed.{has_body_at};
 ghost use Rattle.rust_edits.specs.Edits as spec;
+ghost use Rattle.rust_edits.specs.Edits.{BeginInOrder, MayEdit, PlacesAreKept, Shifts};
 ghost use Rattle.rust_edits.specs.Inner as inner;
 
 use crate::alone::may_stand;
@@ -14,7 +15,7 @@ use std::alloc::{AllocError, Global};
 /// The braces of the last item that begins up to a place, if it ends with braces.
 fn body_about(items: &[ItemPlace], at: usize) -> Option<TextRange>
     ensures held { IfSome result (λ body. has_body_at body.start items.now ≡ true) }
-    ensures told { spec.BeginInOrder items.now → result ≡ spec.body_about at items.now }
+    ensures told { BeginInOrder items.now → result ≡ spec.body_about at items.now }
 {
     let count = items.partition_point(|item| item.range.start <= at);
     let item = items.get(count.checked_sub(1)?)?;
@@ -76,9 +77,9 @@ pub fn edit_inside(
     range: TextRange,
     typed: &str,
 ) -> Result<Option<Shift>, AllocError>
-    ensures shifts { IfOk result (λ found. IfSome found (λ shift. spec.Shifts items.now old.now range typed.now shift)) }
-    ensures keeps { IfOk result (λ found. IfSome found (λ shift. spec.PlacesAreKept items.now old.now range typed.now shift)) }
-    ensures told { spec.BeginInOrder items.now → IfOk result (λ found. IsSome found ↔ spec.MayEdit items.now old.now range typed.now) }
+    ensures shifts { IfOk result (λ found. IfSome found (Shifts items.now old.now range typed.now)) }
+    ensures keeps { IfOk result (λ found. IfSome found (PlacesAreKept items.now old.now range typed.now)) }
+    ensures told { BeginInOrder items.now → IfOk result (λ it. IsSome it ↔ MayEdit items.now old.now range typed.now) }
 {
     if !begins_bare(old) {
         return Ok(None);

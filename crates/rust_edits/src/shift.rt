@@ -3,8 +3,7 @@
 ghost use Rattle.std.specs.Prelude.{◌≡◌, IfOk, IfSome, is_some, map, option_map};
 ghost use Rattle.std.specs.List.{list_all};
 ghost use Rattle.rust_items.specs.LineEnds.{moved_range};
-ghost use Rattle.rust_typing.specs.Moved.{moved_place};
-ghost use Rattle.rust_edits.specs.Edits.{shifted_place, has_place, has_range, has_some_range, has_item};
+ghost use Rattle.rust_edits.specs.Edits.{shifted_place, shifted_item, has_place, has_range, has_some_range, has_item};
 
 use rust_items::{ItemPlace, TextRange};
 use std::alloc::{AllocError, Global};
@@ -52,7 +51,7 @@ impl Shift {
     }
 
     fn item(&self, item: ItemPlace) -> Option<ItemPlace>
-        ensures value { IfSome result (λ to. to ≡ moved_place (shifted_place self.now) item) }
+        ensures value { IfSome result (λ to. to ≡ shifted_item self.now item) }
         ensures told { is_some result ≡ has_item self.now item }
     {
         Some(ItemPlace {
@@ -73,7 +72,7 @@ impl Shift {
         alloc: Global,
         items: &[ItemPlace],
     ) -> Result<Option<Vec<ItemPlace>>, AllocError>
-        ensures value { IfOk result (λ moved. IfSome moved (λ v. v.items ≡ map (moved_place (shifted_place self.now)) items.now)) }
+        ensures value { IfOk result (λ moved. IfSome moved (λ v. v.items ≡ map (shifted_item self.now) items.now)) }
         ensures told { IfOk result (λ moved. is_some moved ≡ list_all (has_item self.now) items.now) }
     {
         let mut moved = Vec::with_capacity(alloc, items.len())?;
