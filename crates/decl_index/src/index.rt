@@ -21,10 +21,16 @@ use std::marker::Model;
 use tree_walk::preorder;
 
 /// An index of the items of a table by their names.
-#[derive(Debug, Drop)]
+#[derive(Debug)]
 pub struct DeclIndex {
     number: Option<u64>,
     entries: Vec<Entry>,
+}
+
+impl Drop for DeclIndex {
+    fn drop(self) {
+        let DeclIndex { number: _, entries: _ } = self;
+    }
 }
 
 impl Model for DeclIndex {

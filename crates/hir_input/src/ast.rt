@@ -13,7 +13,7 @@ use crate::mod_path::ModPath;
 use crate::name::Name;
 
 /// The syntax of a file or of a macro's result.
-#[derive(Debug, Drop)]
+#[derive(Debug)]
 pub enum Syntax {
     /// A file, with its inner attributes and its items.
     SourceFile { attrs: Vec<Meta>, items: Vec<Item> },
@@ -25,12 +25,29 @@ pub enum Syntax {
     Error,
 }
 
+impl Drop for Syntax {
+    fn drop(self) {
+        match self {
+            Syntax::SourceFile { attrs: _, items: _ } => {}
+            Syntax::MacroItems { items: _ } => {}
+            Syntax::MacroStmts { stmts: _, tail: _ } => {}
+            Syntax::Error => {}
+        }
+    }
+}
+
 /// A block expression, which may have items of its own.
-#[derive(Debug, Drop)]
+#[derive(Debug)]
 pub struct BlockExpr {
     pub attrs: Vec<Meta>,
     pub stmts: Vec<Stmt>,
     pub tail: Tail,
+}
+
+impl Drop for BlockExpr {
+    fn drop(self) {
+        let BlockExpr { attrs: _, stmts: _, tail: _ } = self;
+    }
 }
 
 /// A statement.

@@ -175,9 +175,15 @@ impl Clone for CfgExpr {
 /// The options of a crate: the atoms that are set.
 ///
 /// Stands for rust-analyzer's `CfgOptions`. `==` is that of the lists: order and repetition count.
-#[derive(Debug, Drop)]
+#[derive(Debug)]
 pub struct CfgOptions {
     atoms: Vec<CfgAtom>,
+}
+
+impl Drop for CfgOptions {
+    fn drop(self) {
+        let CfgOptions { atoms: _ } = self;
+    }
 }
 
 impl Model for CfgOptions {

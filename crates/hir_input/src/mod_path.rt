@@ -29,10 +29,16 @@ pub enum PathKind {
 /// A path by its kind and the names after it. A plain path has at least one name.
 ///
 /// Stands for rust-analyzer's `ModPath`. Two paths are equal, and hash alike, where their kinds and names are.
-#[derive(Debug, Drop)]
+#[derive(Debug)]
 pub struct ModPath {
     kind: PathKind,
     segments: Vec<Name>,
+}
+
+impl Drop for ModPath {
+    fn drop(self) {
+        let ModPath { kind: _, segments: _ } = self;
+    }
 }
 
 impl Model for ModPath {

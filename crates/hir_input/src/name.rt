@@ -16,9 +16,15 @@ use std::marker::Model;
 /// A name: a text that is not empty and holds no line feed.
 ///
 /// Stands for rust-analyzer's `Name`. Two names are equal, and hash alike, where their texts are.
-#[derive(Debug, Drop)]
+#[derive(Debug)]
 pub struct Name {
     text: String,
+}
+
+impl Drop for Name {
+    fn drop(self) {
+        let Name { text: _ } = self;
+    }
 }
 
 impl Model for Name {

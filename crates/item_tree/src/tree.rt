@@ -23,12 +23,18 @@ use std::ops::Index;
 ///
 /// A tree is seen as what its tables unfold to: top attributes, and a forest of nodes. Items and their attributes are
 /// lent by their ids. Two trees are equal exactly where they unfold alike. Stands for rust-analyzer's `ItemTree`.
-#[derive(Debug, Drop)]
+#[derive(Debug)]
 pub struct ItemTree {
     top_level: Vec<ModItemId>,
     top_place: u32,
     rows: Rows,
     fixed: FixedVisibilities,
+}
+
+impl Drop for ItemTree {
+    fn drop(self) {
+        let ItemTree { top_level: _, top_place: _, rows: _, fixed: _ } = self;
+    }
 }
 
 impl Model for ItemTree {

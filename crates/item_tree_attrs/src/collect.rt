@@ -51,9 +51,15 @@ impl<T: Drop> From<AllocFailed<T>> for AttrError {
 }
 
 /// The attributes of an owner, in order: u32::MAX at most. rust-analyzer's `AttrsOwned`.
-#[derive(Debug, Drop)]
+#[derive(Debug)]
 pub struct AttrsOwned {
     pub(crate) attrs: Vec<Attr>,
+}
+
+impl Drop for AttrsOwned {
+    fn drop(self) {
+        let AttrsOwned { attrs: _ } = self;
+    }
 }
 
 impl Model for AttrsOwned {

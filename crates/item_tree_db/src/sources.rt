@@ -35,7 +35,6 @@ const CRATE_LIMIT: usize = 4_294_967_296;
 ///
 /// In place of the part of rust-analyzer's database that is asked for trees. While a tree or a syntax that it
 /// lends is used, no edit can be made. Crate k is the k-th of the list given to `new`, counted from 0.
-#[derive(Drop)]
 pub struct Sources {
     alloc: Global,
     crates: Vec<CrateData>,
@@ -44,6 +43,12 @@ pub struct Sources {
     number: u64,
     places: Shelf,
     empty: ItemTree,
+}
+
+impl Drop for Sources {
+    fn drop(self) {
+        let Sources { alloc: _, crates: _, skipped: _, start: _, number: _, places: _, empty: _ } = self;
+    }
 }
 
 impl Model for Sources {
