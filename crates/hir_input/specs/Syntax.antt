@@ -6,7 +6,7 @@ use Rattle.hir_input.specs.declared.ids.AstIdKind.TheVariants as kind
 use Rattle.hir_input.specs.declared.ids.SyntaxContext.{SyntaxContext}
 use Rattle.hir_input.specs.declared.expand_to.ExpandTo.{ExpandTo}
 use Rattle.hir_input.specs.declared.attr.Meta.{Meta}
-use Rattle.hir_input.specs.declared.ast.Const as ast_const
+use Rattle.hir_input.specs.declared.ast.NamedNode.{NamedNode}
 use Rattle.hir_input.specs.declared.ast.ExternBlock as ast_extern_block
 use Rattle.hir_input.specs.declared.ast.ExternCrate as ast_extern_crate
 use Rattle.hir_input.specs.declared.ast.Impl as ast_impl
@@ -169,8 +169,9 @@ node_from hash number attrs body = record { hash = hash; number = number; attrs 
 abbrev pub named_from : ℕ → ℕ → List Meta → Option (List ℕ) → Option Visibility → String Global → NamedView
 named_from hash number attrs name visibility body = record { node = node_from hash number attrs body; name = name; visibility = visibility }
 
-abbrev pub const_view : ast_const.Const → NamedView
-const_view n = named_from n.hash n.number n.attrs.items n.name n.visibility n.body
+-- a node that has nothing else of its own
+abbrev pub named_view : NamedNode → NamedView
+named_view n = named_from n.hash n.number n.attrs.items n.name n.visibility n.body
 
 abbrev pub struct_view : ast_struct.Struct → NamedView
 struct_view n = named_from n.hash n.number n.attrs.items n.name n.visibility n.body
@@ -197,10 +198,10 @@ fields_view written.Unit = no_fields
 
 -- an item of an extern block
 abbrev pub extern_item_view : ExternItem → ItemView
-extern_item_view (external.Fn n) = plain_item fn_kind (named_from n.hash n.number n.attrs.items n.name n.visibility n.body)
+extern_item_view (external.Fn n) = plain_item fn_kind (named_view n)
 extern_item_view (external.MacroCall n) = macro_call (call_view n)
-extern_item_view (external.Static n) = plain_item static_kind (named_from n.hash n.number n.attrs.items n.name n.visibility n.body)
-extern_item_view (external.TypeAlias n) = plain_item type_alias_kind (named_from n.hash n.number n.attrs.items n.name n.visibility n.body)
+extern_item_view (external.Static n) = plain_item static_kind (named_view n)
+extern_item_view (external.TypeAlias n) = plain_item type_alias_kind (named_view n)
 
 abbrev pub extern_block_view : ast_extern_block.ExternBlock → ItemView
 extern_block_view n = extern_block_from (node_from n.hash n.number n.attrs.items n.body) (option_map (λ v. map extern_item_view v.items) n.items)
@@ -211,21 +212,21 @@ module_step m = module_from (named_from m.hash m.number m.attrs.items m.name m.v
 
 abbrev pub item_step : Item-F ItemView ItemView → ItemView
 item_step (Item-F.AsmExpr n) = asm_item (node_from n.hash n.number n.attrs.items n.body)
-item_step (Item-F.Const n) = const_item (const_view n)
-item_step (Item-F.Enum n) = plain_item enum_kind (named_from n.hash n.number n.attrs.items n.name n.visibility n.body)
+item_step (Item-F.Const n) = const_item (named_view n)
+item_step (Item-F.Enum n) = plain_item enum_kind (named_view n)
 item_step (Item-F.ExternBlock n) = extern_block_view n
 item_step (Item-F.ExternCrate n) = extern_crate (extern_crate_view n) n.rename
-item_step (Item-F.Fn n) = plain_item fn_kind (named_from n.hash n.number n.attrs.items n.name n.visibility n.body)
+item_step (Item-F.Fn n) = plain_item fn_kind (named_view n)
 item_step (Item-F.Impl n) = impl_item (impl_view n) n.is_trait_impl
 item_step (Item-F.MacroCall n) = macro_call (call_view n)
-item_step (Item-F.MacroDef n) = plain_item macro_def_kind (named_from n.hash n.number n.attrs.items n.name n.visibility n.body)
+item_step (Item-F.MacroDef n) = plain_item macro_def_kind (named_view n)
 item_step (Item-F.MacroRules n) = macro_rules (macro_rules_view n) n.name
 item_step (Item-F.Module m) = m
-item_step (Item-F.Static n) = plain_item static_kind (named_from n.hash n.number n.attrs.items n.name n.visibility n.body)
+item_step (Item-F.Static n) = plain_item static_kind (named_view n)
 item_step (Item-F.Struct n) = struct_item (struct_view n) (fields_view n.kind)
-item_step (Item-F.Trait n) = plain_item trait_kind (named_from n.hash n.number n.attrs.items n.name n.visibility n.body)
-item_step (Item-F.TypeAlias n) = plain_item type_alias_kind (named_from n.hash n.number n.attrs.items n.name n.visibility n.body)
-item_step (Item-F.Union n) = plain_item union_kind (named_from n.hash n.number n.attrs.items n.name n.visibility n.body)
+item_step (Item-F.Trait n) = plain_item trait_kind (named_view n)
+item_step (Item-F.TypeAlias n) = plain_item type_alias_kind (named_view n)
+item_step (Item-F.Union n) = plain_item union_kind (named_view n)
 item_step (Item-F.Use n) = use_item (use_view n)
 
 abbrev pub item_view : Item → ItemView

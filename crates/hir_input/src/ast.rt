@@ -125,6 +125,17 @@ pub enum ExternItem {
     TypeAlias(TypeAlias),
 }
 
+/// The node of an item that may have a name and a visibility, and has nothing else of its own.
+#[derive(Debug, Drop)]
+pub struct NamedNode {
+    pub hash: u16,
+    pub number: u32,
+    pub attrs: Vec<Meta>,
+    pub name: Option<Name>,
+    pub visibility: Option<Visibility>,
+    pub body: String,
+}
+
 /// Assembly at the place of an item, which no item tree keeps.
 #[derive(Debug, Drop)]
 pub struct AsmExpr {
@@ -135,26 +146,10 @@ pub struct AsmExpr {
 }
 
 /// A constant; its name may be `_`, which is none.
-#[derive(Debug, Drop)]
-pub struct Const {
-    pub hash: u16,
-    pub number: u32,
-    pub attrs: Vec<Meta>,
-    pub name: Option<Name>,
-    pub visibility: Option<Visibility>,
-    pub body: String,
-}
+pub type Const = NamedNode;
 
 /// An enum.
-#[derive(Debug, Drop)]
-pub struct Enum {
-    pub hash: u16,
-    pub number: u32,
-    pub attrs: Vec<Meta>,
-    pub name: Option<Name>,
-    pub visibility: Option<Visibility>,
-    pub body: String,
-}
+pub type Enum = NamedNode;
 
 /// An extern block, with a list of items or without one.
 #[derive(Debug, Drop)]
@@ -179,15 +174,7 @@ pub struct ExternCrate {
 }
 
 /// A function.
-#[derive(Debug, Drop)]
-pub struct Fn {
-    pub hash: u16,
-    pub number: u32,
-    pub attrs: Vec<Meta>,
-    pub name: Option<Name>,
-    pub visibility: Option<Visibility>,
-    pub body: String,
-}
+pub type Fn = NamedNode;
 
 /// An impl, of a trait or inherent.
 #[derive(Debug, Drop)]
@@ -212,15 +199,7 @@ pub struct MacroCall {
 }
 
 /// A macro 2.0, as in `macro m() {}`.
-#[derive(Debug, Drop)]
-pub struct MacroDef {
-    pub hash: u16,
-    pub number: u32,
-    pub attrs: Vec<Meta>,
-    pub name: Option<Name>,
-    pub visibility: Option<Visibility>,
-    pub body: String,
-}
+pub type MacroDef = NamedNode;
 
 /// A `macro_rules!` macro, as in `macro_rules! m {}`.
 #[derive(Debug, Drop)]
@@ -247,15 +226,7 @@ pub struct Module {
 }
 
 /// A static.
-#[derive(Debug, Drop)]
-pub struct Static {
-    pub hash: u16,
-    pub number: u32,
-    pub attrs: Vec<Meta>,
-    pub name: Option<Name>,
-    pub visibility: Option<Visibility>,
-    pub body: String,
-}
+pub type Static = NamedNode;
 
 /// A struct.
 #[derive(Debug, Drop)]
@@ -287,37 +258,13 @@ pub struct TupleField {
 }
 
 /// A trait.
-#[derive(Debug, Drop)]
-pub struct Trait {
-    pub hash: u16,
-    pub number: u32,
-    pub attrs: Vec<Meta>,
-    pub name: Option<Name>,
-    pub visibility: Option<Visibility>,
-    pub body: String,
-}
+pub type Trait = NamedNode;
 
 /// A type alias.
-#[derive(Debug, Drop)]
-pub struct TypeAlias {
-    pub hash: u16,
-    pub number: u32,
-    pub attrs: Vec<Meta>,
-    pub name: Option<Name>,
-    pub visibility: Option<Visibility>,
-    pub body: String,
-}
+pub type TypeAlias = NamedNode;
 
 /// A union.
-#[derive(Debug, Drop)]
-pub struct Union {
-    pub hash: u16,
-    pub number: u32,
-    pub attrs: Vec<Meta>,
-    pub name: Option<Name>,
-    pub visibility: Option<Visibility>,
-    pub body: String,
-}
+pub type Union = NamedNode;
 
 /// A use.
 #[derive(Debug, Drop)]

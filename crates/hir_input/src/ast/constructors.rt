@@ -7,14 +7,31 @@ ghost use Rattle.hir_input.specs.UseTreeView.{bare_tree, use_tree_view};
 ghost use Rattle.hir_input.specs.declared.expand_to.ExpandTo.TheVariants.{Items};
 
 use super::{
-    AsmExpr, Const, Enum, ExternBlock, ExternCrate, ExternItem, Fn, Impl, Item, MacroCall,
-    MacroDef, MacroRules, Module, PathNode, Static, Struct, StructKind, Trait, TypeAlias, Union,
-    Use, UseTree,
+    AsmExpr, ExternBlock, ExternCrate, ExternItem, Impl, Item, MacroCall, MacroRules, Module,
+    NamedNode, PathNode, Struct, StructKind, Use, UseTree,
 };
 use crate::expand_to::ExpandTo;
 use crate::ids::SyntaxContext;
 use crate::name::Name;
 use std::alloc::Global;
+
+impl NamedNode {
+    /// `const NAME: ..;`, `enum NAME {}`, `fn NAME();`, `macro NAME() {}`, `static NAME: ..;`, `trait NAME {}`,
+    /// `type NAME = ..;` or `union NAME {}`, as the case says that it is put into.
+    pub fn new(alloc: Global, name: Option<Name>) -> Self
+        ensures { named_from result.hash result.number result.attrs.items result.name
+            result.visibility result.body ≡ named_alone name }
+    {
+        NamedNode {
+            hash: 0,
+            number: 0,
+            attrs: Vec::new(alloc),
+            name,
+            visibility: None,
+            body: String::new(alloc),
+        }
+    }
+}
 
 impl AsmExpr {
     /// `asm!(..)` or the like, in the place of an item.
@@ -25,40 +42,6 @@ impl AsmExpr {
             hash: 0,
             number: 0,
             attrs: Vec::new(alloc),
-            body: String::new(alloc),
-        }
-    }
-}
-
-impl Const {
-    /// `const NAME: ..;`
-    pub fn new(alloc: Global, name: Option<Name>) -> Self
-        ensures { named_from result.hash result.number result.attrs.items result.name
-            result.visibility result.body ≡ named_alone name }
-    {
-        Const {
-            hash: 0,
-            number: 0,
-            attrs: Vec::new(alloc),
-            name,
-            visibility: None,
-            body: String::new(alloc),
-        }
-    }
-}
-
-impl Enum {
-    /// `enum NAME {}`
-    pub fn new(alloc: Global, name: Option<Name>) -> Self
-        ensures { named_from result.hash result.number result.attrs.items result.name
-            result.visibility result.body ≡ named_alone name }
-    {
-        Enum {
-            hash: 0,
-            number: 0,
-            attrs: Vec::new(alloc),
-            name,
-            visibility: None,
             body: String::new(alloc),
         }
     }
@@ -99,23 +82,6 @@ impl ExternCrate {
     }
 }
 
-impl Fn {
-    /// `fn NAME();`
-    pub fn new(alloc: Global, name: Option<Name>) -> Self
-        ensures { named_from result.hash result.number result.attrs.items result.name
-            result.visibility result.body ≡ named_alone name }
-    {
-        Fn {
-            hash: 0,
-            number: 0,
-            attrs: Vec::new(alloc),
-            name,
-            visibility: None,
-            body: String::new(alloc),
-        }
-    }
-}
-
 impl Impl {
     /// An impl of a type alone.
     pub fn new(alloc: Global) -> Self
@@ -147,23 +113,6 @@ impl MacroCall {
             path,
             expand_to: ExpandTo::Items,
             ctxt,
-            body: String::new(alloc),
-        }
-    }
-}
-
-impl MacroDef {
-    /// `macro NAME() {}`
-    pub fn new(alloc: Global, name: Option<Name>) -> Self
-        ensures { named_from result.hash result.number result.attrs.items result.name
-            result.visibility result.body ≡ named_alone name }
-    {
-        MacroDef {
-            hash: 0,
-            number: 0,
-            attrs: Vec::new(alloc),
-            name,
-            visibility: None,
             body: String::new(alloc),
         }
     }
@@ -225,23 +174,6 @@ impl Module {
     }
 }
 
-impl Static {
-    /// `static NAME: ..;`
-    pub fn new(alloc: Global, name: Option<Name>) -> Self
-        ensures { named_from result.hash result.number result.attrs.items result.name
-            result.visibility result.body ≡ named_alone name }
-    {
-        Static {
-            hash: 0,
-            number: 0,
-            attrs: Vec::new(alloc),
-            name,
-            visibility: None,
-            body: String::new(alloc),
-        }
-    }
-}
-
 impl Struct {
     /// A struct of these fields: `struct NAME;`, `struct NAME(..);` or `struct NAME {}`.
     pub fn new(alloc: Global, name: Option<Name>, kind: StructKind) -> Self
@@ -256,57 +188,6 @@ impl Struct {
             name,
             visibility: None,
             kind,
-            body: String::new(alloc),
-        }
-    }
-}
-
-impl Trait {
-    /// `trait NAME {}`
-    pub fn new(alloc: Global, name: Option<Name>) -> Self
-        ensures { named_from result.hash result.number result.attrs.items result.name
-            result.visibility result.body ≡ named_alone name }
-    {
-        Trait {
-            hash: 0,
-            number: 0,
-            attrs: Vec::new(alloc),
-            name,
-            visibility: None,
-            body: String::new(alloc),
-        }
-    }
-}
-
-impl TypeAlias {
-    /// `type NAME = ..;`
-    pub fn new(alloc: Global, name: Option<Name>) -> Self
-        ensures { named_from result.hash result.number result.attrs.items result.name
-            result.visibility result.body ≡ named_alone name }
-    {
-        TypeAlias {
-            hash: 0,
-            number: 0,
-            attrs: Vec::new(alloc),
-            name,
-            visibility: None,
-            body: String::new(alloc),
-        }
-    }
-}
-
-impl Union {
-    /// `union NAME {}`
-    pub fn new(alloc: Global, name: Option<Name>) -> Self
-        ensures { named_from result.hash result.number result.attrs.items result.name
-            result.visibility result.body ≡ named_alone name }
-    {
-        Union {
-            hash: 0,
-            number: 0,
-            attrs: Vec::new(alloc),
-            name,
-            visibility: None,
             body: String::new(alloc),
         }
     }

@@ -1,6 +1,6 @@
 //! Lowering of items that have a name and a visibility.
 ghost use Rattle.std.specs.Prelude.{◌≡◌};
-ghost use Rattle.hir_input.specs.Syntax.{plain_item, const_item, const_view, extern_crate, extern_crate_view};
+ghost use Rattle.hir_input.specs.Syntax.{plain_item, const_item, named_view, extern_crate, extern_crate_view};
 ghost use Rattle.item_tree.specs.Layout.{leaf_row};
 ghost use Rattle.item_tree.specs.Node.{plain};
 ghost use Rattle.item_tree.specs.Inner.Growth.{IsWithinLimits, IsLowered, named_kind, seen_node};
@@ -93,7 +93,7 @@ pub(super) fn lower_const(
     const_node: &ast::Const,
 ) -> Result<Option<ModItemId>, LowerError>
     requires { IsWithinLimits rows.old }
-    ensures { IsLowered ctx.entry rows.old rows.new (const_item (const_view const_node.now)) result }
+    ensures { IsLowered ctx.entry rows.old rows.new (const_item (named_view const_node.now)) result }
 {
     let visibility = lower_visibility(ctx.alloc, rows, const_node.visibility.as_ref())?;
     let name = const_node.name.clone()?;
