@@ -12,9 +12,7 @@ use crate::head::Head;
 use crate::named::{impl_end, item_end, item_name, macro_end, value_end, with_inner};
 use crate::structs::{has_trait, structure};
 use crate::uses::{crate_item, use_declaration};
-use hir_input::ast::{
-    Const, Enum, Fn, Impl, Item, MacroDef, Static, Trait, TypeAlias, Union, Visibility,
-};
+use hir_input::ast::{Impl, Item, NamedNode, Visibility};
 use hir_input::{AstIdKind, Meta};
 use rust_cursor::Cursor;
 use rust_paths::{TextRange, TreeStarts};
@@ -40,6 +38,29 @@ pub struct Leaf<'t> {
     pub use_trees: TreeStarts,
 }
 
+// What was read of an item of a kind that has nothing else of its own.
+macro_rules! named_leaf {
+    ($kind:ident, $alloc:expr, $attrs:expr, $visibility:expr, $named:expr, $rest:expr) => {
+        Leaf {
+            item: Item::$kind(NamedNode {
+                hash: 0,
+                number: 0,
+                attrs: $attrs,
+                name: $named.name,
+                visibility: $visibility,
+                body: $rest.body,
+            }),
+            kind: AstIdKind::$kind,
+            name: $named.hashed,
+            named: $named.range,
+            body: $rest.braces,
+            is_ended: $rest.is_ended,
+            too_deep: None,
+            use_trees: TreeStarts::none($alloc),
+        }
+    };
+}
+
 #[tactic(auto, unfolding(crate::specs::Kinds::function), using(hir_input::proofs::SyntaxViews::item_views))]
 fn function<'t>(
     alloc: Global,
@@ -52,24 +73,7 @@ fn function<'t>(
     let named = item_name(alloc, cursor)?;
     let rest = item_end(alloc, cursor)?;
     let attrs = with_inner(alloc, attrs, rest.block)?;
-    let item = Item::Fn(Fn {
-        hash: 0,
-        number: 0,
-        attrs,
-        name: named.name,
-        visibility,
-        body: rest.body,
-    });
-    Ok(Leaf {
-        item,
-        kind: AstIdKind::Fn,
-        name: named.hashed,
-        named: named.range,
-        body: rest.braces,
-        is_ended: rest.is_ended,
-        too_deep: None,
-        use_trees: TreeStarts::none(alloc),
-    })
+    Ok(named_leaf!(Fn, alloc, attrs, visibility, named, rest))
 }
 
 #[tactic(auto, unfolding(crate::specs::Kinds::union_item), using(hir_input::proofs::SyntaxViews::item_views))]
@@ -83,24 +87,7 @@ fn union_item<'t>(
 {
     let named = item_name(alloc, cursor)?;
     let rest = item_end(alloc, cursor)?;
-    let item = Item::Union(Union {
-        hash: 0,
-        number: 0,
-        attrs,
-        name: named.name,
-        visibility,
-        body: rest.body,
-    });
-    Ok(Leaf {
-        item,
-        kind: AstIdKind::Union,
-        name: named.hashed,
-        named: named.range,
-        body: rest.braces,
-        is_ended: rest.is_ended,
-        too_deep: None,
-        use_trees: TreeStarts::none(alloc),
-    })
+    Ok(named_leaf!(Union, alloc, attrs, visibility, named, rest))
 }
 
 #[tactic(auto, unfolding(crate::specs::Kinds::enumeration), using(hir_input::proofs::SyntaxViews::item_views))]
@@ -114,24 +101,7 @@ fn enumeration<'t>(
 {
     let named = item_name(alloc, cursor)?;
     let rest = item_end(alloc, cursor)?;
-    let item = Item::Enum(Enum {
-        hash: 0,
-        number: 0,
-        attrs,
-        name: named.name,
-        visibility,
-        body: rest.body,
-    });
-    Ok(Leaf {
-        item,
-        kind: AstIdKind::Enum,
-        name: named.hashed,
-        named: named.range,
-        body: rest.braces,
-        is_ended: rest.is_ended,
-        too_deep: None,
-        use_trees: TreeStarts::none(alloc),
-    })
+    Ok(named_leaf!(Enum, alloc, attrs, visibility, named, rest))
 }
 
 #[tactic(auto, unfolding(crate::specs::Kinds::trait_item), using(hir_input::proofs::SyntaxViews::item_views))]
@@ -145,24 +115,7 @@ fn trait_item<'t>(
 {
     let named = item_name(alloc, cursor)?;
     let rest = item_end(alloc, cursor)?;
-    let item = Item::Trait(Trait {
-        hash: 0,
-        number: 0,
-        attrs,
-        name: named.name,
-        visibility,
-        body: rest.body,
-    });
-    Ok(Leaf {
-        item,
-        kind: AstIdKind::Trait,
-        name: named.hashed,
-        named: named.range,
-        body: rest.braces,
-        is_ended: rest.is_ended,
-        too_deep: None,
-        use_trees: TreeStarts::none(alloc),
-    })
+    Ok(named_leaf!(Trait, alloc, attrs, visibility, named, rest))
 }
 
 #[tactic(auto, unfolding(crate::specs::Kinds::macro_def), using(hir_input::proofs::SyntaxViews::item_views))]
@@ -176,24 +129,7 @@ fn macro_def<'t>(
 {
     let named = item_name(alloc, cursor)?;
     let rest = macro_end(alloc, cursor)?;
-    let item = Item::MacroDef(MacroDef {
-        hash: 0,
-        number: 0,
-        attrs,
-        name: named.name,
-        visibility,
-        body: rest.body,
-    });
-    Ok(Leaf {
-        item,
-        kind: AstIdKind::MacroDef,
-        name: named.hashed,
-        named: named.range,
-        body: rest.braces,
-        is_ended: rest.is_ended,
-        too_deep: None,
-        use_trees: TreeStarts::none(alloc),
-    })
+    Ok(named_leaf!(MacroDef, alloc, attrs, visibility, named, rest))
 }
 
 #[tactic(auto, unfolding(crate::specs::Kinds::type_alias), using(hir_input::proofs::SyntaxViews::item_views))]
@@ -207,24 +143,7 @@ fn type_alias<'t>(
 {
     let named = item_name(alloc, cursor)?;
     let rest = value_end(alloc, cursor)?;
-    let item = Item::TypeAlias(TypeAlias {
-        hash: 0,
-        number: 0,
-        attrs,
-        name: named.name,
-        visibility,
-        body: rest.body,
-    });
-    Ok(Leaf {
-        item,
-        kind: AstIdKind::TypeAlias,
-        name: named.hashed,
-        named: named.range,
-        body: rest.braces,
-        is_ended: rest.is_ended,
-        too_deep: None,
-        use_trees: TreeStarts::none(alloc),
-    })
+    Ok(named_leaf!(TypeAlias, alloc, attrs, visibility, named, rest))
 }
 
 #[tactic(auto, unfolding(crate::specs::Kinds::static_value), using(hir_input::proofs::SyntaxViews::item_views))]
@@ -239,24 +158,7 @@ fn static_value<'t>(
     cursor.eat_word("mut");
     let named = item_name(alloc, cursor)?;
     let rest = value_end(alloc, cursor)?;
-    let item = Item::Static(Static {
-        hash: 0,
-        number: 0,
-        attrs,
-        name: named.name,
-        visibility,
-        body: rest.body,
-    });
-    Ok(Leaf {
-        item,
-        kind: AstIdKind::Static,
-        name: named.hashed,
-        named: named.range,
-        body: rest.braces,
-        is_ended: rest.is_ended,
-        too_deep: None,
-        use_trees: TreeStarts::none(alloc),
-    })
+    Ok(named_leaf!(Static, alloc, attrs, visibility, named, rest))
 }
 
 #[tactic(auto, unfolding(crate::specs::Kinds::constant), using(hir_input::proofs::SyntaxViews::item_views))]
@@ -271,24 +173,7 @@ fn constant<'t>(
     let named = item_name(alloc, cursor)?;
     cursor.eat_word("_");
     let rest = value_end(alloc, cursor)?;
-    let item = Item::Const(Const {
-        hash: 0,
-        number: 0,
-        attrs,
-        name: named.name,
-        visibility,
-        body: rest.body,
-    });
-    Ok(Leaf {
-        item,
-        kind: AstIdKind::Const,
-        name: named.hashed,
-        named: named.range,
-        body: rest.braces,
-        is_ended: rest.is_ended,
-        too_deep: None,
-        use_trees: TreeStarts::none(alloc),
-    })
+    Ok(named_leaf!(Const, alloc, attrs, visibility, named, rest))
 }
 
 #[tactic(auto, unfolding(crate::specs::Kinds::implementation), using(hir_input::proofs::SyntaxViews::item_views))]
