@@ -10,7 +10,7 @@ ghost use Rattle.hir_input_writer.specs.Writes.{Writes};
 use crate::fault::WriteFault;
 use crate::kinds::call_value;
 use crate::node::{Node, node, node_members, node_of};
-use crate::plain::{fn_value, static_value, type_alias_value};
+use crate::plain::plain_value;
 use hir_input::ast::{ExternBlock, ExternItem};
 use json_object::with;
 use serde_json::Value;
@@ -20,10 +20,10 @@ fn extern_item_value(alloc: Global, bodies: bool, item: &ExternItem) -> Result<V
     ensures { Writes view result (extern_item_data bodies (extern_item_view item.now)) }
 {
     match item {
-        ExternItem::Fn(item) => fn_value(alloc, bodies, item),
+        ExternItem::Fn(item) => plain_value(alloc, bodies, "fn", item),
         ExternItem::MacroCall(item) => call_value(alloc, bodies, item),
-        ExternItem::Static(item) => static_value(alloc, bodies, item),
-        ExternItem::TypeAlias(item) => type_alias_value(alloc, bodies, item),
+        ExternItem::Static(item) => plain_value(alloc, bodies, "static", item),
+        ExternItem::TypeAlias(item) => plain_value(alloc, bodies, "type_alias", item),
     }
 }
 

@@ -14,10 +14,7 @@ use crate::kinds::{
     use_value,
 };
 use crate::node::{Named, named_members, named_of, node, node_of};
-use crate::plain::{
-    const_value, enum_value, fn_value, macro_def_value, static_value, trait_value,
-    type_alias_value, union_value,
-};
+use crate::plain::plain_value;
 use hir_input::ast::{Item, Module};
 use json_object::with;
 use serde_json::Value;
@@ -74,21 +71,21 @@ pub(crate) fn item_value(alloc: Global, bodies: bool, item: &Item) -> Result<Val
 {
     match item {
         Item::AsmExpr(item) => asm_value(alloc, bodies, item),
-        Item::Const(item) => const_value(alloc, bodies, item),
-        Item::Enum(item) => enum_value(alloc, bodies, item),
+        Item::Const(item) => plain_value(alloc, bodies, "const", item),
+        Item::Enum(item) => plain_value(alloc, bodies, "enum", item),
         Item::ExternBlock(item) => extern_block_value(alloc, bodies, item),
         Item::ExternCrate(item) => extern_crate_value(alloc, bodies, item),
-        Item::Fn(item) => fn_value(alloc, bodies, item),
+        Item::Fn(item) => plain_value(alloc, bodies, "fn", item),
         Item::Impl(item) => impl_value(alloc, bodies, item),
         Item::MacroCall(item) => call_value(alloc, bodies, item),
-        Item::MacroDef(item) => macro_def_value(alloc, bodies, item),
+        Item::MacroDef(item) => plain_value(alloc, bodies, "macro_def", item),
         Item::MacroRules(item) => macro_rules_value(alloc, bodies, item),
         Item::Module(item) => module_value(alloc, bodies, item),
-        Item::Static(item) => static_value(alloc, bodies, item),
+        Item::Static(item) => plain_value(alloc, bodies, "static", item),
         Item::Struct(item) => struct_value(alloc, bodies, item),
-        Item::Trait(item) => trait_value(alloc, bodies, item),
-        Item::TypeAlias(item) => type_alias_value(alloc, bodies, item),
-        Item::Union(item) => union_value(alloc, bodies, item),
+        Item::Trait(item) => plain_value(alloc, bodies, "trait", item),
+        Item::TypeAlias(item) => plain_value(alloc, bodies, "type_alias", item),
+        Item::Union(item) => plain_value(alloc, bodies, "union", item),
         Item::Use(item) => use_value(alloc, bodies, item),
     }
 }

@@ -1,9 +1,9 @@
 //! What items have in common, as JSON.
-ghost use Rattle.std.specs.Prelude.{◌≡◌, IfOk, map, option_map, string_bytes};
+ghost use Rattle.std.specs.Prelude.{◌≡◌, IfOk, map, string_bytes};
 ghost use Rattle.serde_json.specs.View.{members_view, view};
 ghost use Rattle.hir_input.specs.Attr.{meta_view};
 ghost use Rattle.hir_input.specs.Syntax.{node_from};
-ghost use Rattle.hir_input_writer.specs.Items.{attrs_data, body_data, named_members as members_of_named, node_data, node_members as members_of_node, numbered_members, plain_object as object_of, with_name};
+ghost use Rattle.hir_input_writer.specs.Items.{attrs_data, body_data, named_members as members_of_named, node_data, node_members as members_of_node, numbered_members, with_name};
 ghost use Rattle.hir_input_writer.specs.Seen.{named_seen, node_seen};
 ghost use Rattle.hir_input_writer.specs.Writes.{Writes};
 
@@ -116,18 +116,4 @@ pub(crate) fn named_members(alloc: Global, word: &str, item: Named) -> Result<Me
     let members = node_members(alloc, word, item.node)?;
     let members = with(alloc, members, "name", item.name)?;
     with(alloc, members, "vis", item.vis)
-}
-
-// An item that has no parts but a name and a visibility.
-pub(crate) fn plain_value(
-    alloc: Global,
-    word: &str,
-    node: Node,
-    name: &Option<Name>,
-    visibility: &Option<Visibility>,
-) -> Result<Value, WriteFault>
-    ensures { Writes view result (option_map (object_of word.now) (with_name (node_seen node) name.now visibility.now)) }
-{
-    let named = named_of(alloc, node, name, visibility)?;
-    Ok(Value::Object(named_members(alloc, word, named)?))
 }
