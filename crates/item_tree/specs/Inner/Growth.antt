@@ -4,7 +4,7 @@ use Rattle.std.specs.declared.vec.Vec.{Vec}
 use Rattle.std.specs.declared.alloc.Global.{Global}
 use Rattle.hir_input.specs.declared.attr.Meta.{Meta}
 use Rattle.hir_input.specs.Attr.{meta_view}
-use Rattle.hir_input.specs.Syntax.{NamedView, ItemView, ItemViews, no_items, listed_module, listed_extern_block, PlainKind, enum_kind, fn_kind, macro_def_kind, static_kind, trait_kind, type_alias_kind, union_kind}
+use Rattle.hir_input.specs.Syntax.{ItemView, ItemViews, no_items, listed_module, listed_extern_block, PlainKind, enum_kind, fn_kind, macro_def_kind, static_kind, trait_kind, type_alias_kind, union_kind}
 use Rattle.item_tree_attrs.specs.declared.collect.AttrsOrCfg.{AttrsOrCfg}
 use Rattle.item_tree_attrs.specs.Collected.{Collected, collected, collected_from, attr_limit}
 use Rattle.item_tree.specs.declared.visibility.RawVisibility.{RawVisibility}
@@ -12,7 +12,6 @@ use Rattle.item_tree.specs.declared.items.StructValueNsCtor.{StructValueNsCtor}
 use Rattle.item_tree.specs.declared.lower.Ctx.{Ctx}
 use Rattle.item_tree.specs.declared.lower.named.NamedKind.{NamedKind}
 use Rattle.item_tree.specs.declared.lower.named.NamedKind.TheVariants as named
-use Rattle.item_tree.specs.declared.lower.named.NamedNode.{NamedNode}
 use Rattle.item_tree.specs.declared.rows.Rows.{Rows}
 use Rattle.item_tree.specs.declared.fault.LowerError.{LowerError}
 use Rattle.item_tree.specs.CrateView.{crate_view}
@@ -36,10 +35,6 @@ named_kind named.Static = static_kind
 named_kind named.Trait = trait_kind
 named_kind named.TypeAlias = type_alias_kind
 named_kind named.Union = union_kind
-
--- a node with a name and a visibility, but for its body
-abbrev pub seen_node : NamedNode → NamedView
-seen_node n = record { node = record { hash = n.key.hash; number = n.key.number; attrs = map meta_view n.attrs.now.items; body = [] }; name = n.name.now; visibility = n.visibility.now }
 
 -- the items of a module or of an extern block
 abbrev pub items_below : ItemView → ItemViews

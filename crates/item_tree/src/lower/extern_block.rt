@@ -6,7 +6,7 @@ ghost use Rattle.item_tree.specs.Inner.Growth.{IsWithinLimits, IsLowered, AreLow
 use crate::fault::LowerError;
 use crate::items::{ExternBlock, ModItem, ModItemId};
 use crate::lower::macros::lower_macro_call;
-use crate::lower::named::{NamedKind, NamedNode, lower_named, named};
+use crate::lower::named::{NamedKind, lower_named};
 use crate::lower::{Ctx, push_row};
 use crate::rows::{Rows, ast_key};
 use hir_input::ast;
@@ -66,9 +66,9 @@ fn lower_extern_item(
     ensures { IsLowered ctx.entry rows.old rows.new (extern_item_view item.now) result }
 {
     match item {
-        ast::ExternItem::Fn(node) => lower_named(ctx, rows, named!(Fn, node)),
+        ast::ExternItem::Fn(node) => lower_named(ctx, rows, NamedKind::Fn, node),
         ast::ExternItem::MacroCall(node) => lower_macro_call(ctx, rows, node),
-        ast::ExternItem::Static(node) => lower_named(ctx, rows, named!(Static, node)),
-        ast::ExternItem::TypeAlias(node) => lower_named(ctx, rows, named!(TypeAlias, node)),
+        ast::ExternItem::Static(node) => lower_named(ctx, rows, NamedKind::Static, node),
+        ast::ExternItem::TypeAlias(node) => lower_named(ctx, rows, NamedKind::TypeAlias, node),
     }
 }

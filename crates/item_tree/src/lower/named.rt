@@ -3,7 +3,7 @@ ghost use Rattle.std.specs.Prelude.{◌≡◌};
 ghost use Rattle.hir_input.specs.Syntax.{plain_item, const_item, named_view, extern_crate, extern_crate_view};
 ghost use Rattle.item_tree.specs.Layout.{leaf_row};
 ghost use Rattle.item_tree.specs.Node.{plain};
-ghost use Rattle.item_tree.specs.Inner.Growth.{IsWithinLimits, IsLowered, named_kind, seen_node};
+ghost use Rattle.item_tree.specs.Inner.Growth.{IsWithinLimits, IsLowered, named_kind};
 ghost use Rattle.item_tree.specs.Stored.{item_row};
 
 use crate::fault::LowerError;
@@ -12,9 +12,9 @@ use crate::items::{
 };
 use crate::lower::use_tree::lower_alias;
 use crate::lower::{Ctx, lower_visibility, push_row};
-use crate::rows::{AstKey, Rows, ast_key};
+use crate::rows::{Rows, ast_key};
 use crate::visibility::RawVisibilityId;
-use hir_input::{Meta, Name, ast};
+use hir_input::{Name, ast};
 use std::alloc::Global;
 
 /// The kinds of items that differ in nothing but the kind.
@@ -28,31 +28,6 @@ pub(super) enum NamedKind {
     TypeAlias,
     Union,
 }
-
-/// What lowering reads of a node that may have a name and a visibility.
-#[derive(Clone, Copy)]
-pub(super) struct NamedNode<'a> {
-    pub(super) kind: NamedKind,
-    pub(super) key: AstKey,
-    pub(super) attrs: &'a Vec<Meta>,
-    pub(super) name: &'a Option<Name>,
-    pub(super) visibility: &'a Option<ast::Visibility>,
-}
-
-// What lowering reads of a node of a kind, whatever its type.
-macro_rules! named {
-    ($kind:ident, $node:expr) => {
-        NamedNode {
-            kind: NamedKind::$kind,
-            key: ast_key!($node),
-            attrs: &$node.attrs,
-            name: &$node.name,
-            visibility: &$node.visibility,
-        }
-    };
-}
-
-pub(super) use named;
 
 // An item that differs from others in nothing but the kind.
 fn plain_item(kind: NamedKind, name: Name, visibility: RawVisibilityId) -> ModItem
@@ -72,18 +47,18 @@ fn plain_item(kind: NamedKind, name: Name, visibility: RawVisibilityId) -> ModIt
 pub(super) fn lower_named(
     ctx: Ctx,
     rows: &mut Rows,
-    node: NamedNode,
+    kind: NamedKind,
+    node: &ast::NamedNode,
 ) -> Result<Option<ModItemId>, LowerError>
     requires { IsWithinLimits rows.old }
-    ensures { IsLowered ctx.entry rows.old rows.new
-        (plain_item (named_kind node.entry.kind) (seen_node node.entry)) result }
+    ensures { IsLowered ctx.entry rows.old rows.new (plain_item (named_kind kind) (named_view node.now)) result }
 {
-    let Some(name) = node.name else {
+    let Some(name) = &node.name else {
         return Ok(None);
     };
     let visibility = lower_visibility(ctx.alloc, rows, node.visibility.as_ref())?;
-    let item = plain_item(node.kind, name.clone()?, visibility);
-    Ok(Some(push_row(ctx, rows, node.key, node.attrs, item)?))
+    let item = plain_item(kind, name.clone()?, visibility);
+    Ok(Some(push_row(ctx, rows, ast_key!(node), &node.attrs, item)?))
 }
 
 // A constant is kept without a name too.
