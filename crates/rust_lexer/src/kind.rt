@@ -1,4 +1,6 @@
 //! The kinds of tokens.
+ghost use Rattle.std.specs.Prelude.{◌≡◌};
+ghost use Rattle.std.specs.Bool.{Decides};
 
 /// The style of a documentation comment. rustc's `DocStyle`.
 #[derive(Clone, Copy, Debug, PartialEq, Eq)]
@@ -68,3 +70,17 @@ pub enum TokenKind {
     /// One character that begins none of these.
     Unknown,
 }
+
+// `==` decides whether two kinds are one, and a copy is its source: the derives are held to it by these clauses; the functions do
+// nothing.
+fn equal_kinds()
+    ensures styles { (a b : DocStyle) → Decides (⟦<DocStyle as PartialEq>⟧.eq a b) (a ≡ b) }
+    ensures literals { (a b : LiteralKind) → Decides (⟦<LiteralKind as PartialEq>⟧.eq a b) (a ≡ b) }
+    ensures tokens { (a b : TokenKind) → Decides (⟦<TokenKind as PartialEq>⟧.eq a b) (a ≡ b) }
+{}
+
+fn copied_kinds()
+    ensures styles { (source copy : DocStyle) → ⟦<DocStyle as Clone>⟧.is_clone source copy → copy ≡ source }
+    ensures literals { (source copy : LiteralKind) → ⟦<LiteralKind as Clone>⟧.is_clone source copy → copy ≡ source }
+    ensures tokens { (source copy : TokenKind) → ⟦<TokenKind as Clone>⟧.is_clone source copy → copy ≡ source }
+{}
