@@ -1,6 +1,7 @@
 //! The items of a tree in the order in which they are written, each with what it stands in: what lists of items are made from.
 #![tactic(auto)]
 
+mod laws;
 mod rows;
 mod subject;
 
