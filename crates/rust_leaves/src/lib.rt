@@ -4,6 +4,7 @@
 mod calls;
 mod front;
 mod head;
+mod laws;
 mod leaf;
 mod named;
 mod statements;
