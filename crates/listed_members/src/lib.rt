@@ -3,6 +3,7 @@
 #![tactic(auto)]
 
 mod enabled;
+mod laws;
 mod listed;
 mod reading;
 mod types;
