@@ -1,6 +1,8 @@
 //! What others can see of a file became another.
 #![tactic(auto)]
 
+mod laws;
+
 ghost use Rattle.std.specs.Prelude.{◌≡◌, ◌++◌, ◌↔◌, IfOk, IsTrue, OnOk, map, string_bytes};
 ghost use Rattle.source_rows.specs.Views.{part_view};
 ghost use Rattle.source_skeleton.specs.Views.{change_view};
