@@ -3,7 +3,7 @@
 ghost use Rattle.std.specs.Prelude.{◌≡◌};
 ghost use Rattle.std.specs.Bool.{Decides};
 
-use crate::compare::ChangeKind;
+use crate::compare::{Change, ChangeKind};
 use crate::kept::Hole;
 
 fn holes()
@@ -14,4 +14,8 @@ fn holes()
 fn change_kinds()
     ensures equal { (a b : ChangeKind) → Decides (⟦<ChangeKind as PartialEq>⟧.eq a b) (a ≡ b) }
     ensures copied { (source copy : ChangeKind) → ⟦<ChangeKind as Clone>⟧.is_clone source copy → copy ≡ source }
+{}
+
+fn changes()
+    ensures copied { (source copy : Change) → ⟦<Change<'static> as Clone>⟧.is_clone source copy → copy ≡ source }
 {}
