@@ -4,6 +4,7 @@
 mod brackets;
 mod conditions;
 mod items;
+mod laws;
 mod metas;
 mod problem;
 mod text;

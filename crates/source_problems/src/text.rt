@@ -1,7 +1,6 @@
 //! All that is wrong with a text.
 
-ghost use Rattle.std.specs.Prelude.{◌≡◌, ◌<◌, ◌++◌, IfOk, OnOk, map};
-ghost use Rattle.std.specs.declared.cmp.Ordering.TheVariants.{Less};
+ghost use Rattle.std.specs.Prelude.{◌≡◌, ◌++◌, IfOk, OnOk, map};
 ghost use Rattle.hir_input.specs.Syntax.{syntax_view};
 ghost use Rattle.rust_items.specs.LineEnds.{place_by};
 ghost use Rattle.rust_lexer.specs.Tokens.{tokens};
@@ -116,8 +115,3 @@ pub fn source_problems(
     push_syntax(&file.syntax, &file.places, &mut problems)?;
     in_order(alloc, &problems)
 }
-
-// The derived order is that of places first.
-fn laws()
-    ensures by_place { (p q : SourceProblem) → p.at < q.at → ⟦<SourceProblem as Ord>⟧.cmp p q ≡ Less }
-{}
