@@ -23,7 +23,7 @@ pub struct Source<'a> {
 }
 
 /// Which items are listed.
-#[derive(Clone, Copy, Debug, PartialEq, Eq)]
+#[derive(Clone, Copy, Debug)]
 pub struct Choice {
     /// Only those that stand in fewer than so many others.
     pub depth: Option<usize>,

@@ -26,7 +26,7 @@ use source_rows::member_word;
 use std::alloc::{AllocError, Global};
 
 /// Which items and members have lines, and how these are written.
-#[derive(Clone, Copy, Debug, PartialEq, Eq)]
+#[derive(Clone, Copy, Debug)]
 pub struct Look {
     pub choice: Choice,
     /// Whether places are faint, the words of kinds cyan, and names bold, by the sequences of a terminal.

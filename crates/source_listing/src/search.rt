@@ -21,7 +21,7 @@ use source_rows::member_word;
 use std::alloc::{AllocError, Global};
 
 /// What is looked for.
-#[derive(Clone, Copy, Debug, PartialEq, Eq)]
+#[derive(Clone, Copy, Debug)]
 pub struct Query<'a> {
     /// Names with two colons before each, as `::a::b`.
     pub path: &'a str,
