@@ -13,6 +13,10 @@ SOURCE = HERE.parent / 'crates' / 'rust_lexer' / 'src'
 MODULES = ['bytes', 'comment', 'cut', 'frontmatter', 'identifier', 'kind', 'lexer', 'number', 'quoted', 'token']
 
 MAIN = '''
+mod memchr {
+    pub fn memchr(byte: u8, bytes: &[u8]) -> Option<usize> { bytes.iter().position(|b| *b == byte) }
+}
+
 mod unicode_ident {
     pub fn is_xid_start(c: char) -> bool { c.is_alphabetic() }
     pub fn is_xid_continue(c: char) -> bool { c.is_alphanumeric() || c == '_' }
@@ -58,7 +62,7 @@ def plain(text):
     text = re.sub(r'^ *ghost [^;]*;\n', '', text, flags=re.M)
     text = re.sub(r'^ *#!?\[tactic[^\n]*\n', '', text, flags=re.M)
     text = re.sub(r'^use (std::alloc|std::marker)[^\n]*\n', '', text, flags=re.M)
-    text = re.sub(r'^use unicode_ident', 'use crate::unicode_ident', text, flags=re.M)
+    text = re.sub(r'^use (memchr|unicode_ident)', r'use crate::\1', text, flags=re.M)
     return re.sub(r'#\[derive\(([^)]*)\)\]', lambda m: '#[derive(%s)]' % ', '.join(w for w in m[1].split(', ') if w != 'Drop'), text)
 
 

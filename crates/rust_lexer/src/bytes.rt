@@ -2,8 +2,10 @@
 
 ghost use Rattle.std.specs.Prelude.{◌≡◌, ◌≢◌, ◌<◌, ◌≤◌, length, slice_index};
 ghost use Rattle.rust_lexer.specs.Bytes as spec;
+ghost use Rattle.rust_lexer.specs.declared.bytes.Class.TheVariants as class;
 ghost use Rattle.rust_lexer.specs.Inner as inner;
 
+use memchr::memchr;
 use unicode_ident::{is_xid_continue, is_xid_start};
 
 /// A set of bytes.
@@ -218,12 +220,24 @@ pub(crate) fn byte(z: &[u8], at: usize) -> u8
     if at < z.len() { z[at] } else { 0 }
 }
 
+/// How many bytes stand before the end of a line, or of all.
+#[tactic(auto, using(crate::proofs::Lines::line_run, crate::proofs::Lines::line_within))]
+fn line(z: &[u8]) -> usize
+    ensures value { result ≡ spec.run class.Line z.now }
+    ensures within { result ≤ length z.now }
+{
+    memchr(b'\n', z).unwrap_or(z.len())
+}
+
 /// How many bytes at the front are of the class.
 #[inline(always)]
 pub(crate) fn run(class: Class, mut z: &[u8]) -> usize
     ensures value { result ≡ spec.run class z.entry.now }
     ensures within { result ≤ length z.entry.now }
 {
+    if let Class::Line = class {
+        return line(z);
+    }
     let mut count = 0;
     while let [b, rest @ ..] = z {
         if !is_in(class, *b, rest) {
