@@ -106,6 +106,9 @@ pub(crate) fn is_close(b: u8) -> bool
 fn is_wide_white(b: u8, behind: &[u8]) -> bool
     ensures { result ≡ spec.is_wide_white b behind.now }
 {
+    if b < 128 {
+        return false;
+    }
     match b {
         0xC2 => byte(behind, 0) == 0x85,
         0xE2 => byte(behind, 0) == 0x80 && matches!(byte(behind, 1), 0x8E | 0x8F | 0xA8 | 0xA9),
