@@ -27,6 +27,7 @@ pub struct DeclIndex {
     entries: Vec<Entry>,
 }
 
+// (Written out: what is derived is proved anew, field by field, in each crate that drops one.)
 impl Drop for DeclIndex {
     fn drop(self) {
         let DeclIndex { number: _, entries: _ } = self;
@@ -131,7 +132,8 @@ fn read_tree(
     fresh: &mut Vec<Entry>,
 ) -> Result<(), AllocError>
     requires { IsKnown sources.now krate }
-    ensures { OnOk result (fresh.new.items ≡ fresh.old.items ++ entries_at sources.now place krate) }
+    ensures { OnOk result (fresh.new.items ≡ fresh.old.items
+        ++ entries_at sources.now place krate) }
 {
     let tree = sources.tree(place, krate);
     let ids = preorder(alloc, tree)?;
@@ -147,7 +149,8 @@ fn read_items(
     fresh: &mut Vec<Entry>,
 ) -> Result<(), AllocError>
     requires { AreContained tree.now ids.now }
-    ensures { OnOk result (fresh.new.items ≡ fresh.old.items ++ flat_map (entries_by tree.now place krate) ids.now) }
+    ensures { OnOk result (fresh.new.items ≡ fresh.old.items
+        ++ flat_map (entries_by tree.now place krate) ids.now) }
 {
     for id in ids {
         read_item(tree, place, krate, *id, fresh)?;
@@ -164,7 +167,8 @@ fn read_item(
     fresh: &mut Vec<Entry>,
 ) -> Result<(), AllocError>
     requires { IsContained tree.now id }
-    ensures { OnOk result (fresh.new.items ≡ fresh.old.items ++ entries_by tree.now place krate id) }
+    ensures { OnOk result (fresh.new.items ≡ fresh.old.items
+        ++ entries_by tree.now place krate id) }
 {
     let Some(name) = name_at(tree, id) else {
         return Ok(());

@@ -79,7 +79,8 @@ pub(crate) fn declares_of<'tree>(
     alloc: Global,
     item: ModItemKind<'tree>,
 ) -> Result<Option<Declares<'tree>>, AllocError>
-    ensures { IfOk result (λ declares. option_map declared_by declares ≡ lent_declares (lent item.entry)) }
+    ensures { IfOk result (λ declares. option_map declared_by declares
+        ≡ lent_declares (lent item.entry)) }
 {
     match item {
         ModItemKind::Use(_, item) => {

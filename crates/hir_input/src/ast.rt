@@ -25,6 +25,7 @@ pub enum Syntax {
     Error,
 }
 
+// (Written out: what is derived is proved anew, field by field, in each crate that drops one.)
 impl Drop for Syntax {
     fn drop(self) {
         match self {
@@ -44,6 +45,7 @@ pub struct BlockExpr {
     pub tail: Tail,
 }
 
+// (Written out: what is derived is proved anew, field by field, in each crate that drops one.)
 impl Drop for BlockExpr {
     fn drop(self) {
         let BlockExpr { attrs: _, stmts: _, tail: _ } = self;

@@ -180,6 +180,7 @@ pub struct CfgOptions {
     atoms: Vec<CfgAtom>,
 }
 
+// (Written out: what is derived is proved anew, field by field, in each crate that drops one.)
 impl Drop for CfgOptions {
     fn drop(self) {
         let CfgOptions { atoms: _ } = self;

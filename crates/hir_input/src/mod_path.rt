@@ -35,6 +35,7 @@ pub struct ModPath {
     segments: Vec<Name>,
 }
 
+// (Written out: what is derived is proved anew, field by field, in each crate that drops one.)
 impl Drop for ModPath {
     fn drop(self) {
         let ModPath { kind: _, segments: _ } = self;

@@ -21,6 +21,7 @@ pub struct Name {
     text: String,
 }
 
+// (Written out: what is derived is proved anew, field by field, in each crate that drops one.)
 impl Drop for Name {
     fn drop(self) {
         let Name { text: _ } = self;

@@ -60,7 +60,8 @@ pub fn atoms_at(
     members: &mut Map<String, Value>,
     key: &str,
 ) -> Result<Vec<CfgAtom>, Fault>
-    ensures reads { Reads (λ v. map atom_view v.items) result (each_at atom_form key.now (held members.old)) }
+    ensures reads { Reads (λ v. map atom_view v.items) result
+        (each_at atom_form key.now (held members.old)) }
     ensures left { OnOk result (held members.new ≡ without key.now (held members.old)) }
 {
     let items = list_at(alloc, members, key)?;

@@ -17,7 +17,8 @@ use std::alloc::Global;
 
 // The latest year where it is absent.
 fn year_at(alloc: Global, members: &Map<String, Value>) -> Result<EditionYear, Fault>
-    ensures { Reads (λ year. year) result (optional_at E2024 (codes "year") year_form (held members.now)) }
+    ensures { Reads (λ year. year) result
+        (optional_at E2024 (codes "year") year_form (held members.now)) }
 {
     let Some(year) = field(members, "year") else {
         return Ok(EditionYear::E2024);

@@ -141,7 +141,8 @@ fn module_of(alloc: Global, members: &mut Map<String, Value>) -> Result<Item, Fa
 #[cycle(items)]
 #[tactic(auto, using(crate::proofs::Inside::depth_array))]
 fn items_in(alloc: Global, list: Option<Value>) -> Result<Option<Vec<Item>>, Fault>
-    ensures { Reads (option_map (λ v. map item_view v.items)) result (maybe (list_of item_form) (option_map view list)) }
+    ensures { Reads (option_map (λ v. map item_view v.items)) result
+        (maybe (list_of item_form) (option_map view list)) }
 {
     let Some(list) = list else {
         return Ok(None);

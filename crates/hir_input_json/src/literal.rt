@@ -26,7 +26,8 @@ pub(crate) fn required_text_at(
 }
 
 fn string_at(alloc: Global, members: &mut Map<String, Value>) -> Result<Option<String>, Fault>
-    ensures reads { Reads (option_map string_bytes) result (maybe_at (codes "string") text (held members.old)) }
+    ensures reads { Reads (option_map string_bytes) result
+        (maybe_at (codes "string") text (held members.old)) }
     ensures left { OnOk result (held members.new ≡ without (codes "string") (held members.old)) }
 {
     match taken(members, "string") {
@@ -56,7 +57,8 @@ fn span_of(alloc: Global, value: &Value, ctxt: SyntaxContext) -> Result<Span, Fa
 
 // Empty at 0 where it is absent.
 fn span_at(alloc: Global, members: &Map<String, Value>, ctxt: SyntaxContext) -> Result<Span, Fault>
-    ensures { Reads (λ span. span) result (optional_at (span_from ctxt 0 0) (codes "span") (span_form ctxt) (held members.now)) }
+    ensures { Reads (λ span. span) result
+        (optional_at (span_from ctxt 0 0) (codes "span") (span_form ctxt) (held members.now)) }
 {
     match field(members, "span") {
         Some(found) => { span_of(alloc, found, ctxt).in_member(alloc, "span") }
@@ -89,7 +91,8 @@ pub(crate) fn literal_at(
     members: &mut Map<String, Value>,
     ctxt: SyntaxContext,
 ) -> Result<Option<Literal>, Fault>
-    ensures { Reads (λ literal. literal) result (maybe_at (codes "value") (literal_form ctxt) (held members.old)) }
+    ensures { Reads (λ literal. literal) result
+        (maybe_at (codes "value") (literal_form ctxt) (held members.old)) }
 {
     match taken(members, "value") {
         Some(found) => {

@@ -56,7 +56,8 @@ pub(crate) fn names_of(
     first: usize,
 ) -> Result<Vec<Name>, Fault>
     requires { first ≤ 2 }
-    ensures { Reads (λ v. v.items) result (each_from first name_form (items_view (into_iter_items items))) }
+    ensures { Reads (λ v. v.items) result
+        (each_from first name_form (items_view (into_iter_items items))) }
 {
     let mut names = Vec::with_capacity(alloc, items.len())?;
     for item in items {

@@ -23,7 +23,8 @@ fn path_with(
     first: usize,
 ) -> Result<PathNode, Fault>
     requires { first ≤ 2 }
-    ensures { Reads (λ path. path) result (names_behind first kind (items_view (into_iter_items items))) }
+    ensures { Reads (λ path. path) result
+        (names_behind first kind (items_view (into_iter_items items))) }
 {
     let names = names_of(alloc, items, first)?;
     match ModPath::from_segments(kind, names) {

@@ -22,7 +22,8 @@ impl Model for Pointer {
 
 #[tactic(auto, using(crate::proofs::Pointers::char_stays, crate::proofs::Pointers::slash_step, crate::proofs::Pointers::tilde_step))]
 fn push_char(c: char, step: &mut String) -> Result<(), AllocError>
-    ensures { OnOk result (string_bytes step.new ≡ string_bytes step.old ++ pointer_step (encode_utf8 c)) }
+    ensures { OnOk result (string_bytes step.new ≡ string_bytes step.old
+        ++ pointer_step (encode_utf8 c)) }
 {
     match c {
         '~' => step.push_str("~0"),

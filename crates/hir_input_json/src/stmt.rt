@@ -17,7 +17,8 @@ use std::alloc::Global;
 
 // The word of a call's kind, which may be absent.
 fn kind_at<'v>(alloc: Global, members: &'v Map<String, Value>) -> Result<&'v str, Fault>
-    ensures { Reads (λ word. word.now) result (optional_at (codes "macro_call") (codes "is") text (held members.now)) }
+    ensures { Reads (λ word. word.now) result
+        (optional_at (codes "macro_call") (codes "is") text (held members.now)) }
 {
     match field(members, "is") {
         Some(found) => found.as_str().ok_or_else(|| Fault::at(alloc, "is")),
@@ -76,7 +77,8 @@ fn stmts_of(alloc: Global, values: Vec<Value>) -> Result<Vec<Stmt>, Fault>
 
 // Takes the statements out, none where they are absent.
 pub(crate) fn stmts_at(alloc: Global, members: &mut Map<String, Value>) -> Result<Vec<Stmt>, Fault>
-    ensures reads { Reads (λ v. stmts_view v.items) result (each_at stmt_form (codes "stmts") (held members.old)) }
+    ensures reads { Reads (λ v. stmts_view v.items) result
+        (each_at stmt_form (codes "stmts") (held members.old)) }
     ensures left { OnOk result (held members.new ≡ without (codes "stmts") (held members.old)) }
 {
     let stmts = list_at(alloc, members, "stmts")?;

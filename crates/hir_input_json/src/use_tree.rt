@@ -33,7 +33,8 @@ pub(crate) fn rename_at(
     alloc: Global,
     members: &mut Map<String, Value>,
 ) -> Result<Option<Rename>, Fault>
-    ensures reads { Reads (λ rename. rename) result (maybe_at (codes "rename") rename_form (held members.old)) }
+    ensures reads { Reads (λ rename. rename) result
+        (maybe_at (codes "rename") rename_form (held members.old)) }
     ensures left { OnOk result (held members.new ≡ without (codes "rename") (held members.old)) }
 {
     match taken(members, "rename") {
@@ -75,7 +76,8 @@ fn use_tree_in(alloc: Global, members: &mut Map<String, Value>) -> Result<UseTre
 #[cycle(trees)]
 #[tactic(auto, using(crate::proofs::Inside::depth_array))]
 fn use_trees_in(alloc: Global, list: Option<Value>) -> Result<Option<Vec<UseTree>>, Fault>
-    ensures { Reads (option_map (λ v. map use_tree_view v.items)) result (maybe (list_of use_tree_form) (option_map view list)) }
+    ensures { Reads (option_map (λ v. map use_tree_view v.items)) result
+        (maybe (list_of use_tree_form) (option_map view list)) }
 {
     let Some(list) = list else {
         return Ok(None);
@@ -86,7 +88,8 @@ fn use_trees_in(alloc: Global, list: Option<Value>) -> Result<Option<Vec<UseTree
 
 #[cycle(trees)]
 fn use_trees_of(alloc: Global, items: Vec<Value>) -> Result<Vec<UseTree>, Fault>
-    ensures { Reads (λ v. map use_tree_view v.items) result (each use_tree_form (items_view items.items)) }
+    ensures { Reads (λ v. map use_tree_view v.items) result
+        (each use_tree_form (items_view items.items)) }
 {
     let mut trees = Vec::with_capacity(alloc, items.len())?;
     for item in items {
@@ -102,7 +105,8 @@ pub(crate) fn use_tree_at(
     alloc: Global,
     members: &mut Map<String, Value>,
 ) -> Result<Option<UseTree>, Fault>
-    ensures { Reads (option_map use_tree_view) result (maybe_at (codes "tree") use_tree_form (held members.old)) }
+    ensures { Reads (option_map use_tree_view) result
+        (maybe_at (codes "tree") use_tree_form (held members.old)) }
 {
     match taken(members, "tree") {
         Some(found) => {

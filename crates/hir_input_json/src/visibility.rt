@@ -43,7 +43,8 @@ pub(crate) fn visibility_at(
     alloc: Global,
     members: &mut Map<String, Value>,
 ) -> Result<Option<Visibility>, Fault>
-    ensures reads { Reads (λ visibility. visibility) result (maybe_at (codes "vis") visibility_form (held members.old)) }
+    ensures reads { Reads (λ visibility. visibility) result
+        (maybe_at (codes "vis") visibility_form (held members.old)) }
     ensures left { OnOk result (held members.new ≡ without (codes "vis") (held members.old)) }
 {
     match taken(members, "vis") {

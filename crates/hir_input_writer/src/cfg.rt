@@ -72,7 +72,8 @@ pub(crate) fn cfg_value(alloc: Global, cfg: &CfgExpr) -> Result<Value, WriteFaul
 #[cycle(cfgs)]
 #[tactic(auto, using(crate::proofs::Lists::lists))]
 fn cfg_values(alloc: Global, members: &[CfgExpr]) -> Result<Vec<Value>, WriteFault>
-    ensures { Writes (λ v. items_view v.items) result (cfgs_data (cfgs_from (map cfg_view members.now))) }
+    ensures { Writes (λ v. items_view v.items) result
+        (cfgs_data (cfgs_from (map cfg_view members.now))) }
 {
     let mut values = Vec::new(alloc);
     for member in members {

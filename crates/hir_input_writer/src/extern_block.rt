@@ -33,7 +33,8 @@ fn extern_item_values(
     bodies: bool,
     extern_items: &[ExternItem],
 ) -> Result<Vec<Value>, WriteFault>
-    ensures { Writes (λ v. items_view v.items) result (extern_items_data bodies (items_from (map extern_item_view extern_items.now))) }
+    ensures { Writes (λ v. items_view v.items) result
+        (extern_items_data bodies (items_from (map extern_item_view extern_items.now))) }
 {
     let mut values = Vec::new(alloc);
     for item in extern_items {
@@ -43,7 +44,8 @@ fn extern_item_values(
 }
 
 fn extern_block_object(alloc: Global, node: Node, items: Value) -> Result<Value, AllocError>
-    ensures { IfOk result (λ v. view v ≡ objects.extern_block_object (node_seen node) (view items)) }
+    ensures { IfOk result (λ v. view v
+        ≡ objects.extern_block_object (node_seen node) (view items)) }
 {
     let members = node_members(alloc, "extern_block", node)?;
     Ok(Value::Object(with(alloc, members, "items", items)?))
@@ -65,7 +67,9 @@ fn block_with(
 
 // The items of an extern block, null where no list is written.
 fn listed(alloc: Global, bodies: bool, list: &Option<Vec<ExternItem>>) -> Result<Value, WriteFault>
-    ensures { Writes view result (listed_data (extern_items_data bodies) (option_map (λ v. map extern_item_view v.items) list.now)) }
+    ensures { Writes view result
+        (listed_data (extern_items_data bodies)
+        (option_map (λ v. map extern_item_view v.items) list.now)) }
 {
     match list {
         None => Ok(Value::Null),

@@ -26,7 +26,8 @@ fn module_object(
     semicolon: bool,
     items: Value,
 ) -> Result<Value, AllocError>
-    ensures { IfOk result (λ v. view v ≡ objects.module_object (named_seen item) semicolon (view items)) }
+    ensures { IfOk result (λ v. view v
+        ≡ objects.module_object (named_seen item) semicolon (view items)) }
 {
     let members = named_members(alloc, "module", item)?;
     let members = with(alloc, members, "items", items)?;

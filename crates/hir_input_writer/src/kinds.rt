@@ -28,7 +28,8 @@ use std::alloc::{AllocError, Global};
 
 // The visibility of each field.
 fn field_values(alloc: Global, fields: &[TupleField]) -> Result<Vec<Value>, WriteFault>
-    ensures { Writes (λ v. items_view v.items) result (each_data (maybe_data visibility_data) (map (λ f. f.visibility) fields.now)) }
+    ensures { Writes (λ v. items_view v.items) result
+        (each_data (maybe_data visibility_data) (map (λ f. f.visibility) fields.now)) }
 {
     let mut values = Vec::new(alloc);
     for field in fields {
@@ -55,7 +56,8 @@ fn struct_object(alloc: Global, item: Named, fields: Value) -> Result<Value, All
 }
 
 pub(crate) fn struct_value(alloc: Global, bodies: bool, item: &Struct) -> Result<Value, WriteFault>
-    ensures { Writes view result (struct_data bodies (struct_view item.now) (fields_view item.now.kind)) }
+    ensures { Writes view result
+        (struct_data bodies (struct_view item.now) (fields_view item.now.kind)) }
 {
     let node = node!(alloc, bodies, item)?;
     let named = named_of(alloc, node, &item.name, &item.visibility)?;
@@ -81,7 +83,8 @@ pub(crate) fn use_value(alloc: Global, bodies: bool, item: &Use) -> Result<Value
 }
 
 fn extern_crate_object(alloc: Global, item: Named, rename: Value) -> Result<Value, AllocError>
-    ensures { IfOk result (λ v. view v ≡ items.extern_crate_object (named_seen item) (view rename)) }
+    ensures { IfOk result (λ v. view v
+        ≡ items.extern_crate_object (named_seen item) (view rename)) }
 {
     let members = named_members(alloc, "extern_crate", item)?;
     Ok(Value::Object(with(alloc, members, "rename", rename)?))
@@ -92,7 +95,8 @@ pub(crate) fn extern_crate_value(
     bodies: bool,
     item: &ExternCrate,
 ) -> Result<Value, WriteFault>
-    ensures { Writes view result (extern_crate_data bodies (extern_crate_view item.now) item.now.rename) }
+    ensures { Writes view result
+        (extern_crate_data bodies (extern_crate_view item.now) item.now.rename) }
 {
     let node = node!(alloc, bodies, item)?;
     let named = named_of(alloc, node, &item.name, &item.visibility)?;
@@ -122,7 +126,9 @@ fn call_object(
     expand_to: ExpandTo,
     context: Value,
 ) -> Result<Value, AllocError>
-    ensures { IfOk result (λ v. view v ≡ items.call_object (node_seen node) (view path) (string (shown_expand_to expand_to)) (view context)) }
+    ensures { IfOk result (λ v. view v
+        ≡ items.call_object (node_seen node) (view path) (string (shown_expand_to expand_to))
+        (view context)) }
 {
     let expand_to = Value::from(expand_to.to_string(alloc)?);
     let members = node_members(alloc, "macro_call", node)?;
@@ -152,7 +158,8 @@ pub(crate) fn macro_rules_value(
     bodies: bool,
     item: &MacroRules,
 ) -> Result<Value, WriteFault>
-    ensures { Writes view result (macro_rules_data bodies (macro_rules_view item.now) item.now.name) }
+    ensures { Writes view result
+        (macro_rules_data bodies (macro_rules_view item.now) item.now.name) }
 {
     let node = node!(alloc, bodies, item)?;
     let name = name_or_null(alloc, &item.name)?;
@@ -160,7 +167,8 @@ pub(crate) fn macro_rules_value(
 }
 
 pub(crate) fn asm_value(alloc: Global, bodies: bool, item: &AsmExpr) -> Result<Value, WriteFault>
-    ensures { let n = item.now in Writes view result (asm_data bodies (node_from n.hash n.number n.attrs.items n.body)) }
+    ensures { let n = item.now in
+        Writes view result (asm_data bodies (node_from n.hash n.number n.attrs.items n.body)) }
 {
     let node = node!(alloc, bodies, item)?;
     Ok(Value::Object(node_members(alloc, "asm", node)?))

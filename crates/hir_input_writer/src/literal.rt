@@ -33,7 +33,8 @@ fn literal_object(
     span: Value,
     string: Value,
 ) -> Result<Value, AllocError>
-    ensures { IfOk result (λ v. view v ≡ object_of (string_bytes rendered.now) (view span) (view string)) }
+    ensures { IfOk result (λ v. view v
+        ≡ object_of (string_bytes rendered.now) (view span) (view string)) }
 {
     let members = of_text(alloc, "rendered", rendered.as_str())?;
     let members = with(alloc, members, "span", span)?;

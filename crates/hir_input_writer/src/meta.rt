@@ -31,7 +31,8 @@ fn key_value_object(
     value: Value,
     context: Value,
 ) -> Result<Value, AllocError>
-    ensures { IfOk result (λ v. view v ≡ objects.key_value_object (view path) (view value) (view context)) }
+    ensures { IfOk result (λ v. view v
+        ≡ objects.key_value_object (view path) (view value) (view context)) }
 {
     let members = of_text(alloc, "meta", "key_value")?;
     let members = with(alloc, members, "ctxt", context)?;
@@ -45,7 +46,8 @@ fn tokens_object(
     tokens: &String,
     context: Value,
 ) -> Result<Value, AllocError>
-    ensures { IfOk result (λ v. view v ≡ objects.tokens_object (view path) (string_bytes tokens.now) (view context)) }
+    ensures { IfOk result (λ v. view v
+        ≡ objects.tokens_object (view path) (string_bytes tokens.now) (view context)) }
 {
     let members = of_text(alloc, "meta", "tokens")?;
     let members = with_text(alloc, members, "tokens", tokens.as_str())?;
@@ -61,7 +63,8 @@ fn cfg_object(alloc: Global, condition: Value) -> Result<Value, AllocError>
 }
 
 fn cfg_attr_object(alloc: Global, condition: Value, metas: Vec<Value>) -> Result<Value, AllocError>
-    ensures { IfOk result (λ v. view v ≡ objects.cfg_attr_object (view condition) (items_view metas.items)) }
+    ensures { IfOk result (λ v. view v
+        ≡ objects.cfg_attr_object (view condition) (items_view metas.items)) }
 {
     let members = of_text(alloc, "meta", "cfg_attr")?;
     let members = with(alloc, members, "cfg", condition)?;
@@ -147,7 +150,8 @@ pub(crate) fn meta_value(alloc: Global, meta: &Meta) -> Result<Value, WriteFault
 #[cycle(metas)]
 #[tactic(auto, using(crate::proofs::Lists::lists))]
 pub(crate) fn meta_values(alloc: Global, metas: &[Meta]) -> Result<Vec<Value>, WriteFault>
-    ensures { Writes (λ v. items_view v.items) result (metas_data (metas_from (map meta_view metas.now))) }
+    ensures { Writes (λ v. items_view v.items) result
+        (metas_data (metas_from (map meta_view metas.now))) }
 {
     let mut values = Vec::new(alloc);
     for meta in metas {

@@ -68,7 +68,8 @@ pub(crate) fn node_of(
     attrs: &Vec<Meta>,
     body: &String,
 ) -> Result<Node, WriteFault>
-    ensures { Writes node_seen result (node_data bodies (node_from hash number attrs.now.items body.now)) }
+    ensures { Writes node_seen result
+        (node_data bodies (node_from hash number attrs.now.items body.now)) }
 {
     let attrs = attrs_value(alloc, attrs)?;
     let body = body_value(alloc, bodies, body)?;
@@ -103,7 +104,8 @@ fn numbered(alloc: Global, word: &str, hash: u16, number: u32) -> Result<Members
 }
 
 pub(crate) fn node_members(alloc: Global, word: &str, node: Node) -> Result<Members, AllocError>
-    ensures { IfOk result (λ ms. members_view ms.entries ≡ members_of_node word.now (node_seen node)) }
+    ensures { IfOk result (λ ms. members_view ms.entries
+        ≡ members_of_node word.now (node_seen node)) }
 {
     let members = numbered(alloc, word, node.hash, node.number)?;
     let members = with(alloc, members, "attrs", node.attrs)?;
@@ -111,7 +113,8 @@ pub(crate) fn node_members(alloc: Global, word: &str, node: Node) -> Result<Memb
 }
 
 pub(crate) fn named_members(alloc: Global, word: &str, item: Named) -> Result<Members, AllocError>
-    ensures { IfOk result (λ ms. members_view ms.entries ≡ members_of_named word.now (named_seen item)) }
+    ensures { IfOk result (λ ms. members_view ms.entries
+        ≡ members_of_named word.now (named_seen item)) }
 {
     let members = node_members(alloc, word, item.node)?;
     let members = with(alloc, members, "name", item.name)?;

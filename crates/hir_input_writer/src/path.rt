@@ -20,7 +20,8 @@ fn names_behind(
     mut values: Vec<Value>,
     names: &[Name],
 ) -> Result<Vec<Value>, WriteFault>
-    ensures { Writes (λ v. items_view v.items) result (joined (map view values.items) (each_data name_data names.now)) }
+    ensures { Writes (λ v. items_view v.items) result
+        (joined (map view values.items) (each_data name_data names.now)) }
 {
     for name in names {
         values.push(name_value(alloc, name)?)?;
@@ -36,7 +37,8 @@ fn behind(
     number: Option<u32>,
     names: &[Name],
 ) -> Result<Value, WriteFault>
-    ensures { Writes view result (option_and_then (behind_data word.now number) (each_data name_data names.now)) }
+    ensures { Writes view result
+        (option_and_then (behind_data word.now number) (each_data name_data names.now)) }
 {
     let mut front = Vec::new(alloc);
     front.push(Value::try_from_str(alloc, word)?)?;

@@ -48,7 +48,8 @@ fn stmt_value(alloc: Global, bodies: bool, stmt: &Stmt) -> Result<Value, WriteFa
 }
 
 fn stmt_values(alloc: Global, bodies: bool, stmts: &[Stmt]) -> Result<Vec<Value>, WriteFault>
-    ensures { Writes (λ v. items_view v.items) result (each_data (stmt_data bodies) (map stmt_view stmts.now)) }
+    ensures { Writes (λ v. items_view v.items) result
+        (each_data (stmt_data bodies) (map stmt_view stmts.now)) }
 {
     let mut values = Vec::new(alloc);
     for stmt in stmts {
@@ -72,7 +73,8 @@ fn tail_value(alloc: Global, bodies: bool, tail: &Tail) -> Result<Value, WriteFa
 }
 
 fn source_object(alloc: Global, attrs: Value, items: Vec<Value>) -> Result<Value, AllocError>
-    ensures { IfOk result (λ v. view v ≡ objects.source_object (view attrs) (items_view items.items)) }
+    ensures { IfOk result (λ v. view v
+        ≡ objects.source_object (view attrs) (items_view items.items)) }
 {
     let members = of_text(alloc, "root", "source_file")?;
     let members = with(alloc, members, "attrs", attrs)?;
@@ -85,7 +87,8 @@ fn source_value(
     attrs: &Vec<Meta>,
     items: &[Item],
 ) -> Result<Value, WriteFault>
-    ensures { Writes view result (source_data bodies (map meta_view attrs.now.items) (items_seen items.now)) }
+    ensures { Writes view result
+        (source_data bodies (map meta_view attrs.now.items) (items_seen items.now)) }
 {
     let attrs = attrs_value(alloc, attrs)?;
     let items = item_values(alloc, bodies, items)?;
@@ -107,7 +110,8 @@ fn macro_items_value(alloc: Global, bodies: bool, items: &[Item]) -> Result<Valu
 }
 
 fn macro_stmts_object(alloc: Global, stmts: Vec<Value>, tail: Value) -> Result<Value, AllocError>
-    ensures { IfOk result (λ v. view v ≡ objects.macro_stmts_object (items_view stmts.items) (view tail)) }
+    ensures { IfOk result (λ v. view v
+        ≡ objects.macro_stmts_object (items_view stmts.items) (view tail)) }
 {
     let members = of_text(alloc, "root", "macro_stmts")?;
     let members = with(alloc, members, "stmts", Value::from(stmts))?;
@@ -120,7 +124,8 @@ fn macro_stmts_value(
     stmts: &[Stmt],
     tail: &Tail,
 ) -> Result<Value, WriteFault>
-    ensures { Writes view result (macro_stmts_data bodies (map stmt_view stmts.now) (tail_view tail.now)) }
+    ensures { Writes view result
+        (macro_stmts_data bodies (map stmt_view stmts.now) (tail_view tail.now)) }
 {
     let stmts = stmt_values(alloc, bodies, stmts)?;
     let tail = tail_value(alloc, bodies, tail)?;

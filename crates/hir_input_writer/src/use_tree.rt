@@ -45,7 +45,8 @@ fn tree_object(
     rename: Value,
     list: Value,
 ) -> Result<Value, AllocError>
-    ensures { IfOk result (λ v. view v ≡ use_tree_object (view path) star (view rename) (view list)) }
+    ensures { IfOk result (λ v. view v
+        ≡ use_tree_object (view path) star (view rename) (view list)) }
 {
     let members = with(alloc, Map::new(alloc), "star", Value::from(star))?;
     let members = with(alloc, members, "list", list)?;
@@ -61,7 +62,8 @@ fn node_value(
     rename: &Option<Rename>,
     list: Value,
 ) -> Result<Value, WriteFault>
-    ensures { Writes view result (use_node_data (record { path = path.now; star = star; rename = rename.now }) (view list)) }
+    ensures { Writes view result
+        (use_node_data (record { path = path.now; star = star; rename = rename.now }) (view list)) }
 {
     let path = path_or_null(alloc, path)?;
     let rename = rename_or_null(alloc, rename)?;
@@ -85,7 +87,8 @@ pub(crate) fn use_tree_value(alloc: Global, tree: &UseTree) -> Result<Value, Wri
 #[cycle(trees)]
 #[tactic(auto, using(crate::proofs::Lists::lists))]
 fn use_tree_values(alloc: Global, trees: &[UseTree]) -> Result<Vec<Value>, WriteFault>
-    ensures { Writes (λ v. items_view v.items) result (use_trees_data (trees_from (map use_tree_view trees.now))) }
+    ensures { Writes (λ v. items_view v.items) result
+        (use_trees_data (trees_from (map use_tree_view trees.now))) }
 {
     let mut values = Vec::new(alloc);
     for tree in trees {

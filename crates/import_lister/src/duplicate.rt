@@ -39,7 +39,8 @@ pub fn duplicates(alloc: Global, imports: &[Listed]) -> Result<Vec<Duplicate>, A
 // The first import that is alike with the one at a place, if there is one before it.
 fn first_alike(imports: &[Listed], place: usize) -> Option<usize>
     requires { place < length imports.now }
-    ensures { let xs = map listed_import imports.now in MatchOption result (IsNew xs place) (λ first. Repeats xs first place) }
+    ensures { let xs = map listed_import imports.now in
+        MatchOption result (IsNew xs place) (λ first. Repeats xs first place) }
 {
     let import = &imports[place];
     imports[..place]

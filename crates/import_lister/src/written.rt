@@ -32,7 +32,8 @@ pub fn written_imports<'a>(
     item: &Use,
     written: &'a ast::UseTree,
 ) -> Result<Option<Vec<WrittenImport<'a>>>, LowerError>
-    ensures kept { IfOk result (λ found. IsSome found ↔ (kept_tree (use_tree_view written.now) ≡ Some item.now.tree)) }
+    ensures kept { IfOk result
+        (λ found. IsSome found ↔ (kept_tree (use_tree_view written.now) ≡ Some item.now.tree)) }
     ensures leaves { let w = use_tree_view written.now in
         IfOk result (λ found. IfSome found (λ list. map written_by list.items ≡ written_imports w)) }
     ensures imports { let expanded = imports item.now.tree in
@@ -57,7 +58,8 @@ fn at_leaves<'a>(
     places: &[u32],
     written: &'a ast::UseTree,
 ) -> Result<Vec<WrittenImport<'a>>, AllocError>
-    requires { AllByRecursion (IsAtLeaf (use_tree_view written.now) places.now) (map listed_import imports.items) }
+    requires { AllByRecursion (IsAtLeaf (use_tree_view written.now) places.now)
+        (map listed_import imports.items) }
     ensures { let w = use_tree_view written.now in
         IfOk result (λ list. map seen list.items ≡ map (at_leaf w places.now) (map listed_import imports.items)) }
 {

@@ -41,7 +41,8 @@ fn left_as(new: Option<&Item<'_, '_>>) -> Option<ChangeKind>
 }
 
 fn came_as(item: &Item<'_, '_>, old: Option<&Item<'_, '_>>) -> Option<ChangeKind>
-    ensures { result ≡ spec.came_as (item_view item.now).own (option_map (λ i. item_view i.now) old.entry) }
+    ensures { result ≡ spec.came_as (item_view item.now).own
+        (option_map (λ i. item_view i.now) old.entry) }
 {
     let Some(old) = old else {
         return Some(ChangeKind::Added);
@@ -85,7 +86,8 @@ fn push_left<'r, 'tree>(
     changes: &mut Vec<Change<'tree>>,
 ) -> Result<(), AllocError>
     requires { Finds news.now }
-    ensures { let left = flat_map (spec.left_change (map item_view news.now.items.now)) (map item_view olds.now) in
+    ensures { let left = flat_map (spec.left_change (map item_view news.now.items.now))
+        (map item_view olds.now) in
         OnOk result (map change_view changes.new.items ≡ map change_view changes.old.items ++ left) }
 {
     for item in olds {
@@ -101,7 +103,8 @@ fn push_came<'r, 'tree>(
     changes: &mut Vec<Change<'tree>>,
 ) -> Result<(), AllocError>
     requires { Finds olds.now }
-    ensures { let came = flat_map (spec.came_change (map item_view olds.now.items.now)) (map item_view news.now) in
+    ensures { let came = flat_map (spec.came_change (map item_view olds.now.items.now))
+        (map item_view news.now) in
         OnOk result (map change_view changes.new.items ≡ map change_view changes.old.items ++ came) }
 {
     for item in news {

@@ -34,7 +34,8 @@ impl<'o, 'r, 'tree> Finder<'o, 'r, 'tree> {
 
     pub(crate) fn find(&self, item: &Item<'r, 'tree>) -> Option<&'o Item<'r, 'tree>>
         requires { Finds self.now }
-        ensures { let found = find (is_same (item_view item.now)) (map item_view self.now.items.now) in
+        ensures { let found = find (is_same (item_view item.now))
+            (map item_view self.now.items.now) in
             option_map (λ i. item_view i.now) result ≡ found }
     {
         self.table.get(&(key_of(item.row), item.place)).copied()

@@ -99,7 +99,8 @@ fn are_same_visibilities(
     new: &ItemTree,
     right: &[RawVisibilityId],
 ) -> bool
-    ensures { IsTrue result ↔ (map (vis_at old.now.forest) left.now ≡ map (vis_at new.now.forest) right.now) }
+    ensures { IsTrue result ↔
+        (map (vis_at old.now.forest) left.now ≡ map (vis_at new.now.forest) right.now) }
 {
     if let [one, more @ ..] = left
         && let [other, others @ ..] = right
@@ -150,7 +151,8 @@ fn are_same_constructors(
     new: &ItemTree,
     right: Option<&StructValueNsCtor>,
 ) -> bool
-    ensures { let left = option_map (ctor_map (vis_at old.now.forest)) (option_map (λ c. ctor_ids c.now) left.entry) in
+    ensures { let left = option_map (ctor_map (vis_at old.now.forest))
+        (option_map (λ c. ctor_ids c.now) left.entry) in
         let right = option_map (ctor_map (vis_at new.now.forest)) (option_map (λ c. ctor_ids c.now) right.entry) in
         IsTrue result ↔ (left ≡ right) }
 {

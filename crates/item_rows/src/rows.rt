@@ -76,7 +76,8 @@ fn push_all<'tree>(
 ) -> Result<(), AllocError>
     requires contained { AreContained tree.now ids.now }
     requires fits { around.now.level + sum_by (count_at tree.now) ids.now < 2 ^ 64 }
-    ensures { OnOk result (map row_view rows.new.items ≡ map row_view rows.old.items ++ flat_map (rows_at tree.now (around_view around.now)) ids.now) }
+    ensures { OnOk result (map row_view rows.new.items ≡ map row_view rows.old.items
+        ++ flat_map (rows_at tree.now (around_view around.now)) ids.now) }
 {
     for id in ids {
         push_one(alloc, tree, *id, around, rows)?;
@@ -95,7 +96,8 @@ fn push_one<'tree>(
 ) -> Result<(), AllocError>
     requires contained { IsContained tree.now id }
     requires fits { around.now.level + count_at tree.now id < 2 ^ 64 }
-    ensures { OnOk result (map row_view rows.new.items ≡ map row_view rows.old.items ++ rows_at tree.now (around_view around.now) id) }
+    ensures { OnOk result (map row_view rows.new.items ≡ map row_view rows.old.items
+        ++ rows_at tree.now (around_view around.now) id) }
 {
     let row = row_of(alloc, tree, id, around)?;
     let below = below(alloc, &row)?;
@@ -131,7 +133,8 @@ fn row_of<'tree>(
     around: &Around<'tree>,
 ) -> Result<Row<'tree>, AllocError>
     requires { IsContained tree.now id }
-    ensures { IfOk result (λ r. row_view r ∷ [] ≡ of_id tree.now [] (λ n. spec.row (around_view around.now) n ∷ []) id) }
+    ensures { IfOk result (λ r. row_view r ∷ []
+        ≡ of_id tree.now [] (λ n. spec.row (around_view around.now) n ∷ []) id) }
 {
     Ok(Row {
         level: around.level,

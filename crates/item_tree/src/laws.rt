@@ -22,35 +22,46 @@ use std::hash::Hash;
 
 // `==` of what owns no memory is true exactly where the two are one, and a copy is its source.
 fn parts()
-    ensures explicitness { IsByValue ⟦<VisibilityExplicitness as PartialEq>⟧.eq ⟦<VisibilityExplicitness as Clone>⟧.is_clone }
-    ensures visibility_ids { IsByValue ⟦<RawVisibilityId as PartialEq>⟧.eq ⟦<RawVisibilityId as Clone>⟧.is_clone }
+    ensures explicitness { IsByValue ⟦<VisibilityExplicitness as PartialEq>⟧.eq
+        ⟦<VisibilityExplicitness as Clone>⟧.is_clone }
+    ensures visibility_ids { IsByValue ⟦<RawVisibilityId as PartialEq>⟧.eq
+        ⟦<RawVisibilityId as Clone>⟧.is_clone }
     ensures item_ids { IsByValue ⟦<ModItemId as PartialEq>⟧.eq ⟦<ModItemId as Clone>⟧.is_clone }
     ensures indices { IsByValue ⟦<UseTreeIdx as PartialEq>⟧.eq ⟦<UseTreeIdx as Clone>⟧.is_clone }
     ensures shapes { IsByValue ⟦<FieldsShape as PartialEq>⟧.eq ⟦<FieldsShape as Clone>⟧.is_clone }
-    ensures import_kinds { IsByValue ⟦<ImportKind as PartialEq>⟧.eq ⟦<ImportKind as Clone>⟧.is_clone }
+    ensures import_kinds { IsByValue ⟦<ImportKind as PartialEq>⟧.eq
+        ⟦<ImportKind as Clone>⟧.is_clone }
     ensures errors { IsByValue ⟦<LowerError as PartialEq>⟧.eq ⟦<LowerError as Clone>⟧.is_clone }
     ensures faults { IsByValue ⟦<EditFault as PartialEq>⟧.eq ⟦<EditFault as Clone>⟧.is_clone }
-    ensures stats { IsByValue ⟦<ItemTreeDataStats as PartialEq>⟧.eq ⟦<ItemTreeDataStats as Clone>⟧.is_clone }
+    ensures stats { IsByValue ⟦<ItemTreeDataStats as PartialEq>⟧.eq
+        ⟦<ItemTreeDataStats as Clone>⟧.is_clone }
 {}
 
 // `==` of visibilities and items is true exactly where their values are one, and a copy is its source.
 #[tactic(auto, using(crate::proofs::Equal::items_decide))]
 fn items()
-    ensures visibilities { IsByValue ⟦<RawVisibility as PartialEq>⟧.eq ⟦<RawVisibility as Clone>⟧.is_clone }
-    ensures constructors { IsByValueOf ctor_ids ⟦<StructValueNsCtor as PartialEq>⟧.eq ⟦<StructValueNsCtor as Clone>⟧.is_clone }
-    ensures module_kinds { IsByValueOf inline_ids ⟦<ModKind as PartialEq>⟧.eq ⟦<ModKind as Clone>⟧.is_clone }
+    ensures visibilities { IsByValue ⟦<RawVisibility as PartialEq>⟧.eq
+        ⟦<RawVisibility as Clone>⟧.is_clone }
+    ensures constructors { IsByValueOf ctor_ids ⟦<StructValueNsCtor as PartialEq>⟧.eq
+        ⟦<StructValueNsCtor as Clone>⟧.is_clone }
+    ensures module_kinds { IsByValueOf inline_ids ⟦<ModKind as PartialEq>⟧.eq
+        ⟦<ModKind as Clone>⟧.is_clone }
     ensures constants { IsByValue ⟦<Const as PartialEq>⟧.eq ⟦<Const as Clone>⟧.is_clone }
     ensures enums { IsByValue ⟦<Enum as PartialEq>⟧.eq ⟦<Enum as Clone>⟧.is_clone }
-    ensures extern_blocks { IsByValueOf block_value ⟦<ExternBlock as PartialEq>⟧.eq ⟦<ExternBlock as Clone>⟧.is_clone }
-    ensures extern_crates { IsByValue ⟦<ExternCrate as PartialEq>⟧.eq ⟦<ExternCrate as Clone>⟧.is_clone }
+    ensures extern_blocks { IsByValueOf block_value ⟦<ExternBlock as PartialEq>⟧.eq
+        ⟦<ExternBlock as Clone>⟧.is_clone }
+    ensures extern_crates { IsByValue ⟦<ExternCrate as PartialEq>⟧.eq
+        ⟦<ExternCrate as Clone>⟧.is_clone }
     ensures functions { IsByValue ⟦<Function as PartialEq>⟧.eq ⟦<Function as Clone>⟧.is_clone }
     ensures impls { IsByValue ⟦<Impl as PartialEq>⟧.eq ⟦<Impl as Clone>⟧.is_clone }
     ensures macro_defs { IsByValue ⟦<Macro2 as PartialEq>⟧.eq ⟦<Macro2 as Clone>⟧.is_clone }
     ensures macro_calls { IsByValue ⟦<MacroCall as PartialEq>⟧.eq ⟦<MacroCall as Clone>⟧.is_clone }
-    ensures macro_rules { IsByValue ⟦<MacroRules as PartialEq>⟧.eq ⟦<MacroRules as Clone>⟧.is_clone }
+    ensures macro_rules { IsByValue ⟦<MacroRules as PartialEq>⟧.eq
+        ⟦<MacroRules as Clone>⟧.is_clone }
     ensures modules { IsByValueOf mod_value ⟦<Mod as PartialEq>⟧.eq ⟦<Mod as Clone>⟧.is_clone }
     ensures statics { IsByValue ⟦<Static as PartialEq>⟧.eq ⟦<Static as Clone>⟧.is_clone }
-    ensures structs { IsByValueOf struct_value ⟦<Struct as PartialEq>⟧.eq ⟦<Struct as Clone>⟧.is_clone }
+    ensures structs { IsByValueOf struct_value ⟦<Struct as PartialEq>⟧.eq
+        ⟦<Struct as Clone>⟧.is_clone }
     ensures traits { IsByValue ⟦<Trait as PartialEq>⟧.eq ⟦<Trait as Clone>⟧.is_clone }
     ensures type_aliases { IsByValue ⟦<TypeAlias as PartialEq>⟧.eq ⟦<TypeAlias as Clone>⟧.is_clone }
     ensures unions { IsByValue ⟦<Union as PartialEq>⟧.eq ⟦<Union as Clone>⟧.is_clone }
@@ -59,8 +70,10 @@ fn items()
 
 // Values that are equal are hashed alike.
 fn hashes()
-    ensures explicitness { HashesAlike ⟦<VisibilityExplicitness as PartialEq>⟧.eq ⟦<VisibilityExplicitness as Hash>⟧.hash_input }
-    ensures visibilities { HashesAlike ⟦<RawVisibility as PartialEq>⟧.eq ⟦<RawVisibility as Hash>⟧.hash_input }
+    ensures explicitness { HashesAlike ⟦<VisibilityExplicitness as PartialEq>⟧.eq
+        ⟦<VisibilityExplicitness as Hash>⟧.hash_input }
+    ensures visibilities { HashesAlike ⟦<RawVisibility as PartialEq>⟧.eq
+        ⟦<RawVisibility as Hash>⟧.hash_input }
     ensures item_ids { HashesAlike ⟦<ModItemId as PartialEq>⟧.eq ⟦<ModItemId as Hash>⟧.hash_input }
 {}
 
@@ -74,7 +87,8 @@ fn copies()
 
 // No items are counted by default.
 fn defaults()
-    ensures { (stats : ItemTreeDataStats) → ⟦<ItemTreeDataStats as Default>⟧.is_default stats → stats ≡ no_stats }
+    ensures { (stats : ItemTreeDataStats) → ⟦<ItemTreeDataStats as Default>⟧.is_default stats
+        → stats ≡ no_stats }
 {}
 
 // The kind of each item type is that of the syntax that its items are lowered from.

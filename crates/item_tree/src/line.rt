@@ -6,7 +6,8 @@ use std::alloc::AllocError;
 
 // Four spaces for each level.
 pub(crate) fn push_indent(out: &mut String, level: usize) -> Result<(), AllocError>
-    ensures { OnOk result (string_bytes out.new ≡ string_bytes out.old ++ replicate (4 * level) 32) }
+    ensures { OnOk result (string_bytes out.new ≡ string_bytes out.old
+        ++ replicate (4 * level) 32) }
 {
     for _i in 0..level {
         out.push_str("    ")?;

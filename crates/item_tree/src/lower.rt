@@ -71,12 +71,14 @@ pub fn lower_syntax(
     krate: &CrateData,
     skipped: &[Name],
 ) -> Result<ItemTree, LowerError>
-    ensures kept { IfOk result (λ tree. tree ≡ kept_in krate.now is_root skipped.now (syntax_view syntax.now)) }
+    ensures kept { IfOk result
+        (λ tree. tree ≡ kept_in krate.now is_root skipped.now (syntax_view syntax.now)) }
     ensures bodies { IfOk result
         (λ tree. tree ≡ kept_without_bodies krate.now is_root skipped.now (syntax_view syntax.now)) }
     ensures constructors { OnOk result (CtorsAreSeen (syntax_view syntax.now)) }
     ensures fits { OnOk result (FitsIn krate.now is_root skipped.now (syntax_view syntax.now)) }
-    ensures too_large { IfErr result (IsTooLargeIn krate.now is_root skipped.now (syntax_view syntax.now)) }
+    ensures too_large { IfErr result
+        (IsTooLargeIn krate.now is_root skipped.now (syntax_view syntax.now)) }
 {
     let ctx = Ctx {
         alloc,
@@ -88,9 +90,13 @@ pub fn lower_syntax(
 
 // The tree of a syntax.
 fn lower_whole(ctx: Ctx, syntax: &ast::Syntax, is_root: bool) -> Result<ItemTree, LowerError>
-    ensures kept { IfOk result (λ tree. tree ≡ kept_in ctx.entry.krate.now is_root ctx.entry.skipped.now (syntax_view syntax.now)) }
-    ensures fits { OnOk result (FitsIn ctx.entry.krate.now is_root ctx.entry.skipped.now (syntax_view syntax.now)) }
-    ensures too_large { IfErr result (IsTooLargeIn ctx.entry.krate.now is_root ctx.entry.skipped.now (syntax_view syntax.now)) }
+    ensures kept { IfOk result
+        (λ tree. tree ≡ kept_in ctx.entry.krate.now is_root ctx.entry.skipped.now
+        (syntax_view syntax.now)) }
+    ensures fits { OnOk result
+        (FitsIn ctx.entry.krate.now is_root ctx.entry.skipped.now (syntax_view syntax.now)) }
+    ensures too_large { IfErr result
+        (IsTooLargeIn ctx.entry.krate.now is_root ctx.entry.skipped.now (syntax_view syntax.now)) }
 {
     match syntax {
         ast::Syntax::SourceFile { attrs, items } => {
@@ -122,12 +128,14 @@ pub fn lower_block(
     krate: &CrateData,
     skipped: &[Name],
 ) -> Result<ItemTree, LowerError>
-    ensures kept { IfOk result (λ tree. tree ≡ kept_in krate.now false skipped.now (block_view block.now)) }
+    ensures kept { IfOk result
+        (λ tree. tree ≡ kept_in krate.now false skipped.now (block_view block.now)) }
     ensures bodies { IfOk result
         (λ tree. tree ≡ kept_without_bodies krate.now false skipped.now (block_view block.now)) }
     ensures constructors { OnOk result (CtorsAreSeen (block_view block.now)) }
     ensures fits { OnOk result (FitsIn krate.now false skipped.now (block_view block.now)) }
-    ensures too_large { IfErr result (IsTooLargeIn krate.now false skipped.now (block_view block.now)) }
+    ensures too_large { IfErr result
+        (IsTooLargeIn krate.now false skipped.now (block_view block.now)) }
 {
     let ctx = Ctx {
         alloc,
@@ -142,7 +150,8 @@ pub fn lower_block(
 fn lower_attrs(ctx: Ctx, attrs: &[Meta]) -> Result<AttrsOrCfg, LowerError>
     ensures value { IfOk result (λ lowered. collected lowered ≡ attrs_in ctx.entry attrs.now) }
     ensures fits { OnOk result (length (attrs_in ctx.entry attrs.now).attrs ≤ attr_limit) }
-    ensures fault { IfErr result (IsPassed (only_attributes (length (attrs_in ctx.entry attrs.now).attrs))) }
+    ensures fault { IfErr result
+        (IsPassed (only_attributes (length (attrs_in ctx.entry attrs.now).attrs))) }
 {
     Ok(AttrsOrCfg::lower(ctx.alloc, attrs, &ctx.krate.cfg, ctx.skipped)?)
 }
@@ -150,7 +159,8 @@ fn lower_attrs(ctx: Ctx, attrs: &[Meta]) -> Result<AttrsOrCfg, LowerError>
 // The top attributes of a source file. Where a cfg of the crate is false, those of the root file are not collected.
 fn lower_top_attrs(ctx: Ctx, attrs: &[Meta], is_root: bool) -> Result<AttrsOrCfg, LowerError>
     ensures value { IfOk result (λ top. collected top ≡ top_attrs_in ctx.entry is_root attrs.now) }
-    ensures fits { OnOk result (length (top_attrs_in ctx.entry is_root attrs.now).attrs ≤ attr_limit) }
+    ensures fits { OnOk result
+        (length (top_attrs_in ctx.entry is_root attrs.now).attrs ≤ attr_limit) }
     ensures fault { IfErr result
         (IsPassed (only_attributes (length (top_attrs_in ctx.entry is_root attrs.now).attrs))) }
 {
@@ -178,8 +188,11 @@ fn push_row(
 ) -> Result<ModItemId, LowerError>
     requires { IsWithinLimits rows.old }
     ensures fits { OnOk result (length (attrs_in ctx.entry attrs.now).attrs ≤ attr_limit) }
-    ensures pushed { IfOk result (Pushes rows.old rows.new (head_of_key (key_in key) (attrs_in ctx.entry attrs.now), item_row item)) }
-    ensures fault { IfErr result (IsPassed (sizes_pushing rows.old (attrs_in ctx.entry attrs.now))) }
+    ensures pushed { IfOk result
+        (Pushes rows.old rows.new
+        (head_of_key (key_in key) (attrs_in ctx.entry attrs.now), item_row item)) }
+    ensures fault { IfErr result
+        (IsPassed (sizes_pushing rows.old (attrs_in ctx.entry attrs.now))) }
 {
     let row = rows.items.len();
     let kind = item.kind();
@@ -198,8 +211,10 @@ fn push_row(
 // The tree of a body under these top attributes.
 fn lower_body(ctx: Ctx, top_attrs: AttrsOrCfg, body: Body) -> Result<ItemTree, LowerError>
     requires { length (collected top_attrs).attrs ≤ attr_limit }
-    ensures kept { IfOk result (λ tree. tree ≡ tree_in ctx.entry (collected top_attrs) (body_items body.entry)) }
-    ensures fits { OnOk result (Fits (tree_in ctx.entry (collected top_attrs) (body_items body.entry))) }
+    ensures kept { IfOk result
+        (λ tree. tree ≡ tree_in ctx.entry (collected top_attrs) (body_items body.entry)) }
+    ensures fits { OnOk result
+        (Fits (tree_in ctx.entry (collected top_attrs) (body_items body.entry))) }
     ensures use_trees { OnOk result (items_written (body_items body.entry) ≤ use_tree_limit) }
     ensures too_large { IfErr result (IsTooLarge (macro_items (body_items body.entry))
         (tree_in ctx.entry (collected top_attrs) (body_items body.entry))) }
@@ -299,7 +314,8 @@ fn lower_module_items(
     mod_node: &ast::Module,
 ) -> Result<Vec<ModItemId>, LowerError>
     requires { IsWithinLimits rows.old }
-    ensures { AreLowered ctx.entry rows.old rows.new (items_below (module_view mod_node.now)) result }
+    ensures { AreLowered ctx.entry rows.old rows.new
+        (items_below (module_view mod_node.now)) result }
 {
     match &mod_node.items {
         Some(items) => lower_items(ctx, rows, items),
@@ -349,7 +365,8 @@ fn lower_visibility(
     visibility: Option<&ast::Visibility>,
 ) -> Result<RawVisibilityId, LowerError>
     requires { IsWithinLimits rows.old }
-    ensures met { IfOk result (Meets rows.old rows.new (read_visibility (option_copied visibility.entry))) }
+    ensures met { IfOk result
+        (Meets rows.old rows.new (read_visibility (option_copied visibility.entry))) }
     ensures fault { IfErr result
         (IsPassed (sizes_meeting rows.old (read_visibility (option_copied visibility.entry) ∷ []))) }
 {

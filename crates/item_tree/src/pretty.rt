@@ -76,7 +76,8 @@ struct Printer<'a> {
 impl Printer<'_> {
     #[tactic(auto, unfolding(crate::specs::Page::id_text))]
     fn push_id(self, out: &mut String, ast_id: FileAstId) -> Result<(), AllocError>
-        ensures { OnOk result (Gains out.old out.new (text self.entry.level (id_text ast_id) ∷ [])) }
+        ensures { OnOk result (Gains out.old out.new
+            (text self.entry.level (id_text ast_id) ∷ [])) }
     {
         push_indent(out, self.level)?;
         writeln!(out, "// AstId: {ast_id}")
@@ -97,7 +98,8 @@ impl Printer<'_> {
         ast_id: FileAstId,
         item: &MacroCall,
     ) -> Result<(), AllocError>
-        ensures { OnOk result (Gains out.old out.new (text self.entry.level (call_id_text ast_id item.now.ctxt item.now.expand_to) ∷ [])) }
+        ensures { OnOk result (Gains out.old out.new
+            (text self.entry.level (call_id_text ast_id item.now.ctxt item.now.expand_to) ∷ [])) }
     {
         let (ctxt, expand_to) = (item.ctxt, item.expand_to);
         push_indent(out, self.level)?;
@@ -225,7 +227,8 @@ impl Printer<'_> {
 
     // An item whose header is a fixed line.
     fn push_fixed(self, out: &mut String, ast_id: FileAstId, header: &str) -> Result<(), AllocError>
-        ensures { OnOk result (Gains out.old out.new (item_lines self.entry.level ast_id header.now)) }
+        ensures { OnOk result (Gains out.old out.new
+            (item_lines self.entry.level ast_id header.now)) }
     {
         self.push_id(out, ast_id)?;
         push_line(out, self.level, header)
@@ -311,7 +314,8 @@ impl ItemTree {
         ast_id: FileAstId,
         item: &Mod,
     ) -> Result<(), AllocError>
-        requires lent { IsModule self.now id ast_id item.now.name item.now.visibility item.now.kind }
+        requires lent { IsModule self.now id ast_id item.now.name item.now.visibility
+            item.now.kind }
         requires level_fits { printer.level + count_at self.now id < 2 ^ 64 }
         ensures { let reserved = printer.entry.edition.now.reserved.items in
             OnOk result (Gains out.old out.new (own_lines_at reserved self.now printer.entry.level id)) }
@@ -381,7 +385,8 @@ impl ItemTree {
     /// Only if memory runs out.
     #[tactic(auto, using(crate::proofs::Walking::ids_contained, crate::proofs::Walking::ids_count))]
     pub fn pretty_print(&self, alloc: Global, edition: &Edition) -> Result<String, AllocError>
-        ensures { IfOk result (λ text. string_bytes text ≡ page edition.now.reserved.items self.now) }
+        ensures { IfOk result (λ text. string_bytes text
+            ≡ page edition.now.reserved.items self.now) }
     {
         let mut out = String::new(alloc);
         let attrs = self.top_level_attrs();

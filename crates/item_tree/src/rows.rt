@@ -133,7 +133,8 @@ impl Rows {
 
     // Lends the attributes of a place, if it is one.
     pub(crate) fn attrs_at(&self, place: u32) -> Option<&AttrsOrCfg>
-        ensures { option_map (λ attrs. collected attrs.now) result ≡ stored_at (column_in self.now) (plain_place place) }
+        ensures { option_map (λ attrs. collected attrs.now) result
+            ≡ stored_at (column_in self.now) (plain_place place) }
     {
         if place == NO_ATTRS {
             None

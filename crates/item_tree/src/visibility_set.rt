@@ -52,8 +52,11 @@ impl VisibilitySet {
         alloc: Global,
         visibility: RawVisibility,
     ) -> Result<usize, AllocError>
-        ensures keys { IfOk result (λ _. self.new ≡ insert_key ⟦<RawVisibility as PartialEq>⟧.eq self.old visibility) }
-        ensures index { IfOk result (λ place. place ≡ position_or_len (⟦<RawVisibility as PartialEq>⟧.eq visibility) self.old) }
+        ensures keys { IfOk result
+            (λ _. self.new ≡ insert_key ⟦<RawVisibility as PartialEq>⟧.eq self.old visibility) }
+        ensures index { IfOk result
+            (λ place. place ≡ position_or_len
+            (⟦<RawVisibility as PartialEq>⟧.eq visibility) self.old) }
         ensures within { IfOk result (λ place. place < length self.new) }
     {
         let mut set = self.take_set(alloc)?;

@@ -56,6 +56,7 @@ pub struct AttrsOwned {
     pub(crate) attrs: Vec<Attr>,
 }
 
+// (Written out: what is derived is proved anew, field by field, in each crate that drops one.)
 impl Drop for AttrsOwned {
     fn drop(self) {
         let AttrsOwned { attrs: _ } = self;
@@ -131,11 +132,14 @@ impl AttrsOrCfg {
         cfg_options: &CfgOptions,
         skipped: &[Name],
     ) -> Result<AttrsOrCfg, AttrError>
-        ensures value { let all = collected_from cfg_options.now skipped.now (map meta_view metas.now) in
+        ensures value { let all = collected_from cfg_options.now skipped.now
+            (map meta_view metas.now) in
             IfOk result (λ attrs. collected attrs ≡ all) }
-        ensures fits { let all = collected_from cfg_options.now skipped.now (map meta_view metas.now) in
+        ensures fits { let all = collected_from cfg_options.now skipped.now
+            (map meta_view metas.now) in
             OnOk result (length all.attrs ≤ attr_limit) }
-        ensures too_many { let all = collected_from cfg_options.now skipped.now (map meta_view metas.now) in
+        ensures too_many { let all = collected_from cfg_options.now skipped.now
+            (map meta_view metas.now) in
             IsErrOf result TooMany → attr_limit < length all.attrs }
         ensures joined { JoinsLists (collected_from cfg_options.now skipped.now) }
     {

@@ -26,7 +26,8 @@ fn tree_ids()
 // A change number of a table that edits led to: that of the last edit at which the unfolding became another, or what it was.
 #[tactic(auto, using(crate::proofs::Histories::change_number_is))]
 fn change_numbers()
-    ensures { (s u : State) (edits : List EditView) (place : Place) (i : ℕ) → IsAfter s edits u → i < length s.crates
+    ensures { (s u : State) (edits : List EditView) (place : Place) (i : ℕ) → IsAfter s edits u → i
+        < length s.crates
         → IsChangeNumber s edits place i (change_number u place i) }
 {}
 

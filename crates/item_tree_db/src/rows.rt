@@ -86,9 +86,12 @@ fn lower_source(
     place: Place,
     source: &Source,
 ) -> Result<ItemTree, LowerError>
-    ensures tree { let kept = kept_at skipped.now place (source_syntax source.now) (crate_view krate.now) in
+    ensures tree { let kept = kept_at skipped.now place (source_syntax source.now)
+        (crate_view krate.now) in
         IfOk result (λ tree. tree ≡ kept) }
-    ensures fits { OnOk result (TreeFits skipped.now place (Some (crate_view krate.now)) (Some (source_syntax source.now))) }
+    ensures fits { OnOk result
+        (TreeFits skipped.now place (Some (crate_view krate.now))
+        (Some (source_syntax source.now))) }
     ensures refused { let krate = Some (crate_view krate.now) in
         IfErr result (TreePasses skipped.now place krate (Some (source_syntax source.now))) }
 {
@@ -139,7 +142,8 @@ pub fn lower_all(
     source: &Source,
     number: u64,
 ) -> Result<Vec<Row>, LowerError>
-    ensures rows { let fresh = brought number skipped.now (source_place source.now) (source_syntax source.now) in
+    ensures rows { let fresh = brought number skipped.now (source_place source.now)
+        (source_syntax source.now) in
         IfOk result (λ rows. rows.items ≡ map (λ krate. fresh (crate_view krate)) crates.now) }
     ensures fits { let crates = map crate_view crates.now in
         OnOk result (CratesFit crates skipped.now (source_place source.now) (source_syntax source.now)) }

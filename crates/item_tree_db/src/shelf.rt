@@ -68,7 +68,8 @@ impl Entry {
 
     fn set(&mut self, source: Source, fresh: Vec<Row>, number: u64)
         requires { length fresh.items ≡ length self.old.rows }
-        ensures { self.new ≡ record { source = Some source; rows = settled number self.old.rows fresh.items } }
+        ensures { self.new ≡ record { source = Some source; rows = settled number self.old.rows
+            fresh.items } }
     {
         self.source = Some(source);
         settle(&mut self.rows, fresh, number);
@@ -180,7 +181,8 @@ impl Shelf {
 
     /// Removes what is set at a place. Takes no memory.
     pub fn remove(&mut self, alloc: Global, place: Place, number: u64)
-        ensures { HasPut place (option_map (removed number) (placed_at self.old place)) self.old self.new }
+        ensures { HasPut place (option_map (removed number) (placed_at self.old place)) self.old
+            self.new }
     {
         if let Some(entry) = self.entries.get_mut(&place) {
             entry.remove(alloc, number);
@@ -189,7 +191,8 @@ impl Shelf {
 
     // Brings one crate another tree of a place, if it is there.
     fn recast_at(&mut self, place: Place, index: usize, fresh: &mut Row, number: u64)
-        ensures { HasPut place (option_map (recast number index fresh.old) (placed_at self.old place)) self.old self.new }
+        ensures { HasPut place (option_map (recast number index fresh.old)
+            (placed_at self.old place)) self.old self.new }
     {
         if let Some(entry) = self.entries.get_mut(&place) {
             entry.recast(index, fresh, number);
@@ -217,7 +220,8 @@ impl Shelf {
         ensures fresh { let fresh = fresh_of number skipped.now (Some (crate_view krate.now)) in
             IfOk result (λ rows. rows.items ≡ map (λ e. (e.0, fresh e.0 e.1)) self.now) }
         ensures fits { OnOk result (PlacesFit skipped.now (Some (crate_view krate.now)) self.now) }
-        ensures refused { IfErr result (UnlessMemory (PlacesPass skipped.now (Some (crate_view krate.now)) self.now)) }
+        ensures refused { IfErr result
+            (UnlessMemory (PlacesPass skipped.now (Some (crate_view krate.now)) self.now)) }
         ensures in_order { IsInOrder self.now }
     {
         let mut fresh = Vec::with_capacity(alloc, self.entries.len())?;
@@ -230,7 +234,8 @@ impl Shelf {
 
     /// The change numbers above a bound.
     pub fn late(&self, above: u64) -> ChangedSince<'_>
-        requires { (place : Place) → IfSome (placed_at self.now place) (λ placed. length placed.rows ≤ crate_limit) }
+        requires { (place : Place)
+            → IfSome (placed_at self.now place) (λ placed. length placed.rows ≤ crate_limit) }
         ensures value { result ≡ late above (all_changes self.now) }
         ensures in_order { IsInOrder self.now }
     {

@@ -45,6 +45,7 @@ pub struct Sources {
     empty: ItemTree,
 }
 
+// (Written out: what is derived is proved anew, field by field, in each crate that drops one.)
 impl Drop for Sources {
     fn drop(self) {
         let Sources { alloc: _, crates: _, skipped: _, start: _, number: _, places: _, empty: _ } = self;
@@ -82,8 +83,10 @@ fn refused(edit: Edit, cause: LowerError) -> EditRefused
 // Exchanges the options of a crate and these.
 fn swap_options(crates: &mut Vec<CrateData>, index: usize, options: &mut CfgOptions)
     requires { index < length crates.old.items }
-    ensures swapped { map crate_view crates.new.items ≡ change_at index (given options.old) (map crate_view crates.old.items) }
-    ensures before { option_map (λ k. k.options) (slice_get (map crate_view crates.old.items) index) ≡ Some options.new }
+    ensures swapped { map crate_view crates.new.items
+        ≡ change_at index (given options.old) (map crate_view crates.old.items) }
+    ensures before { option_map (λ k. k.options) (slice_get (map crate_view crates.old.items) index)
+        ≡ Some options.new }
     ensures count { length crates.new.items ≡ length crates.old.items }
 {
     mem::swap(&mut crates[index].cfg, options);
@@ -218,7 +221,8 @@ impl Sources {
         ensures err { OnErr result (self.new ≡ self.old) }
         ensures returned { IfErr result (λ refused. refused.edit ≡ edit) }
         ensures cause { IfErr result (IsRefusal self.old) }
-        ensures full { (self.old.number ≡ last_number) ↔ IsErrAnd result (λ refused. refused.cause ≡ TooManyEdits) }
+        ensures full { (self.old.number ≡ last_number)
+            ↔ IsErrAnd result (λ refused. refused.cause ≡ TooManyEdits) }
     {
         if self.number == u64::MAX {
             let cause = EditFault::TooManyEdits;
@@ -242,13 +246,18 @@ impl Sources {
         ensures number { IfOk result (λ number. number ≡ self.new.number) }
         ensures footing { IsFooting self.old self.new }
         ensures bodies { OnOk result (IgnoresBodies self.old (map edit_view edits.items) self.new) }
-        ensures fits { OnOk result (FirstFit self.old (map edit_view edits.items) (length edits.items)) }
+        ensures fits { OnOk result
+            (FirstFit self.old (map edit_view edits.items) (length edits.items)) }
 
-        ensures place { IfErr result (λ all. slice_get edits.items all.place ≡ Some all.refused.edit) }
-        ensures refused { IfErr result (λ all. IsAfter self.old (edits_before all edits.items) self.new) }
-        ensures fits_before { IfErr result (λ all. FirstFit self.old (map edit_view edits.items) all.place) }
+        ensures place { IfErr result
+            (λ all. slice_get edits.items all.place ≡ Some all.refused.edit) }
+        ensures refused { IfErr result
+            (λ all. IsAfter self.old (edits_before all edits.items) self.new) }
+        ensures fits_before { IfErr result
+            (λ all. FirstFit self.old (map edit_view edits.items) all.place) }
         ensures cause { IfErr result (λ all. IsRefusal self.new all.refused) }
-        ensures full { IfErr result (λ all. self.new.number ≡ last_number → all.refused.cause ≡ TooManyEdits) }
+        ensures full { IfErr result
+            (λ all. self.new.number ≡ last_number → all.refused.cause ≡ TooManyEdits) }
         ensures in_range { IfErr result (λ all. self.new.number ≤ last_number) }
     {
         for (place, edit) in edits.into_iter().enumerate() {
@@ -324,7 +333,8 @@ impl Sources {
 
     /// The present syntax of a file, if it has one.
     pub fn file_syntax(&self, file: HirFileId) -> Option<&Syntax>
-        ensures { option_map syntax_view (option_copied result) ≡ present self.now (Place.File file) }
+        ensures { option_map syntax_view (option_copied result)
+            ≡ present self.now (Place.File file) }
     {
         match self.source(Place::File(file)) {
             Some(Source::File { syntax, .. }) => Some(syntax),
@@ -334,7 +344,8 @@ impl Sources {
 
     /// The present syntax of a block, if it has one.
     pub fn block_syntax(&self, block: BlockId) -> Option<&BlockExpr>
-        ensures { option_map block_view (option_copied result) ≡ present self.now (Place.Block block) }
+        ensures { option_map block_view (option_copied result)
+            ≡ present self.now (Place.Block block) }
     {
         match self.source(Place::Block(block)) {
             Some(Source::Block { syntax, .. }) => Some(syntax),

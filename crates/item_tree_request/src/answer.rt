@@ -23,7 +23,8 @@ use std::alloc::Global;
 
 // The value of a JSON text.
 fn value_of(alloc: Global, bytes: &[u8]) -> Result<Value, RunError>
-    ensures { MatchResult result (λ value. IsJsonText bytes.now (view value)) (IsRefusedFor bytes.now) }
+    ensures { MatchResult result (λ value. IsJsonText bytes.now (view value))
+        (IsRefusedFor bytes.now) }
 {
     match Value::from_slice(alloc, bytes) {
         Ok(value) => Ok(value),
@@ -36,7 +37,8 @@ fn value_of(alloc: Global, bytes: &[u8]) -> Result<Value, RunError>
 
 // The request that the bytes are a JSON text of.
 fn read_request(alloc: Global, bytes: &[u8]) -> Result<Request, RunError>
-    ensures reads { MatchResult result (λ request. IsRequest bytes.now (request_view request)) (IsRefusedFor bytes.now) }
+    ensures reads { MatchResult result (λ request. IsRequest bytes.now (request_view request))
+        (IsRefusedFor bytes.now) }
     ensures known { IfOk result NamesOwnCrates }
 {
     let value = value_of(alloc, bytes)?;
@@ -105,7 +107,8 @@ pub(crate) fn answer<T: ShowWriter>(
     writer: &T,
     bytes: &[u8],
 ) -> Result<String, RunError>
-    ensures { MatchResult result (λ text. IsOutputOf T.is_text bytes.now (string_bytes text)) (IsRefusedFor bytes.now) }
+    ensures { MatchResult result (λ text. IsOutputOf T.is_text bytes.now (string_bytes text))
+        (IsRefusedFor bytes.now) }
 {
     let request = read_request(alloc, bytes)?;
     serve(alloc, writer, request)

@@ -32,7 +32,8 @@ fn push_import(
     kind: ImportKind,
     alias: Option<&ImportAlias>,
 ) -> Result<(), AllocError>
-    ensures { let line = import_line edition.now.reserved.items (import index path.now kind (option_copied alias.entry)) in
+    ensures { let line = import_line edition.now.reserved.items
+        (import index path.now kind (option_copied alias.entry)) in
         OnOk result (string_bytes text.new ≡ string_bytes text.old ++ line) }
 {
     let number = index.0;
@@ -55,7 +56,8 @@ fn lines_of_use(
     ast_id: FileAstId,
     item: &Use,
 ) -> Result<String, AllocError>
-    ensures { IfOk result (λ text. string_bytes text ≡ use_lines edition.now.reserved.items ast_id item.now.tree) }
+    ensures { IfOk result (λ text. string_bytes text
+        ≡ use_lines edition.now.reserved.items ast_id item.now.tree) }
 {
     let mut text = String::new(alloc);
     writeln!(text, "{ast_id}")?;
@@ -113,7 +115,8 @@ fn push_one(
     text: &mut String,
 ) -> Result<(), AllocError>
     requires { IsContained tree.now id }
-    ensures { OnOk result (string_bytes text.new ≡ string_bytes text.old ++ import_lines_at edition.now.reserved.items tree.now id) }
+    ensures { OnOk result (string_bytes text.new ≡ string_bytes text.old
+        ++ import_lines_at edition.now.reserved.items tree.now id) }
 {
     match tree.index(id) {
         ModItemKind::Use(ast_id, item) => {

@@ -55,7 +55,9 @@ fn settings_at(alloc: Global, members: &mut Map<String, Value>) -> Result<Settin
         × (each_at name_form (codes "skipped") (held members.old) ≡ right s.skipped.items)
         × (edition_at_form (held members.old) ≡ right (edition_view s.edition)))
         (Tells (parts_form (held members.old))) }
-    ensures left { OnOk result (held members.new ≡ without (codes "edition") (without (codes "skipped") (held members.old))) }
+    ensures left { OnOk result
+        (held members.new ≡ without (codes "edition")
+        (without (codes "skipped") (held members.old))) }
 {
     let start = u64_at(alloc, members, "start")?;
     let skipped = names_at(alloc, members, "skipped")?;

@@ -20,7 +20,8 @@ fn push_page(
     text: &mut String,
 ) -> Result<(), AllocError>
     requires { IsKnown sources.now show.krate }
-    ensures { OnOk result (string_bytes text.new ≡ string_bytes text.old ++ page_text edition.now.reserved.items sources.now show) }
+    ensures { OnOk result (string_bytes text.new ≡ string_bytes text.old
+        ++ page_text edition.now.reserved.items sources.now show) }
 {
     let tree = sources.tree(show.place, show.krate);
     let page = tree.pretty_print(alloc, edition)?;
@@ -37,7 +38,8 @@ fn push_tree_imports(
     text: &mut String,
 ) -> Result<(), AllocError>
     requires { IsKnown sources.now show.krate }
-    ensures { OnOk result (string_bytes text.new ≡ string_bytes text.old ++ imports_text edition.now.reserved.items sources.now show) }
+    ensures { OnOk result (string_bytes text.new ≡ string_bytes text.old
+        ++ imports_text edition.now.reserved.items sources.now show) }
 {
     let tree = sources.tree(show.place, show.krate);
     push_imports(alloc, tree, edition, text)
@@ -55,7 +57,8 @@ pub fn push_change(
     changed: u64,
     text: &mut String,
 ) -> Result<(), AllocError>
-    ensures { OnOk result (string_bytes text.new ≡ string_bytes text.old ++ change_line (place, krate, changed)) }
+    ensures { OnOk result (string_bytes text.new ≡ string_bytes text.old
+        ++ change_line (place, krate, changed)) }
 {
     let krate = krate.0;
     match place {
@@ -78,7 +81,8 @@ fn push_tree(
     text: &mut String,
 ) -> Result<(), AllocError>
     requires { IsKnown sources.now show.krate }
-    ensures { OnOk result (string_bytes text.new ≡ string_bytes text.old ++ printed edition.now.reserved.items sources.now show) }
+    ensures { OnOk result (string_bytes text.new ≡ string_bytes text.old
+        ++ printed edition.now.reserved.items sources.now show) }
 {
     match show.kind {
         ShowKind::Page => push_page(alloc, sources, edition, show, text),
@@ -93,7 +97,8 @@ fn push_tree(
 
 // A line for each change.
 fn push_lines(changes: ChangedSince<'_>, text: &mut String) -> Result<(), AllocError>
-    ensures { OnOk result (string_bytes text.new ≡ string_bytes text.old ++ flat_map change_line changes.entry) }
+    ensures { OnOk result (string_bytes text.new ≡ string_bytes text.old
+        ++ flat_map change_line changes.entry) }
 {
     for (place, krate, changed) in changes {
         push_change(place, krate, changed, text)?;
@@ -107,7 +112,8 @@ fn push_lines(changes: ChangedSince<'_>, text: &mut String) -> Result<(), AllocE
 ///
 /// Only if memory runs out.
 pub fn push_changes(sources: &Sources, since: u64, text: &mut String) -> Result<(), AllocError>
-    ensures { OnOk result (IsAdded (AreChanges sources.now since) (string_bytes text.old) (string_bytes text.new)) }
+    ensures { OnOk result (IsAdded (AreChanges sources.now since) (string_bytes text.old)
+        (string_bytes text.new)) }
 {
     push_lines(sources.changed_since(since), text)
 }

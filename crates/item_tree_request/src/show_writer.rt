@@ -46,7 +46,8 @@ pub(crate) fn output_of<T: ShowWriter>(
     shows: &[Show],
 ) -> Result<String, AllocError>
     requires { All (Knows sources.now) shows.now }
-    ensures { IfOk result (λ text. AreJoined (T.is_text edition.now.reserved.items sources.now) shows.now (string_bytes text)) }
+    ensures { IfOk result (λ text. AreJoined
+        (T.is_text edition.now.reserved.items sources.now) shows.now (string_bytes text)) }
 {
     let mut text = String::new(alloc);
     for show in shows {

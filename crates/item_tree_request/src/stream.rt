@@ -14,7 +14,8 @@ const MOST_READS: u32 = 16_777_216;
 
 // All that the reader gives up to its end.
 pub(crate) fn read_to_end<R: Read>(alloc: Global, input: &mut R) -> Result<Vec<u8>, RunError>
-    ensures ok { IfOk result (λ bytes. IsReadToEnd (R.remaining input.old) (R.remaining input.new) bytes.items) }
+    ensures ok { IfOk result
+        (λ bytes. IsReadToEnd (R.remaining input.old) (R.remaining input.new) bytes.items) }
     ensures err { IfErr result (λ e. (e ≡ RunError.Read) ⊎ (e ≡ RunError.OutOfMemory)) }
 {
     let mut bytes = Vec::new(alloc);
@@ -35,8 +36,10 @@ pub(crate) fn read_to_end<R: Read>(alloc: Global, input: &mut R) -> Result<Vec<u
 
 // The whole text, or after a failed write a beginning of it.
 pub(crate) fn write_whole<W: Write>(output: &mut W, text: &[u8]) -> Result<(), RunError>
-    ensures ok { IfOk result (λ _. Appends (W.contents output.old) (W.contents output.new) text.now) }
-    ensures err { let IsBegun = TakesBeginning (W.contents output.old) (W.contents output.new) text.now in
+    ensures ok { IfOk result
+        (λ _. Appends (W.contents output.old) (W.contents output.new) text.now) }
+    ensures err { let IsBegun = TakesBeginning (W.contents output.old)
+        (W.contents output.new) text.now in
         IfErr result (λ e. (e ≡ RunError.Write) × IsBegun) }
 {
     let mut rest = text;

@@ -118,7 +118,8 @@ pub fn outline(
     has_members: bool,
     is_colored: bool,
 ) -> Result<String, SourceError>
-    ensures text { let outline = spec.IsOutline options.now depth has_members is_colored (source_view source.entry) in
+    ensures text { let outline = spec.IsOutline options.now depth has_members is_colored
+        (source_view source.entry) in
         IfOk result (λ out. outline (string_bytes out)) }
     ensures refused { IfErr result (spec.HasNoTree options.now source.entry.text.now) }
 {
@@ -145,7 +146,8 @@ pub fn outline_json(
     depth: Option<usize>,
     has_members: bool,
 ) -> Result<String, SourceError>
-    ensures text { let json = spec.IsJson options.now depth has_members (source_view source.entry) in
+    ensures text { let json = spec.IsJson options.now depth has_members
+        (source_view source.entry) in
         IfOk result (λ out. json (string_bytes out)) }
     ensures refused { IfErr result (spec.HasNoTree options.now source.entry.text.now) }
 {
@@ -180,7 +182,8 @@ pub fn page(
     options: &Options,
     has_ids: bool,
 ) -> Result<String, SourceError>
-    ensures text { IfOk result (λ out. spec.IsPage options.now has_ids text.now (string_bytes out)) }
+    ensures text { IfOk result
+        (λ out. spec.IsPage options.now has_ids text.now (string_bytes out)) }
     ensures refused { IfErr result (spec.HasNoTree options.now text.now) }
 {
     let file = read(alloc, text, options)?;
@@ -203,7 +206,8 @@ pub fn find(
     query: Query<'_>,
     has_members: bool,
 ) -> Result<String, SourceError>
-    ensures text { let found = spec.AreFound options.now has_members (query_view query.entry) (source_view source.entry) in
+    ensures text { let found = spec.AreFound options.now has_members (query_view query.entry)
+        (source_view source.entry) in
         IfOk result (λ out. found (string_bytes out)) }
     ensures refused { IfErr result (spec.HasNoTree options.now source.entry.text.now) }
 {
@@ -222,7 +226,8 @@ pub fn find(
 /// Those of `source_tree`.
 #[tactic(auto, using(source_tree::proofs::Refused::no_memory))]
 pub fn imports(alloc: Global, source: Source<'_>, options: &Options) -> Result<String, SourceError>
-    ensures text { IfOk result (λ out. spec.AreImports options.now (source_view source.entry) (string_bytes out)) }
+    ensures text { IfOk result
+        (λ out. spec.AreImports options.now (source_view source.entry) (string_bytes out)) }
     ensures refused { IfErr result (spec.HasNoTree options.now source.entry.text.now) }
 {
     let file = read(alloc, source.text, options)?;
@@ -249,7 +254,8 @@ pub fn duplicates(
     source: Source<'_>,
     options: &Options,
 ) -> Result<String, SourceError>
-    ensures text { IfOk result (λ out. spec.AreRepeated options.now (source_view source.entry) (string_bytes out)) }
+    ensures text { IfOk result
+        (λ out. spec.AreRepeated options.now (source_view source.entry) (string_bytes out)) }
     ensures refused { IfErr result (spec.HasNoTree options.now source.entry.text.now) }
 {
     let file = read(alloc, source.text, options)?;
@@ -306,12 +312,16 @@ pub fn changed(
     new: Source<'_>,
     options: &Options,
 ) -> Result<Compared, CompareError>
-    ensures compared { let compared = spec.AreCompared options.now (source_view old.entry) (source_view new.entry) in
+    ensures compared { let compared = spec.AreCompared options.now (source_view old.entry)
+        (source_view new.entry) in
         IfOk result compared }
-    ensures typing { IfOk result (λ c. IsSameWhereTyped old.entry.text.now new.entry.text.now c.is_same) }
-    ensures typed { let same = IsSameInBody options.now.edition.year old.entry.text.now new.entry.text.now in
+    ensures typing { IfOk result
+        (λ c. IsSameWhereTyped old.entry.text.now new.entry.text.now c.is_same) }
+    ensures typed { let same = IsSameInBody options.now.edition.year old.entry.text.now
+        new.entry.text.now in
         IfOk result (λ c. same c.is_same) }
-    ensures refused { IfErr result (spec.IsUncompared options.now old.entry.text.now new.entry.text.now) }
+    ensures refused { IfErr result
+        (spec.IsUncompared options.now old.entry.text.now new.entry.text.now) }
 {
     let before = match read(alloc, old.text, options) {
         Ok(before) => before,

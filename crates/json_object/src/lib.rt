@@ -46,7 +46,8 @@ pub fn one(alloc: Global, key: &str, value: Value) -> Result<Value, AllocError>
 
 /// A text as the only member.
 pub fn of_text(alloc: Global, key: &str, text: &str) -> Result<Members, AllocError>
-    ensures { IfOk result (λ ms. members_view ms.entries ≡ member key.now (string text.now) no_members) }
+    ensures { IfOk result (λ ms. members_view ms.entries
+        ≡ member key.now (string text.now) no_members) }
 {
     with_text(alloc, Map::new(alloc), key, text)
 }

@@ -7,5 +7,6 @@ use crate::Position;
 
 fn positions()
     ensures equal { (a b : Position) → Decides (⟦<Position as PartialEq>⟧.eq a b) (a ≡ b) }
-    ensures copied { (source copy : Position) → ⟦<Position as Clone>⟧.is_clone source copy → copy ≡ source }
+    ensures copied { (source copy : Position) → ⟦<Position as Clone>⟧.is_clone source copy → copy
+        ≡ source }
 {}

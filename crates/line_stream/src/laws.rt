@@ -12,5 +12,6 @@ fn limits()
 
 fn errors()
     ensures equal { (a b : StreamError) → Decides (⟦<StreamError as PartialEq>⟧.eq a b) (a ≡ b) }
-    ensures copied { (source copy : StreamError) → ⟦<StreamError as Clone>⟧.is_clone source copy → copy ≡ source }
+    ensures copied { (source copy : StreamError) → ⟦<StreamError as Clone>⟧.is_clone source copy
+        → copy ≡ source }
 {}

@@ -31,7 +31,8 @@ impl Reading<'_> {
         kind: AstIdKind,
         place: Option<ItemPlace>,
     ) -> Result<String, AllocError>
-        ensures { IfOk result (λ text. string_bytes text ≡ spec.header_of (reading_view self.entry) kind place) }
+        ensures { IfOk result (λ text. string_bytes text
+            ≡ spec.header_of (reading_view self.entry) kind place) }
     {
         match (kind, place) {
             (AstIdKind::Impl, Some(place)) => {
@@ -54,7 +55,8 @@ impl Reading<'_> {
         kind: AstIdKind,
         place: Option<ItemPlace>,
     ) -> Result<Option<Name>, AllocError>
-        ensures { IfOk result (λ name. name ≡ spec.type_name_of (reading_view self.entry) kind place) }
+        ensures { IfOk result (λ name. name
+            ≡ spec.type_name_of (reading_view self.entry) kind place) }
     {
         match (kind, place) {
             (AstIdKind::Impl, Some(place)) => {

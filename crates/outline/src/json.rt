@@ -59,7 +59,8 @@ fn object(
     name: Option<&Name>,
     children: Vec<Value>,
 ) -> Result<Value, AllocError>
-    ensures { IfOk result (λ object. view object ≡ object_form ast_id (option_copied name.entry) (items_view children.items)) }
+    ensures { IfOk result (λ object. view object
+        ≡ object_form ast_id (option_copied name.entry) (items_view children.items)) }
 {
     let members = with(alloc, Map::new(alloc), "children", Value::from(children))?;
     let members = with(alloc, members, "id", Value::from(ast_id.to_string(alloc)?))?;

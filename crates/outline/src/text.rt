@@ -33,7 +33,8 @@ pub fn outline_text(alloc: Global, tree: &ItemTree) -> Result<String, AllocError
 /// Only if memory runs out.
 #[tactic(auto, using(item_tree::proofs::Walking::ids_contained, crate::proofs::Outlines::top_lines))]
 pub fn push_outline(alloc: Global, tree: &ItemTree, text: &mut String) -> Result<(), AllocError>
-    ensures { OnOk result (string_bytes text.new ≡ string_bytes text.old ++ forest_lines [] tree.now.forest) }
+    ensures { OnOk result (string_bytes text.new ≡ string_bytes text.old
+        ++ forest_lines [] tree.now.forest) }
 {
     push_all(alloc, tree, tree.top_level_items(), "", text)
 }
@@ -48,7 +49,8 @@ fn push_all(
     text: &mut String,
 ) -> Result<(), AllocError>
     requires { AreContained tree.now ids.now }
-    ensures { OnOk result (string_bytes text.new ≡ string_bytes text.old ++ flat_map (outline_lines_at tree.now indent.now) ids.now) }
+    ensures { OnOk result (string_bytes text.new ≡ string_bytes text.old
+        ++ flat_map (outline_lines_at tree.now indent.now) ids.now) }
 {
     for id in ids {
         push_one(alloc, tree, *id, indent, text)?;
@@ -66,7 +68,8 @@ fn push_one(
     text: &mut String,
 ) -> Result<(), AllocError>
     requires { IsContained tree.now id }
-    ensures { OnOk result (string_bytes text.new ≡ string_bytes text.old ++ outline_lines_at tree.now indent.now id) }
+    ensures { OnOk result (string_bytes text.new ≡ string_bytes text.old
+        ++ outline_lines_at tree.now indent.now id) }
 {
     push_line(indent, id.ast_id(tree), name_at(tree, id), text)?;
     let mut below = String::from_str(alloc, indent)?;
@@ -81,7 +84,8 @@ fn push_line(
     name: Option<&Name>,
     text: &mut String,
 ) -> Result<(), AllocError>
-    ensures { OnOk result (string_bytes text.new ≡ string_bytes text.old ++ line indent.now ast_id (option_copied name.entry)) }
+    ensures { OnOk result (string_bytes text.new ≡ string_bytes text.old
+        ++ line indent.now ast_id (option_copied name.entry)) }
 {
     match name {
         None => writeln!(text, "{indent}{ast_id}"),

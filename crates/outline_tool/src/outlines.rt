@@ -19,7 +19,8 @@ fn push_tree_outline(
     text: &mut String,
 ) -> Result<(), AllocError>
     requires { IsKnown sources.now show.krate }
-    ensures { OnOk result (string_bytes text.new ≡ string_bytes text.old ++ outline_of sources.now show) }
+    ensures { OnOk result (string_bytes text.new ≡ string_bytes text.old
+        ++ outline_of sources.now show) }
 {
     push_outline(alloc, sources.tree(show.place, show.krate), text)
 }
@@ -31,7 +32,8 @@ fn push_tree(
     text: &mut String,
 ) -> Result<(), AllocError>
     requires { IsKnown sources.now show.krate }
-    ensures { OnOk result (string_bytes text.new ≡ string_bytes text.old ++ outlined sources.now show) }
+    ensures { OnOk result (string_bytes text.new ≡ string_bytes text.old
+        ++ outlined sources.now show) }
 {
     match show.kind {
         ShowKind::Tree => {

@@ -38,7 +38,8 @@ pub(crate) fn name_values(alloc: Global, names: &[Name]) -> Result<Vec<Value>, W
 
 #[tactic(auto, using(hir_input_writer::proofs::Lists::lists))]
 pub(crate) fn atom_values(alloc: Global, atoms: &[CfgAtom]) -> Result<Vec<Value>, WriteFault>
-    ensures { Writes (λ v. items_view v.items) result (each_data atom_data (map atom_view atoms.now)) }
+    ensures { Writes (λ v. items_view v.items) result
+        (each_data atom_data (map atom_view atoms.now)) }
 {
     let mut values = Vec::new(alloc);
     for atom in atoms {
@@ -85,7 +86,8 @@ fn file_number(index: usize) -> Result<u32, WriteFault>
 }
 
 fn edit_object(alloc: Global, file: u32, syntax: Value) -> Result<Value, AllocError>
-    ensures { IfOk result (λ v. view v ≡ objects.edit_object (number (unsigned file)) (view syntax)) }
+    ensures { IfOk result (λ v. view v
+        ≡ objects.edit_object (number (unsigned file)) (view syntax)) }
 {
     let members = of_text(alloc, "edit", "set_file")?;
     let members = with(alloc, members, "file", Value::from(file))?;
@@ -111,7 +113,8 @@ pub(crate) fn edit_values(
     bodies: bool,
     files: &[Syntax],
 ) -> Result<Vec<Value>, WriteFault>
-    ensures { Writes (λ v. items_view v.items) result (edits_data bodies 0 (map syntax_view files.now)) }
+    ensures { Writes (λ v. items_view v.items) result
+        (edits_data bodies 0 (map syntax_view files.now)) }
 {
     let mut values = Vec::new(alloc);
     for i in 0..files.len() {
@@ -131,7 +134,8 @@ fn kind_word(kind: ShowKind) -> &'static str
 }
 
 fn file_object(alloc: Global, word: &str, file: u32) -> Result<Value, AllocError>
-    ensures { IfOk result (λ v. view v ≡ objects.file_object word.now (number (unsigned 0)) (number (unsigned file))) }
+    ensures { IfOk result (λ v. view v
+        ≡ objects.file_object word.now (number (unsigned 0)) (number (unsigned file))) }
 {
     let members = of_text(alloc, "show", word)?;
     let members = with(alloc, members, "crate", Value::from(0u32))?;
@@ -139,7 +143,8 @@ fn file_object(alloc: Global, word: &str, file: u32) -> Result<Value, AllocError
 }
 
 fn block_object(alloc: Global, word: &str, block: u32) -> Result<Value, AllocError>
-    ensures { IfOk result (λ v. view v ≡ objects.block_object word.now (number (unsigned 0)) (number (unsigned block))) }
+    ensures { IfOk result (λ v. view v
+        ≡ objects.block_object word.now (number (unsigned 0)) (number (unsigned block))) }
 {
     let members = of_text(alloc, "show", word)?;
     let members = with(alloc, members, "crate", Value::from(0u32))?;

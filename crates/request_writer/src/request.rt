@@ -82,7 +82,9 @@ fn request_object(
     shows: Vec<Value>,
     skipped: Vec<Value>,
 ) -> Result<Value, AllocError>
-    ensures { IfOk result (λ v. view v ≡ object_of (view krate) (view edition) (items_view edits.items) (items_view shows.items) (items_view skipped.items)) }
+    ensures { IfOk result (λ v. view v
+        ≡ object_of (view krate) (view edition) (items_view edits.items) (items_view shows.items)
+        (items_view skipped.items)) }
 {
     let crates = vec![in alloc; krate]?;
     let members = with(alloc, Map::new(alloc), "crates", Value::from(crates))?;
@@ -137,7 +139,8 @@ pub fn request_value(
 
 // A value as a text, unless it nests too deep for one that is read again.
 fn text_of(alloc: Global, value: &Value) -> Result<String, RequestFault>
-    ensures { MatchResult result (λ text. IsJsonText (string_bytes text) (view value.now)) (IsNoText (view value.now)) }
+    ensures { MatchResult result (λ text. IsJsonText (string_bytes text) (view value.now))
+        (IsNoText (view value.now)) }
 {
     if nests_past(value, MOST_DEPTH) {
         return Err(RequestFault::TooDeep);

@@ -57,7 +57,8 @@ fn begins_plain(text: &str) -> bool
 
 /// Three texts one behind the other, in braces.
 fn in_braces(alloc: Global, front: &str, typed: &str, back: &str) -> Result<String, AllocError>
-    ensures { IfOk result (λ text. string_bytes text ≡ spec.in_braces (front.now ++ (typed.now ++ back.now))) }
+    ensures { IfOk result (λ text. string_bytes text
+        ≡ spec.in_braces (front.now ++ (typed.now ++ back.now))) }
 {
     let mut text = String::new(alloc);
     text.push_str("{")?;
@@ -75,7 +76,8 @@ pub(crate) fn may_stand(
     typed: &str,
     back: &str,
 ) -> Result<bool, AllocError>
-    ensures { IfOk result (λ test. test ≡ spec.is_alone (with_feeds (spec.in_braces (front.now ++ (typed.now ++ back.now))))) }
+    ensures { IfOk result (λ test. test
+        ≡ spec.is_alone (with_feeds (spec.in_braces (front.now ++ (typed.now ++ back.now))))) }
 {
     let text = in_braces(alloc, front, typed, back)?;
     let (feeds, _ends) = with_feeds(alloc, &text)?;

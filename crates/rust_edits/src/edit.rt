@@ -42,7 +42,8 @@ fn begins_bare(text: &str) -> bool
 }
 
 fn shift_of(body: TextRange, range: TextRange, typed: &str, back: &str) -> Option<Shift>
-    ensures value { IfSome result (λ shift. inner.IsShift body range (length typed.now) (length back.now) shift) }
+    ensures value { IfSome result
+        (λ shift. inner.IsShift body range (length typed.now) (length back.now) shift) }
     ensures told { IsSome result ↔ inner.EndsFit range (length typed.now) (length back.now) }
 {
     let closing = range.end.checked_add(back.len())?;
@@ -77,9 +78,12 @@ pub fn edit_inside(
     range: TextRange,
     typed: &str,
 ) -> Result<Option<Shift>, AllocError>
-    ensures shifts { IfOk result (λ found. IfSome found (Shifts items.now old.now range typed.now)) }
-    ensures keeps { IfOk result (λ found. IfSome found (PlacesAreKept items.now old.now range typed.now)) }
-    ensures told { BeginInOrder items.now → IfOk result (λ it. IsSome it ↔ MayEdit items.now old.now range typed.now) }
+    ensures shifts { IfOk result
+        (λ found. IfSome found (Shifts items.now old.now range typed.now)) }
+    ensures keeps { IfOk result
+        (λ found. IfSome found (PlacesAreKept items.now old.now range typed.now)) }
+    ensures told { BeginInOrder items.now
+        → IfOk result (λ it. IsSome it ↔ MayEdit items.now old.now range typed.now) }
 {
     if !begins_bare(old) {
         return Ok(None);

@@ -41,7 +41,8 @@ impl Shift {
     }
 
     fn some_range(&self, range: Option<TextRange>) -> Option<Option<TextRange>>
-        ensures value { IfSome result (λ to. to ≡ option_map (moved_range (shifted_place self.now)) range) }
+        ensures value { IfSome result
+            (λ to. to ≡ option_map (moved_range (shifted_place self.now)) range) }
         ensures told { is_some result ≡ has_some_range self.now range }
     {
         match range {
@@ -72,8 +73,10 @@ impl Shift {
         alloc: Global,
         items: &[ItemPlace],
     ) -> Result<Option<Vec<ItemPlace>>, AllocError>
-        ensures value { IfOk result (λ moved. IfSome moved (λ v. v.items ≡ map (shifted_item self.now) items.now)) }
-        ensures told { IfOk result (λ moved. is_some moved ≡ list_all (has_item self.now) items.now) }
+        ensures value { IfOk result
+            (λ moved. IfSome moved (λ v. v.items ≡ map (shifted_item self.now) items.now)) }
+        ensures told { IfOk result
+            (λ moved. is_some moved ≡ list_all (has_item self.now) items.now) }
     {
         let mut moved = Vec::with_capacity(alloc, items.len())?;
         for item in items {
@@ -95,8 +98,10 @@ impl Shift {
         alloc: Global,
         starts: &[usize],
     ) -> Result<Option<Vec<usize>>, AllocError>
-        ensures value { IfOk result (λ moved. IfSome moved (λ v. v.items ≡ map (shifted_place self.now) starts.now)) }
-        ensures told { IfOk result (λ moved. is_some moved ≡ list_all (has_place self.now) starts.now) }
+        ensures value { IfOk result
+            (λ moved. IfSome moved (λ v. v.items ≡ map (shifted_place self.now) starts.now)) }
+        ensures told { IfOk result
+            (λ moved. is_some moved ≡ list_all (has_place self.now) starts.now) }
     {
         let mut moved = Vec::with_capacity(alloc, starts.len())?;
         for start in starts {

@@ -101,7 +101,8 @@ fn number_node(
     requires place { at < length nodes.now }
     requires around { around ≡ spec.last_below (λ j. suc (spec.depth_at nodes.now j) == depth) at }
     requires numbered { IsNumbered (reached nodes.now depth at) nodes.now ids.old.items counts.old }
-    ensures { OnOk result (IsNumbered (reached nodes.now depth (at + 1)) nodes.now ids.new.items counts.new) }
+    ensures { OnOk result (IsNumbered
+        (reached nodes.now depth (at + 1)) nodes.now ids.new.items counts.new) }
 {
     let node = &nodes[at];
     if node.depth() != depth {
@@ -122,7 +123,8 @@ pub fn number_level(
     counts: &mut Counts,
 ) -> Result<(), AllocError>
     requires { IsNumbered (reached nodes.now depth 0) nodes.now ids.old.items counts.old }
-    ensures { OnOk result (IsNumbered (reached nodes.now depth (length nodes.now)) nodes.now ids.new.items counts.new) }
+    ensures { OnOk result (IsNumbered
+        (reached nodes.now depth (length nodes.now)) nodes.now ids.new.items counts.new) }
 {
     let mut around = None;
     for (at, node) in nodes.iter().enumerate() {

@@ -85,7 +85,8 @@ fn push_call<'t>(
     body: Option<TextRange>,
     name: &'t str,
 ) -> Result<(), AllocError>
-    ensures { OnOk result (log_view log.new ≡ spec.and_named_call start end body name.now (log_view log.old)) }
+    ensures { OnOk result (log_view log.new
+        ≡ spec.and_named_call start end body name.now (log_view log.old)) }
 {
     let extent = Extent {
         depth: 0,
@@ -102,7 +103,8 @@ fn stmt_of<'t>(
     end: usize,
     log: &mut Log<'t>,
 ) -> Result<Part, AllocError>
-    ensures { IfOk result (λ part. spec.stmt_of_call start end (call_read_view call.entry) (log_view log.old) ≡ (part_view part, log_view log.new)) }
+    ensures { IfOk result (λ part. spec.stmt_of_call start end (call_read_view call.entry)
+        (log_view log.old) ≡ (part_view part, log_view log.new)) }
 {
     push_call(log, start, end, call.body, call.name)?;
     Ok(Part::Stmt(Stmt::MacroCall(call.node)))
@@ -114,7 +116,8 @@ fn tail_of<'t>(
     end: usize,
     log: &mut Log<'t>,
 ) -> Result<Part, AllocError>
-    ensures { IfOk result (λ part. spec.tail_of_call start end (call_read_view call.entry) (log_view log.old) ≡ (part_view part, log_view log.new)) }
+    ensures { IfOk result (λ part. spec.tail_of_call start end (call_read_view call.entry)
+        (log_view log.old) ≡ (part_view part, log_view log.new)) }
 {
     push_call(log, start, end, call.body, call.name)?;
     Ok(Part::Tail(Tail::MacroCall(call.node)))
@@ -129,7 +132,9 @@ fn call_part<'t>(
     call: Call<'t>,
     log: &mut Log<'t>,
 ) -> Result<Part, AllocError>
-    ensures { Finds part_view (spec.call_found is_top start (call_read_view call.entry) (log_view log.old) cursor.old) result (log_view log.new) cursor.new }
+    ensures { Finds part_view
+        (spec.call_found is_top start (call_read_view call.entry) (log_view log.old) cursor.old)
+        result (log_view log.new) cursor.new }
 {
     let end = cursor.past();
     if cursor.symbol() == b';' {
@@ -154,7 +159,9 @@ fn take_called<'t>(
     attrs: Vec<Meta>,
     log: &mut Log<'t>,
 ) -> Result<Part, AllocError>
-    ensures { Finds part_view (spec.taken_call is_top start (map meta_view attrs.items) (log_view log.old) cursor.old) result (log_view log.new) cursor.new }
+    ensures { Finds part_view
+        (spec.taken_call is_top start (map meta_view attrs.items) (log_view log.old) cursor.old)
+        result (log_view log.new) cursor.new }
 {
     match statement_call(alloc, cursor, attrs)? {
         Some(call) => call_part(cursor, is_top, start, call, log),
@@ -169,7 +176,9 @@ fn take_item<'t>(
     attrs: Vec<Meta>,
     log: &mut Log<'t>,
 ) -> Result<Part, AllocError>
-    ensures { Finds part_view (spec.taken_item start (map meta_view attrs.items) (log_view log.old) cursor.old) result (log_view log.new) cursor.new }
+    ensures { Finds part_view
+        (spec.taken_item start (map meta_view attrs.items) (log_view log.old) cursor.old) result
+        (log_view log.new) cursor.new }
 {
     let front = front_behind(alloc, cursor, start, attrs)?;
     let item = behind_front(alloc, cursor, MOST_DEPTH, front, log)?;
@@ -186,7 +195,9 @@ fn take_behind<'t>(
     attrs: Vec<Meta>,
     log: &mut Log<'t>,
 ) -> Result<Part, AllocError>
-    ensures { Finds part_view (spec.behind_attributes is_top start (map meta_view attrs.items) (log_view log.old) cursor.old) result (log_view log.new) cursor.new }
+    ensures { Finds part_view
+        (spec.behind_attributes is_top start (map meta_view attrs.items)
+        (log_view log.old) cursor.old) result (log_view log.new) cursor.new }
 {
     if cursor.is_at_end() {
         return Ok(Part::Nothing);
@@ -205,7 +216,8 @@ fn take_part<'t>(
     is_top: bool,
     log: &mut Log<'t>,
 ) -> Result<Part, AllocError>
-    ensures { Finds part_view (spec.part is_top (log_view log.old) cursor.old) result (log_view log.new) cursor.new }
+    ensures { Finds part_view (spec.part is_top (log_view log.old) cursor.old) result
+        (log_view log.new) cursor.new }
 {
     if cursor.is_at_end() {
         log.push_problem(ProblemKind::Unmatched, cursor.at())?;
@@ -222,7 +234,8 @@ fn take_part<'t>(
 }
 
 fn push_part(body: &mut Body, part: Part) -> Result<(), AllocError>
-    ensures { OnOk result (body_view body.new ≡ spec.and_part (body_view body.old) (part_view part)) }
+    ensures { OnOk result (body_view body.new
+        ≡ spec.and_part (body_view body.old) (part_view part)) }
 {
     match part {
         Part::Nothing => Ok(()),
@@ -245,7 +258,8 @@ fn parts<'t>(
     is_top: bool,
     log: &mut Log<'t>,
 ) -> Result<Body, AllocError>
-    ensures { Finds body_view (spec.parts is_top (log_view log.old) cursor.old) result (log_view log.new) cursor.new }
+    ensures { Finds body_view (spec.parts is_top (log_view log.old) cursor.old) result
+        (log_view log.new) cursor.new }
 {
     let mut body = Body {
         stmts: Vec::new(alloc),
@@ -265,7 +279,8 @@ fn parts<'t>(
 }
 
 fn call_with_id(mut node: MacroCall, supply: &mut Supply<'_>) -> MacroCall
-    ensures { (spec.call_with_id (call_view node) (supply_view supply.old)) ≡ (call_view result, supply_view supply.new) }
+    ensures { (spec.call_with_id (call_view node) (supply_view supply.old))
+        ≡ (call_view result, supply_view supply.new) }
 {
     let id = supply.take();
     node.hash = id.hash;
@@ -274,7 +289,8 @@ fn call_with_id(mut node: MacroCall, supply: &mut Supply<'_>) -> MacroCall
 }
 
 fn stmt_with_ids(alloc: Global, stmt: Stmt, supply: &mut Supply<'_>) -> Result<Stmt, AllocError>
-    ensures { IfOk result (λ made. spec.stmt_with_ids (stmt_view stmt) (supply_view supply.old) ≡ (stmt_view made, supply_view supply.new)) }
+    ensures { IfOk result (λ made. spec.stmt_with_ids (stmt_view stmt) (supply_view supply.old)
+        ≡ (stmt_view made, supply_view supply.new)) }
 {
     match stmt {
         Stmt::Item(item) => Ok(Stmt::Item(item_with_ids(alloc, item, supply)?)),
@@ -289,7 +305,8 @@ fn stmts_with_ids(
     stmts: Vec<Stmt>,
     supply: &mut Supply<'_>,
 ) -> Result<Vec<Stmt>, AllocError>
-    ensures { IfOk result (λ v. spec.stmts_with_ids (map stmt_view stmts.items) (supply_view supply.old) ≡ (map stmt_view v.items, supply_view supply.new)) }
+    ensures { IfOk result (λ v. spec.stmts_with_ids (map stmt_view stmts.items)
+        (supply_view supply.old) ≡ (map stmt_view v.items, supply_view supply.new)) }
 {
     let mut numbered = Vec::with_capacity(alloc, stmts.len())?;
     for stmt in stmts {
@@ -327,7 +344,8 @@ fn block_of(
     edition: EditionYear,
     ends: &LineEnds,
 ) -> Result<SourceBlock, AllocError>
-    ensures { IfOk result (λ read. spec.IsBlockOf edition text.now (place_by ends.now.len ends.now.returns.items) read) }
+    ensures { IfOk result (λ read. spec.IsBlockOf edition text.now
+        (place_by ends.now.len ends.now.returns.items) read) }
 {
     let mut cursor = Cursor::new(text, edition);
     let is_top = !cursor.eat(b'{');

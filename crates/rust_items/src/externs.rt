@@ -64,7 +64,9 @@ fn kept<'t>(
     end: usize,
     log: &mut Log<'t>,
 ) -> Result<Option<ExternItem>, AllocError>
-    ensures { IfOk result (λ item. spec.extern_kept depth start end (leaf_view leaf.entry) (spec.as_extern (item_view leaf.entry.item)) (log_view log.old) ≡ (option_map extern_item_view item, log_view log.new)) }
+    ensures { IfOk result (λ item. spec.extern_kept depth start end (leaf_view leaf.entry)
+        (spec.as_extern (item_view leaf.entry.item)) (log_view log.old)
+        ≡ (option_map extern_item_view item, log_view log.new)) }
 {
     let extent = Extent {
         depth,
@@ -92,7 +94,8 @@ fn extern_by<'t>(
     depth: usize,
     log: &mut Log<'t>,
 ) -> Result<Option<ExternItem>, AllocError>
-    ensures { Finds (option_map extern_item_view) (spec.extern_by depth (log_view log.old) cursor.old) result (log_view log.new) cursor.new }
+    ensures { Finds (option_map extern_item_view)
+        (spec.extern_by depth (log_view log.old) cursor.old) result (log_view log.new) cursor.new }
 {
     let front = take_front(alloc, cursor)?;
     let start = front.start;
@@ -117,7 +120,9 @@ fn extern_turn<'t>(
     depth: usize,
     log: &mut Log<'t>,
 ) -> Result<Option<ExternItem>, AllocError>
-    ensures { Finds (option_map extern_item_view) (spec.extern_turn depth (log_view log.old) cursor.old) result (log_view log.new) cursor.new }
+    ensures { Finds (option_map extern_item_view)
+        (spec.extern_turn depth (log_view log.old) cursor.old) result
+        (log_view log.new) cursor.new }
 {
     if cursor.is_at_end() {
         log.push_problem(ProblemKind::Unmatched, cursor.at())?;
@@ -128,7 +133,9 @@ fn extern_turn<'t>(
 }
 
 fn push_some(items: &mut Vec<ExternItem>, item: Option<ExternItem>) -> Result<(), AllocError>
-    ensures { OnOk result (map extern_item_view items.new.items ≡ map extern_item_view items.old.items ++ option_to_list (option_map extern_item_view item)) }
+    ensures { OnOk result (map extern_item_view items.new.items
+        ≡ map extern_item_view items.old.items
+        ++ option_to_list (option_map extern_item_view item)) }
 {
     match item {
         Some(item) => {
@@ -146,7 +153,9 @@ fn extern_items<'t>(
     depth: usize,
     log: &mut Log<'t>,
 ) -> Result<Vec<ExternItem>, AllocError>
-    ensures { Finds (λ v. map extern_item_view v.items) (spec.finding (spec.is_list_end false) (spec.extern_turn depth) (log_view log.old) cursor.old) result (log_view log.new) cursor.new }
+    ensures { Finds (λ v. map extern_item_view v.items)
+        (spec.finding (spec.is_list_end false) (spec.extern_turn depth)
+        (log_view log.old) cursor.old) result (log_view log.new) cursor.new }
 {
     let mut items = Vec::new(alloc);
     let most = Cursor::most_turns();
@@ -170,7 +179,9 @@ fn extern_inside<'t>(
     depth: usize,
     log: &mut Log<'t>,
 ) -> Result<ExternInside, AllocError>
-    ensures { Finds extern_inside_view (spec.extern_inside depth (log_view log.old) cursor.old) result (log_view log.new) cursor.new }
+    ensures { Finds extern_inside_view
+        (spec.extern_inside depth (log_view log.old) cursor.old) result
+        (log_view log.new) cursor.new }
 {
     if cursor.symbol() != b'{' {
         return Ok(ExternInside {
@@ -191,7 +202,10 @@ fn extern_inside<'t>(
 }
 
 fn block_item(alloc: Global, front: Front, inside: ExternInside) -> Result<Item, AllocError>
-    ensures { IfOk result (λ item. item_view item ≡ extern_block_from (node (map meta_view front.attrs.items ++ map meta_view inside.attrs.items) []) (option_map (λ v. map extern_item_view v.items) inside.items)) }
+    ensures { IfOk result (λ item. item_view item
+        ≡ extern_block_from (node
+        (map meta_view front.attrs.items ++ map meta_view inside.attrs.items) [])
+        (option_map (λ v. map extern_item_view v.items) inside.items)) }
 {
     let attrs = joined(front.attrs, inside.attrs)?;
     Ok(Item::ExternBlock(ExternBlock {
@@ -212,7 +226,9 @@ fn push_block<'t>(
     is_ended: bool,
     more: Log<'t>,
 ) -> Result<(), AllocError>
-    ensures { OnOk result (log_view log.new ≡ spec.and_parent depth start end AstIdKind.ExternBlock no_name is_ended (log_view more.entry) (log_view log.old)) }
+    ensures { OnOk result (log_view log.new
+        ≡ spec.and_parent depth start end AstIdKind.ExternBlock no_name is_ended
+        (log_view more.entry) (log_view log.old)) }
 {
     let extent = Extent {
         depth,
@@ -234,7 +250,9 @@ pub(crate) fn extern_block<'t>(
     log: &mut Log<'t>,
 ) -> Result<Item, AllocError>
     requires { depth < 129 }
-    ensures { Finds item_view (spec.extern_block depth front.start (map meta_view front.attrs.items) (log_view log.old) cursor.old) result (log_view log.new) cursor.new }
+    ensures { Finds item_view
+        (spec.extern_block depth front.start (map meta_view front.attrs.items)
+        (log_view log.old) cursor.old) result (log_view log.new) cursor.new }
 {
     let mut more = Log::new(alloc);
     let start = front.start;

@@ -66,7 +66,8 @@ fn extern_items(
     items: Vec<ExternItem>,
     supply: &mut Supply<'_>,
 ) -> Result<Vec<ExternItem>, AllocError>
-    ensures { IfOk result (λ v. spec.list_with_ids (map extern_item_view items.items) (supply_view supply.old) ≡ (map extern_item_view v.items, supply_view supply.new)) }
+    ensures { IfOk result (λ v. spec.list_with_ids (map extern_item_view items.items)
+        (supply_view supply.old) ≡ (map extern_item_view v.items, supply_view supply.new)) }
 {
     let mut numbered = Vec::with_capacity(alloc, items.len())?;
     for item in items {
@@ -81,7 +82,9 @@ fn some_extern_items(
     items: Option<Vec<ExternItem>>,
     supply: &mut Supply<'_>,
 ) -> Result<Option<Vec<ExternItem>>, AllocError>
-    ensures { IfOk result (λ made. spec.some_with_ids (option_map (λ v. map extern_item_view v.items) items) (supply_view supply.old) ≡ (option_map (λ v. map extern_item_view v.items) made, supply_view supply.new)) }
+    ensures { IfOk result (λ made. spec.some_with_ids
+        (option_map (λ v. map extern_item_view v.items) items) (supply_view supply.old)
+        ≡ (option_map (λ v. map extern_item_view v.items) made, supply_view supply.new)) }
 {
     match items {
         Some(items) => Ok(Some(extern_items(alloc, items, supply)?)),
@@ -96,7 +99,8 @@ fn extern_block_with_ids(
     id: Numbers,
     supply: &mut Supply<'_>,
 ) -> Result<Item, AllocError>
-    ensures { IfOk result (λ made. spec.held_with_ids id (extern_block_view block) (supply_view supply.old) ≡ (item_view made, supply_view supply.new)) }
+    ensures { IfOk result (λ made. spec.held_with_ids id (extern_block_view block)
+        (supply_view supply.old) ≡ (item_view made, supply_view supply.new)) }
 {
     let ExternBlock {
         attrs,
@@ -122,7 +126,8 @@ fn module_with_ids(
     id: Numbers,
     supply: &mut Supply<'_>,
 ) -> Result<Item, AllocError>
-    ensures { IfOk result (λ made. spec.held_with_ids id (module_view node) (supply_view supply.old) ≡ (item_view made, supply_view supply.new)) }
+    ensures { IfOk result (λ made. spec.held_with_ids id (module_view node) (supply_view supply.old)
+        ≡ (item_view made, supply_view supply.new)) }
 {
     let Module {
         attrs,
@@ -167,7 +172,8 @@ pub(crate) fn item_with_ids(
     item: Item,
     supply: &mut Supply<'_>,
 ) -> Result<Item, AllocError>
-    ensures { IfOk result (λ made. spec.item_with_ids (item_view item) (supply_view supply.old) ≡ (item_view made, supply_view supply.new)) }
+    ensures { IfOk result (λ made. spec.item_with_ids (item_view item) (supply_view supply.old)
+        ≡ (item_view made, supply_view supply.new)) }
 {
     let id = supply.take();
     match item {
@@ -199,7 +205,8 @@ pub(crate) fn items_with_ids(
     items: Vec<Item>,
     supply: &mut Supply<'_>,
 ) -> Result<Vec<Item>, AllocError>
-    ensures { IfOk result (λ v. spec.list_with_ids (map item_view items.items) (supply_view supply.old) ≡ (map item_view v.items, supply_view supply.new)) }
+    ensures { IfOk result (λ v. spec.list_with_ids (map item_view items.items)
+        (supply_view supply.old) ≡ (map item_view v.items, supply_view supply.new)) }
 {
     let mut numbered = Vec::with_capacity(alloc, items.len())?;
     for item in items {

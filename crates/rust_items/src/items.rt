@@ -47,7 +47,8 @@ fn no_inside(alloc: Global, is_ended: bool) -> Inside
 }
 
 fn push_some(items: &mut Vec<Item>, item: Option<Item>) -> Result<(), AllocError>
-    ensures { OnOk result (map item_view items.new.items ≡ map item_view items.old.items ++ option_to_list (option_map item_view item)) }
+    ensures { OnOk result (map item_view items.new.items ≡ map item_view items.old.items
+        ++ option_to_list (option_map item_view item)) }
 {
     match item {
         Some(item) => {
@@ -68,7 +69,9 @@ fn push_module<'t>(
     is_ended: bool,
     more: Log<'t>,
 ) -> Result<(), AllocError>
-    ensures { OnOk result (log_view log.new ≡ spec.and_parent depth start end AstIdKind.Module (name_view named.now) is_ended (log_view more.entry) (log_view log.old)) }
+    ensures { OnOk result (log_view log.new
+        ≡ spec.and_parent depth start end AstIdKind.Module (name_view named.now) is_ended
+        (log_view more.entry) (log_view log.old)) }
 {
     let extent = Extent {
         depth,
@@ -89,7 +92,10 @@ fn module_item(
     semicolon: bool,
     inside: Inside,
 ) -> Result<Item, AllocError>
-    ensures { IfOk result (λ item. item_view item ≡ module_from (named_node (map meta_view front.attrs.items ++ map meta_view inside.attrs.items) name front.visibility []) semicolon (option_map (λ v. map item_view v.items) inside.items)) }
+    ensures { IfOk result (λ item. item_view item
+        ≡ module_from (named_node
+        (map meta_view front.attrs.items ++ map meta_view inside.attrs.items) name front.visibility
+        []) semicolon (option_map (λ v. map item_view v.items) inside.items)) }
 {
     let attrs = joined(front.attrs, inside.attrs)?;
     Ok(Item::Module(Module {
@@ -113,7 +119,8 @@ fn module_inside<'t>(
     left: usize,
     log: &mut Log<'t>,
 ) -> Result<Inside, AllocError>
-    ensures { Finds inside_view (spec.inside left (log_view log.old) cursor.old) result (log_view log.new) cursor.new }
+    ensures { Finds inside_view (spec.inside left (log_view log.old) cursor.old) result
+        (log_view log.new) cursor.new }
 {
     if cursor.symbol() != b'{' {
         return Ok(no_inside(alloc, false));
@@ -142,7 +149,9 @@ fn inside_unless<'t>(
     left: usize,
     log: &mut Log<'t>,
 ) -> Result<Inside, AllocError>
-    ensures { Finds inside_view (spec.inside_unless semicolon (spec.inside left) (log_view log.old) cursor.old) result (log_view log.new) cursor.new }
+    ensures { Finds inside_view
+        (spec.inside_unless semicolon (spec.inside left) (log_view log.old) cursor.old) result
+        (log_view log.new) cursor.new }
 {
     if semicolon {
         return Ok(no_inside(alloc, false));
@@ -160,7 +169,9 @@ fn module<'t>(
     front: Front,
     log: &mut Log<'t>,
 ) -> Result<Item, AllocError>
-    ensures { Finds item_view (spec.module_at left (front_view front) (log_view log.old) cursor.old) result (log_view log.new) cursor.new }
+    ensures { Finds item_view
+        (spec.module_at left (front_view front) (log_view log.old) cursor.old) result
+        (log_view log.new) cursor.new }
 {
     let named = item_name(alloc, cursor)?;
     let semicolon = cursor.eat(b';');
@@ -190,7 +201,9 @@ pub(crate) fn behind_front<'t>(
     front: Front,
     log: &mut Log<'t>,
 ) -> Result<Option<Item>, AllocError>
-    ensures { Finds (option_map item_view) (spec.behind_front left (front_view front) (log_view log.old) cursor.old) result (log_view log.new) cursor.new }
+    ensures { Finds (option_map item_view)
+        (spec.behind_front left (front_view front) (log_view log.old) cursor.old) result
+        (log_view log.new) cursor.new }
 {
     match front.head {
         Head::Module => {
@@ -214,7 +227,8 @@ fn turn<'t>(
     left: usize,
     log: &mut Log<'t>,
 ) -> Result<Option<Item>, AllocError>
-    ensures { Finds (option_map item_view) (spec.turn left (log_view log.old) cursor.old) result (log_view log.new) cursor.new }
+    ensures { Finds (option_map item_view) (spec.turn left (log_view log.old) cursor.old) result
+        (log_view log.new) cursor.new }
 {
     if cursor.is_at_end() {
         log.push_problem(ProblemKind::Unmatched, cursor.at())?;
@@ -235,7 +249,9 @@ pub(crate) fn items<'t>(
     left: usize,
     log: &mut Log<'t>,
 ) -> Result<Vec<Item>, AllocError>
-    ensures { Finds (λ v. map item_view v.items) (spec.items is_top left (log_view log.old) cursor.old) result (log_view log.new) cursor.new }
+    ensures { Finds (λ v. map item_view v.items)
+        (spec.items is_top left (log_view log.old) cursor.old) result
+        (log_view log.new) cursor.new }
 {
     let mut items = Vec::new(alloc);
     let most = Cursor::most_turns();

@@ -100,7 +100,8 @@ impl LineEnds {
     }
 
     fn range(&self, range: TextRange) -> TextRange
-        ensures { result ≡ spec.moved_range (spec.place_by self.now.len self.now.returns.items) range }
+        ensures { result ≡ spec.moved_range
+            (spec.place_by self.now.len self.now.returns.items) range }
     {
         TextRange {
             start: self.place(range.start),
@@ -109,7 +110,8 @@ impl LineEnds {
     }
 
     fn some_range(&self, range: Option<TextRange>) -> Option<TextRange>
-        ensures { result ≡ option_map (spec.moved_range (spec.place_by self.now.len self.now.returns.items)) range }
+        ensures { result ≡ option_map
+            (spec.moved_range (spec.place_by self.now.len self.now.returns.items)) range }
     {
         match range {
             Some(range) => Some(self.range(range)),
@@ -118,7 +120,8 @@ impl LineEnds {
     }
 
     pub(crate) fn span(&self, span: ItemSpan) -> ItemSpan
-        ensures { result ≡ spec.moved_span (spec.place_by self.now.len self.now.returns.items) span }
+        ensures { result ≡ spec.moved_span
+            (spec.place_by self.now.len self.now.returns.items) span }
     {
         ItemSpan {
             range: self.range(span.range),
@@ -128,7 +131,8 @@ impl LineEnds {
     }
 
     fn problem(&self, problem: Problem) -> Problem
-        ensures { result ≡ spec.moved_problem (spec.place_by self.now.len self.now.returns.items) problem }
+        ensures { result ≡ spec.moved_problem
+            (spec.place_by self.now.len self.now.returns.items) problem }
     {
         Problem {
             kind: problem.kind,

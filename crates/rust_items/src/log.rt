@@ -77,7 +77,8 @@ impl<'t> Log<'t> {
         kind: ProblemKind,
         at: usize,
     ) -> Result<(), AllocError>
-        ensures { OnOk result (log_view self.new ≡ spec.and_problem_if test kind at (log_view self.old)) }
+        ensures { OnOk result (log_view self.new
+            ≡ spec.and_problem_if test kind at (log_view self.old)) }
     {
         if test {
             return self.push_problem(kind, at);
@@ -90,7 +91,8 @@ impl<'t> Log<'t> {
         kind: ProblemKind,
         at: Option<usize>,
     ) -> Result<(), AllocError>
-        ensures { OnOk result (log_view self.new ≡ spec.and_problem_at kind at (log_view self.old)) }
+        ensures { OnOk result (log_view self.new
+            ≡ spec.and_problem_at kind at (log_view self.old)) }
     {
         match at {
             Some(at) => self.push_problem(kind, at),
@@ -99,7 +101,8 @@ impl<'t> Log<'t> {
     }
 
     pub(crate) fn push_row(&mut self, row: Node<'t>, span: ItemSpan) -> Result<(), AllocError>
-        ensures { OnOk result (log_view self.new ≡ spec.and_row row.entry span (log_view self.old)) }
+        ensures { OnOk result (log_view self.new
+            ≡ spec.and_row row.entry span (log_view self.old)) }
     {
         self.rows.push(row)?;
         self.spans.push(span)?;
@@ -107,14 +110,16 @@ impl<'t> Log<'t> {
     }
 
     pub(crate) fn push_use_trees(&mut self, starts: TreeStarts) -> Result<(), AllocError>
-        ensures { OnOk result (log_view self.new ≡ spec.and_use_trees (starts_view starts) (log_view self.old)) }
+        ensures { OnOk result (log_view self.new
+            ≡ spec.and_use_trees (starts_view starts) (log_view self.old)) }
     {
         starts.push_to(&mut self.use_trees)
     }
 
     /// Adds all of another behind.
     pub(crate) fn append(&mut self, mut more: Log<'t>) -> Result<(), AllocError>
-        ensures { OnOk result (log_view self.new ≡ spec.and_all (log_view more.entry) (log_view self.old)) }
+        ensures { OnOk result (log_view self.new
+            ≡ spec.and_all (log_view more.entry) (log_view self.old)) }
     {
         self.rows.append(&mut more.rows)?;
         self.spans.append(&mut more.spans)?;

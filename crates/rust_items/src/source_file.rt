@@ -85,7 +85,8 @@ fn file_of(
     edition: EditionYear,
     ends: &LineEnds,
 ) -> Result<SourceFile, AllocError>
-    ensures { IfOk result (λ file. spec.IsFile edition text.now (place_by ends.now.len ends.now.returns.items) file) }
+    ensures { IfOk result (λ file. spec.IsFile edition text.now
+        (place_by ends.now.len ends.now.returns.items) file) }
 {
     let mut cursor = Cursor::new(text, edition);
     let attrs = inner_attributes(alloc, &mut cursor)?;

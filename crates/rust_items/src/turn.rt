@@ -33,7 +33,9 @@ pub(crate) fn push_item<'t>(
     named: Option<TextRange>,
     is_ended: bool,
 ) -> Result<(), AllocError>
-    ensures { OnOk result (log_view log.new ≡ spec.and_item extent.depth extent.start extent.end extent.body kind name.now named is_ended (log_view log.old)) }
+    ensures { OnOk result (log_view log.new
+        ≡ spec.and_item extent.depth extent.start extent.end extent.body kind name.now named
+        is_ended (log_view log.old)) }
 {
     let row = Node::new(extent.depth, kind, name);
     let range = TextRange {
@@ -103,7 +105,8 @@ fn kept<'t>(
     end: usize,
     log: &mut Log<'t>,
 ) -> Result<Option<Item>, AllocError>
-    ensures { IfOk result (λ item. spec.leaf_kept depth start end (leaf_view leaf.entry) (log_view log.old) ≡ (option_map item_view item, log_view log.new)) }
+    ensures { IfOk result (λ item. spec.leaf_kept depth start end (leaf_view leaf.entry)
+        (log_view log.old) ≡ (option_map item_view item, log_view log.new)) }
 {
     // (the end of a scope that drops an item is proved slowly)
     if let Err(error) = push_leaf(log, depth, start, end, &leaf) {
@@ -129,7 +132,9 @@ pub(crate) fn leaf_turn<'t>(
     front: Front,
     log: &mut Log<'t>,
 ) -> Result<Option<Item>, AllocError>
-    ensures { Finds (option_map item_view) (spec.leaf_turn depth (front_view front) (log_view log.old) cursor.old) result (log_view log.new) cursor.new }
+    ensures { Finds (option_map item_view)
+        (spec.leaf_turn depth (front_view front) (log_view log.old) cursor.old) result
+        (log_view log.new) cursor.new }
 {
     let start = front.start;
     match take_leaf(alloc, cursor, front)? {

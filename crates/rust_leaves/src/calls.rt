@@ -21,7 +21,8 @@ pub(crate) fn macro_definition<'t>(
     cursor: &mut Cursor<'t>,
     attrs: Vec<Meta>,
 ) -> Result<Leaf<'t>, AllocError>
-    ensures { Gives leaf_view (spec.macro_definition (map meta_view attrs.items) cursor.old) result cursor.new }
+    ensures { Gives leaf_view
+        (spec.macro_definition (map meta_view attrs.items) cursor.old) result cursor.new }
 {
     let named = item_name_or(alloc, cursor, "try")?;
     let rest = call_end(alloc, cursor)?;
@@ -65,7 +66,8 @@ fn call_behind<'t>(
     path: Option<PathNode>,
     name: &'t str,
 ) -> Result<Leaf<'t>, AllocError>
-    ensures { Gives leaf_view (spec.call_behind (map meta_view attrs.items) path name.now cursor.old) result cursor.new }
+    ensures { Gives leaf_view
+        (spec.call_behind (map meta_view attrs.items) path name.now cursor.old) result cursor.new }
 {
     let rest = call_end(alloc, cursor)?;
     let item = Item::MacroCall(MacroCall {
@@ -96,7 +98,8 @@ pub(crate) fn invocation<'t>(
     cursor: &mut Cursor<'t>,
     attrs: Vec<Meta>,
 ) -> Result<Option<Leaf<'t>>, AllocError>
-    ensures { Gives (option_map leaf_view) (spec.invocation (map meta_view attrs.items) cursor.old) result cursor.new }
+    ensures { Gives (option_map leaf_view)
+        (spec.invocation (map meta_view attrs.items) cursor.old) result cursor.new }
 {
     let mut ahead = cursor.ahead();
     let path = path(alloc, &mut ahead)?;

@@ -36,7 +36,8 @@ pub fn front_behind(
     start: usize,
     attrs: Vec<Meta>,
 ) -> Result<Front, AllocError>
-    ensures { Gives front_view (spec.front_behind start (map meta_view attrs.items) cursor.old) result cursor.new }
+    ensures { Gives front_view
+        (spec.front_behind start (map meta_view attrs.items) cursor.old) result cursor.new }
 {
     let visibility = visibility(alloc, cursor)?;
     pass_modifiers(cursor);

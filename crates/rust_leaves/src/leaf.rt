@@ -68,7 +68,8 @@ fn function<'t>(
     attrs: Vec<Meta>,
     visibility: Option<Visibility>,
 ) -> Result<Leaf<'t>, AllocError>
-    ensures { Gives leaf_view (spec.function (map meta_view attrs.items) visibility cursor.old) result cursor.new }
+    ensures { Gives leaf_view
+        (spec.function (map meta_view attrs.items) visibility cursor.old) result cursor.new }
 {
     let named = item_name(alloc, cursor)?;
     let rest = item_end(alloc, cursor)?;
@@ -83,7 +84,8 @@ fn union_item<'t>(
     attrs: Vec<Meta>,
     visibility: Option<Visibility>,
 ) -> Result<Leaf<'t>, AllocError>
-    ensures { Gives leaf_view (spec.union_item (map meta_view attrs.items) visibility cursor.old) result cursor.new }
+    ensures { Gives leaf_view
+        (spec.union_item (map meta_view attrs.items) visibility cursor.old) result cursor.new }
 {
     let named = item_name(alloc, cursor)?;
     let rest = item_end(alloc, cursor)?;
@@ -97,7 +99,8 @@ fn enumeration<'t>(
     attrs: Vec<Meta>,
     visibility: Option<Visibility>,
 ) -> Result<Leaf<'t>, AllocError>
-    ensures { Gives leaf_view (spec.enumeration (map meta_view attrs.items) visibility cursor.old) result cursor.new }
+    ensures { Gives leaf_view
+        (spec.enumeration (map meta_view attrs.items) visibility cursor.old) result cursor.new }
 {
     let named = item_name(alloc, cursor)?;
     let rest = item_end(alloc, cursor)?;
@@ -111,7 +114,8 @@ fn trait_item<'t>(
     attrs: Vec<Meta>,
     visibility: Option<Visibility>,
 ) -> Result<Leaf<'t>, AllocError>
-    ensures { Gives leaf_view (spec.trait_item (map meta_view attrs.items) visibility cursor.old) result cursor.new }
+    ensures { Gives leaf_view
+        (spec.trait_item (map meta_view attrs.items) visibility cursor.old) result cursor.new }
 {
     let named = item_name(alloc, cursor)?;
     let rest = item_end(alloc, cursor)?;
@@ -125,7 +129,8 @@ fn macro_def<'t>(
     attrs: Vec<Meta>,
     visibility: Option<Visibility>,
 ) -> Result<Leaf<'t>, AllocError>
-    ensures { Gives leaf_view (spec.macro_def (map meta_view attrs.items) visibility cursor.old) result cursor.new }
+    ensures { Gives leaf_view
+        (spec.macro_def (map meta_view attrs.items) visibility cursor.old) result cursor.new }
 {
     let named = item_name(alloc, cursor)?;
     let rest = macro_end(alloc, cursor)?;
@@ -139,7 +144,8 @@ fn type_alias<'t>(
     attrs: Vec<Meta>,
     visibility: Option<Visibility>,
 ) -> Result<Leaf<'t>, AllocError>
-    ensures { Gives leaf_view (spec.type_alias (map meta_view attrs.items) visibility cursor.old) result cursor.new }
+    ensures { Gives leaf_view
+        (spec.type_alias (map meta_view attrs.items) visibility cursor.old) result cursor.new }
 {
     let named = item_name(alloc, cursor)?;
     let rest = value_end(alloc, cursor)?;
@@ -153,7 +159,8 @@ fn static_value<'t>(
     attrs: Vec<Meta>,
     visibility: Option<Visibility>,
 ) -> Result<Leaf<'t>, AllocError>
-    ensures { Gives leaf_view (spec.static_value (map meta_view attrs.items) visibility cursor.old) result cursor.new }
+    ensures { Gives leaf_view
+        (spec.static_value (map meta_view attrs.items) visibility cursor.old) result cursor.new }
 {
     cursor.eat_word("mut");
     let named = item_name(alloc, cursor)?;
@@ -168,7 +175,8 @@ fn constant<'t>(
     attrs: Vec<Meta>,
     visibility: Option<Visibility>,
 ) -> Result<Leaf<'t>, AllocError>
-    ensures { Gives leaf_view (spec.constant (map meta_view attrs.items) visibility cursor.old) result cursor.new }
+    ensures { Gives leaf_view
+        (spec.constant (map meta_view attrs.items) visibility cursor.old) result cursor.new }
 {
     let named = item_name(alloc, cursor)?;
     cursor.eat_word("_");
@@ -182,7 +190,8 @@ fn implementation<'t>(
     cursor: &mut Cursor<'t>,
     attrs: Vec<Meta>,
 ) -> Result<Leaf<'t>, AllocError>
-    ensures { Gives leaf_view (spec.implementation (map meta_view attrs.items) cursor.old) result cursor.new }
+    ensures { Gives leaf_view
+        (spec.implementation (map meta_view attrs.items) cursor.old) result cursor.new }
 {
     let header = cursor.ahead();
     let rest = impl_end(alloc, cursor)?;
@@ -218,7 +227,8 @@ pub fn take_leaf<'t>(
     cursor: &mut Cursor<'t>,
     front: Front,
 ) -> Result<Option<Leaf<'t>>, AllocError>
-    ensures { Gives (option_map leaf_view) (spec.leaf (front_view front) cursor.old) result cursor.new }
+    ensures { Gives (option_map leaf_view)
+        (spec.leaf (front_view front) cursor.old) result cursor.new }
 {
     let attrs = front.attrs;
     let visibility = front.visibility;

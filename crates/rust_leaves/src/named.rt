@@ -184,7 +184,8 @@ fn no_call<'t>(alloc: Global) -> Rest<'t>
 }
 
 fn semicolon_end<'t>(excerpt: Excerpt<'t>, cursor: &mut Cursor<'t>) -> Rest<'t>
-    ensures { spec.semicolon_end (excerpt_view excerpt.entry) cursor.old ≡ (rest_view result, cursor.new) }
+    ensures { spec.semicolon_end (excerpt_view excerpt.entry) cursor.old
+        ≡ (rest_view result, cursor.new) }
 {
     let semicolon = cursor.eat(b';');
     Rest {
@@ -231,7 +232,8 @@ fn block_attributes(alloc: Global, block: Option<Cursor<'_>>) -> Result<Vec<Meta
 ///
 /// Only if memory runs out.
 pub fn joined(mut attrs: Vec<Meta>, mut more: Vec<Meta>) -> Result<Vec<Meta>, AllocError>
-    ensures { IfOk result (λ v. map meta_view v.items ≡ map meta_view attrs.items ++ map meta_view more.items) }
+    ensures { IfOk result (λ v. map meta_view v.items ≡ map meta_view attrs.items
+        ++ map meta_view more.items) }
 {
     attrs.append(&mut more)?;
     Ok(attrs)
@@ -243,7 +245,8 @@ pub(crate) fn with_inner(
     attrs: Vec<Meta>,
     block: Option<Cursor<'_>>,
 ) -> Result<Vec<Meta>, AllocError>
-    ensures { IfOk result (λ v. map meta_view v.items ≡ map meta_view attrs.items ++ spec.block_attributes block.entry) }
+    ensures { IfOk result (λ v. map meta_view v.items ≡ map meta_view attrs.items
+        ++ spec.block_attributes block.entry) }
 {
     let inner = block_attributes(alloc, block)?;
     joined(attrs, inner)

@@ -302,7 +302,8 @@ fn call_tree<'t>(
     path: Option<PathNode>,
     name: &'t str,
 ) -> Result<Call<'t>, AllocError>
-    ensures { Gives call_read_view (spec.call_tree (map meta_view attrs.items) path name.now cursor.old) result cursor.new }
+    ensures { Gives call_read_view
+        (spec.call_tree (map meta_view attrs.items) path name.now cursor.old) result cursor.new }
 {
     let is_braced = cursor.symbol() == b'{';
     let excerpt = cursor.tree_body(alloc)?;

@@ -142,7 +142,8 @@ pub(crate) fn structure<'t>(
     attrs: Vec<Meta>,
     visibility: Option<Visibility>,
 ) -> Result<Leaf<'t>, AllocError>
-    ensures { Gives leaf_view (kinds.structure (map meta_view attrs.items) visibility cursor.old) result cursor.new }
+    ensures { Gives leaf_view
+        (kinds.structure (map meta_view attrs.items) visibility cursor.old) result cursor.new }
 {
     let named = item_name(alloc, cursor)?;
     let header = cursor.ahead();

@@ -68,7 +68,8 @@ pub(crate) fn crate_item<'t>(
     attrs: Vec<Meta>,
     visibility: Option<Visibility>,
 ) -> Result<Leaf<'t>, AllocError>
-    ensures { Gives leaf_view (spec.crate_item (map meta_view attrs.items) visibility cursor.old) result cursor.new }
+    ensures { Gives leaf_view
+        (spec.crate_item (map meta_view attrs.items) visibility cursor.old) result cursor.new }
 {
     let named = item_name_or(alloc, cursor, "self")?;
     let alias = renamed(alloc, cursor)?;
@@ -102,7 +103,8 @@ pub(crate) fn use_declaration<'t>(
     attrs: Vec<Meta>,
     visibility: Option<Visibility>,
 ) -> Result<Leaf<'t>, AllocError>
-    ensures { Gives leaf_view (spec.use_declaration (map meta_view attrs.items) visibility cursor.old) result cursor.new }
+    ensures { Gives leaf_view
+        (spec.use_declaration (map meta_view attrs.items) visibility cursor.old) result cursor.new }
 {
     let found = use_tree(alloc, cursor)?;
     let is_ended = cursor.eat(b';');

@@ -80,7 +80,10 @@ fn equal_kinds()
 {}
 
 fn copied_kinds()
-    ensures styles { (source copy : DocStyle) → ⟦<DocStyle as Clone>⟧.is_clone source copy → copy ≡ source }
-    ensures literals { (source copy : LiteralKind) → ⟦<LiteralKind as Clone>⟧.is_clone source copy → copy ≡ source }
-    ensures tokens { (source copy : TokenKind) → ⟦<TokenKind as Clone>⟧.is_clone source copy → copy ≡ source }
+    ensures styles { (source copy : DocStyle) → ⟦<DocStyle as Clone>⟧.is_clone source copy → copy
+        ≡ source }
+    ensures literals { (source copy : LiteralKind) → ⟦<LiteralKind as Clone>⟧.is_clone source copy
+        → copy ≡ source }
+    ensures tokens { (source copy : TokenKind) → ⟦<TokenKind as Clone>⟧.is_clone source copy → copy
+        ≡ source }
 {}

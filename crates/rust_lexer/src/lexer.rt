@@ -176,7 +176,8 @@ fn first(at: usize, text: &str) -> Option<(Token<'_>, &str)>
     ensures value { MatchOption result (spec.tokens_from 0 at text.now ≡ [])
         (λ p. spec.tokens_from 0 at text.now ≡ p.0 ∷ spec.tokens_from 0 (at + length p.0.text) p.1.now) }
     ensures utf8 { IfSome result (λ p. IsUtf8 p.1.now) }
-    ensures takes { IfSome result (λ p. (0 < length p.0.text) × (length p.0.text + length p.1.now ≡ length text.now)) }
+    ensures takes { IfSome result
+        (λ p. (0 < length p.0.text) × (length p.0.text + length p.1.now ≡ length text.now)) }
 {
     match text.as_bytes() {
         [b, behind @ ..] => match frequent_cut(*b, behind) {
@@ -191,7 +192,9 @@ fn first(at: usize, text: &str) -> Option<(Token<'_>, &str)>
 #[inline(always)]
 fn first_white(at: usize, text: &str) -> Option<(Token<'_>, &str)>
     requires { at + length text.now < 2 ^ 64 }
-    ensures value { IfSome result (λ p. spec.tokens_from 0 at text.now ≡ p.0 ∷ spec.tokens_from 0 (at + length p.0.text) p.1.now) }
+    ensures value { IfSome result
+        (λ p. spec.tokens_from 0 at text.now ≡ p.0
+        ∷ spec.tokens_from 0 (at + length p.0.text) p.1.now) }
     ensures kind { IfSome result (λ p. p.0.kind ≡ kinds.Whitespace) }
     ensures utf8 { IfSome result (λ p. IsUtf8 p.1.now) }
     ensures takes { IfSome result (λ p. length p.0.text + length p.1.now ≡ length text.now) }
@@ -292,7 +295,8 @@ fn matter(len: usize, at: usize, text: &str) -> (Token<'_>, &str)
     requires some { 0 < len }
     requires within { len ≤ length text.now }
     requires fits { at + length text.now < 2 ^ 64 }
-    ensures value { spec.matter_by (Some len) at text.now ≡ result.0 ∷ spec.tokens_from 0 (at + length result.0.text) result.1.now }
+    ensures value { spec.matter_by (Some len) at text.now ≡ result.0
+        ∷ spec.tokens_from 0 (at + length result.0.text) result.1.now }
     ensures utf8 { IsUtf8 result.1.now }
     ensures takes { length result.0.text + length result.1.now ≡ length text.now }
 {
@@ -315,7 +319,8 @@ fn has_mark(text: &str) -> bool
 fn mark(at: usize, text: &str) -> (Token<'_>, &str)
     requires mark { IsTrue (spec.has_mark text.now) }
     requires fits { at + length text.now < 2 ^ 64 }
-    ensures value { spec.mark_from at text.now ≡ result.0 ∷ spec.lines_from (at + length result.0.text) result.1.now }
+    ensures value { spec.mark_from at text.now ≡ result.0
+        ∷ spec.lines_from (at + length result.0.text) result.1.now }
     ensures utf8 { IsUtf8 result.1.now }
     ensures takes { length result.0.text + length result.1.now ≡ length text.now }
 {
@@ -329,7 +334,8 @@ fn mark(at: usize, text: &str) -> (Token<'_>, &str)
 /// The first token, where nothing else may stand in front, and those behind it.
 fn step_token(at: usize, text: &str) -> Option<(Token<'_>, Lexer<'_>)>
     requires { at + length text.now < 2 ^ 64 }
-    ensures { MatchOption result (spec.tokens_from 0 at text.now ≡ []) (λ p. spec.tokens_from 0 at text.now ≡ p.0 ∷ p.1) }
+    ensures { MatchOption result (spec.tokens_from 0 at text.now ≡ [])
+        (λ p. spec.tokens_from 0 at text.now ≡ p.0 ∷ p.1) }
 {
     let (token, rest) = first(at, text)?;
     let at = at + token.text().len();
@@ -340,7 +346,8 @@ fn step_token(at: usize, text: &str) -> Option<(Token<'_>, Lexer<'_>)>
 /// The same where frontmatter may stand in front.
 fn step_matter(at: usize, text: &str) -> Option<(Token<'_>, Lexer<'_>)>
     requires { at + length text.now < 2 ^ 64 }
-    ensures { MatchOption result (spec.matter_from at text.now ≡ []) (λ p. spec.matter_from at text.now ≡ p.0 ∷ p.1) }
+    ensures { MatchOption result (spec.matter_from at text.now ≡ [])
+        (λ p. spec.matter_from at text.now ≡ p.0 ∷ p.1) }
 {
     let Some(len) = frontmatter(text.as_bytes()) else {
         return step_token(at, text);
@@ -354,7 +361,8 @@ fn step_matter(at: usize, text: &str) -> Option<(Token<'_>, Lexer<'_>)>
 /// The same where a line `#!..` may stand in front.
 fn step_line(at: usize, text: &str) -> Option<(Token<'_>, Lexer<'_>)>
     requires { at + length text.now < 2 ^ 64 }
-    ensures { MatchOption result (spec.lines_from at text.now ≡ []) (λ p. spec.lines_from at text.now ≡ p.0 ∷ p.1) }
+    ensures { MatchOption result (spec.lines_from at text.now ≡ [])
+        (λ p. spec.lines_from at text.now ≡ p.0 ∷ p.1) }
 {
     if !is_shebang(at, text) {
         return step_matter(at, text);
@@ -385,7 +393,8 @@ fn step_mark(at: usize, text: &str) -> Option<(Token<'_>, Lexer<'_>)>
 #[inline(never)]
 fn step(front: Front, at: usize, text: &str) -> Option<(Token<'_>, Lexer<'_>)>
     requires { at + length text.now < 2 ^ 64 }
-    ensures { MatchOption result (spec.pieces front at text.now ≡ []) (λ p. spec.pieces front at text.now ≡ p.0 ∷ p.1) }
+    ensures { MatchOption result (spec.pieces front at text.now ≡ [])
+        (λ p. spec.pieces front at text.now ≡ p.0 ∷ p.1) }
 {
     match front {
         Front::Token => step_token(at, text),

@@ -63,7 +63,8 @@ fn body_of(kind: MemberKind, body: Option<TextRange>) -> Option<TextRange>
 }
 
 fn kept(leaf: Leaf<'_>, start: usize, end: usize) -> Option<Member>
-    ensures { option_map member_view result ≡ spec.kept start end (leaf_view leaf.entry) (spec.told_of (item_view leaf.entry.item)) }
+    ensures { option_map member_view result
+        ≡ spec.kept start end (leaf_view leaf.entry) (spec.told_of (item_view leaf.entry.item)) }
 {
     let (name, body) = (leaf.named, leaf.body);
     match told_of(leaf.item) {
@@ -84,7 +85,8 @@ fn behind_front(
     cursor: &mut Cursor<'_>,
     front: Front,
 ) -> Result<Option<Member>, AllocError>
-    ensures { Gives (option_map member_view) (spec.behind_front (front_view front) cursor.old) result cursor.new }
+    ensures { Gives (option_map member_view)
+        (spec.behind_front (front_view front) cursor.old) result cursor.new }
 {
     let start = front.start;
     match take_leaf(alloc, cursor, front)? {

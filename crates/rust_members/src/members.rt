@@ -41,7 +41,8 @@ fn turn(
 }
 
 fn push_some(members: &mut Vec<Member>, member: Option<Member>) -> Result<(), AllocError>
-    ensures { OnOk result (map member_view members.new.items ≡ map member_view members.old.items ++ option_to_list (option_map member_view member)) }
+    ensures { OnOk result (map member_view members.new.items ≡ map member_view members.old.items
+        ++ option_to_list (option_map member_view member)) }
 {
     match member {
         Some(member) => {
@@ -128,7 +129,8 @@ fn moved(member: Member, by: usize) -> Member
 
 fn all_moved(alloc: Global, members: Vec<Member>, by: usize) -> Result<Vec<Member>, AllocError>
     requires { ArePlaced 0 (18446744073709551615 - by) (map member_view members.items) }
-    ensures { IfOk result (λ v. map member_view v.items ≡ map (moved by) (map member_view members.items)) }
+    ensures { IfOk result (λ v. map member_view v.items
+        ≡ map (moved by) (map member_view members.items)) }
 {
     let mut all = Vec::with_capacity(alloc, members.len())?;
     for member in members {
@@ -152,7 +154,8 @@ pub fn read_members(
     body: TextRange,
     edition: EditionYear,
 ) -> Result<Vec<Member>, AllocError>
-    ensures read { IfOk result (λ v. map member_view v.items ≡ spec.members edition kind text.now body) }
+    ensures read { IfOk result
+        (λ v. map member_view v.items ≡ spec.members edition kind text.now body) }
     ensures placed { IfOk result (λ v. ArePlaced body.start body.end (map member_view v.items)) }
 {
     match cut_out(text, body) {

@@ -229,7 +229,8 @@ fn part_of(
     visibility: Option<Visibility>,
     name: Option<TextRange>,
 ) -> Option<Member>
-    ensures { option_map member_view result ≡ spec.part_of kind range.start (map meta_view attrs.items) visibility name range.end }
+    ensures { option_map member_view result
+        ≡ spec.part_of kind range.start (map meta_view attrs.items) visibility name range.end }
 {
     match name {
         Some(name) => Some(Member {

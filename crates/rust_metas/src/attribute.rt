@@ -139,7 +139,8 @@ fn attributes(
     cursor: &mut Cursor<'_>,
     style: DocStyle,
 ) -> Result<Vec<Meta>, AllocError>
-    ensures { Gives (λ v. map meta_view v.items) (spec.attributes style cursor.old) result cursor.new }
+    ensures { Gives (λ v. map meta_view v.items)
+        (spec.attributes style cursor.old) result cursor.new }
 {
     let mut metas = Vec::new(alloc);
     let most = Cursor::most_turns();
@@ -165,7 +166,8 @@ fn attributes(
 /// Only if memory runs out. The cursor may then stand anywhere.
 #[tactic(auto, unfolding(crate::specs::Attributes::outer_attributes))]
 pub fn outer_attributes(alloc: Global, cursor: &mut Cursor<'_>) -> Result<Vec<Meta>, AllocError>
-    ensures { Gives (λ v. map meta_view v.items) (spec.outer_attributes cursor.old) result cursor.new }
+    ensures { Gives (λ v. map meta_view v.items)
+        (spec.outer_attributes cursor.old) result cursor.new }
 {
     attributes(alloc, cursor, DocStyle::Outer)
 }
@@ -178,7 +180,8 @@ pub fn outer_attributes(alloc: Global, cursor: &mut Cursor<'_>) -> Result<Vec<Me
 /// Only if memory runs out. The cursor may then stand anywhere.
 #[tactic(auto, unfolding(crate::specs::Attributes::inner_attributes))]
 pub fn inner_attributes(alloc: Global, cursor: &mut Cursor<'_>) -> Result<Vec<Meta>, AllocError>
-    ensures { Gives (λ v. map meta_view v.items) (spec.inner_attributes cursor.old) result cursor.new }
+    ensures { Gives (λ v. map meta_view v.items)
+        (spec.inner_attributes cursor.old) result cursor.new }
 {
     attributes(alloc, cursor, DocStyle::Inner)
 }

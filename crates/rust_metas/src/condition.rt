@@ -92,7 +92,8 @@ fn composed(
     word: Name,
     conditions: Option<Vec<CfgExpr>>,
 ) -> Result<CfgExpr, AllocError>
-    ensures { IfOk result (λ c. cfg_view c ≡ spec.composed word (option_map (λ v. map cfg_view v.items) conditions)) }
+    ensures { IfOk result (λ c. cfg_view c
+        ≡ spec.composed word (option_map (λ v. map cfg_view v.items) conditions)) }
 {
     let Some(conditions) = conditions else {
         return Ok(CfgExpr::Invalid);
@@ -137,7 +138,8 @@ fn group(
     word: Name,
     depth: usize,
 ) -> Result<CfgExpr, AllocError>
-    ensures { Gives cfg_view (spec.group (spec.conditions depth) word cursor.old) result cursor.new }
+    ensures { Gives cfg_view
+        (spec.group (spec.conditions depth) word cursor.old) result cursor.new }
 {
     let bracket = cursor.symbol();
     cursor.bump();
@@ -155,7 +157,8 @@ fn named(
     word: Name,
     depth: usize,
 ) -> Result<CfgExpr, AllocError>
-    ensures { Gives cfg_view (spec.named (spec.conditions depth) word cursor.old) result cursor.new }
+    ensures { Gives cfg_view
+        (spec.named (spec.conditions depth) word cursor.old) result cursor.new }
 {
     if cursor.is_at_open() {
         return group(alloc, cursor, word, depth);
@@ -174,7 +177,8 @@ fn if_named(
     word: Option<Name>,
     depth: usize,
 ) -> Result<CfgExpr, AllocError>
-    ensures { Gives cfg_view (spec.if_named (spec.conditions depth) word cursor.old) result cursor.new }
+    ensures { Gives cfg_view
+        (spec.if_named (spec.conditions depth) word cursor.old) result cursor.new }
 {
     match word {
         Some(word) => named(alloc, cursor, word, depth),
@@ -218,7 +222,8 @@ fn conditions(
     cursor: &mut Cursor<'_>,
     depth: usize,
 ) -> Result<Option<Vec<CfgExpr>>, AllocError>
-    ensures { Gives (option_map (λ v. map cfg_view v.items)) (spec.conditions depth cursor.old) result cursor.new }
+    ensures { Gives (option_map (λ v. map cfg_view v.items))
+        (spec.conditions depth cursor.old) result cursor.new }
 {
     if depth == 0 {
         return Ok(None);
@@ -234,7 +239,8 @@ fn condition_list(
     cursor: &mut Cursor<'_>,
     depth: usize,
 ) -> Result<Vec<CfgExpr>, AllocError>
-    ensures { Gives (λ v. map cfg_view v.items) (elements (one (spec.condition depth)) cursor.old) result cursor.new }
+    ensures { Gives (λ v. map cfg_view v.items)
+        (elements (one (spec.condition depth)) cursor.old) result cursor.new }
 {
     let mut conditions = Vec::new(alloc);
     let most = Cursor::most_turns();

@@ -191,7 +191,8 @@ fn comment_text(kind: Option<TokenKind>, text: &str) -> &[u8]
 }
 
 fn literal_from(rendered: Option<String>, string: Option<String>, span: Span) -> Option<Literal>
-    ensures { result ≡ spec.literal_from (option_map string_bytes rendered) (option_map string_bytes string) span }
+    ensures { result ≡ spec.literal_from (option_map string_bytes rendered)
+        (option_map string_bytes string) span }
 {
     match (rendered, string) {
         (Some(rendered), Some(string)) => Some(Literal {

@@ -95,7 +95,8 @@ fn is_call(cursor: &Cursor<'_>, word: &str) -> bool
 /// `cfg(..)`.
 #[tactic(auto, using(hir_input::proofs::MetaLemmas::meta_views))]
 fn cfg(alloc: Global, cursor: &mut Cursor<'_>, depth: usize) -> Result<Meta, AllocError>
-    ensures { Gives meta_view (spec.cfg_with (conditions.condition depth) cursor.old) result cursor.new }
+    ensures { Gives meta_view
+        (spec.cfg_with (conditions.condition depth) cursor.old) result cursor.new }
 {
     cursor.bump();
     let bracket = cursor.symbol();
@@ -114,7 +115,8 @@ fn unsafe_meta(
     anchor: usize,
     depth: usize,
 ) -> Result<Meta, AllocError>
-    ensures { Gives meta_view (spec.unsafe_with (spec.meta anchor depth) cursor.old) result cursor.new }
+    ensures { Gives meta_view
+        (spec.unsafe_with (spec.meta anchor depth) cursor.old) result cursor.new }
 {
     cursor.bump();
     let bracket = cursor.symbol();
@@ -133,7 +135,9 @@ fn cfg_attr(
     anchor: usize,
     depth: usize,
 ) -> Result<Meta, AllocError>
-    ensures { Gives meta_view (spec.cfg_attr_with (spec.meta anchor depth) (conditions.condition depth) cursor.old) result cursor.new }
+    ensures { Gives meta_view
+        (spec.cfg_attr_with (spec.meta anchor depth) (conditions.condition depth) cursor.old) result
+        cursor.new }
 {
     cursor.bump();
     let bracket = cursor.symbol();
@@ -172,7 +176,9 @@ fn meta_over(
     anchor: usize,
     depth: usize,
 ) -> Result<Meta, AllocError>
-    ensures { Gives meta_view (spec.meta_with anchor (spec.meta anchor depth) (conditions.condition depth) cursor.old) result cursor.new }
+    ensures { Gives meta_view
+        (spec.meta_with anchor (spec.meta anchor depth) (conditions.condition depth) cursor.old)
+        result cursor.new }
 {
     if is_call(cursor, "unsafe") {
         return unsafe_meta(alloc, cursor, anchor, depth);
@@ -211,7 +217,8 @@ fn metas(
     anchor: usize,
     depth: usize,
 ) -> Result<Vec<Meta>, AllocError>
-    ensures { Gives (λ v. map meta_view v.items) (elements (one (spec.member (spec.meta anchor depth))) cursor.old) result cursor.new }
+    ensures { Gives (λ v. map meta_view v.items)
+        (elements (one (spec.member (spec.meta anchor depth))) cursor.old) result cursor.new }
 {
     let mut metas = Vec::new(alloc);
     let most = Cursor::most_turns();

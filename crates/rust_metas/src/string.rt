@@ -19,7 +19,8 @@ pub(crate) fn text_from(bytes: Vec<u8>) -> Option<String>
 /// Takes in what a byte stands for with those behind it, and tells how many of these it is.
 #[tactic(auto, unfolding(crate::specs::Strings::character))]
 fn push_character(out: &mut Vec<u8>, b: u8, z: &[u8]) -> Result<Option<usize>, AllocError>
-    ensures { IfOk result (λ len. spec.pushed out.old.items (spec.character b z.now) ≡ spec.beside out.new.items len) }
+    ensures { IfOk result (λ len. spec.pushed out.old.items (spec.character b z.now)
+        ≡ spec.beside out.new.items len) }
 {
     if b != b'\\' {
         out.push(b)?;

@@ -54,7 +54,8 @@ fn named_word(
     cursor: &mut Cursor<'_>,
     words: &mut PathWords,
 ) -> Result<(), AllocError>
-    ensures { OnOk result (with_word words.old (spec.named_word cursor.old) ≡ (words.new, cursor.new)) }
+    ensures { OnOk result (with_word words.old (spec.named_word cursor.old)
+        ≡ (words.new, cursor.new)) }
 {
     if is_raw(cursor.kind()) {
         let name = next_name(alloc, cursor)?;
@@ -71,7 +72,8 @@ fn other_segment(
     cursor: &mut Cursor<'_>,
     words: &mut PathWords,
 ) -> Result<(), AllocError>
-    ensures { OnOk result (with_word words.old (spec.other_segment cursor.old) ≡ (words.new, cursor.new)) }
+    ensures { OnOk result (with_word words.old (spec.other_segment cursor.old)
+        ≡ (words.new, cursor.new)) }
 {
     if cursor.symbol() == b'<' {
         cursor.pass_angles();
@@ -90,7 +92,8 @@ fn other_segment(
 /// Takes a segment of a path, where one has to stand.
 #[tactic(auto, unfolding(crate::specs::Paths::segment))]
 fn segment(alloc: Global, cursor: &mut Cursor<'_>, words: &mut PathWords) -> Result<(), AllocError>
-    ensures { OnOk result (with_word words.old (spec.segment cursor.old) ≡ (words.new, cursor.new)) }
+    ensures { OnOk result (with_word words.old (spec.segment cursor.old)
+        ≡ (words.new, cursor.new)) }
 {
     match cursor.word() {
         "self" => {
@@ -158,7 +161,8 @@ fn more_segments(
     in_use: bool,
     words: &mut PathWords,
 ) -> Result<(), AllocError>
-    ensures { OnOk result (with_words words.old (spec.more_segments in_use cursor.old) ≡ (meaning words.new [], cursor.new)) }
+    ensures { OnOk result (with_words words.old (spec.more_segments in_use cursor.old)
+        ≡ (meaning words.new [], cursor.new)) }
 {
     let most = Cursor::most_turns();
     for _turn in 0..most {

@@ -139,7 +139,9 @@ fn begun_list(
     list: &Option<Vec<UseTree>>,
     below: Vec<usize>,
 ) -> TreeStarts
-    ensures { starts_view result ≡ spec.begun_list path.now start (option_map (λ v. map use_tree_view v.items) list.now) below.items }
+    ensures { starts_view result
+        ≡ spec.begun_list path.now start
+        (option_map (λ v. map use_tree_view v.items) list.now) below.items }
 {
     if path.is_none() && list.is_none() {
         return TreeStarts::none(alloc);
@@ -168,7 +170,8 @@ fn found_bare(
 /// A tree with a list, if there is something of it.
 #[tactic(auto, using(crate::proofs::Trees::use_tree_view_made))]
 fn listed(path: Option<PathNode>, list: Option<Vec<UseTree>>) -> Option<UseTree>
-    ensures { option_map use_tree_view result ≡ spec.listed path (option_map (λ v. map use_tree_view v.items) list) }
+    ensures { option_map use_tree_view result
+        ≡ spec.listed path (option_map (λ v. map use_tree_view v.items) list) }
 {
     if path.is_none() && list.is_none() {
         return None;
@@ -234,7 +237,8 @@ fn pass_comma(cursor: &mut Cursor<'_>)
 }
 
 fn push_some(trees: &mut Vec<UseTree>, tree: Option<UseTree>) -> Result<(), AllocError>
-    ensures { OnOk result (map use_tree_view trees.new.items ≡ map use_tree_view trees.old.items ++ option_to_list (option_map use_tree_view tree)) }
+    ensures { OnOk result (map use_tree_view trees.new.items ≡ map use_tree_view trees.old.items
+        ++ option_to_list (option_map use_tree_view tree)) }
 {
     match tree {
         Some(tree) => {

@@ -48,7 +48,8 @@ fn seen<'t>(
     parts: &[Part],
     has_docs: bool,
 ) -> Result<Vec<&'t str>, AllocError>
-    ensures { IfOk result (λ v. map (λ t. t.now) v.items ≡ spec.seen has_docs text.now (map part_view parts.now)) }
+    ensures { IfOk result (λ v. map (λ t. t.now) v.items
+        ≡ spec.seen has_docs text.now (map part_view parts.now)) }
 {
     let bodies = bodies(alloc, parts)?;
     skeleton(alloc, text, &bodies, has_docs)
@@ -105,7 +106,8 @@ fn push_between(
     change: &Change<'_>,
     out: &mut String,
 ) -> Result<(), AllocError>
-    ensures text { let line = spec.line_between (side_view old.old) (side_view new.old) (change_view change.now) in
+    ensures text { let line = spec.line_between (side_view old.old) (side_view new.old)
+        (change_view change.now) in
         OnOk result (string_bytes out.new ≡ string_bytes out.old ++ line) }
     ensures old { side_view old.new ≡ side_view old.old }
     ensures new { side_view new.new ≡ side_view new.old }
@@ -131,7 +133,8 @@ fn lines(
     new: Source<'_>,
     changes: &[Change<'_>],
 ) -> Result<String, AllocError>
-    ensures { let lines = spec.change_lines (source_view old.entry) (source_view new.entry) (map change_view changes.now) in
+    ensures { let lines = spec.change_lines (source_view old.entry) (source_view new.entry)
+        (map change_view changes.now) in
         IfOk result (λ text. string_bytes text ≡ lines) }
 {
     let (mut olds, mut news) = (side_from(old), side_from(new));
@@ -151,7 +154,8 @@ fn lines_of(
     news: &[Part],
     has_docs: bool,
 ) -> Result<String, AllocError>
-    ensures { let lines = spec.lines_between has_docs (source_view old.entry) (source_view new.entry) (map part_view olds.now) (map part_view news.now) in
+    ensures { let lines = spec.lines_between has_docs (source_view old.entry)
+        (source_view new.entry) (map part_view olds.now) (map part_view news.now) in
         IfOk result (λ text. string_bytes text ≡ lines) }
 {
     let old_rows = rows(alloc, old.text, olds, has_docs)?;
@@ -187,7 +191,8 @@ fn text_of(
     news: &[Part],
     has_docs: bool,
 ) -> Result<String, AllocError>
-    ensures { let lines = spec.lines is_same has_docs (source_view old.entry) (source_view new.entry) (map part_view olds.now) (map part_view news.now) in
+    ensures { let lines = spec.lines is_same has_docs (source_view old.entry)
+        (source_view new.entry) (map part_view olds.now) (map part_view news.now) in
         IfOk result (λ text. string_bytes text ≡ lines) }
 {
     if is_same {
@@ -212,7 +217,8 @@ pub fn compare(
     edition: EditionYear,
     has_docs: bool,
 ) -> Result<Compared, AllocError>
-    ensures { IfOk result (spec.IsCompared edition has_docs (source_view old.entry) (source_view new.entry)) }
+    ensures { IfOk result (spec.IsCompared edition has_docs (source_view old.entry)
+        (source_view new.entry)) }
 {
     let olds = parts_of(alloc, old.text, edition)?;
     let news = parts_of(alloc, new.text, edition)?;

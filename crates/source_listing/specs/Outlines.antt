@@ -1,5 +1,5 @@
 -- The lines of an outline.
-use Rattle.std.specs.Prelude.{ℕ, Bool, true, false, ◌+◌, List, [], ◌∷◌, ◌++◌, codes, filter, Option, Some, None}
+use Rattle.std.specs.Prelude.{ℕ, Bool, ◌+◌, List, [], ◌∷◌, ◌++◌, codes, filter, Option, Some, None}
 use Rattle.std.specs.List.{flat_map}
 use Rattle.hir_input.specs.declared.edition.EditionYear.{EditionYear}
 use Rattle.hir_input.specs.Cfg.{AtomView}

@@ -36,7 +36,8 @@ fn change_word(kind: ChangeKind) -> &'static str
 impl Printer<'_> {
     fn push_change(&mut self, change: &Change<'_>, out: &mut String) -> Result<(), AllocError>
         requires { AreDistinct (places_of self.old) }
-        ensures text { let line = spec.change_line (reserved_of self.old) (side_of_printer self.old) in
+        ensures text { let line = spec.change_line (reserved_of self.old)
+            (side_of_printer self.old) in
             OnOk result (string_bytes out.new ≡ string_bytes out.old ++ line (change_view change.now)) }
         ensures same { IsSameFile self.old self.new }
     {
@@ -58,7 +59,8 @@ fn push_between(
 ) -> Result<(), AllocError>
     requires old { AreDistinct (places_of old.old) }
     requires new { AreDistinct (places_of new.old) }
-    ensures text { let line = spec.line_between (reserved_of old.old) (side_of_printer old.old) (side_of_printer new.old) in
+    ensures text { let line = spec.line_between (reserved_of old.old) (side_of_printer old.old)
+        (side_of_printer new.old) in
         reserved_of old.old ≡ reserved_of new.old → OnOk result (string_bytes out.new ≡ string_bytes out.old ++ line (change_view change.now)) }
     ensures old { IsSameFile old.old old.new }
     ensures new { IsSameFile new.old new.new }

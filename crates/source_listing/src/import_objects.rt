@@ -58,7 +58,8 @@ fn import_value(
     spot: Option<Spot>,
     import: &Listed,
 ) -> Result<Value, AllocError>
-    ensures { let form = spec.import_form edition.now.reserved.items spot (listed_import import.now) in
+    ensures { let form = spec.import_form edition.now.reserved.items spot
+        (listed_import import.now) in
         IfOk result (λ value. view value ≡ form) }
 {
     let alias = alias_value(alloc, edition, &import.alias)?;
@@ -80,7 +81,8 @@ fn push_import(
     import: &Listed,
     out: &mut Vec<Value>,
 ) -> Result<(), AllocError>
-    ensures objects { let spots = tree_spots (text_in finder.old) (option_map trees_view trees.entry) in
+    ensures objects { let spots = tree_spots (text_in finder.old)
+        (option_map trees_view trees.entry) in
         let objects = spec.import_object edition.now.reserved.items spots (listed_import import.now) in
         OnOk result (map view out.new.items ≡ map view out.old.items ++ objects) }
     ensures same { IsSameTreeFinder finder.old finder.new }
@@ -100,7 +102,8 @@ fn push_imports(
     imports: &[Listed],
     out: &mut Vec<Value>,
 ) -> Result<(), AllocError>
-    ensures objects { let spots = tree_spots (text_in finder.old) (option_map trees_view trees.entry) in
+    ensures objects { let spots = tree_spots (text_in finder.old)
+        (option_map trees_view trees.entry) in
         let objects = flat_map (spec.import_object edition.now.reserved.items spots) (map listed_import imports.now) in
         OnOk result (map view out.new.items ≡ map view out.old.items ++ objects) }
     ensures same { IsSameTreeFinder finder.old finder.new }
@@ -122,7 +125,8 @@ fn push_declaration(
 ) -> Result<(), AllocError>
     requires finds { FindsTrees finder.old }
     requires contained { IsContained tree.now declaration.now.id }
-    ensures objects { let objects = spec.seen_objects (text_in finder.old) edition.now.reserved.items (places_in finder.old) in
+    ensures objects { let objects = spec.seen_objects
+        (text_in finder.old) edition.now.reserved.items (places_in finder.old) in
         OnOk result (map view out.new.items ≡ map view out.old.items ++ objects (declaration_view tree.now declaration.now)) }
     ensures same { IsSameTreeFinder finder.old finder.new }
 {
@@ -154,7 +158,8 @@ pub fn import_items(
     edition: &Edition,
 ) -> Result<Vec<Value>, AllocError>
     requires { AreDistinct places.now }
-    ensures { let objects = spec.import_objects text.now edition.now.reserved.items (placed places.now use_trees.now) in
+    ensures { let objects = spec.import_objects text.now edition.now.reserved.items
+        (placed places.now use_trees.now) in
         IfOk result (λ items. map view items.items ≡ objects tree.now.forest) }
 {
     let mut finder = TreeFinder::new(text, places, use_trees);

@@ -44,7 +44,8 @@ pub(crate) fn push_import_text(
     import: &Listed,
     out: &mut String,
 ) -> Result<(), AllocError>
-    ensures { let text = spec.import_text edition.now.reserved.items import.now.kind import.now.path import.now.alias in
+    ensures { let text = spec.import_text edition.now.reserved.items import.now.kind import.now.path
+        import.now.alias in
         OnOk result (string_bytes out.new ≡ string_bytes out.old ++ text) }
 {
     let path = import.path.display(edition);
@@ -69,7 +70,8 @@ fn push_import(
     import: &Listed,
     out: &mut String,
 ) -> Result<(), AllocError>
-    ensures text { let spots = tree_spots (text_in finder.old) (option_map trees_view trees.entry) in
+    ensures text { let spots = tree_spots (text_in finder.old)
+        (option_map trees_view trees.entry) in
         let line = spec.import_line path.now edition.now.reserved.items spots in
         OnOk result (string_bytes out.new ≡ string_bytes out.old ++ line (listed_import import.now)) }
     ensures same { IsSameTreeFinder finder.old finder.new }
@@ -89,7 +91,8 @@ fn push_imports(
     imports: &[Listed],
     out: &mut String,
 ) -> Result<(), AllocError>
-    ensures text { let spots = tree_spots (text_in finder.old) (option_map trees_view trees.entry) in
+    ensures text { let spots = tree_spots (text_in finder.old)
+        (option_map trees_view trees.entry) in
         let line = spec.import_line path.now edition.now.reserved.items spots in
         OnOk result (string_bytes out.new ≡ string_bytes out.old ++ flat_map line (map listed_import imports.now)) }
     ensures same { IsSameTreeFinder finder.old finder.new }
@@ -111,7 +114,8 @@ fn push_declaration(
 ) -> Result<(), AllocError>
     requires finds { FindsTrees finder.old }
     requires contained { IsContained tree.now declaration.now.id }
-    ensures text { let lines = spec.seen_lines (file_in path.now finder.old) edition.now.reserved.items (places_in finder.old) in
+    ensures text { let lines = spec.seen_lines
+        (file_in path.now finder.old) edition.now.reserved.items (places_in finder.old) in
         OnOk result (string_bytes out.new ≡ string_bytes out.old ++ lines (declaration_view tree.now declaration.now)) }
     ensures same { IsSameTreeFinder finder.old finder.new }
 {

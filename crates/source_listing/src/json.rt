@@ -103,7 +103,8 @@ fn subject_value(
     header: &str,
     subject: Subject<'_>,
 ) -> Result<Value, AllocError>
-    ensures { let form = spec.subject_form edition.now.reserved.items header.now (subject_view subject.entry) in
+    ensures { let form = spec.subject_form edition.now.reserved.items header.now
+        (subject_view subject.entry) in
         IfOk result (λ value. view value ≡ form) }
 {
     match subject {
@@ -184,7 +185,8 @@ fn item_members(
     item: &Item<'_>,
     header: &str,
 ) -> Result<Members, AllocError>
-    ensures { let entry = spec.item_entry edition.now.reserved.items header.now (item_view item.now) in
+    ensures { let entry = spec.item_entry edition.now.reserved.items header.now
+        (item_view item.now) in
         IfOk result (λ ms. members_view ms.entries ≡ entry_members entry) }
 {
     let visibility = visibility_value(alloc, edition, item.visibility)?;
@@ -227,7 +229,8 @@ fn object(
     is_active: bool,
     inner: Vec<Value>,
 ) -> Result<Value, AllocError>
-    ensures { let members = placed_members is_active spot (items_view inner.items) (members_view members.entries) in
+    ensures { let members = placed_members is_active spot (items_view inner.items)
+        (members_view members.entries) in
         IfOk result (λ object. view object ≡ object_of members) }
 {
     let members = with(alloc, members, "range", range_value(alloc, spot)?)?;
@@ -244,7 +247,8 @@ fn member_object(
     printer: &mut Printer<'_>,
     member: &ListedMember,
 ) -> Result<Value, AllocError>
-    ensures object { let object = spec.member_object (file_of printer.old).text (reserved_of printer.old) (listed_view member.now) in
+    ensures object { let object = spec.member_object (file_of printer.old).text
+        (reserved_of printer.old) (listed_view member.now) in
         IfOk result (λ value. view value ≡ object) }
     ensures same { IsSameFile printer.old printer.new }
 {
@@ -271,7 +275,8 @@ fn push_member(
     member: &ListedMember,
     out: &mut Vec<Value>,
 ) -> Result<(), AllocError>
-    ensures objects { let objects = spec.member_objects (file_of printer.old).text (reserved_of printer.old) (choice_view choice) level in
+    ensures objects { let objects = spec.member_objects (file_of printer.old).text
+        (reserved_of printer.old) (choice_view choice) level in
         OnOk result (map view out.new.items ≡ map view out.old.items ++ objects (listed_view member.now ∷ [])) }
     ensures same { IsSameFile printer.old printer.new }
 {
@@ -293,7 +298,8 @@ fn member_values(
     level: usize,
     is_active: bool,
 ) -> Result<Vec<Value>, AllocError>
-    ensures objects { let objects = spec.member_objects (file_of printer.old).text (reserved_of printer.old) (choice_view listing.entry.choice) level in
+    ensures objects { let objects = spec.member_objects (file_of printer.old).text
+        (reserved_of printer.old) (choice_view listing.entry.choice) level in
         IfOk result (λ values. map view values.items ≡ objects (members_of (reading_view listing.entry.reading) place is_active)) }
     ensures same { IsSameFile printer.old printer.new }
 {
@@ -349,7 +355,8 @@ fn push_objects(
     requires distinct { AreDistinct (places_of printer.old) }
     requires contained { AreContained listing.tree.now ids.now }
     requires fits { around.level + sum_by (count_at listing.tree.now) ids.now < 2 ^ 64 }
-    ensures objects { let at = objects_at (file_of printer.old) (reading_view listing.entry.reading) (reserved_of printer.old) (places_of printer.old) in
+    ensures objects { let at = objects_at (file_of printer.old) (reading_view listing.entry.reading)
+        (reserved_of printer.old) (places_of printer.old) in
         let at = at (choice_view listing.entry.choice) listing.entry.tree.now around.level around.is_active in
         OnOk result (map view out.new.items ≡ map view out.old.items ++ flat_map at ids.now) }
     ensures same { IsSameFile printer.old printer.new }
@@ -373,7 +380,8 @@ fn push_object(
     requires distinct { AreDistinct (places_of printer.old) }
     requires contained { IsContained listing.tree.now id }
     requires fits { around.level + count_at listing.tree.now id < 2 ^ 64 }
-    ensures objects { let at = objects_at (file_of printer.old) (reading_view listing.entry.reading) (reserved_of printer.old) (places_of printer.old) in
+    ensures objects { let at = objects_at (file_of printer.old) (reading_view listing.entry.reading)
+        (reserved_of printer.old) (places_of printer.old) in
         let at = at (choice_view listing.entry.choice) listing.entry.tree.now around.level around.is_active in
         OnOk result (map view out.new.items ≡ map view out.old.items ++ at id) }
     ensures same { IsSameFile printer.old printer.new }
@@ -406,7 +414,8 @@ fn file_value(alloc: Global, path: &str, items: Vec<Value>) -> Result<Value, All
 /// A value on one line.
 fn line_of(alloc: Global, value: &Value) -> Result<String, AllocError>
     requires { has_float (view value.now) ≡ false }
-    ensures { IfOk result (λ line. string_bytes line ≡ compact_text (view value.now) ++ codes "\n") }
+    ensures { IfOk result (λ line. string_bytes line ≡ compact_text (view value.now)
+        ++ codes "\n") }
 {
     let mut line = value.to_string(alloc)?;
     line.push_str("\n")?;

@@ -63,7 +63,8 @@ impl Choice {
 
 /// File, line and column, as compilers write them.
 pub(crate) fn push_place(path: &str, position: Position, out: &mut String) -> Result<(), AllocError>
-    ensures { OnOk result (string_bytes out.new ≡ string_bytes out.old ++ place_text path.now position) }
+    ensures { OnOk result (string_bytes out.new ≡ string_bytes out.old
+        ++ place_text path.now position) }
 {
     let (line, column) = (position.line, position.column);
     write!(out, "{path}:{line}:{column}: ")
@@ -71,7 +72,8 @@ pub(crate) fn push_place(path: &str, position: Position, out: &mut String) -> Re
 
 /// The same of what stands in a file.
 pub(crate) fn push_spot(path: &str, spot: Option<Spot>, out: &mut String) -> Result<(), AllocError>
-    ensures { OnOk result (string_bytes out.new ≡ string_bytes out.old ++ item_place path.now spot) }
+    ensures { OnOk result (string_bytes out.new ≡ string_bytes out.old
+        ++ item_place path.now spot) }
 {
     match spot {
         Some(spot) => push_place(path, spot.position, out),
@@ -149,7 +151,8 @@ pub(crate) fn push_visibility(
     visibility: Option<&RawVisibility>,
     out: &mut String,
 ) -> Result<(), AllocError>
-    ensures { let text = spec.visibility_text edition.now.reserved.items (option_copied visibility.entry) in
+    ensures { let text = spec.visibility_text edition.now.reserved.items
+        (option_copied visibility.entry) in
         OnOk result (string_bytes out.new ≡ string_bytes out.old ++ text) }
 {
     match visibility {

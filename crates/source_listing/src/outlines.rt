@@ -35,7 +35,8 @@ pub struct Look {
 
 /// The header of an impl, behind a blank.
 fn push_header(header: &str, out: &mut String) -> Result<(), AllocError>
-    ensures { OnOk result (string_bytes out.new ≡ string_bytes out.old ++ spec.header_text header.now) }
+    ensures { OnOk result (string_bytes out.new ≡ string_bytes out.old
+        ++ spec.header_text header.now) }
 {
     if header.is_empty() {
         return Ok(());
@@ -98,7 +99,8 @@ fn push_bold_name(
 
 impl Printer<'_> {
     pub(crate) fn push_at(&mut self, at: usize, out: &mut String) -> Result<(), AllocError>
-        ensures text { OnOk result (string_bytes out.new ≡ string_bytes out.old ++ place_at (file_of self.old) at) }
+        ensures text { OnOk result
+            (string_bytes out.new ≡ string_bytes out.old ++ place_at (file_of self.old) at) }
         ensures same { IsSameFile self.old self.new }
     {
         let position = self.finder.lines.position(at);
@@ -111,7 +113,9 @@ impl Printer<'_> {
         place: Option<ItemPlace>,
         out: &mut String,
     ) -> Result<(), AllocError>
-        ensures text { OnOk result (string_bytes out.new ≡ string_bytes out.old ++ spec.stand_text (file_of self.old) place) }
+        ensures text { OnOk result
+            (string_bytes out.new ≡ string_bytes out.old
+            ++ spec.stand_text (file_of self.old) place) }
         ensures same { IsSameFile self.old self.new }
     {
         match place {
@@ -166,7 +170,8 @@ impl Printer<'_> {
         header: &str,
         out: &mut String,
     ) -> Result<(), AllocError>
-        ensures text { let line = spec.item_line (file_of self.old) (reserved_of self.old) is_colored place header.now in
+        ensures text { let line = spec.item_line (file_of self.old)
+            (reserved_of self.old) is_colored place header.now in
             OnOk result (string_bytes out.new ≡ string_bytes out.old ++ line (row_view row.now)) }
         ensures same { IsSameFile self.old self.new }
     {
@@ -186,7 +191,8 @@ impl Printer<'_> {
         member: &ListedMember,
         out: &mut String,
     ) -> Result<(), AllocError>
-        ensures text { let line = spec.member_line (file_of self.old) (reserved_of self.old) is_colored level in
+        ensures text { let line = spec.member_line (file_of self.old)
+            (reserved_of self.old) is_colored level in
             OnOk result (string_bytes out.new ≡ string_bytes out.old ++ line (listed_view member.now)) }
         ensures same { IsSameFile self.old self.new }
     {
@@ -207,7 +213,8 @@ impl Printer<'_> {
         member: &ListedMember,
         out: &mut String,
     ) -> Result<(), AllocError>
-        ensures text { let lines = spec.member_lines (file_of self.old) (reserved_of self.old) (look_view look) level in
+        ensures text { let lines = spec.member_lines (file_of self.old) (reserved_of self.old)
+            (look_view look) level in
             OnOk result (string_bytes out.new ≡ string_bytes out.old ++ lines (listed_view member.now ∷ [])) }
         ensures same { IsSameFile self.old self.new }
     {
@@ -226,7 +233,8 @@ impl Printer<'_> {
         members: &[ListedMember],
         out: &mut String,
     ) -> Result<(), AllocError>
-        ensures text { let lines = spec.member_lines (file_of self.old) (reserved_of self.old) (look_view look) level in
+        ensures text { let lines = spec.member_lines (file_of self.old) (reserved_of self.old)
+            (look_view look) level in
             OnOk result (string_bytes out.new ≡ string_bytes out.old ++ lines (map listed_view members.now)) }
         ensures same { IsSameFile self.old self.new }
     {
@@ -246,7 +254,8 @@ impl Printer<'_> {
         out: &mut String,
     ) -> Result<(), AllocError>
         requires { AreDistinct (places_of self.old) }
-        ensures text { let lines = spec.whole_lines (file_of self.old) (reading_view reading.entry) (reserved_of self.old) in
+        ensures text { let lines = spec.whole_lines (file_of self.old) (reading_view reading.entry)
+            (reserved_of self.old) in
             let lines = lines (places_of self.old) (look_view look) (row_view row.now) in
             OnOk result (string_bytes out.new ≡ string_bytes out.old ++ lines) }
         ensures same { IsSameFile self.old self.new }
@@ -268,7 +277,8 @@ impl Printer<'_> {
         out: &mut String,
     ) -> Result<(), AllocError>
         requires { AreDistinct (places_of self.old) }
-        ensures text { let lines = spec.outline_text (file_of self.old) (reading_view reading.entry) (reserved_of self.old) in
+        ensures text { let lines = spec.outline_text (file_of self.old) (reading_view reading.entry)
+            (reserved_of self.old) in
             let lines = lines (places_of self.old) (look_view look) (row_view row.now ∷ []) in
             OnOk result (string_bytes out.new ≡ string_bytes out.old ++ lines) }
         ensures same { IsSameFile self.old self.new }

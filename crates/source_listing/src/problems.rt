@@ -44,7 +44,8 @@ pub fn problem_lines(
     source: Source<'_>,
     problems: &[SourceProblem],
 ) -> Result<String, AllocError>
-    ensures { IfOk result (λ text. string_bytes text ≡ spec.problem_lines (source_view source.entry) problems.now) }
+    ensures { IfOk result (λ text. string_bytes text
+        ≡ spec.problem_lines (source_view source.entry) problems.now) }
 {
     let mut out = String::new(alloc);
     let mut lines = LineIndex::new(source.text);

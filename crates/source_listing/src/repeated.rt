@@ -38,7 +38,8 @@ fn named_import(
     spot: Option<Spot>,
     import: &Listed,
 ) -> Result<Named, AllocError>
-    ensures { let text = import_text edition.now.reserved.items import.now.kind import.now.path import.now.alias in
+    ensures { let text = import_text edition.now.reserved.items import.now.kind import.now.path
+        import.now.alias in
         IfOk result (λ n. named_view n ≡ record { around = around; spot = spot; text = text }) }
 {
     let mut text = String::new(alloc);
@@ -56,7 +57,8 @@ fn push_listed(
     imports: &[Listed],
     found: &mut Vec<Named>,
 ) -> Result<(), AllocError>
-    ensures named { let spots = tree_spots (text_in finder.old) (option_map trees_view trees.entry) in
+    ensures named { let spots = tree_spots (text_in finder.old)
+        (option_map trees_view trees.entry) in
         let own = map (spec.named_import edition.now.reserved.items around spots) (map listed_import imports.now) in
         OnOk result (map named_view found.new.items ≡ map named_view found.old.items ++ own) }
     ensures same { IsSameTreeFinder finder.old finder.new }
@@ -80,7 +82,8 @@ fn push_own(
 ) -> Result<(), AllocError>
     requires finds { FindsTrees finder.old }
     requires contained { IsContained tree.now id }
-    ensures named { let own = own_named_at (text_in finder.old) (places_in finder.old) edition.now.reserved.items tree.now around id in
+    ensures named { let own = own_named_at (text_in finder.old)
+        (places_in finder.old) edition.now.reserved.items tree.now around id in
         OnOk result (map named_view found.new.items ≡ map named_view found.old.items ++ own) }
     ensures same { IsSameTreeFinder finder.old finder.new }
 {
@@ -107,7 +110,9 @@ fn push_all(
 ) -> Result<(), AllocError>
     requires finds { FindsTrees finder.old }
     requires contained { AreContained tree.now ids.now }
-    ensures named { let all = flat_map (named_at (text_in finder.old) (places_in finder.old) edition.now.reserved.items tree.now around) ids.now in
+    ensures named { let all = flat_map
+        (named_at (text_in finder.old)
+        (places_in finder.old) edition.now.reserved.items tree.now around) ids.now in
         OnOk result (map named_view found.new.items ≡ map named_view found.old.items ++ all) }
     ensures same { IsSameTreeFinder finder.old finder.new }
 {
@@ -130,7 +135,8 @@ fn push_one(
 ) -> Result<(), AllocError>
     requires finds { FindsTrees finder.old }
     requires contained { IsContained tree.now id }
-    ensures named { let all = named_at (text_in finder.old) (places_in finder.old) edition.now.reserved.items tree.now around id in
+    ensures named { let all = named_at (text_in finder.old)
+        (places_in finder.old) edition.now.reserved.items tree.now around id in
         OnOk result (map named_view found.new.items ≡ map named_view found.old.items ++ all) }
     ensures same { IsSameTreeFinder finder.old finder.new }
 {
@@ -171,7 +177,8 @@ type Firsts<'n> = HashMap<Key<'n>, &'n Named>;
 
 /// Where something stands, with nothing behind it.
 fn push_spot_alone(path: &str, spot: Option<Spot>, out: &mut String) -> Result<(), AllocError>
-    ensures { OnOk result (string_bytes out.new ≡ string_bytes out.old ++ spec.spot_text path.now spot) }
+    ensures { OnOk result (string_bytes out.new ≡ string_bytes out.old
+        ++ spec.spot_text path.now spot) }
 {
     match spot {
         Some(spot) => {
@@ -206,9 +213,11 @@ fn push_if_repeated<'n>(
     firsts: &mut Firsts<'n>,
     out: &mut String,
 ) -> Result<(), AllocError>
-    ensures text { let line = spec.line_if_any path.now (named_view import.now) (first_in firsts.old key.entry) in
+    ensures text { let line = spec.line_if_any path.now (named_view import.now)
+        (first_in firsts.old key.entry) in
         OnOk result (string_bytes out.new ≡ string_bytes out.old ++ line) }
-    ensures first { OnOk result (PutsFirst firsts.old firsts.new key.entry (named_view import.now)) }
+    ensures first { OnOk result
+        (PutsFirst firsts.old firsts.new key.entry (named_view import.now)) }
 {
     match firsts.get(&key).copied() {
         Some(first) => push_repeat(path, import, first, out),

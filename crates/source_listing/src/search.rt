@@ -76,7 +76,8 @@ fn path_of(
     around: Option<&Name>,
     name: &Name,
 ) -> Result<String, AllocError>
-    ensures { let path_is = spec.path_inside (row_view row.now) (option_copied around.entry) name.now in
+    ensures { let path_is = spec.path_inside (row_view row.now)
+        (option_copied around.entry) name.now in
         IfOk result (λ path. string_bytes path ≡ path_is) }
 {
     let mut path = String::new(alloc);
@@ -104,7 +105,8 @@ impl Query<'_> {
     }
 
     fn finds(self, alloc: Global, row: &Row<'_>) -> Result<bool, AllocError>
-        ensures { IfOk result (λ found. found ≡ spec.is_found (query_view self.entry) (row_view row.now)) }
+        ensures { IfOk result (λ found. found
+            ≡ spec.is_found (query_view self.entry) (row_view row.now)) }
     {
         let Some(name) = row.name else {
             return Ok(false);
@@ -123,7 +125,8 @@ impl Query<'_> {
         around: Option<&Name>,
         member: &ListedMember,
     ) -> Result<bool, AllocError>
-        ensures { let is_found = spec.is_member_found (query_view self.entry) (row_view row.now) (option_copied around.entry) in
+        ensures { let is_found = spec.is_member_found (query_view self.entry) (row_view row.now)
+            (option_copied around.entry) in
             IfOk result (λ found. found ≡ is_found (listed_view member.now)) }
     {
         if !self.shows(member.is_active) {
@@ -161,7 +164,8 @@ impl Printer<'_> {
         place: Option<ItemPlace>,
         out: &mut String,
     ) -> Result<(), AllocError>
-        ensures text { let line = spec.if_found (file_of self.old) (reserved_of self.old) (query_view query.entry) place in
+        ensures text { let line = spec.if_found (file_of self.old) (reserved_of self.old)
+            (query_view query.entry) place in
             OnOk result (string_bytes out.new ≡ string_bytes out.old ++ line (row_view row.now)) }
         ensures same { IsSameFile self.old self.new }
     {
@@ -198,7 +202,8 @@ impl Printer<'_> {
         member: &ListedMember,
         out: &mut String,
     ) -> Result<(), AllocError>
-        ensures text { let lines = spec.found_members (file_of self.old) (reserved_of self.old) (query_view query.entry) in
+        ensures text { let lines = spec.found_members (file_of self.old) (reserved_of self.old)
+            (query_view query.entry) in
             let lines = lines (row_view row.now) (option_copied around.entry) in
             OnOk result (string_bytes out.new ≡ string_bytes out.old ++ lines (listed_view member.now ∷ [])) }
         ensures same { IsSameFile self.old self.new }
@@ -220,7 +225,8 @@ impl Printer<'_> {
         members: &[ListedMember],
         out: &mut String,
     ) -> Result<(), AllocError>
-        ensures text { let lines = spec.found_members (file_of self.old) (reserved_of self.old) (query_view query.entry) in
+        ensures text { let lines = spec.found_members (file_of self.old) (reserved_of self.old)
+            (query_view query.entry) in
             let lines = lines (row_view row.now) (option_copied around.entry) in
             OnOk result (string_bytes out.new ≡ string_bytes out.old ++ lines (map listed_view members.now)) }
         ensures same { IsSameFile self.old self.new }
@@ -241,7 +247,8 @@ impl Printer<'_> {
         out: &mut String,
     ) -> Result<(), AllocError>
         requires { AreDistinct (places_of self.old) }
-        ensures text { let lines = spec.whole_found (file_of self.old) (reading_view reading.entry) (reserved_of self.old) in
+        ensures text { let lines = spec.whole_found (file_of self.old) (reading_view reading.entry)
+            (reserved_of self.old) in
             let lines = lines (places_of self.old) (query_view query.entry) (row_view row.now) in
             OnOk result (string_bytes out.new ≡ string_bytes out.old ++ lines) }
         ensures same { IsSameFile self.old self.new }

@@ -64,7 +64,8 @@ fn push_name(name: &str, path: &mut String) -> Result<(), AllocError>
 
 /// What stands between the colons of a text.
 fn words(alloc: Global, text: &str) -> Result<Vec<&str>, AllocError>
-    ensures { IfOk result (λ words. map (λ w. w.now) words.items ≡ slice_split (λ b. b == 58) text.now) }
+    ensures { IfOk result (λ words. map (λ w. w.now) words.items
+        ≡ slice_split (λ b. b == 58) text.now) }
 {
     let mut words = Vec::new(alloc);
     for word in text.split(':') {
@@ -76,7 +77,8 @@ fn words(alloc: Global, text: &str) -> Result<Vec<&str>, AllocError>
 /// The path of the names that stand between colons.
 #[tactic(auto, using(crate::proofs::Named::read_first))]
 fn joined_names(alloc: Global, words: &[&str]) -> Result<Option<String>, AllocError>
-    ensures { IfOk result (λ path. option_map string_bytes path ≡ spec.joined_names (map (λ w. w.now) words.now)) }
+    ensures { IfOk result (λ path. option_map string_bytes path
+        ≡ spec.joined_names (map (λ w. w.now) words.now)) }
 {
     let mut path = String::new(alloc);
     let mut left = words;
@@ -112,7 +114,8 @@ fn sought_from(
     is_anywhere: bool,
     names: &str,
 ) -> Result<Option<SoughtPath>, AllocError>
-    ensures { let path_is = option_map (spec.sought_from is_anywhere) (spec.sought_names names.now) in
+    ensures { let path_is = option_map (spec.sought_from is_anywhere)
+        (spec.sought_names names.now) in
         IfOk result (λ sought. option_map sought_view sought ≡ path_is) }
 {
     let words = words(alloc, names)?;

@@ -61,7 +61,8 @@ pub(crate) fn push_subject(
     subject: Subject<'_>,
     out: &mut String,
 ) -> Result<(), AllocError>
-    ensures { let text = spec.subject_text edition.now.reserved.items (subject_view subject.entry) in
+    ensures { let text = spec.subject_text edition.now.reserved.items
+        (subject_view subject.entry) in
         OnOk result (string_bytes out.new ≡ string_bytes out.old ++ text) }
 {
     match subject {

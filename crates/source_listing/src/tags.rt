@@ -153,7 +153,8 @@ fn tag_text(
     word: &str,
     scope: &[&Name],
 ) -> Result<String, AllocError>
-    ensures { let tag = spec.tag_text name.now path.now line letter.now word.now (map (λ n. n.now) scope.now) in
+    ensures { let tag = spec.tag_text name.now path.now line letter.now word.now
+        (map (λ n. n.now) scope.now) in
         IfOk result (λ text. string_bytes text ≡ tag) }
 {
     let mut tag = String::new(alloc);
@@ -196,7 +197,8 @@ fn names_around<'a>(
     row: &Row<'a>,
     name: Option<&'a Name>,
 ) -> Result<Vec<&'a Name>, AllocError>
-    ensures { let names = map (λ n. n.now) row.now.scope.items ++ option_to_list (option_copied name.entry) in
+    ensures { let names = map (λ n. n.now) row.now.scope.items
+        ++ option_to_list (option_copied name.entry) in
         IfOk result (λ v. map (λ n. n.now) v.items ≡ names) }
 {
     let mut names = Vec::from_slice(alloc, &row.scope)?;
@@ -215,7 +217,8 @@ fn member_tag(
     name: Option<&Name>,
     member: &ListedMember,
 ) -> Result<Option<String>, AllocError>
-    ensures tag { let tag = spec.member_tag path.now finder.old.lines (row_view row.now) (option_copied name.entry) in
+    ensures tag { let tag = spec.member_tag path.now finder.old.lines (row_view row.now)
+        (option_copied name.entry) in
         IfOk result (λ made. option_map string_bytes made ≡ tag (listed_view member.now)) }
     ensures same { IsSameFinder finder.old finder.new }
 {
@@ -253,7 +256,8 @@ fn push_tag(
     place: Option<ItemPlace>,
     tags: &mut Vec<String>,
 ) -> Result<(), AllocError>
-    ensures tags { let added = spec.if_any (spec.tag path.now finder.old.lines place (row_view row.now)) in
+    ensures tags { let added = spec.if_any
+        (spec.tag path.now finder.old.lines place (row_view row.now)) in
         OnOk result (map string_bytes tags.new.items ≡ map string_bytes tags.old.items ++ added) }
     ensures kept { IsBeginOf tags.old.items tags.new.items }
     ensures same { IsSameFinder finder.old finder.new }
@@ -323,7 +327,8 @@ fn push_whole(
     tags: &mut Vec<String>,
 ) -> Result<(), AllocError>
     requires { AreDistinct finder.old.places.all.now }
-    ensures tags { let all = spec.whole_tags path.now finder.old.lines (reading_view reading.entry) in
+    ensures tags { let all = spec.whole_tags path.now finder.old.lines
+        (reading_view reading.entry) in
         let added = all finder.old.places.all.now (choice_view choice) (row_view row.now) in
         OnOk result (map string_bytes tags.new.items ≡ map string_bytes tags.old.items ++ added) }
     ensures kept { IsBeginOf tags.old.items tags.new.items }
@@ -349,7 +354,8 @@ fn push_chosen(
     tags: &mut Vec<String>,
 ) -> Result<(), AllocError>
     requires { AreDistinct finder.old.places.all.now }
-    ensures tags { let all = spec.tags_under path.now finder.old.lines (reading_view reading.entry) in
+    ensures tags { let all = spec.tags_under path.now finder.old.lines
+        (reading_view reading.entry) in
         let added = all finder.old.places.all.now (choice_view choice) (row_view row.now ∷ []) in
         OnOk result (map string_bytes tags.new.items ≡ map string_bytes tags.old.items ++ added) }
     ensures kept { IsBeginOf tags.old.items tags.new.items }
@@ -383,7 +389,8 @@ pub fn push_tags(
     tags: &mut Vec<String>,
 ) -> Result<(), AllocError>
     requires { AreDistinct places.now }
-    ensures tags { let added = spec.tags path.now (reading_view reading.entry) places.now (choice_view choice) in
+    ensures tags { let added = spec.tags path.now (reading_view reading.entry) places.now
+        (choice_view choice) in
         OnOk result (map string_bytes tags.new.items ≡ map string_bytes tags.old.items ++ added (rows.rows tree.now)) }
     ensures kept { IsBeginOf tags.old.items tags.new.items }
 {

@@ -52,7 +52,8 @@ impl<'a> TreeFinder<'a> {
 
     /// Where the use tree of a number stands.
     pub(crate) fn spot(&mut self, trees: Option<UseTrees<'_>>, index: UseTreeIdx) -> Option<Spot>
-        ensures spot { result ≡ spec.tree_spots (text_in self.old) (option_map trees_view trees.entry) index.0 }
+        ensures spot { result ≡ spec.tree_spots (text_in self.old)
+            (option_map trees_view trees.entry) index.0 }
         ensures same { IsSameTreeFinder self.old self.new }
     {
         match trees {

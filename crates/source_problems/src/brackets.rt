@@ -35,7 +35,8 @@ fn close_braces(
     opened: &mut VecDeque<OpenBracket>,
     problems: &mut Vec<SourceProblem>,
 ) -> Result<(), AllocError>
-    ensures { OnOk result (spec.Adds (spec.close_braces at opened.old.items) problems.old.items (problems.new.items, opened.new.items)) }
+    ensures { OnOk result (spec.Adds (spec.close_braces at opened.old.items) problems.old.items
+        (problems.new.items, opened.new.items)) }
 {
     'opened: while let Some(bracket) = opened.pop_front() {
         if bracket.symbol == b'{' {
@@ -53,7 +54,9 @@ fn close_other(
     opened: &mut VecDeque<OpenBracket>,
     problems: &mut Vec<SourceProblem>,
 ) -> Result<(), AllocError>
-    ensures { OnOk result (spec.Adds (spec.close_other symbol at opened.old.items) problems.old.items (problems.new.items, opened.new.items)) }
+    ensures { OnOk result (spec.Adds
+        (spec.close_other symbol at opened.old.items) problems.old.items
+        (problems.new.items, opened.new.items)) }
 {
     let Some(last) = opened.pop_front() else {
         return push(problems, at, SourceProblemKind::Unmatched);
@@ -75,7 +78,8 @@ fn close(
     opened: &mut VecDeque<OpenBracket>,
     problems: &mut Vec<SourceProblem>,
 ) -> Result<(), AllocError>
-    ensures { OnOk result (spec.Adds (spec.close symbol at opened.old.items) problems.old.items (problems.new.items, opened.new.items)) }
+    ensures { OnOk result (spec.Adds (spec.close symbol at opened.old.items) problems.old.items
+        (problems.new.items, opened.new.items)) }
 {
     if symbol == b'}' {
         return close_braces(at, opened, problems);
@@ -89,7 +93,8 @@ fn take(
     opened: &mut VecDeque<OpenBracket>,
     problems: &mut Vec<SourceProblem>,
 ) -> Result<(), AllocError>
-    ensures { OnOk result (spec.Adds (spec.taken token.now opened.old.items) problems.old.items (problems.new.items, opened.new.items)) }
+    ensures { OnOk result (spec.Adds (spec.taken token.now opened.old.items) problems.old.items
+        (problems.new.items, opened.new.items)) }
 {
     let (symbol, at) = (token.symbol(), token.at());
     match token.kind() {

@@ -31,7 +31,8 @@ pub(crate) fn push_condition(
     left: usize,
     problems: &mut Vec<SourceProblem>,
 ) -> Result<(), AllocError>
-    ensures { OnOk result (problems.new.items ≡ problems.old.items ++ spec.condition_problems at left (cfg_view condition.now)) }
+    ensures { OnOk result (problems.new.items ≡ problems.old.items
+        ++ spec.condition_problems at left (cfg_view condition.now)) }
 {
     let less = left.saturating_sub(1);
     match condition {
@@ -50,7 +51,8 @@ fn push_conditions(
     left: usize,
     problems: &mut Vec<SourceProblem>,
 ) -> Result<(), AllocError>
-    ensures { OnOk result (problems.new.items ≡ problems.old.items ++ spec.conditions_problems at left (cfgs_from (map cfg_view conditions.now))) }
+    ensures { OnOk result (problems.new.items ≡ problems.old.items
+        ++ spec.conditions_problems at left (cfgs_from (map cfg_view conditions.now))) }
 {
     for condition in conditions {
         push_condition(condition, at, left, problems)?;

@@ -47,7 +47,8 @@ fn push_visibility(
     at: usize,
     problems: &mut Vec<SourceProblem>,
 ) -> Result<(), AllocError>
-    ensures { OnOk result (problems.new.items ≡ problems.old.items ++ spec.visibility_problems at visibility.now) }
+    ensures { OnOk result (problems.new.items ≡ problems.old.items
+        ++ spec.visibility_problems at visibility.now) }
 {
     match visibility {
         Some(Visibility::InPath(PathNode::Unreadable)) => {
@@ -62,7 +63,8 @@ fn push_fields(
     at: usize,
     problems: &mut Vec<SourceProblem>,
 ) -> Result<(), AllocError>
-    ensures { OnOk result (problems.new.items ≡ problems.old.items ++ spec.fields_problems at (map (λ f. f.visibility) fields.now)) }
+    ensures { OnOk result (problems.new.items ≡ problems.old.items
+        ++ spec.fields_problems at (map (λ f. f.visibility) fields.now)) }
 {
     for field in fields {
         push_visibility(&field.visibility, at, problems)?;
@@ -75,7 +77,8 @@ fn push_struct_fields(
     at: usize,
     problems: &mut Vec<SourceProblem>,
 ) -> Result<(), AllocError>
-    ensures { OnOk result (problems.new.items ≡ problems.old.items ++ spec.struct_problems at (fields_view kind.now)) }
+    ensures { OnOk result (problems.new.items ≡ problems.old.items
+        ++ spec.struct_problems at (fields_view kind.now)) }
 {
     match kind {
         StructKind::Tuple(fields) => push_fields(fields, at, problems),
@@ -117,7 +120,8 @@ fn push_some_tree(
     at: usize,
     problems: &mut Vec<SourceProblem>,
 ) -> Result<(), AllocError>
-    ensures { OnOk result (problems.new.items ≡ problems.old.items ++ spec.some_tree_problems at (option_map use_tree_view tree.now)) }
+    ensures { OnOk result (problems.new.items ≡ problems.old.items
+        ++ spec.some_tree_problems at (option_map use_tree_view tree.now)) }
 {
     match tree {
         Some(tree) => push_tree(tree, at, problems),
@@ -127,7 +131,8 @@ fn push_some_tree(
 
 #[tactic(auto, using(std::proofs::Common::append_assoc))]
 fn push_use(item: &Use, at: usize, problems: &mut Vec<SourceProblem>) -> Result<(), AllocError>
-    ensures { OnOk result (problems.new.items ≡ problems.old.items ++ spec.use_problems at (use_view item.now)) }
+    ensures { OnOk result (problems.new.items ≡ problems.old.items
+        ++ spec.use_problems at (use_view item.now)) }
 {
     push_named(&item.attrs, &item.visibility, at, problems)?;
     push_some_tree(&item.use_tree, at, problems)
@@ -139,7 +144,8 @@ fn push_call(
     at: usize,
     problems: &mut Vec<SourceProblem>,
 ) -> Result<(), AllocError>
-    ensures { OnOk result (problems.new.items ≡ problems.old.items ++ spec.call_problems at (call_view item.now)) }
+    ensures { OnOk result (problems.new.items ≡ problems.old.items
+        ++ spec.call_problems at (call_view item.now)) }
 {
     push_attributes(&item.attrs, at, problems)?;
     push_path(problems, at, SourceProblemKind::MacroPath, &item.path)
@@ -148,7 +154,8 @@ fn push_call(
 /// Adds what is wrong with an item, without those that it holds.
 #[tactic(auto, using(hir_input::proofs::SyntaxViews::item_views, crate::proofs::Views::own_parents))]
 fn push_own(item: &Item, at: usize, problems: &mut Vec<SourceProblem>) -> Result<(), AllocError>
-    ensures { OnOk result (problems.new.items ≡ problems.old.items ++ spec.own_problems at (item_view item.now)) }
+    ensures { OnOk result (problems.new.items ≡ problems.old.items
+        ++ spec.own_problems at (item_view item.now)) }
 {
     match item {
         Item::AsmExpr(item) => push_attributes(&item.attrs, at, problems),
@@ -177,7 +184,8 @@ fn push_extern_item(
     at: usize,
     problems: &mut Vec<SourceProblem>,
 ) -> Result<(), AllocError>
-    ensures { OnOk result (problems.new.items ≡ problems.old.items ++ spec.own_problems at (extern_item_view item.now)) }
+    ensures { OnOk result (problems.new.items ≡ problems.old.items
+        ++ spec.own_problems at (extern_item_view item.now)) }
 {
     match item {
         ExternItem::Fn(item) => push_named(&item.attrs, &item.visibility, at, problems),
@@ -254,7 +262,8 @@ pub(crate) fn push_syntax(
     places: &[ItemPlace],
     problems: &mut Vec<SourceProblem>,
 ) -> Result<(), AllocError>
-    ensures { OnOk result (problems.new.items ≡ problems.old.items ++ spec.syntax_problems (syntax_view syntax.now) places.now) }
+    ensures { OnOk result (problems.new.items ≡ problems.old.items
+        ++ spec.syntax_problems (syntax_view syntax.now) places.now) }
 {
     let Syntax::SourceFile { attrs, items } = syntax else {
         return Ok(());

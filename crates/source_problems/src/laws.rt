@@ -18,6 +18,8 @@ fn problems()
 
 // The derived order is that of places first, and at a place that of kinds.
 fn order()
-    ensures by_place { (p q : SourceProblem) → p.at < q.at → ⟦<SourceProblem as Ord>⟧.cmp p q ≡ Less }
-    ensures by_kind { (p q : SourceProblem) → p.at ≡ q.at → ⟦<SourceProblem as Ord>⟧.cmp p q ≡ ⟦<SourceProblemKind as Ord>⟧.cmp p.kind q.kind }
+    ensures by_place { (p q : SourceProblem) → p.at < q.at → ⟦<SourceProblem as Ord>⟧.cmp p q
+        ≡ Less }
+    ensures by_kind { (p q : SourceProblem) → p.at ≡ q.at → ⟦<SourceProblem as Ord>⟧.cmp p q
+        ≡ ⟦<SourceProblemKind as Ord>⟧.cmp p.kind q.kind }
 {}

@@ -19,7 +19,8 @@ fn push_meta_path(
     at: usize,
     problems: &mut Vec<SourceProblem>,
 ) -> Result<(), AllocError>
-    ensures { OnOk result (problems.new.items ≡ problems.old.items ++ spec.meta_path_problems at path.now) }
+    ensures { OnOk result (problems.new.items ≡ problems.old.items
+        ++ spec.meta_path_problems at path.now) }
 {
     match path {
         Some(PathNode::Readable(_)) => Ok(()),
@@ -35,7 +36,8 @@ fn push_bare_meta(
     left: usize,
     problems: &mut Vec<SourceProblem>,
 ) -> Result<(), AllocError>
-    ensures { OnOk result (problems.new.items ≡ problems.old.items ++ spec.bare_meta_problems at left path.now) }
+    ensures { OnOk result (problems.new.items ≡ problems.old.items
+        ++ spec.bare_meta_problems at left path.now) }
 {
     if left == 0 {
         return push(problems, at, SourceProblemKind::DeepAttribute);
@@ -52,7 +54,8 @@ fn push_meta(
     left: usize,
     problems: &mut Vec<SourceProblem>,
 ) -> Result<(), AllocError>
-    ensures { OnOk result (problems.new.items ≡ problems.old.items ++ spec.meta_problems at left (meta_view meta.now)) }
+    ensures { OnOk result (problems.new.items ≡ problems.old.items
+        ++ spec.meta_problems at left (meta_view meta.now)) }
 {
     let less = left.saturating_sub(1);
     match meta {
@@ -75,7 +78,8 @@ fn push_metas(
     left: usize,
     problems: &mut Vec<SourceProblem>,
 ) -> Result<(), AllocError>
-    ensures { OnOk result (problems.new.items ≡ problems.old.items ++ spec.metas_problems at left (metas_from (map meta_view metas.now))) }
+    ensures { OnOk result (problems.new.items ≡ problems.old.items
+        ++ spec.metas_problems at left (metas_from (map meta_view metas.now))) }
 {
     for meta in metas {
         push_meta(meta, at, left, problems)?;
@@ -89,7 +93,8 @@ pub(crate) fn push_attributes(
     at: usize,
     problems: &mut Vec<SourceProblem>,
 ) -> Result<(), AllocError>
-    ensures { OnOk result (problems.new.items ≡ problems.old.items ++ spec.attribute_problems at (map meta_view attrs.now)) }
+    ensures { OnOk result (problems.new.items ≡ problems.old.items
+        ++ spec.attribute_problems at (map meta_view attrs.now)) }
 {
     push_metas(attrs, at, MOST_DEPTH, problems)
 }

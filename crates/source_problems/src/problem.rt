@@ -93,7 +93,8 @@ pub(crate) fn push_path(
     kind: SourceProblemKind,
     path: &Option<PathNode>,
 ) -> Result<(), AllocError>
-    ensures { OnOk result (problems.new.items ≡ problems.old.items ++ spec.path_problems kind at path.now) }
+    ensures { OnOk result (problems.new.items ≡ problems.old.items
+        ++ spec.path_problems kind at path.now) }
 {
     match path {
         Some(PathNode::Unreadable) => push(problems, at, kind),

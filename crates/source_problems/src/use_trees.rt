@@ -16,7 +16,8 @@ pub(crate) fn push_tree(
     at: usize,
     problems: &mut Vec<SourceProblem>,
 ) -> Result<(), AllocError>
-    ensures { OnOk result (problems.new.items ≡ problems.old.items ++ spec.tree_problems at (use_tree_view tree.now)) }
+    ensures { OnOk result (problems.new.items ≡ problems.old.items
+        ++ spec.tree_problems at (use_tree_view tree.now)) }
 {
     push_path(problems, at, SourceProblemKind::UsePath, &tree.path)?;
     match &tree.list {
@@ -31,7 +32,8 @@ fn push_trees(
     at: usize,
     problems: &mut Vec<SourceProblem>,
 ) -> Result<(), AllocError>
-    ensures { OnOk result (problems.new.items ≡ problems.old.items ++ spec.trees_problems at (trees_from (map use_tree_view trees.now))) }
+    ensures { OnOk result (problems.new.items ≡ problems.old.items
+        ++ spec.trees_problems at (trees_from (map use_tree_view trees.now))) }
 {
     for tree in trees {
         push_tree(tree, at, problems)?;

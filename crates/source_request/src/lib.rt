@@ -18,7 +18,8 @@ fn syntaxes(
     texts: &[String],
     edition: EditionYear,
 ) -> Result<Vec<Syntax>, AllocError>
-    ensures { IfOk result (λ files. AreRead edition (map string_bytes texts.now) (map syntax_view files.items)) }
+    ensures { IfOk result (λ files. AreRead edition (map string_bytes texts.now)
+        (map syntax_view files.items)) }
 {
     let mut files = Vec::new(alloc);
     for text in texts {
@@ -42,7 +43,8 @@ pub fn source_request(
 ) -> Result<String, RequestFault>
     ensures asked { let asked = IsAsked options.now (map string_bytes texts.now) shows.now in
         IfOk result (λ out. asked (string_bytes out)) }
-    ensures refused { IfErr result (IsUnwritten options.now (map string_bytes texts.now) shows.now) }
+    ensures refused { IfErr result
+        (IsUnwritten options.now (map string_bytes texts.now) shows.now) }
 {
     let files = syntaxes(alloc, texts, options.edition.year)?;
     request_text(alloc, options, &files, shows)

@@ -40,7 +40,8 @@ fn is_call(cursor: &Cursor<'_>) -> bool
 
 /// Adds the text of the next token, behind one of this symbol.
 fn push_token(out: &mut String, before: u8, cursor: &Cursor<'_>) -> Result<(), AllocError>
-    ensures { OnOk result (string_bytes out.new ≡ string_bytes out.old ++ (spec.gap before cursor.now ++ text cursor.now)) }
+    ensures { OnOk result (string_bytes out.new ≡ string_bytes out.old
+        ++ (spec.gap before cursor.now ++ text cursor.now)) }
 {
     if clings_behind(before) || clings_before(cursor.symbol()) || is_call(cursor) {
         return out.push_str(cursor.text());

@@ -67,7 +67,8 @@ fn member_path(
 }
 
 fn member_part(alloc: Global, text: &str, path: &str, member: &Member) -> Result<Part, AllocError>
-    ensures { IfOk result (λ part. part_view part ≡ spec.member_part text.now path.now (member_view member.now)) }
+    ensures { IfOk result (λ part. part_view part
+        ≡ spec.member_part text.now path.now (member_view member.now)) }
 {
     let path = member_path(alloc, text, path, member.name)?;
     let mut label = String::new(alloc);
@@ -161,7 +162,8 @@ fn push_name(
 }
 
 fn push_path(around: &[Around<'_>], out: &mut String) -> Result<(), AllocError>
-    ensures { OnOk result (string_bytes out.new ≡ string_bytes out.old ++ path_of (map around_view around.now)) }
+    ensures { OnOk result (string_bytes out.new ≡ string_bytes out.old
+        ++ path_of (map around_view around.now)) }
 {
     for module in around {
         out.push_str(module.name)?;
@@ -177,7 +179,8 @@ fn item_path(
     around: &[Around<'_>],
     item: &ItemPlace,
 ) -> Result<String, AllocError>
-    ensures { IfOk result (λ out. string_bytes out ≡ spec.item_path edition text.now (map around_view around.now) item.now) }
+    ensures { IfOk result (λ out. string_bytes out
+        ≡ spec.item_path edition text.now (map around_view around.now) item.now) }
 {
     let mut out = String::new(alloc);
     push_path(around, &mut out)?;
@@ -233,7 +236,8 @@ fn still_open<'t>(
     place: usize,
     around: &[Around<'t>],
 ) -> Result<Vec<Around<'t>>, AllocError>
-    ensures { IfOk result (λ v. map around_view v.items ≡ spec.still_open place (map around_view around.now)) }
+    ensures { IfOk result (λ v. map around_view v.items
+        ≡ spec.still_open place (map around_view around.now)) }
 {
     let mut left = Vec::new(alloc);
     for module in around {
@@ -250,7 +254,8 @@ fn enter<'t>(
     item: &ItemPlace,
     around: &mut Vec<Around<'t>>,
 ) -> Result<(), AllocError>
-    ensures { OnOk result (map around_view around.new.items ≡ spec.behind text.now (map around_view around.old.items) item.now.id.kind item.now) }
+    ensures { OnOk result (map around_view around.new.items
+        ≡ spec.behind text.now (map around_view around.old.items) item.now.id.kind item.now) }
 {
     match item.id.kind {
         AstIdKind::Module => {

@@ -66,7 +66,8 @@ pub(crate) fn text_at_some(text: &str, range: Option<TextRange>) -> &str
 
 /// Adds a word, and a text with a blank in front if it is not empty.
 pub(crate) fn push_label(out: &mut String, word: &str, text: &str) -> Result<(), AllocError>
-    ensures { OnOk result (string_bytes out.new ≡ string_bytes out.old ++ spec.label word.now text.now) }
+    ensures { OnOk result (string_bytes out.new ≡ string_bytes out.old
+        ++ spec.label word.now text.now) }
 {
     out.push_str(word)?;
     if text.is_empty() {

@@ -69,7 +69,8 @@ fn push_outside(
 /// Adds the same of those of some parts, in preorder, that begin before a place.
 #[tactic(auto, using(crate::proofs::Steps::begun_more, crate::proofs::Steps::begun_stop))]
 fn push_begun(place: usize, parts: &[Part], holes: &mut Vec<Hole>) -> Result<(), AllocError>
-    ensures { OnOk result (holes.new.items ≡ holes.old.items ++ spec.begun place (map part_view parts.now)) }
+    ensures { OnOk result (holes.new.items ≡ holes.old.items
+        ++ spec.begun place (map part_view parts.now)) }
 {
     for part in parts {
         if part.range.start >= place {
@@ -82,7 +83,8 @@ fn push_begun(place: usize, parts: &[Part], holes: &mut Vec<Hole>) -> Result<(),
 
 /// What of a part are no tokens of its own, where these come behind it.
 fn holes(alloc: Global, part: &Part, behind: &[Part]) -> Result<Vec<Hole>, AllocError>
-    ensures { IfOk result (λ v. v.items ≡ spec.holes (part_view part.now) (map part_view behind.now)) }
+    ensures { IfOk result (λ v. v.items
+        ≡ spec.holes (part_view part.now) (map part_view behind.now)) }
 {
     let mut holes = Vec::new(alloc);
     push_inside(part.body, &mut holes)?;
@@ -110,7 +112,8 @@ fn row<'t>(
     behind: &[Part],
     has_docs: bool,
 ) -> Result<Row<'t>, AllocError>
-    ensures { IfOk result (λ row. row_view row ≡ spec.row has_docs text.now (part_view part.now) (map part_view behind.now)) }
+    ensures { IfOk result (λ row. row_view row
+        ≡ spec.row has_docs text.now (part_view part.now) (map part_view behind.now)) }
 {
     let holes = holes(alloc, part, behind)?;
     let holes = moved_back(alloc, part.range.start, &holes)?;
@@ -130,7 +133,8 @@ pub fn rows<'t>(
     parts: &[Part],
     has_docs: bool,
 ) -> Result<Vec<Row<'t>>, AllocError>
-    ensures { IfOk result (λ v. map row_view v.items ≡ spec.rows has_docs text.now (map part_view parts.now)) }
+    ensures { IfOk result (λ v. map row_view v.items
+        ≡ spec.rows has_docs text.now (map part_view parts.now)) }
 {
     let mut rows = Vec::new(alloc);
     let mut left = parts;

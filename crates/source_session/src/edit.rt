@@ -40,7 +40,8 @@ pub(crate) const MOST_BYTES: usize = 0x1_0000_0000;
 
 // Takes a text of at most 2^32 bytes out.
 fn text_at(alloc: Global, members: &mut Map<String, Value>) -> Result<String, Fault>
-    ensures reads { Reads string_bytes result (required_form (codes "text") short_text (held members.old)) }
+    ensures reads { Reads string_bytes result
+        (required_form (codes "text") short_text (held members.old)) }
     ensures short { IfOk result (λ text. IsShort (string_bytes text)) }
 {
     match taken(members, "text") {
@@ -88,7 +89,8 @@ fn range_of(alloc: Global, value: &Value) -> Result<TextRange, Fault>
 }
 
 fn range_at(alloc: Global, members: &Map<String, Value>) -> Result<TextRange, Fault>
-    ensures { Reads (λ range. range) result (required_form (codes "range") range_form (held members.now)) }
+    ensures { Reads (λ range. range) result
+        (required_form (codes "range") range_form (held members.now)) }
 {
     match field(members, "range") {
         Some(found) => range_of(alloc, found).in_member(alloc, "range"),

@@ -33,7 +33,8 @@ fn push_segment(name: &Name, path: &mut String) -> Result<(), AllocError>
 }
 
 fn push_scope(scope: &[&Name], path: &mut String) -> Result<(), AllocError>
-    ensures { OnOk result (string_bytes path.new ≡ string_bytes path.old ++ flat_map (λ n. segment n.now) scope.now) }
+    ensures { OnOk result (string_bytes path.new ≡ string_bytes path.old
+        ++ flat_map (λ n. segment n.now) scope.now) }
 {
     for name in scope {
         push_segment(name, path)?;
@@ -129,7 +130,8 @@ fn placed_value(
     at: Position,
     place: ItemPlace,
 ) -> Result<Value, AllocError>
-    ensures { IfOk result (λ value. view value ≡ spec.placed_form file krate (string (string_bytes id)) at place) }
+    ensures { IfOk result (λ value. view value
+        ≡ spec.placed_form file krate (string (string_bytes id)) at place) }
 {
     let (file, krate) = (file.0, krate.0);
     let (column, line) = (at.column, at.line);
@@ -143,7 +145,9 @@ fn placeless_value(
     krate: Crate,
     id: String,
 ) -> Result<Value, AllocError>
-    ensures { (text : List ℕ) → IfOk result (λ value. view value ≡ spec.in_file file krate (string (string_bytes id)) text None) }
+    ensures { (text : List ℕ)
+        → IfOk result (λ value. view value
+        ≡ spec.in_file file krate (string (string_bytes id)) text None) }
 {
     let (file, krate) = (file.0, krate.0);
     json!(in alloc; {"crate": krate, "file": file, "id": id})
@@ -157,7 +161,8 @@ fn in_file(
     text: &str,
     place: Option<ItemPlace>,
 ) -> Result<Value, AllocError>
-    ensures { IfOk result (λ value. view value ≡ spec.in_file file krate (string (shown_id id)) text.now place) }
+    ensures { IfOk result (λ value. view value
+        ≡ spec.in_file file krate (string (shown_id id)) text.now place) }
 {
     let id = id.to_string(alloc)?;
     let Some(place) = place else {
@@ -183,7 +188,8 @@ fn found_value(
     entry: &Entry,
 ) -> Result<Value, AllocError>
     requires { IsDeclared sources.now entry.now }
-    ensures { IfOk result (λ value. view value ≡ spec.found_form sources.now texts.now.entries entry.now) }
+    ensures { IfOk result (λ value. view value
+        ≡ spec.found_form sources.now texts.now.entries entry.now) }
 {
     let tree = sources.tree(entry.place, entry.krate);
     let id = entry.id.ast_id(tree);
@@ -232,7 +238,8 @@ pub(crate) fn found_values(
     entries: &[Entry],
 ) -> Result<Vec<Value>, AllocError>
     requires { All (IsDeclared sources.now) entries.now }
-    ensures { let found = flat_map (found_one sources.now texts.now.entries sought.now) entries.now in
+    ensures { let found = flat_map
+        (found_one sources.now texts.now.entries sought.now) entries.now in
         IfOk result (λ values. map view values.items ≡ found) }
 {
     let mut values = Vec::new(alloc);

@@ -57,7 +57,8 @@ fn is_absent(value: &Value) -> bool
 
 // The key of the first member that no such object has. A null counts as absent.
 fn unknown_key(object: LineObject, members: &Map<String, Value>) -> Option<&str>
-    ensures { option_map (λ key. key.now) result ≡ spec.unknown_key object (members_view members.now.entries) }
+    ensures { option_map (λ key. key.now) result
+        ≡ spec.unknown_key object (members_view members.now.entries) }
 {
     for (key, member) in members.iter() {
         if !is_absent(member) && !is_known(object, key.as_str()) {

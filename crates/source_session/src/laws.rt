@@ -9,7 +9,8 @@ use crate::splice::ChangeFault;
 
 // A new conversation, whatever its lines, is where the edits lead that stand by its answers.
 fn conversations()
-    ensures led { (lines : List (List ℕ)) (new : Open) (text : List ℕ) → IsServed Replies None lines new text
+    ensures led { (lines : List (List ℕ)) (new : Open) (text : List ℕ)
+        → IsServed Replies None lines new text
         → IsLedByAnswers lines text new }
 {}
 

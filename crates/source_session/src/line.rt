@@ -140,7 +140,8 @@ fn no_settings_in(alloc: Global, members: &Map<String, Value>) -> Result<(), Fau
 // ---- edits and shows
 
 fn edits_of(alloc: Global, items: Vec<Value>, count: usize) -> Result<Vec<LineEdit>, Fault>
-    ensures reads { Reads (λ v. map edit_view v.items) result (each (line_edit count) (items_view items.items)) }
+    ensures reads { Reads (λ v. map edit_view v.items) result
+        (each (line_edit count) (items_view items.items)) }
     ensures usable { IfOk result (λ v. All (IsUsable count) v.items) }
 {
     let mut edits = Vec::with_capacity(alloc, items.len())?;
@@ -170,7 +171,8 @@ fn edits_in(
     members: &mut Map<String, Value>,
     count: usize,
 ) -> Result<Vec<LineEdit>, Fault>
-    ensures reads { Reads (λ v. map edit_view v.items) result (each_at (line_edit count) (codes "edits") (held members.old)) }
+    ensures reads { Reads (λ v. map edit_view v.items) result
+        (each_at (line_edit count) (codes "edits") (held members.old)) }
     ensures usable { IfOk result (λ v. All (IsUsable count) v.items) }
     ensures left { OnOk result (held members.new ≡ without (codes "edits") (held members.old)) }
 {
@@ -183,7 +185,8 @@ fn shows_in(
     members: &mut Map<String, Value>,
     count: usize,
 ) -> Result<Vec<LineShow>, Fault>
-    ensures reads { Reads (λ v. v.items) result (each_at (line_show count) (codes "shows") (held members.old)) }
+    ensures reads { Reads (λ v. v.items) result
+        (each_at (line_show count) (codes "shows") (held members.old)) }
     ensures known { IfOk result (λ v. All (NamesCrate count) v.items) }
 {
     let items = list_at(alloc, members, "shows")?;

@@ -47,7 +47,8 @@ fn reading(
     edition: EditionYear,
 ) -> Result<Meaning, AllocError>
     requires { IsShort (string_bytes text) }
-    ensures means { IfOk result (λ m. IsReading edition file.0 (string_bytes text) (table_view m.edit) m.change) }
+    ensures means { IfOk result
+        (λ m. IsReading edition file.0 (string_bytes text) (table_view m.edit) m.change) }
     ensures known { (count : ℕ) → IfOk result (λ m. EditNamesCrate count m.edit) }
     ensures placed { IfOk result (λ m. LeavesPlaced m.change) }
 {
@@ -77,10 +78,14 @@ fn changing(
     changes: &[Change],
     edition: EditionYear,
 ) -> Result<Meaning, LineError>
-    ensures means { IfOk result (λ m. Means edition (after (text_in texts.now.entries) changes.now) (change_text file.0 range new.now) (table_view m.edit) m.change) }
+    ensures means { IfOk result
+        (λ m. Means edition (after (text_in texts.now.entries) changes.now)
+        (change_text file.0 range new.now) (table_view m.edit) m.change) }
     ensures known { (count : ℕ) → IfOk result (λ m. EditNamesCrate count m.edit) }
     ensures placed { IfOk result (λ m. LeavesPlaced m.change) }
-    ensures fails { IfErr result (TellsFault (IsFailing (after (text_in texts.now.entries) changes.now) (change_text file.0 range new.now) (length changes.now))) }
+    ensures fails { IfErr result
+        (TellsFault (IsFailing (after (text_in texts.now.entries) changes.now)
+        (change_text file.0 range new.now) (length changes.now))) }
 {
     let old = text_after(texts, changes, file.0);
     let made = changed(alloc, old, range, new, changes.len())?;
@@ -98,10 +103,14 @@ fn meaning_of(
     edition: EditionYear,
 ) -> Result<Meaning, LineError>
     requires { IsUsable count edit }
-    ensures means { IfOk result (λ m. Means edition (after (text_in texts.now.entries) changes.now) (edit_view edit) (table_view m.edit) m.change) }
+    ensures means { IfOk result
+        (λ m. Means edition (after (text_in texts.now.entries) changes.now) (edit_view edit)
+        (table_view m.edit) m.change) }
     ensures known { IfOk result (λ m. EditNamesCrate count m.edit) }
     ensures placed { IfOk result (λ m. LeavesPlaced m.change) }
-    ensures fails { IfErr result (TellsFault (IsFailing (after (text_in texts.now.entries) changes.now) (edit_view edit) (length changes.now))) }
+    ensures fails { IfErr result
+        (TellsFault (IsFailing (after (text_in texts.now.entries) changes.now) (edit_view edit)
+        (length changes.now))) }
 {
     match edit {
         LineEdit::Table(edit) => {
@@ -129,8 +138,11 @@ pub(crate) fn meanings_of(
     edition: EditionYear,
 ) -> Result<Meanings, LineError>
     requires { All (IsUsable count) edits.items }
-    ensures meant { IfOk result (λ m. AreMeant edition (text_in texts.now.entries) (map edit_view edits.items) (map table_view m.edits.items) m.changes.items) }
-    ensures fails { IfErr result (TellsFault (FailsAt edition (text_in texts.now.entries) (map edit_view edits.items))) }
+    ensures meant { IfOk result
+        (λ m. AreMeant edition (text_in texts.now.entries) (map edit_view edits.items)
+        (map table_view m.edits.items) m.changes.items) }
+    ensures fails { IfErr result
+        (TellsFault (FailsAt edition (text_in texts.now.entries) (map edit_view edits.items))) }
     ensures known { IfOk result (λ m. All (EditNamesCrate count) m.edits.items) }
     ensures placed { IfOk result (λ m. All LeavesPlaced m.changes.items) }
     ensures count { IfOk result (λ m. length m.edits.items ≡ length edits.items) }

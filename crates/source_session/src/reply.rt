@@ -22,7 +22,8 @@ pub(crate) struct Reply {
 // Adds a value without a float.
 fn push_value(alloc: Global, value: &Value, text: &mut String) -> Result<(), AllocError>
     requires { has_float (view value.now) ≡ false }
-    ensures { OnOk result (string_bytes text.new ≡ string_bytes text.old ++ compact_text (view value.now)) }
+    ensures { OnOk result (string_bytes text.new ≡ string_bytes text.old
+        ++ compact_text (view value.now)) }
 {
     let written = value.to_string(alloc)?;
     text.push_str(&written)?;
@@ -48,7 +49,8 @@ fn push_outcome(
     text: &mut String,
 ) -> Result<(), AllocError>
     requires { IsUnfloating outcome }
-    ensures { OnOk result (string_bytes text.new ≡ string_bytes text.old ++ outcome_text is_open (outcome_view outcome)) }
+    ensures { OnOk result (string_bytes text.new ≡ string_bytes text.old
+        ++ outcome_text is_open (outcome_view outcome)) }
 {
     match outcome {
         Ok(values) => {
@@ -75,7 +77,8 @@ pub(crate) fn reply_text(
 ) -> Result<String, AllocError>
     requires id { has_float (view reply.id) ≡ false }
     requires outcome { IsUnfloating reply.outcome }
-    ensures { IfOk result (λ text. string_bytes text ≡ reply_text (view reply.id) number (outcome_view reply.outcome)) }
+    ensures { IfOk result (λ text. string_bytes text
+        ≡ reply_text (view reply.id) number (outcome_view reply.outcome)) }
 {
     let mut text = String::from_str(alloc, "{\"id\":")?;
     push_value(alloc, &reply.id, &mut text)?;

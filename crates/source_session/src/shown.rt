@@ -31,7 +31,8 @@ fn table_value(
     show: Show,
 ) -> Result<Value, AllocError>
     requires { Knows sources.now show }
-    ensures { IfOk result (λ value. IsText (IsPrinted edition.now.reserved.items sources.now show) (view value)) }
+    ensures { IfOk result (λ value. IsText (IsPrinted edition.now.reserved.items sources.now show)
+        (view value)) }
 {
     let mut text = String::new(alloc);
     Pages.push_show(alloc, sources, edition, show, &mut text)?;
@@ -188,7 +189,8 @@ impl Session {
     }
 
     fn find(&mut self, alloc: Global, sought: &SoughtItem) -> Result<Value, AllocError>
-        ensures found { IfOk result (λ value. IsFound self.old.table self.old.texts sought.now (view value)) }
+        ensures found { IfOk result
+            (λ value. IsFound self.old.table self.old.texts sought.now (view value)) }
         ensures same { self.new ≡ self.old }
     {
         self.index.refresh(alloc, &self.sources)?;
@@ -226,7 +228,8 @@ impl Session {
         shows: &[LineShow],
     ) -> Result<Vec<Value>, AllocError>
         requires { All (NamesCrate self.old.count) shows.now }
-        ensures shown { IfOk result (λ values. AllZip (IsShown self.old) shows.now (map view values.items)) }
+        ensures shown { IfOk result
+            (λ values. AllZip (IsShown self.old) shows.now (map view values.items)) }
         ensures no_float { IfOk result (λ values. AreUnfloating (map view values.items)) }
         ensures same { self.new ≡ self.old }
     {

@@ -96,7 +96,8 @@ impl SoughtItem {
 
     /// Whether the path may begin anywhere, and this is how it ends.
     pub(crate) fn is_end(&self, path: &str) -> bool
-        ensures { result ≡ (self.now.path.is_anywhere && ends_with nat_eq path.now self.now.path.path) }
+        ensures { result ≡ (self.now.path.is_anywhere && ends_with nat_eq path.now
+            self.now.path.path) }
     {
         if !self.path.is_anywhere {
             return false;

@@ -96,8 +96,12 @@ pub(crate) fn changed(
     new: &str,
     place: usize,
 ) -> Result<String, LineError>
-    ensures made { IfOk result (λ made. changed_text (bytes_kept (option_copied text.entry)) range new.now ≡ Ok (string_bytes made)) }
-    ensures fails { IfErr result (TellsFault (IsWhyUnchanged (changed_text (bytes_kept (option_copied text.entry)) range new.now) place)) }
+    ensures made { IfOk result
+        (λ made. changed_text (bytes_kept (option_copied text.entry)) range new.now
+        ≡ Ok (string_bytes made)) }
+    ensures fails { IfErr result
+        (TellsFault (IsWhyUnchanged
+        (changed_text (bytes_kept (option_copied text.entry)) range new.now) place)) }
 {
     let Some(text) = text else {
         let cause = ChangeFault::NoText;

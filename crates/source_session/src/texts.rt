@@ -112,7 +112,8 @@ pub(crate) fn make_room(texts: &mut Texts, changes: &[Change]) -> Result<(), All
 // Puts what a change leaves for a file in its place, for which there is room.
 fn put(texts: &mut Texts, file: u32, text: Option<SourceText>)
     requires { IfSome text (λ _. HasSlot texts.old.entries file) }
-    ensures texts { (f : ℕ) → text_in texts.new.entries f ≡ (if file == f then text else text_in texts.old.entries f) }
+    ensures texts { (f : ℕ) → text_in texts.new.entries f
+        ≡ (if file == f then text else text_in texts.old.entries f) }
     ensures slots { (f : ℕ) → HasSlot texts.old.entries f → HasSlot texts.new.entries f }
 {
     if texts.contains_key(&file) {
@@ -124,7 +125,8 @@ fn put(texts: &mut Texts, file: u32, text: Option<SourceText>)
 #[tactic(auto, using(crate::proofs::Kept::slot_if, crate::proofs::Kept::text_step, crate::proofs::Kept::text_skip))]
 fn make(texts: &mut Texts, change: Change)
     requires { HasSlotFor texts.old.entries change }
-    ensures texts { (rest : List ChangeView) (f : ℕ) → text_after (text_in texts.new.entries) rest f ≡ text_after (text_in texts.old.entries) (change ∷ rest) f }
+    ensures texts { (rest : List ChangeView) (f : ℕ) → text_after (text_in texts.new.entries) rest f
+        ≡ text_after (text_in texts.old.entries) (change ∷ rest) f }
     ensures slots { (f : ℕ) → HasSlot texts.old.entries f → HasSlot texts.new.entries f }
 {
     if let Some((file, text)) = change {
@@ -135,7 +137,8 @@ fn make(texts: &mut Texts, change: Change)
 /// Makes the first changes, for which there is room.
 pub(crate) fn put_first(texts: &mut Texts, mut changes: Vec<Change>, count: usize)
     requires { All (HasSlotFor texts.old.entries) changes.items }
-    ensures { (f : ℕ) → text_in texts.new.entries f ≡ text_after (text_in texts.old.entries) (take count changes.items) f }
+    ensures { (f : ℕ) → text_in texts.new.entries f
+        ≡ text_after (text_in texts.old.entries) (take count changes.items) f }
 {
     changes.truncate(count);
     for change in changes {

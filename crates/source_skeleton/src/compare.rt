@@ -51,7 +51,8 @@ fn left_as(new: Option<&Item<'_, '_>>) -> Option<ChangeKind>
 }
 
 fn came_as(item: &Item<'_, '_>, old: Option<&Item<'_, '_>>) -> Option<ChangeKind>
-    ensures { result ≡ spec.came_as (item_view item.now).row.own (option_map (λ i. item_view i.now) old.entry) }
+    ensures { result ≡ spec.came_as (item_view item.now).row.own
+        (option_map (λ i. item_view i.now) old.entry) }
 {
     let Some(old) = old else {
         return Some(ChangeKind::Added);
@@ -88,7 +89,8 @@ fn push_left<'r>(
     changes: &mut Vec<Change<'r>>,
 ) -> Result<(), AllocError>
     requires { Finds news.now }
-    ensures { let left = flat_map (spec.left_change (map item_view news.now.items.now)) (map item_view olds.now) in
+    ensures { let left = flat_map (spec.left_change (map item_view news.now.items.now))
+        (map item_view olds.now) in
         OnOk result (map change_view changes.new.items ≡ map change_view changes.old.items ++ left) }
 {
     for item in olds {
@@ -103,7 +105,8 @@ fn push_came<'r>(
     changes: &mut Vec<Change<'r>>,
 ) -> Result<(), AllocError>
     requires { Finds olds.now }
-    ensures { let came = flat_map (spec.came_change (map item_view olds.now.items.now)) (map item_view news.now) in
+    ensures { let came = flat_map (spec.came_change (map item_view olds.now.items.now))
+        (map item_view news.now) in
         OnOk result (map change_view changes.new.items ≡ map change_view changes.old.items ++ came) }
 {
     for item in news {
@@ -126,7 +129,8 @@ pub fn changes<'r>(
     old: &'r [Row<'_>],
     new: &'r [Row<'_>],
 ) -> Result<Vec<Change<'r>>, AllocError>
-    ensures { IfOk result (λ v. map change_view v.items ≡ spec.changes (map row_view old.now) (map row_view new.now)) }
+    ensures { IfOk result (λ v. map change_view v.items
+        ≡ spec.changes (map row_view old.now) (map row_view new.now)) }
 {
     let olds = items(alloc, old)?;
     let news = items(alloc, new)?;

@@ -85,7 +85,8 @@ impl<'o, 'r, 't> Finder<'o, 'r, 't> {
 
     pub(crate) fn find(&self, item: &Item<'r, '_>) -> Option<&'o Item<'r, 't>>
         requires { Finds self.now }
-        ensures { let found = find (is_same (item_view item.now)) (map item_view self.now.items.now) in
+        ensures { let found = find (is_same (item_view item.now))
+            (map item_view self.now.items.now) in
             option_map (λ i. item_view i.now) result ≡ found }
     {
         self.table.get(&(key_of(item.row), item.place)).copied()

@@ -54,7 +54,8 @@ fn is_begun(place: usize, holes: &[Hole]) -> bool
 }
 
 fn push_if<'t>(texts: &mut Vec<&'t str>, test: bool, text: &'t str) -> Result<(), AllocError>
-    ensures { OnOk result (map (λ t. t.now) texts.new.items ≡ map (λ t. t.now) texts.old.items ++ spec.text_if test text.now) }
+    ensures { OnOk result (map (λ t. t.now) texts.new.items ≡ map (λ t. t.now) texts.old.items
+        ++ spec.text_if test text.now) }
 {
     if test {
         texts.push(text)?;
@@ -73,7 +74,8 @@ pub fn skeleton<'t>(
     holes: &[Hole],
     has_docs: bool,
 ) -> Result<Vec<&'t str>, AllocError>
-    ensures { IfOk result (λ v. map (λ t. t.now) v.items ≡ spec.skeleton has_docs holes.now text.now) }
+    ensures { IfOk result (λ v. map (λ t. t.now) v.items
+        ≡ spec.skeleton has_docs holes.now text.now) }
 {
     let mut texts = Vec::new(alloc);
     let mut left = holes;

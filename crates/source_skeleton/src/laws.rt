@@ -13,9 +13,11 @@ fn holes()
 
 fn change_kinds()
     ensures equal { (a b : ChangeKind) → Decides (⟦<ChangeKind as PartialEq>⟧.eq a b) (a ≡ b) }
-    ensures copied { (source copy : ChangeKind) → ⟦<ChangeKind as Clone>⟧.is_clone source copy → copy ≡ source }
+    ensures copied { (source copy : ChangeKind) → ⟦<ChangeKind as Clone>⟧.is_clone source copy
+        → copy ≡ source }
 {}
 
 fn changes()
-    ensures copied { (source copy : Change) → ⟦<Change<'static> as Clone>⟧.is_clone source copy → copy ≡ source }
+    ensures copied { (source copy : Change) → ⟦<Change<'static> as Clone>⟧.is_clone source copy
+        → copy ≡ source }
 {}

@@ -68,11 +68,13 @@ fn tree_of(
     krate: &CrateData,
     skipped: &[Name],
 ) -> Result<SourceTree, LowerError>
-    ensures tree { IfOk result (λ t. t.tree ≡ kept_in krate.now false skipped.now (syntax_view file.syntax)) }
+    ensures tree { IfOk result
+        (λ t. t.tree ≡ kept_in krate.now false skipped.now (syntax_view file.syntax)) }
     ensures places { IfOk result (λ t. t.places.items ≡ file.places.items) }
     ensures use_trees { IfOk result (λ t. t.use_trees.items ≡ file.use_trees.items) }
     ensures problems { IfOk result (λ t. t.problems.items ≡ file.problems.items) }
-    ensures too_large { IfErr result (IsTooLargeIn krate.now false skipped.now (syntax_view file.syntax)) }
+    ensures too_large { IfErr result
+        (IsTooLargeIn krate.now false skipped.now (syntax_view file.syntax)) }
 {
     let tree = lower_syntax(alloc, &file.syntax, false, krate, skipped)?;
     Ok(SourceTree {

@@ -80,7 +80,8 @@ fn count_one(tree: &ItemTree, id: ModItemId) -> usize
 /// Only if memory runs out.
 #[tactic(auto, using(item_tree::proofs::Walking::ids_contained, crate::proofs::Below::preorder_ids))]
 pub fn preorder(alloc: Global, tree: &ItemTree) -> Result<Vec<ModItemId>, AllocError>
-    ensures stand { IfOk result (λ ids. map (node_at tree.now.forest) ids.items ≡ map Some (preorder tree.now.forest)) }
+    ensures stand { IfOk result
+        (λ ids. map (node_at tree.now.forest) ids.items ≡ map Some (preorder tree.now.forest)) }
     ensures ids { IfOk result (λ ids. ids.items ≡ all_ids tree.now) }
     ensures once { IfOk result (λ ids. AllPairs (λ i j. i ≢ j) ids.items) }
     ensures all { IfOk result (λ ids. (id : ℕ) → IsContained tree.now id ↔ Contains ids.items id) }
@@ -96,7 +97,8 @@ pub fn preorder(alloc: Global, tree: &ItemTree) -> Result<Vec<ModItemId>, AllocE
 fn add_all(tree: &ItemTree, ids: &[ModItemId], found: &mut Vec<ModItemId>) -> Result<(), AllocError>
     requires contained { AreContained tree.now ids.now }
     requires walk { IsWalkedOnce tree.now }
-    ensures { OnOk result (found.new.items ≡ found.old.items ++ flat_map (ids_from tree.now) ids.now) }
+    ensures { OnOk result (found.new.items ≡ found.old.items
+        ++ flat_map (ids_from tree.now) ids.now) }
 {
     for id in ids {
         add_one(tree, *id, found)?;

@@ -50,7 +50,8 @@ impl AsmExpr {
 impl ExternBlock {
     /// `extern { .. }`, with these items.
     pub fn new(alloc: Global, items: Vec<ExternItem>) -> Self
-        ensures node { node_from result.hash result.number result.attrs.items result.body ≡ empty_node }
+        ensures node { node_from result.hash result.number result.attrs.items result.body
+            ≡ empty_node }
         ensures items { result.items ≡ Some items }
     {
         ExternBlock {
@@ -85,7 +86,8 @@ impl ExternCrate {
 impl Impl {
     /// An impl of a type alone.
     pub fn new(alloc: Global) -> Self
-        ensures node { node_from result.hash result.number result.attrs.items result.body ≡ empty_node }
+        ensures node { node_from result.hash result.number result.attrs.items result.body
+            ≡ empty_node }
         ensures inherent { result.is_trait_impl ≡ false }
     {
         Impl {
@@ -101,7 +103,8 @@ impl Impl {
 impl MacroCall {
     /// `PATH!();`, which stands in the place of an item.
     pub fn new(alloc: Global, path: Option<PathNode>, ctxt: SyntaxContext) -> Self
-        ensures node { node_from result.hash result.number result.attrs.items result.body ≡ empty_node }
+        ensures node { node_from result.hash result.number result.attrs.items result.body
+            ≡ empty_node }
         ensures path { result.path ≡ path }
         ensures expands { result.expand_to ≡ Items }
         ensures ctxt { result.ctxt ≡ ctxt }
@@ -121,7 +124,8 @@ impl MacroCall {
 impl MacroRules {
     /// `macro_rules! NAME {}`
     pub fn new(alloc: Global, name: Option<Name>) -> Self
-        ensures node { node_from result.hash result.number result.attrs.items result.body ≡ empty_node }
+        ensures node { node_from result.hash result.number result.attrs.items result.body
+            ≡ empty_node }
         ensures name { result.name ≡ name }
     {
         MacroRules {
@@ -196,7 +200,8 @@ impl Struct {
 impl Use {
     /// `use TREE;`
     pub fn new(alloc: Global, tree: UseTree) -> Self
-        ensures node { node_from result.hash result.number result.attrs.items result.body ≡ empty_node }
+        ensures node { node_from result.hash result.number result.attrs.items result.body
+            ≡ empty_node }
         ensures visibility { result.visibility ≡ None }
         ensures tree { result.use_tree ≡ Some tree }
     {
@@ -214,7 +219,8 @@ impl Use {
 impl UseTree {
     /// The use tree of a path alone, or of nothing.
     pub fn new(path: Option<PathNode>) -> Self
-        ensures { use_tree_view result ≡ bare_tree (record { path = path; star = false; rename = None }) }
+        ensures { use_tree_view result
+            ≡ bare_tree (record { path = path; star = false; rename = None }) }
     {
         UseTree {
             path,

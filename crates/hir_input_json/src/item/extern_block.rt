@@ -37,7 +37,8 @@ fn extern_item_in(alloc: Global, members: &mut Map<String, Value>) -> Result<Ext
 }
 
 fn extern_items_of(alloc: Global, values: Vec<Value>) -> Result<Vec<ExternItem>, Fault>
-    ensures { Reads (λ v. map extern_item_view v.items) result (each extern_item_form (items_view values.items)) }
+    ensures { Reads (λ v. map extern_item_view v.items) result
+        (each extern_item_form (items_view values.items)) }
 {
     let mut items = Vec::with_capacity(alloc, values.len())?;
     for item in values {
@@ -49,7 +50,8 @@ fn extern_items_of(alloc: Global, values: Vec<Value>) -> Result<Vec<ExternItem>,
 }
 
 fn extern_items_in(alloc: Global, list: Option<Value>) -> Result<Option<Vec<ExternItem>>, Fault>
-    ensures { Reads (option_map (λ v. map extern_item_view v.items)) result (maybe (list_of extern_item_form) (option_map view list)) }
+    ensures { Reads (option_map (λ v. map extern_item_view v.items)) result
+        (maybe (list_of extern_item_form) (option_map view list)) }
 {
     let Some(list) = list else {
         return Ok(None);

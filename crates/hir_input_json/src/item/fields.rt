@@ -26,7 +26,8 @@ fn tuple_field_of(alloc: Global, value: Value) -> Result<TupleField, Fault>
 }
 
 fn tuple_fields_of(alloc: Global, items: Vec<Value>) -> Result<Vec<TupleField>, Fault>
-    ensures { Reads (λ v. map (λ f. f.visibility) v.items) result (each tuple_field (items_view items.items)) }
+    ensures { Reads (λ v. map (λ f. f.visibility) v.items) result
+        (each tuple_field (items_view items.items)) }
 {
     let mut fields = Vec::with_capacity(alloc, items.len())?;
     for item in items {
@@ -55,7 +56,8 @@ pub(crate) fn struct_kind_at(
     alloc: Global,
     members: &mut Map<String, Value>,
 ) -> Result<StructKind, Fault>
-    ensures { Reads fields_view result (required_form (codes "fields") fields_form (held members.old)) }
+    ensures { Reads fields_view result
+        (required_form (codes "fields") fields_form (held members.old)) }
 {
     let found = required_at(alloc, members, "fields")?;
     struct_kind_of(alloc, found).in_member(alloc, "fields")

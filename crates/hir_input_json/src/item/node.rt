@@ -68,7 +68,8 @@ pub(crate) use with_node;
 #[tactic(auto, using(crate::proofs::Held::field_without))]
 pub(crate) fn node_at(alloc: Global, members: &mut Map<String, Value>) -> Result<Node, Fault>
     ensures reads { Reads node_view result (node_form (held members.old)) }
-    ensures left { OnOk result (held members.new ≡ without (codes "body") (without (codes "attrs") (held members.old))) }
+    ensures left { OnOk result
+        (held members.new ≡ without (codes "body") (without (codes "attrs") (held members.old))) }
 {
     let hash = u16_at(alloc, members, "hash")?;
     let number = u32_at(alloc, members, "number")?;
@@ -85,7 +86,10 @@ pub(crate) fn node_at(alloc: Global, members: &mut Map<String, Value>) -> Result
 #[tactic(auto, using(crate::proofs::Held::field_without))]
 pub(crate) fn named_at(alloc: Global, members: &mut Map<String, Value>) -> Result<Named, Fault>
     ensures reads { Reads named_view result (named_form (held members.old)) }
-    ensures left { OnOk result (held members.new ≡ without (codes "vis") (without (codes "name") (without (codes "body") (without (codes "attrs") (held members.old))))) }
+    ensures left { OnOk result
+        (held members.new ≡ without (codes "vis")
+        (without (codes "name")
+        (without (codes "body") (without (codes "attrs") (held members.old))))) }
 {
     let node = node_at(alloc, members)?;
     let name = name_at(alloc, members, "name")?;

@@ -32,7 +32,8 @@ fn lower_block_items(
     block_node: &ast::ExternBlock,
 ) -> Result<Vec<ModItemId>, LowerError>
     requires { IsWithinLimits rows.old }
-    ensures { AreLowered ctx.entry rows.old rows.new (items_below (extern_block_view block_node.now)) result }
+    ensures { AreLowered ctx.entry rows.old rows.new
+        (items_below (extern_block_view block_node.now)) result }
 {
     match &block_node.items {
         Some(items) => lower_extern_items(ctx, rows, items),
@@ -46,7 +47,8 @@ fn lower_extern_items(
     items: &[ast::ExternItem],
 ) -> Result<Vec<ModItemId>, LowerError>
     requires { IsWithinLimits rows.old }
-    ensures { AreLowered ctx.entry rows.old rows.new (items_from (map extern_item_view items.now)) result }
+    ensures { AreLowered ctx.entry rows.old rows.new
+        (items_from (map extern_item_view items.now)) result }
 {
     let mut ids = Vec::with_capacity(ctx.alloc, items.len())?;
     for item in items {

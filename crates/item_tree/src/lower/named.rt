@@ -51,7 +51,8 @@ pub(super) fn lower_named(
     node: &ast::NamedNode,
 ) -> Result<Option<ModItemId>, LowerError>
     requires { IsWithinLimits rows.old }
-    ensures { IsLowered ctx.entry rows.old rows.new (plain_item (named_kind kind) (named_view node.now)) result }
+    ensures { IsLowered ctx.entry rows.old rows.new
+        (plain_item (named_kind kind) (named_view node.now)) result }
 {
     let Some(name) = &node.name else {
         return Ok(None);
@@ -68,7 +69,8 @@ pub(super) fn lower_const(
     const_node: &ast::Const,
 ) -> Result<Option<ModItemId>, LowerError>
     requires { IsWithinLimits rows.old }
-    ensures { IsLowered ctx.entry rows.old rows.new (const_item (named_view const_node.now)) result }
+    ensures { IsLowered ctx.entry rows.old rows.new
+        (const_item (named_view const_node.now)) result }
 {
     let visibility = lower_visibility(ctx.alloc, rows, const_node.visibility.as_ref())?;
     let name = const_node.name.clone()?;

@@ -19,7 +19,8 @@ pub(super) fn lower_stmts(
     tail: &ast::Tail,
 ) -> Result<Vec<ModItemId>, LowerError>
     requires { IsWithinLimits rows.old }
-    ensures { AreLowered ctx.entry rows.old rows.new (stmt_items (stmts_view stmts.now) (tail_view tail.now)) result }
+    ensures { AreLowered ctx.entry rows.old rows.new
+        (stmt_items (stmts_view stmts.now) (tail_view tail.now)) result }
 {
     let mut ids = lower_each(ctx, rows, stmts)?;
     if let Some(id) = lower_tail(ctx, rows, tail)? {

@@ -31,11 +31,16 @@ pub fn lower_use_tree(
     alloc: Global,
     node: &ast::UseTree,
 ) -> Result<Option<(UseTree, Vec<u32>)>, LowerError>
-    ensures kept { IfOk result (λ lowered. lowered_tree lowered ≡ kept_tree (use_tree_view node.now)) }
-    ensures places { IfKept result (λ tree places. places ≡ kept_places 0 (use_tree_view node.now)) }
-    ensures written { IfKept result (λ tree places. ArePlacesOf (use_tree_view node.now) places tree) }
-    ensures leaves { IfKept result (λ tree places. AreWritten (use_tree_view node.now) places (imports tree)) }
-    ensures count { IfKept result (λ tree places. written_count (use_tree_view node.now) ≤ use_tree_limit) }
+    ensures kept { IfOk result
+        (λ lowered. lowered_tree lowered ≡ kept_tree (use_tree_view node.now)) }
+    ensures places { IfKept result
+        (λ tree places. places ≡ kept_places 0 (use_tree_view node.now)) }
+    ensures written { IfKept result
+        (λ tree places. ArePlacesOf (use_tree_view node.now) places tree) }
+    ensures leaves { IfKept result
+        (λ tree places. AreWritten (use_tree_view node.now) places (imports tree)) }
+    ensures count { IfKept result
+        (λ tree places. written_count (use_tree_view node.now) ≤ use_tree_limit) }
     ensures fits { IfKept result (λ tree places. UseFits tree) }
     ensures fault { IfErr result (IsUseFault (use_tree_view node.now)) }
 {
@@ -76,7 +81,8 @@ fn count_written(node: &ast::UseTree) -> Option<u32>
 // The same of several.
 #[cycle(count)]
 fn count_all_written(nodes: &[ast::UseTree]) -> Option<u32>
-    ensures { MatchOption result (use_tree_limit < length (all_written_nodes (use_trees_view nodes.now)))
+    ensures { MatchOption result
+        (use_tree_limit < length (all_written_nodes (use_trees_view nodes.now)))
         (λ n. n ≡ length (all_written_nodes (use_trees_view nodes.now))) }
 {
     let mut count = 0u32;
@@ -139,7 +145,8 @@ fn lower_list(
     places: &mut Vec<u32>,
 ) -> Result<Vec<UseTree>, AllocError>
     requires { next.old + length (all_written_nodes (use_trees_view nodes.now)) ≤ use_tree_limit }
-    ensures counted { OnOk result (next.new ≡ next.old + length (all_written_nodes (use_trees_view nodes.now))) }
+    ensures counted { OnOk result
+        (next.new ≡ next.old + length (all_written_nodes (use_trees_view nodes.now))) }
     ensures kept { IfOk result (λ trees.
         map tree_of trees.items ≡ kept_trees (use_trees_view nodes.now)) }
     ensures placed { OnOk result

@@ -60,7 +60,8 @@ impl Printer<'_> {
         opening: &str,
         cfg: &CfgExpr,
     ) -> Result<(), AllocError>
-        ensures { let lines = lines_of_text self.entry.level (false_cfg_text opening.now (cfg_view cfg.now)) in
+        ensures { let lines = lines_of_text self.entry.level
+            (false_cfg_text opening.now (cfg_view cfg.now)) in
             OnOk result (Gains out.old out.new lines) }
     {
         let text = format!(in self.alloc; "{opening}cfg({cfg})]")?;
@@ -69,7 +70,8 @@ impl Printer<'_> {
 
     #[tactic(auto, unfolding(crate::specs::Page::attr_text))]
     fn attr_text(self, opening: &str, attr: &Attr) -> Result<String, AllocError>
-        ensures { IfOk result (λ text. string_bytes text ≡ attr_text self.entry.edition.now.reserved.items opening.now attr.now) }
+        ensures { IfOk result (λ text. string_bytes text
+            ≡ attr_text self.entry.edition.now.reserved.items opening.now attr.now) }
     {
         let path = attr.path.display(self.edition);
         let mut text = format!(in self.alloc; "{opening}{path}")?;

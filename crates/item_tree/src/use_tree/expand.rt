@@ -29,8 +29,10 @@ impl Use {
         f: &mut F,
     ) -> Result<(), AllocError>
         requires { MayCallAt (at_import F.pre) (by_import F.step) f.old (imports self.now.tree) }
-        ensures called { OnOk result (CalledAtAll (by_import F.step) f.old (imports self.now.tree) f.new) }
-        ensures refused { OnErr result (CalledAtSome (by_import F.step) f.old (imports self.now.tree) f.new) }
+        ensures called { OnOk result
+            (CalledAtAll (by_import F.step) f.old (imports self.now.tree) f.new) }
+        ensures refused { OnErr result
+            (CalledAtSome (by_import F.step) f.old (imports self.now.tree) f.new) }
     {
         let mut next = 0;
         expand_tree(alloc, self.use_tree(), None, &mut next, f)
@@ -48,10 +50,15 @@ fn expand_all<F: FnMut(UseTreeIdx, ModPath, ImportKind, Option<ImportAlias>)>(
 ) -> Result<(), AllocError>
     requires counts { next.old + branch_count (trees_of trees.now) ≤ use_tree_limit }
     requires supers { all_most_supers (supers_before before) (trees_of trees.now) ≤ super_limit }
-    requires calls { MayCallAt (at_import F.pre) (by_import F.step) f.old (all_imports_from (chain_of before) next.old (trees_of trees.now)) }
+    requires calls { MayCallAt (at_import F.pre) (by_import F.step) f.old
+        (all_imports_from (chain_of before) next.old (trees_of trees.now)) }
     ensures counted { OnOk result (next.new ≡ next.old + branch_count (trees_of trees.now)) }
-    ensures called { OnOk result (CalledAtAll (by_import F.step) f.old (all_imports_from (chain_of before.entry) next.old (trees_of trees.now)) f.new) }
-    ensures refused { OnErr result (CalledAtSome (by_import F.step) f.old (all_imports_from (chain_of before.entry) next.old (trees_of trees.now)) f.new) }
+    ensures called { OnOk result
+        (CalledAtAll (by_import F.step) f.old
+        (all_imports_from (chain_of before.entry) next.old (trees_of trees.now)) f.new) }
+    ensures refused { OnErr result
+        (CalledAtSome (by_import F.step) f.old
+        (all_imports_from (chain_of before.entry) next.old (trees_of trees.now)) f.new) }
 {
     for tree in trees {
         expand_tree(alloc, tree, before, next, f)?;
@@ -70,10 +77,15 @@ fn expand_tree<F: FnMut(UseTreeIdx, ModPath, ImportKind, Option<ImportAlias>)>(
 ) -> Result<(), AllocError>
     requires counts { next.old + tree_count (tree_of tree.now) ≤ use_tree_limit }
     requires supers { most_supers (supers_before before) (tree_of tree.now) ≤ super_limit }
-    requires calls { MayCallAt (at_import F.pre) (by_import F.step) f.old (imports_from (chain_of before) next.old (tree_of tree.now)) }
+    requires calls { MayCallAt (at_import F.pre) (by_import F.step) f.old
+        (imports_from (chain_of before) next.old (tree_of tree.now)) }
     ensures counted { OnOk result (next.new ≡ next.old + tree_count (tree_of tree.now)) }
-    ensures called { OnOk result (CalledAtAll (by_import F.step) f.old (imports_from (chain_of before.entry) next.old (tree_of tree.now)) f.new) }
-    ensures refused { OnErr result (CalledAtSome (by_import F.step) f.old (imports_from (chain_of before.entry) next.old (tree_of tree.now)) f.new) }
+    ensures called { OnOk result
+        (CalledAtAll (by_import F.step) f.old
+        (imports_from (chain_of before.entry) next.old (tree_of tree.now)) f.new) }
+    ensures refused { OnErr result
+        (CalledAtSome (by_import F.step) f.old
+        (imports_from (chain_of before.entry) next.old (tree_of tree.now)) f.new) }
 {
     let index = *next;
     *next += 1;
@@ -103,9 +115,14 @@ fn expand_single<F: FnMut(UseTreeIdx, ModPath, ImportKind, Option<ImportAlias>)>
     f: &mut F,
 ) -> Result<(), AllocError>
     requires supers { most_supers (supers_before before) (single path.now alias.now) ≤ super_limit }
-    requires calls { MayCallAt (at_import F.pre) (by_import F.step) f.old (imports_from (chain_of before) index (single path.now alias.now)) }
-    ensures called { OnOk result (CalledAtAll (by_import F.step) f.old (imports_from (chain_of before.entry) index (single path.now alias.now)) f.new) }
-    ensures refused { OnErr result (CalledAtSome (by_import F.step) f.old (imports_from (chain_of before.entry) index (single path.now alias.now)) f.new) }
+    requires calls { MayCallAt (at_import F.pre) (by_import F.step) f.old
+        (imports_from (chain_of before) index (single path.now alias.now)) }
+    ensures called { OnOk result
+        (CalledAtAll (by_import F.step) f.old
+        (imports_from (chain_of before.entry) index (single path.now alias.now)) f.new) }
+    ensures refused { OnErr result
+        (CalledAtSome (by_import F.step) f.old
+        (imports_from (chain_of before.entry) index (single path.now alias.now)) f.new) }
 {
     let kind = import_kind(before, path);
     if let Some(path) = meaning(alloc, before, path)? {
@@ -124,9 +141,14 @@ fn expand_glob<F: FnMut(UseTreeIdx, ModPath, ImportKind, Option<ImportAlias>)>(
     f: &mut F,
 ) -> Result<(), AllocError>
     requires supers { most_supers (supers_before before) (glob path.now) ≤ super_limit }
-    requires calls { MayCallAt (at_import F.pre) (by_import F.step) f.old (imports_from (chain_of before) index (glob path.now)) }
-    ensures called { OnOk result (CalledAtAll (by_import F.step) f.old (imports_from (chain_of before.entry) index (glob path.now)) f.new) }
-    ensures refused { OnErr result (CalledAtSome (by_import F.step) f.old (imports_from (chain_of before.entry) index (glob path.now)) f.new) }
+    requires calls { MayCallAt (at_import F.pre) (by_import F.step) f.old
+        (imports_from (chain_of before) index (glob path.now)) }
+    ensures called { OnOk result
+        (CalledAtAll (by_import F.step) f.old
+        (imports_from (chain_of before.entry) index (glob path.now)) f.new) }
+    ensures refused { OnErr result
+        (CalledAtSome (by_import F.step) f.old
+        (imports_from (chain_of before.entry) index (glob path.now)) f.new) }
 {
     if let Some(path) = star_meaning(alloc, before, path)? {
         f(UseTreeIdx(index), path, ImportKind::Glob, None);

@@ -22,7 +22,8 @@ fn joined_names(alloc: Global, front: &[Name], back: &[Name]) -> Result<Vec<Name
 fn joined_kind(front: PathKind, names: &[Name], back: PathKind) -> Option<PathKind>
     requires { super_count front + super_count back ≤ super_limit }
     ensures kind { result ≡ joined_kind front names.now back }
-    ensures supers { IfSome result (λ kind. super_count kind ≡ super_count front + super_count back) }
+    ensures supers { IfSome result
+        (λ kind. super_count kind ≡ super_count front + super_count back) }
 {
     match (front, back) {
         (front, PathKind::Plain) => Some(front),
@@ -37,8 +38,11 @@ fn joined_kind(front: PathKind, names: &[Name], back: PathKind) -> Option<PathKi
 #[tactic(auto, using(crate::proofs::Joins::read_join, crate::proofs::Joins::joined_made))]
 fn join(alloc: Global, before: &ModPath, path: &ModPath) -> Result<Option<ModPath>, AllocError>
     requires { super_count before.now.kind + super_count path.now.kind ≤ super_limit }
-    ensures reads { IfOk result (λ joined. joined ≡ read_words (words before.now ++ words path.now)) }
-    ensures supers { IfOk result (λ joined. IfSome joined (λ q. super_count q.kind ≡ super_count before.now.kind + super_count path.now.kind)) }
+    ensures reads { IfOk result
+        (λ joined. joined ≡ read_words (words before.now ++ words path.now)) }
+    ensures supers { IfOk result
+        (λ joined. IfSome joined
+        (λ q. super_count q.kind ≡ super_count before.now.kind + super_count path.now.kind)) }
     ensures words { HasWords path.now.kind path.now.names }
 {
     let front = before.segments();
@@ -54,7 +58,8 @@ fn join(alloc: Global, before: &ModPath, path: &ModPath) -> Result<Option<ModPat
 #[tactic(auto, using(crate::proofs::Chains::read_chain_alone))]
 fn alone(alloc: Global, path: &ModPath) -> Result<Option<ModPath>, AllocError>
     ensures reads { IfOk result (λ alone. alone ≡ read_chain (path.now ∷ [])) }
-    ensures supers { IfOk result (λ alone. IfSome alone (λ q. super_count q.kind ≡ super_count path.now.kind)) }
+    ensures supers { IfOk result
+        (λ alone. IfSome alone (λ q. super_count q.kind ≡ super_count path.now.kind)) }
     ensures words { HasWords path.now.kind path.now.names }
 {
     let names = path.segments().to_vec(alloc)?;
@@ -69,8 +74,11 @@ pub(crate) fn join_below(
     path: &ModPath,
 ) -> Result<Option<ModPath>, AllocError>
     requires { supers_before before + super_count path.now.kind ≤ super_limit }
-    ensures reads { IfOk result (λ joined. joined ≡ read_chain (chain_of before.entry ++ path.now ∷ [])) }
-    ensures supers { IfOk result (λ joined. IfSome joined (λ q. super_count q.kind ≡ supers_before before.entry + super_count path.now.kind)) }
+    ensures reads { IfOk result
+        (λ joined. joined ≡ read_chain (chain_of before.entry ++ path.now ∷ [])) }
+    ensures supers { IfOk result
+        (λ joined. IfSome joined
+        (λ q. super_count q.kind ≡ supers_before before.entry + super_count path.now.kind)) }
     ensures words { HasWords path.now.kind path.now.names }
 {
     match before {
@@ -93,7 +101,8 @@ pub(crate) fn meaning(
     path: &ModPath,
 ) -> Result<Option<ModPath>, AllocError>
     requires { supers_before before + super_count path.now.kind ≤ super_limit }
-    ensures { IfOk result (λ meaning. meaning ≡ read_below (is_self path.now) (chain_of before.entry) path.now) }
+    ensures { IfOk result (λ meaning. meaning
+        ≡ read_below (is_self path.now) (chain_of before.entry) path.now) }
 {
     match before {
         Some(before) if is_self(path) => alone(alloc, before),

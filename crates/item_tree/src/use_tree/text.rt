@@ -87,7 +87,8 @@ fn write_prefix<W: fmt::Write>(
     edition: &Edition,
     f: &mut fmt::Formatter<W>,
 ) -> fmt::Result
-    ensures { WritesOnOk W.write_str_gives f.old result (shown_prefix edition.now.reserved.items prefix.now) f.new }
+    ensures { WritesOnOk W.write_str_gives f.old result
+        (shown_prefix edition.now.reserved.items prefix.now) f.new }
 {
     match prefix {
         Some(path) => {
@@ -125,7 +126,8 @@ fn write_kind<W: fmt::Write>(
     edition: &Edition,
     f: &mut fmt::Formatter<W>,
 ) -> fmt::Result
-    ensures { WritesOnOk W.write_str_gives f.old result (shown_tree edition.now.reserved.items (tree_of_kind kind.now)) f.new }
+    ensures { WritesOnOk W.write_str_gives f.old result
+        (shown_tree edition.now.reserved.items (tree_of_kind kind.now)) f.new }
 {
     match kind {
         UseTreeKind::Single { path, alias } => write_single(path, alias, edition, f),
@@ -150,7 +152,8 @@ fn write_list<W: fmt::Write>(
     edition: &Edition,
     f: &mut fmt::Formatter<W>,
 ) -> fmt::Result
-    ensures { WritesOnOk W.write_str_gives f.old result (by_commas (map (λ t. shown_tree edition.now.reserved.items (tree_of t)) list.now)) f.new }
+    ensures { WritesOnOk W.write_str_gives f.old result
+        (by_commas (map (λ t. shown_tree edition.now.reserved.items (tree_of t)) list.now)) f.new }
 {
     if list.is_empty() {
         return Ok(());

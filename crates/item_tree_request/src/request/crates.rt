@@ -28,7 +28,8 @@ fn crate_of(alloc: Global, value: Value) -> Result<CrateData, Fault>
 }
 
 fn crates_of(alloc: Global, items: Vec<Value>) -> Result<Vec<CrateData>, Fault>
-    ensures { Reads (λ v. map crate_view v.items) result (each crate_form (items_view items.items)) }
+    ensures { Reads (λ v. map crate_view v.items) result
+        (each crate_form (items_view items.items)) }
 {
     let mut crates = Vec::with_capacity(alloc, items.len())?;
     for item in items {

@@ -23,7 +23,8 @@ use serde_json::{Map, Value};
 use std::alloc::Global;
 
 fn syntax_at(alloc: Global, members: &mut Map<String, Value>) -> Result<Syntax, Fault>
-    ensures { Reads syntax_view result (required_form (codes "syntax") syntax_form (held members.old)) }
+    ensures { Reads syntax_view result
+        (required_form (codes "syntax") syntax_form (held members.old)) }
 {
     let syntax = required_at(alloc, members, "syntax")?;
     syntax_of(alloc, syntax).in_member(alloc, "syntax")
@@ -85,7 +86,8 @@ fn edit_of(alloc: Global, value: Value, count: usize) -> Result<Edit, Fault>
 }
 
 fn edits_of(alloc: Global, items: Vec<Value>, count: usize) -> Result<Vec<Edit>, Fault>
-    ensures reads { Reads (λ v. map edit_view v.items) result (each (edit_form count) (items_view items.items)) }
+    ensures reads { Reads (λ v. map edit_view v.items) result
+        (each (edit_form count) (items_view items.items)) }
     ensures known { IfOk result (λ v. All (EditNamesCrate count) v.items) }
 {
     let mut edits = Vec::with_capacity(alloc, items.len())?;
@@ -103,7 +105,9 @@ pub(crate) fn edits_at(
     members: &mut Map<String, Value>,
     crates: &Vec<CrateData>,
 ) -> Result<Vec<Edit>, Fault>
-    ensures reads { Reads (λ v. map edit_view v.items) result (each_at (edit_form (length (map crate_view crates.now.items))) (codes "edits") (held members.old)) }
+    ensures reads { Reads (λ v. map edit_view v.items) result
+        (each_at (edit_form (length (map crate_view crates.now.items))) (codes "edits")
+        (held members.old)) }
     ensures known { IfOk result (λ v. All (EditNamesCrate (length crates.now.items)) v.items) }
     ensures left { OnOk result (held members.new ≡ without (codes "edits") (held members.old)) }
 {

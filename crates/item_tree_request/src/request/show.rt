@@ -75,7 +75,8 @@ fn tree_show_of(
 }
 
 fn since_at(alloc: Global, members: &Map<String, Value>) -> Result<u64, Fault>
-    ensures { Reads (λ since. since) result (required_form (codes "since") (whole (2 ^ 64)) (held members.now)) }
+    ensures { Reads (λ since. since) result
+        (required_form (codes "since") (whole (2 ^ 64)) (held members.now)) }
 {
     field(members, "since")
         .and_then(Value::as_u64)
@@ -128,7 +129,9 @@ pub(crate) fn shows_at(
     members: &mut Map<String, Value>,
     crates: &Vec<CrateData>,
 ) -> Result<Vec<Show>, Fault>
-    ensures reads { Reads (λ v. v.items) result (each_at (show_form (length (map crate_view crates.now.items))) (codes "shows") (held members.old)) }
+    ensures reads { Reads (λ v. v.items) result
+        (each_at (show_form (length (map crate_view crates.now.items))) (codes "shows")
+        (held members.old)) }
     ensures known { IfOk result (λ v. All (NamesCrate (length crates.now.items)) v.items) }
 {
     let items = list_at(alloc, members, "shows")?;

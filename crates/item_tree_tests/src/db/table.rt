@@ -152,7 +152,8 @@ fn told(alloc: Global, made: &Result<u64, AllRefused>) -> Result<Result<u64, Ref
 
 // Sets the file, removes it twice, sets it again, sets it to what could not be parsed, and removes one that was never set.
 fn edits(alloc: Global) -> Result<Vec<Edit>, AllocError>
-    ensures { IfOk result (λ edits. (s : State) → AllByRecursion (NamesKnown s) (map edit_view edits.items)) }
+    ensures { IfOk result (λ edits. (s : State)
+        → AllByRecursion (NamesKnown s) (map edit_view edits.items)) }
 {
     let (first, second) = (function(alloc, false)?, function(alloc, false)?);
     let edits = vec![in alloc;

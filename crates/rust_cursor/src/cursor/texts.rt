@@ -248,7 +248,8 @@ impl<'t> Cursor<'t> {
     /// Whether a token comes next, in so many braces, that leaves one of them open.
     #[inline(always)]
     fn is_inside(&self, braces: usize) -> bool
-        ensures { result ≡ (not (braces == 0) && (not (is_empty self.now) && not (braces == 1 && symbol self.now == 125))) }
+        ensures { result ≡ (not (braces == 0) &&
+            (not (is_empty self.now) && not (braces == 1 && symbol self.now == 125))) }
     {
         if braces == 0 || self.is_empty() {
             return false;
@@ -267,11 +268,15 @@ impl<'t> Cursor<'t> {
     ) -> Result<(), AllocError>
         requires braces { nest.old.braces + length self.old.left < 2 ^ 64 }
         requires inner { nest.old.inner + length self.old.left < 2 ^ 64 }
-        ensures same { OnOk result ((opened : Option Tokens) → spec.taking extent (string_bytes text.new) last.new opened nest.new self.new
+        ensures same { OnOk result
+            ((opened : Option Tokens)
+            → spec.taking extent (string_bytes text.new) last.new opened nest.new self.new
             ≡ spec.taking extent (string_bytes text.old) last.old opened nest.old self.old) }
         ensures left { OnOk result (length self.new.left ≤ length self.old.left) }
-        ensures braces { OnOk result (nest.new.braces + length self.new.left ≤ nest.old.braces + length self.old.left) }
-        ensures inner { OnOk result (nest.new.inner + length self.new.left ≤ nest.old.inner + length self.old.left) }
+        ensures braces { OnOk result
+            (nest.new.braces + length self.new.left ≤ nest.old.braces + length self.old.left) }
+        ensures inner { OnOk result
+            (nest.new.inner + length self.new.left ≤ nest.old.inner + length self.old.left) }
         ensures others { OnOk result (nest.new.others ≡ nest.old.others) }
         ensures angles { OnOk result (nest.new.angles ≡ nest.old.angles) }
     {
