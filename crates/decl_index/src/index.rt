@@ -30,7 +30,10 @@ pub struct DeclIndex {
 // (Written out: what is derived is proved anew, field by field, in each crate that drops one.)
 impl Drop for DeclIndex {
     fn drop(self) {
-        let DeclIndex { number: _, entries: _ } = self;
+        let DeclIndex {
+            number: _,
+            entries: _,
+        } = self;
     }
 }
 

@@ -48,7 +48,11 @@ pub struct BlockExpr {
 // (Written out: what is derived is proved anew, field by field, in each crate that drops one.)
 impl Drop for BlockExpr {
     fn drop(self) {
-        let BlockExpr { attrs: _, stmts: _, tail: _ } = self;
+        let BlockExpr {
+            attrs: _,
+            stmts: _,
+            tail: _,
+        } = self;
     }
 }
 

@@ -38,7 +38,10 @@ pub struct ModPath {
 // (Written out: what is derived is proved anew, field by field, in each crate that drops one.)
 impl Drop for ModPath {
     fn drop(self) {
-        let ModPath { kind: _, segments: _ } = self;
+        let ModPath {
+            kind: _,
+            segments: _,
+        } = self;
     }
 }
 

@@ -34,7 +34,12 @@ pub struct ItemTree {
 // (Written out: what is derived is proved anew, field by field, in each crate that drops one.)
 impl Drop for ItemTree {
     fn drop(self) {
-        let ItemTree { top_level: _, top_place: _, rows: _, fixed: _ } = self;
+        let ItemTree {
+            top_level: _,
+            top_place: _,
+            rows: _,
+            fixed: _,
+        } = self;
     }
 }
 

@@ -68,8 +68,11 @@ impl Entry {
 
     fn set(&mut self, source: Source, fresh: Vec<Row>, number: u64)
         requires { length fresh.items ≡ length self.old.rows }
-        ensures { self.new ≡ record { source = Some source; rows = settled number self.old.rows
-            fresh.items } }
+        ensures { self.new ≡ record {
+          source = Some source;
+          rows = settled number self.old.rows
+              fresh.items;
+        } }
     {
         self.source = Some(source);
         settle(&mut self.rows, fresh, number);

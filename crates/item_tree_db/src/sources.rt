@@ -48,7 +48,15 @@ pub struct Sources {
 // (Written out: what is derived is proved anew, field by field, in each crate that drops one.)
 impl Drop for Sources {
     fn drop(self) {
-        let Sources { alloc: _, crates: _, skipped: _, start: _, number: _, places: _, empty: _ } = self;
+        let Sources {
+            alloc: _,
+            crates: _,
+            skipped: _,
+            start: _,
+            number: _,
+            places: _,
+            empty: _,
+        } = self;
     }
 }
 
