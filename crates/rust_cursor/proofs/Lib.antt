@@ -33,3 +33,4 @@ pub mod NearPassing
 pub mod NearUntil
 pub mod NearTexts
 pub mod Enclosed
+pub mod Keywords

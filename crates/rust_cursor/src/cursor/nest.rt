@@ -1,6 +1,6 @@
 //! Where a token stands.
 
-ghost use Rattle.std.specs.Prelude.{◌≡◌, ◌+◌, ◌<◌, ◌^◌};
+ghost use Rattle.std.specs.Prelude.{◌≡◌, ◌+◌, ◌<◌, ◌^◌, slice_index};
 ghost use Rattle.rust_cursor.specs.Nests as spec;
 
 use crate::among::is_among;
@@ -353,17 +353,38 @@ fn free_behind(nest: Nest, symbol: u8) -> usize
     }
 }
 
-/// The keywords with which neither a type nor a value ends.
-const LEADING_KEYWORDS: [&str; 32] = [
-    "as", "async", "break", "const", "continue", "dyn", "else", "enum", "extern", "fn", "for",
-    "if", "impl", "in", "let", "loop", "match", "mod", "move", "mut", "pub", "ref", "return",
-    "static", "struct", "trait", "type", "unsafe", "use", "where", "while", "yield",
-];
+/// The first byte of a word, or 0.
+fn first_byte(word: &str) -> u8
+    ensures { result ≡ slice_index word.now 0 }
+{
+    match word.as_bytes() {
+        [first, ..] => *first,
+        [] => 0,
+    }
+}
 
 /// Whether neither a type nor a value ends with the word.
-#[tactic(auto, unfolding(crate::specs::Nests::leads_on))]
 fn leads_on(word: &str) -> bool
     ensures { result ≡ spec.leads_on word.now }
 {
-    is_among(word, &LEADING_KEYWORDS)
+    // Most words that are no keywords are told by their first byte.
+    match first_byte(word) {
+        b'a' => is_among(word, &["as", "async"]),
+        b'b' => is_among(word, &["break"]),
+        b'c' => is_among(word, &["const", "continue"]),
+        b'd' => is_among(word, &["dyn"]),
+        b'e' => is_among(word, &["else", "enum", "extern"]),
+        b'f' => is_among(word, &["fn", "for"]),
+        b'i' => is_among(word, &["if", "impl", "in"]),
+        b'l' => is_among(word, &["let", "loop"]),
+        b'm' => is_among(word, &["match", "mod", "move", "mut"]),
+        b'p' => is_among(word, &["pub"]),
+        b'r' => is_among(word, &["ref", "return"]),
+        b's' => is_among(word, &["static", "struct"]),
+        b't' => is_among(word, &["trait", "type"]),
+        b'u' => is_among(word, &["unsafe", "use"]),
+        b'w' => is_among(word, &["where", "while"]),
+        b'y' => is_among(word, &["yield"]),
+        _ => false,
+    }
 }
