@@ -4,7 +4,7 @@ use Rattle.std.proofs.Math.ListN.{set, length-set}
 use Rattle.std.proofs.lemmas.List.{get_or-set_same, get_or-set_other}
 use Rattle.std.proofs.lemmas.Bool.{cases_eq}
 use Rattle.path_glob.specs.Globs.{passes, is_one}
-use Rattle.path_glob.specs.Rows.{told_at, IsBehindOne, IsBehindSome}
+use Rattle.path_glob.specs.Inner.{told_at, IsBehindOne, IsBehindSome}
 
 -- one character, up to a place
 pub record PartOne (p : ℕ) (text : List ℕ) (old row : List Bool) (i : ℕ) : Type 0 where

@@ -3,7 +3,7 @@ use Rattle.std.proofs.Common.{◌≡◌, ◌≢◌, ℕ, zero, suc, Bool, true, 
 use Rattle.std.proofs.lemmas.List.{drop_more, drop_all, get_or_append_left, get_or-replicate, get_or_at, length-replicate}
 use Rattle.std.proofs.lemmas.Bool.{eq-eqb, ne_eqb, cases_lt}
 use Rattle.path_glob.specs.Globs.{is_used_up, is_star_next, passes, is_one, behind_some, behind_one, matches}
-use Rattle.path_glob.specs.Rows.{told_at, IsRow, IsBehindOne, IsBehindSome}
+use Rattle.path_glob.specs.Inner.{told_at, IsRow, IsBehindOne, IsBehindSome}
 
 one_more : (p : ℕ) (holds : List ℕ → Bool) (c : ℕ) (s : List ℕ) → behind_one (is_one p) holds (c ∷ s) ≡ (is_one p c && holds s)
 unfolding behind_one

@@ -1,2 +1,2 @@
 pub mod Globs
-pub mod Rows
+pub mod Inner

@@ -4,7 +4,7 @@
 ghost use Rattle.std.specs.Prelude.{◌≡◌, ◌≢◌, ◌+◌, ◌&&◌, ◌||◌, ◌∷◌, [], length, IfOk};
 ghost use Rattle.std.specs.Str.{chars};
 ghost use Rattle.path_glob.specs.Globs as spec;
-ghost use Rattle.path_glob.specs.Rows as rows;
+ghost use Rattle.path_glob.specs.Inner as inner;
 
 use std::alloc::{AllocError, Global};
 
@@ -49,7 +49,7 @@ fn either(a: bool, b: bool) -> bool
 
 /// The row of a glob without characters: true for the end of the path alone.
 fn last_row(alloc: Global, path: &[char]) -> Result<Vec<bool>, AllocError>
-    ensures { IfOk result (λ row. rows.IsRow (spec.matches []) path.now row.items) }
+    ensures { IfOk result (λ row. inner.IsRow (spec.matches []) path.now row.items) }
 {
     let mut row = Vec::new(alloc);
     for _c in path {
@@ -62,7 +62,7 @@ fn last_row(alloc: Global, path: &[char]) -> Result<Vec<bool>, AllocError>
 /// The row behind a character that is no star.
 fn pass_one(row: &mut [bool], path: &[char], p: char)
     requires { length row.old ≡ length path.now + 1 }
-    ensures { rows.IsBehindOne p path.now row.old row.new }
+    ensures { inner.IsBehindOne p path.now row.old row.new }
 {
     for at in 0..path.len() {
         row[at] = both(fits(p, path[at]), row[at + 1]);
@@ -73,7 +73,7 @@ fn pass_one(row: &mut [bool], path: &[char], p: char)
 /// The row behind a star.
 fn pass_star(row: &mut [bool], path: &[char], is_double: bool)
     requires { length row.old ≡ length path.now + 1 }
-    ensures { rows.IsBehindSome is_double path.now row.old row.new }
+    ensures { inner.IsBehindSome is_double path.now row.old row.new }
 {
     let mut at = path.len();
     while at > 0 {
@@ -85,8 +85,8 @@ fn pass_star(row: &mut [bool], path: &[char], is_double: bool)
 
 /// From the row of the rest of a glob to that of it and the character before.
 fn pass(row: &mut [bool], path: &[char], p: char, rest: &[char])
-    requires { rows.IsRow (spec.matches rest.now) path.now row.old }
-    ensures { rows.IsRow (spec.matches (p ∷ rest.now)) path.now row.new }
+    requires { inner.IsRow (spec.matches rest.now) path.now row.old }
+    ensures { inner.IsRow (spec.matches (p ∷ rest.now)) path.now row.new }
 {
     if p == '*' {
         pass_star(row, path, is_star_next(rest));
@@ -97,8 +97,8 @@ fn pass(row: &mut [bool], path: &[char], p: char, rest: &[char])
 
 /// From the row of the end of a glob to that of all of it.
 fn pass_all(row: &mut [bool], path: &[char], glob: &[char])
-    requires { rows.IsRow (spec.matches []) path.now row.old }
-    ensures { rows.IsRow (spec.matches glob.now) path.now row.new }
+    requires { inner.IsRow (spec.matches []) path.now row.old }
+    ensures { inner.IsRow (spec.matches glob.now) path.now row.new }
 {
     let mut at = glob.len();
     while at > 0 {

@@ -1,7 +1,7 @@
 use Rattle.std.proofs.Common.{◌≡◌, ◌+◌, ◌-◌, ◌<◌, ◌∷◌, List, ℕ, length, drop, get_or, subst, sym, arith}
 use Rattle.std.proofs.lemmas.List.{take_rest, get_or_read}
 use Rattle.path_glob.specs.Globs.{matches}
-use Rattle.path_glob.specs.Rows.{IsRow}
+use Rattle.path_glob.specs.Inner.{IsRow}
 use Rattle.path_glob.proofs.Rows.{from_before, from_place, from_end}
 use Rattle.path_glob.proofs.pass_all.Goals as goal
 

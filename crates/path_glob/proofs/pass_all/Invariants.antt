@@ -1,6 +1,6 @@
 use Rattle.std.proofs.Common.{◌≤◌, length, drop}
 use Rattle.path_glob.specs.Globs.{matches}
-use Rattle.path_glob.specs.Rows.{IsRow}
+use Rattle.path_glob.specs.Inner.{IsRow}
 use Rattle.path_glob.proofs.pass_all.Given as goal
 
 abbrev pub invariant-loop-at : goal.invariant-loop-at

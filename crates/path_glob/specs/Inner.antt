@@ -1,4 +1,4 @@
--- A row tells of each end of a text, the whole first, whether something holds of it.
+-- For the crate's own functions: a row tells of each end of a text, the whole first, whether something holds of it.
 use Rattle.std.specs.Prelude.{ℕ, Bool, false, ◌≡◌, ◌+◌, ◌<◌, ◌≤◌, ◌&&◌, ◌||◌, List, length, drop, get_or}
 use Rattle.path_glob.specs.Globs.{passes, is_one}
 
