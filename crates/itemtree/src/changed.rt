@@ -1,9 +1,9 @@
 //! What became of a file in another, or of the files below a folder in those below another.
 use crate::commands::{FAILED, Failure, NOT_SO};
-use crate::files::{Filter, Found, STDIN, files_of_folder, is_a_folder, read, with_slash};
+use crate::files::{Found, STDIN, files_of_folder, is_a_folder, read, with_slash};
 use crate::output::{Progress, complain, complain_of, write_out};
-use clap::ArgMatches;
 use itemtree_commands::{CompareError, Options, changed};
+use itemtree_options::{Asked, Filter};
 use source_listing::Source;
 use std::alloc::{AllocError, Global};
 use std::cmp::Ordering;
@@ -121,7 +121,7 @@ impl Comparison<'_> {
         self.write(&line)
     }
 
-    fn found_in(&mut self, folder: &str, filter: Filter<'_, '_>) -> Result<Found, AllocError> {
+    fn found_in(&mut self, folder: &str, filter: &Filter<'_>) -> Result<Found, AllocError> {
         let found = files_of_folder(self.rt, folder, filter)?;
         if !found.faults.is_empty() {
             self.status = FAILED;
@@ -143,7 +143,7 @@ impl Comparison<'_> {
         &mut self,
         old: &str,
         new: &str,
-        filter: Filter<'_, '_>,
+        filter: &Filter<'_>,
     ) -> Result<(), Failure> {
         let alloc = self.rt.alloc();
         let (olds, news) = (self.found_in(old, filter)?, self.found_in(new, filter)?);
@@ -211,9 +211,10 @@ fn refused(alloc: Global, folder: &str, other: &str) -> Result<u8, Failure> {
 pub(crate) fn compare(
     rt: &HostRuntime,
     options: &Options,
-    matches: &ArgMatches<'_>,
+    asked: &Asked<'_>,
     old: &str,
     new: &str,
+    is_of_trees: bool,
 ) -> Result<u8, Failure> {
     let alloc = rt.alloc();
     if old == STDIN && new == STDIN {
@@ -223,14 +224,14 @@ pub(crate) fn compare(
     let mut comparison = Comparison {
         rt,
         options,
-        is_of_trees: matches.get_flag("tree"),
-        has_docs: matches.get_flag("docs"),
+        is_of_trees,
+        has_docs: asked.has_docs,
         status: 0,
         progress: Progress::new(rt),
     };
     match (is_a_folder(rt, old), is_a_folder(rt, new)) {
         (false, false) => comparison.compare_files(old, new)?,
-        (true, true) => comparison.compare_folders(old, new, Filter::new(matches))?,
+        (true, true) => comparison.compare_folders(old, new, &asked.filter)?,
         (true, false) => return refused(alloc, old, new),
         (false, true) => return refused(alloc, new, old),
     }

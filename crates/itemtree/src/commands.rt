@@ -1,15 +1,15 @@
 //! The commands, file by file.
 use crate::changed::compare;
-use crate::files::{Filter, STDIN, files_of, read};
+use crate::files::{STDIN, files_of, read};
 use crate::options::read_options;
 use crate::output::{Progress, STDOUT, complain, complain_of, is_colored, write_out};
 use crate::request::write_request;
 use crate::serve::answer_lines;
 use crate::tags::write_tags;
-use clap::ArgMatches;
 use itemtree_commands::{
     Options, check, duplicates, find, imports, outline, outline_json, page, push_tags,
 };
+use itemtree_options::{Asked, Command};
 use source_listing::{Query, SoughtPath, Source, sought_path};
 use source_tree::SourceError;
 use std::alloc::{AllocError, Global};
@@ -50,89 +50,17 @@ impl From<AllocError> for Failure {
     }
 }
 
-/// What is done with each file.
-#[derive(Drop)]
-enum Action {
-    Outline {
-        depth: Option<usize>,
-        has_members: bool,
-        is_json: bool,
-        is_colored: bool,
-    },
-    Page {
-        has_ids: bool,
-    },
-    Imports,
-    Duplicates,
-    Find {
-        sought: SoughtPath,
-        has_members: bool,
-    },
-    Tags {
-        lines: Vec<String>,
-        has_members: bool,
-    },
-    Check,
-}
-
-impl Action {
-    /// What is written of a file, and whether the file is as it should be.
-    fn answer(
-        &mut self,
-        alloc: Global,
-        options: &Options,
-        source: Source<'_>,
-    ) -> Result<(String, bool), SourceError> {
-        match self {
-            Action::Outline {
-                depth,
-                has_members,
-                is_json,
-                is_colored,
-            } => {
-                let text = if *is_json {
-                    outline_json(alloc, source, options, *depth, *has_members)?
-                } else {
-                    outline(alloc, source, options, *depth, *has_members, *is_colored)?
-                };
-                Ok((text, true))
-            }
-            Action::Page { has_ids } => Ok((page(alloc, source.text, options, *has_ids)?, true)),
-            Action::Imports => Ok((imports(alloc, source, options)?, true)),
-            Action::Duplicates => Ok((duplicates(alloc, source, options)?, true)),
-            Action::Find {
-                sought,
-                has_members,
-            } => {
-                let query = Query {
-                    path: sought.path.as_str(),
-                    is_anywhere: sought.is_anywhere,
-                    only_active: options.only_active,
-                };
-                Ok((find(alloc, source, options, query, *has_members)?, true))
-            }
-            Action::Tags { lines, has_members } => {
-                let before = lines.len();
-                if let Err(error) = push_tags(alloc, source, options, *has_members, lines) {
-                    lines.truncate(before);
-                    return Err(error);
-                }
-                Ok((String::new(alloc), true))
-            }
-            Action::Check => {
-                let checked = check(alloc, source, options)?;
-                Ok((checked.text, checked.is_clean))
-            }
-        }
-    }
-}
-
 /// A command over files.
 #[derive(Drop)]
 struct Run<'a> {
     rt: &'a HostRuntime,
+    asked: &'a Asked<'a>,
     options: &'a Options,
-    action: Action,
+    is_colored: bool,
+    /// What is to be found, if anything is.
+    sought: Option<SoughtPath>,
+    /// The lines of a tags file.
+    tags: Vec<String>,
     status: u8,
     /// Whether any file was done.
     has_done: bool,
@@ -142,6 +70,69 @@ struct Run<'a> {
 }
 
 impl Run<'_> {
+    fn find(&self, source: Source<'_>) -> Result<String, SourceError> {
+        let alloc = self.rt.alloc();
+        let Some(sought) = &self.sought else {
+            return Ok(String::new(alloc));
+        };
+        let query = Query {
+            path: sought.path.as_str(),
+            is_anywhere: sought.is_anywhere,
+            only_active: self.options.only_active,
+        };
+        find(alloc, source, self.options, query, self.asked.has_members)
+    }
+
+    fn push_tags(&mut self, source: Source<'_>) -> Result<String, SourceError> {
+        let (alloc, has_members) = (self.rt.alloc(), self.asked.has_members);
+        let before = self.tags.len();
+        match push_tags(alloc, source, self.options, has_members, &mut self.tags) {
+            Ok(()) => Ok(String::new(alloc)),
+            Err(error) => {
+                self.tags.truncate(before);
+                Err(error)
+            }
+        }
+    }
+
+    fn outline(
+        &self,
+        source: Source<'_>,
+        depth: Option<usize>,
+        is_json: bool,
+    ) -> Result<String, SourceError> {
+        let (alloc, has_members) = (self.rt.alloc(), self.asked.has_members);
+        if is_json {
+            return outline_json(alloc, source, self.options, depth, has_members);
+        }
+        outline(
+            alloc,
+            source,
+            self.options,
+            depth,
+            has_members,
+            self.is_colored,
+        )
+    }
+
+    /// What is written of a file, and whether the file is as it should be.
+    fn answer(&mut self, source: Source<'_>) -> Result<(String, bool), SourceError> {
+        let (alloc, options) = (self.rt.alloc(), self.options);
+        let text = match self.asked.command {
+            Command::Outline { depth, is_json, .. } => self.outline(source, depth, is_json)?,
+            Command::Page { has_ids } => page(alloc, source.text, options, has_ids)?,
+            Command::Imports => imports(alloc, source, options)?,
+            Command::Duplicates => duplicates(alloc, source, options)?,
+            Command::Find { .. } => self.find(source)?,
+            Command::Tags { .. } => self.push_tags(source)?,
+            _ => {
+                let checked = check(alloc, source, options)?;
+                return Ok((checked.text, checked.is_clean));
+            }
+        };
+        Ok((text, true))
+    }
+
     /// Tells on standard error that a file is not done.
     fn complain(&mut self, path: &str, error: impl Display + Drop) {
         self.status = FAILED;
@@ -164,7 +155,7 @@ impl Run<'_> {
 
     fn do_text(&mut self, path: &str, text: &str) -> Result<(), Failure> {
         let source = Source { path, text };
-        match self.action.answer(self.rt.alloc(), self.options, source) {
+        match self.answer(source) {
             Ok((text, is_good)) => self.write(&text, is_good)?,
             Err(error) => self.complain(path, error),
         }
@@ -181,8 +172,8 @@ impl Run<'_> {
         }
     }
 
-    fn do_all(&mut self, paths: &[&str], filter: Filter<'_, '_>) -> Result<(), Failure> {
-        let found = files_of(self.rt, paths, filter)?;
+    fn do_all(&mut self) -> Result<(), Failure> {
+        let found = files_of(self.rt, &self.asked.files, &self.asked.filter)?;
         if !found.faults.is_empty() {
             self.status = FAILED;
             complain_of(self.rt, &found.faults);
@@ -196,53 +187,18 @@ impl Run<'_> {
     }
 }
 
-fn has_members(matches: &ArgMatches<'_>) -> bool {
-    !matches.get_flag("no-members")
-}
-
-/// What is done to find a path of names.
-fn finding(alloc: Global, matches: &ArgMatches<'_>) -> Result<Action, Failure> {
-    let words = matches.get_str("name").unwrap_or("");
-    let Some(sought) = sought_path(alloc, words)? else {
-        let message = format!(in alloc;
-            "find '{words}': this is neither a name, as f or r#fn, nor a path of names, as b::f or ::a::b::f"
-        )?;
-        return Err(Failure::Usage(message));
+/// What is to be found, if anything is.
+fn sought_of(alloc: Global, command: Command<'_>) -> Result<Option<SoughtPath>, Failure> {
+    let Command::Find { name } = command else {
+        return Ok(None);
     };
-    Ok(Action::Find {
-        sought,
-        has_members: has_members(matches),
-    })
-}
-
-/// What is done to list items.
-fn outlining(rt: &HostRuntime, matches: &ArgMatches<'_>) -> Action {
-    Action::Outline {
-        depth: matches.get_one::<usize>("depth"),
-        has_members: has_members(matches),
-        is_json: matches.get_flag("json"),
-        is_colored: is_colored(rt, matches.get_str("color")),
+    if let Some(sought) = sought_path(alloc, name)? {
+        return Ok(Some(sought));
     }
-}
-
-fn action_of(rt: &HostRuntime, name: &str, matches: &ArgMatches<'_>) -> Result<Action, Failure> {
-    let alloc = rt.alloc();
-    match name {
-        "outline" => Ok(outlining(rt, matches)),
-        "page" => {
-            let has_ids = matches.get_str("ids") != Some("off");
-            Ok(Action::Page { has_ids })
-        }
-        "imports" if matches.get_flag("duplicates") => Ok(Action::Duplicates),
-        "imports" => Ok(Action::Imports),
-        "find" => finding(alloc, matches),
-        "tags" => {
-            let lines = Vec::new(alloc);
-            let has_members = has_members(matches);
-            Ok(Action::Tags { lines, has_members })
-        }
-        _ => Ok(Action::Check),
-    }
+    let message = format!(in alloc;
+        "find '{name}': this is neither a name, as f or r#fn, nor a path of names, as b::f or ::a::b::f"
+    )?;
+    Err(Failure::Usage(message))
 }
 
 /// Writes the tags. If nothing could be read, those that stand are better than none.
@@ -266,27 +222,20 @@ fn finish_tags(
 }
 
 /// Ends a run: writes the tags, and gives the status.
-fn finish(run: Run<'_>, matches: &ArgMatches<'_>) -> Result<u8, Failure> {
+fn finish(run: Run<'_>) -> Result<u8, Failure> {
     let Run {
         rt,
-        action,
+        asked,
+        tags,
         status,
         has_done,
         has_written,
         ..
     } = run;
-    match action {
-        Action::Tags { lines, .. } => {
-            let path = matches.get_str("output").unwrap_or("tags");
-            finish_tags(rt, path, lines, status, has_done)
-        }
-        Action::Find { .. } if !has_written => Ok(status.max(NOT_SO)),
-        Action::Find { .. } => Ok(status),
-        Action::Outline { .. }
-        | Action::Page { .. }
-        | Action::Imports
-        | Action::Duplicates
-        | Action::Check => Ok(status),
+    match asked.command {
+        Command::Tags { output } => finish_tags(rt, output, tags, status, has_done),
+        Command::Find { .. } if !has_written => Ok(status.max(NOT_SO)),
+        _ => Ok(status),
     }
 }
 
@@ -304,35 +253,39 @@ fn no_cfg(alloc: Global, word: &str) -> Result<Failure, AllocError> {
     Ok(Failure::Usage(message))
 }
 
-/// Does what a command line asks, and gives the status to end with.
-pub(crate) fn run_command(rt: &HostRuntime, matches: &ArgMatches<'_>) -> Result<u8, Failure> {
-    let Some((name, inner)) = matches.subcommand() else {
-        return Ok(FAILED);
-    };
-    if name == "serve" {
-        return answer_lines(rt);
-    }
-    let options = match read_options(rt.alloc(), inner)? {
-        Ok(options) => options,
-        Err(word) => return Err(no_cfg(rt.alloc(), word)?),
-    };
-    if let (Some(old), Some(new)) = (inner.get_str("old"), inner.get_str("new")) {
-        return compare(rt, &options, inner, old, new);
-    }
-    if name == "request" {
-        return write_request(rt, options, inner);
-    }
-    let action = action_of(rt, name, inner)?;
+fn run_files(rt: &HostRuntime, options: &Options, asked: &Asked<'_>) -> Result<u8, Failure> {
     let mut run = Run {
         rt,
-        action,
-        options: &options,
+        asked,
+        options,
+        is_colored: is_colored(rt, asked.command),
+        sought: sought_of(rt.alloc(), asked.command)?,
+        tags: Vec::new(rt.alloc()),
         status: 0,
         has_done: false,
         has_written: false,
         progress: Progress::new(rt),
     };
-    let paths = inner.get_strs("files").unwrap_or(&[]);
-    run.do_all(paths, Filter::new(inner))?;
-    finish(run, inner)
+    run.do_all()?;
+    finish(run)
+}
+
+/// Does what a command line asks, and gives the status to end with.
+pub(crate) fn run_command(rt: &HostRuntime, asked: &Asked<'_>) -> Result<u8, Failure> {
+    if let Command::Serve = asked.command {
+        return answer_lines(rt);
+    }
+    let options = match read_options(rt.alloc(), asked)? {
+        Ok(options) => options,
+        Err(word) => return Err(no_cfg(rt.alloc(), word)?),
+    };
+    match asked.command {
+        Command::Changed {
+            old,
+            new,
+            is_of_trees,
+        } => compare(rt, &options, asked, old, new, is_of_trees),
+        Command::Request { has_bodies } => write_request(rt, options, asked, has_bodies),
+        _ => run_files(rt, &options, asked),
+    }
 }

@@ -1,7 +1,6 @@
 //! The files that a command line names, and the Rust files below folders.
-use clap::ArgMatches;
+use itemtree_options::Filter;
 use line_index::{LineIndex, Position};
-use path_glob::is_match;
 use std::alloc::{AllocError, Global};
 use std::fmt::Display;
 use std::io::{BufRead, BufReader, Read};
@@ -11,50 +10,6 @@ use thiserror::Error;
 
 /// What stands for standard input.
 pub(crate) const STDIN: &str = "-";
-
-/// The folders that cargo builds in.
-const BUILT: &str = "target";
-
-/// What of folders is taken. Files that are named are.
-#[derive(Clone, Copy)]
-pub(crate) struct Filter<'a, 'w> {
-    /// Whether hidden entries are, and folders called `target`.
-    has_hidden: bool,
-    /// What is not.
-    excluded: Option<&'a [&'w str]>,
-}
-
-impl<'a, 'w> Filter<'a, 'w> {
-    pub(crate) fn new(matches: &'a ArgMatches<'w>) -> Filter<'a, 'w> {
-        Filter {
-            has_hidden: matches.get_flag("hidden"),
-            excluded: matches.get_strs("exclude"),
-        }
-    }
-
-    /// Whether an entry is left out, by its name and its path, which begins with a slash for the folder that was named.
-    fn excludes(&self, alloc: Global, name: &str, path: &str) -> Result<bool, AllocError> {
-        if !self.has_hidden && name.starts_with('.') {
-            return Ok(true);
-        }
-        for glob in self.excluded.unwrap_or(&[]) {
-            if stands_for(alloc, glob, name, path)? {
-                return Ok(true);
-            }
-        }
-        Ok(false)
-    }
-}
-
-/// Whether a glob is one of an entry: of its name, or of its path with or without the slash.
-fn stands_for(alloc: Global, glob: &str, name: &str, path: &str) -> Result<bool, AllocError> {
-    let glob = glob.strip_suffix('/').unwrap_or(glob);
-    let below = path.strip_prefix('/').unwrap_or(path);
-    if is_match(alloc, glob, name)? || is_match(alloc, glob, below)? {
-        return Ok(true);
-    }
-    is_match(alloc, glob, path)
-}
 
 /// The Rust files below folders, and what could not be read there.
 #[derive(Drop)]
@@ -88,7 +43,7 @@ impl Found {
 #[derive(Drop)]
 struct Walk<'r, 't, 'f, 'w> {
     rt: &'r HostRuntime,
-    filter: Filter<'f, 'w>,
+    filter: &'f Filter<'w>,
     /// The one, without a slash behind it.
     top: &'t str,
     /// Those that are still to be read, each with a slash behind it.
@@ -103,7 +58,7 @@ impl Walk<'_, '_, '_, '_> {
     }
 
     fn push_folder(&mut self, name: &str, mut path: String) -> Result<(), AllocError> {
-        if self.filter.has_hidden || name != BUILT {
+        if self.filter.enters(name) {
             path.push('/')?;
             self.folders.push(path)?;
         }
@@ -193,7 +148,7 @@ pub(crate) fn with_slash(alloc: Global, folder: &str) -> Result<String, AllocErr
 pub(crate) fn files_of_folder(
     rt: &HostRuntime,
     folder: &str,
-    filter: Filter<'_, '_>,
+    filter: &Filter<'_>,
 ) -> Result<Found, AllocError> {
     let mut folders = Vec::new(rt.alloc());
     folders.push(with_slash(rt.alloc(), folder)?)?;
@@ -223,7 +178,7 @@ pub(crate) fn files_of_folder(
 pub(crate) fn files_of(
     rt: &HostRuntime,
     paths: &[&str],
-    filter: Filter<'_, '_>,
+    filter: &Filter<'_>,
 ) -> Result<Found, AllocError> {
     let mut all = Found::new(rt.alloc());
     for path in paths {

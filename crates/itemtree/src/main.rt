@@ -4,7 +4,6 @@
 
 mod arguments;
 mod changed;
-mod command_line;
 mod commands;
 mod files;
 mod options;
@@ -15,42 +14,24 @@ mod tags;
 mod words;
 
 use crate::arguments::words;
-use crate::command_line::command;
 use crate::commands::{FAILED, Failure, run_command};
-use crate::output::{STDOUT, unwritten};
-use clap::error::ErrorKind;
-use clap::{ArgMatches, Error};
-use std::alloc::Global;
+use crate::output::write_out;
+use itemtree_options::{CommandLine, read_command_line};
 use std::fmt::Display;
 use std::process::ExitCode;
 
-/// What is asked on a command line.
-fn parse<'a>(alloc: Global, words: &'a [String]) -> Result<ArgMatches<'a>, Error> {
-    let command = command(alloc)?;
-    command.try_get_matches_from(words)
-}
-
-/// Prints the help that is asked for, or what is wrong with a command line, and gives the status.
-fn print(rt: &HostRuntime, error: &Error) -> Result<u8, Failure> {
-    if error.kind() == ErrorKind::OutOfMemory {
-        let _ = eprintln!(rt; "itemtree: out of memory");
-        return Ok(FAILED);
-    }
-    let printed = error.print(rt);
-    if error.use_stderr() {
-        return Ok(FAILED);
-    }
-    match printed {
-        Ok(()) => Ok(0),
-        Err(error) => Err(unwritten(rt.alloc(), STDOUT, error)),
-    }
-}
-
 fn run(rt: &HostRuntime) -> Result<u8, Failure> {
     let words = words(rt)?;
-    match parse(rt.alloc(), &words) {
-        Ok(matches) => run_command(rt, &matches),
-        Err(error) => print(rt, &error),
+    match read_command_line(rt.alloc(), &words)? {
+        CommandLine::Asked(asked) => run_command(rt, &asked),
+        CommandLine::Help(text) => {
+            write_out(rt, &text)?;
+            Ok(0)
+        }
+        CommandLine::Wrong(text) => {
+            let _ = eprint!(rt; "{text}");
+            Ok(FAILED)
+        }
     }
 }
 

@@ -1,9 +1,9 @@
 //! What all commands are told.
 use crate::words::{edition, push_names, skipped};
-use clap::ArgMatches;
 use hir_input::{CfgAtom, CfgOptions, EditionYear, HirFileId, Name};
 use item_tree::CrateData;
 use itemtree_commands::Options;
+use itemtree_options::Asked;
 use std::alloc::{AllocError, Global};
 
 /// `KEY="VALUE"`, as rustc takes it, or the name of a flag.
@@ -40,43 +40,37 @@ fn atoms<'a>(
 }
 
 /// The cfgs of a command line; none, if one of its words is none.
-pub(crate) fn atoms_of(
-    alloc: Global,
-    matches: &ArgMatches<'_>,
-) -> Result<Vec<CfgAtom>, AllocError> {
-    match atoms(alloc, matches.get_strs("cfg").unwrap_or(&[]))? {
+pub(crate) fn atoms_of(alloc: Global, asked: &Asked<'_>) -> Result<Vec<CfgAtom>, AllocError> {
+    match atoms(alloc, &asked.cfgs)? {
         Ok(atoms) => Ok(atoms),
         Err(_word) => Ok(Vec::new(alloc)),
     }
 }
 
-fn year(matches: &ArgMatches<'_>) -> EditionYear {
-    match matches.get_str("edition") {
-        Some("2015") => EditionYear::E2015,
-        Some("2018") => EditionYear::E2018,
-        Some("2021") => EditionYear::E2021,
+fn year(edition: u16) -> EditionYear {
+    match edition {
+        2015 => EditionYear::E2015,
+        2018 => EditionYear::E2018,
+        2021 => EditionYear::E2021,
         _ => EditionYear::E2024,
     }
 }
 
-fn skipped_names(alloc: Global, matches: &ArgMatches<'_>) -> Result<Vec<Name>, AllocError> {
-    match matches.get_strs("skip") {
-        Some(words) => {
-            let mut names = Vec::new(alloc);
-            push_names(alloc, words, &mut names)?;
-            Ok(names)
-        }
-        None => skipped(alloc, matches.get_flag("docs")),
+fn skipped_names(alloc: Global, asked: &Asked<'_>) -> Result<Vec<Name>, AllocError> {
+    if asked.skipped.is_empty() {
+        return skipped(alloc, asked.has_docs);
     }
+    let mut names = Vec::new(alloc);
+    push_names(alloc, &asked.skipped, &mut names)?;
+    Ok(names)
 }
 
 /// The options of a command line, or the word after `--cfg` that is none.
 pub(crate) fn read_options<'a>(
     alloc: Global,
-    matches: &ArgMatches<'a>,
+    asked: &Asked<'a>,
 ) -> Result<Result<Options, &'a str>, AllocError> {
-    let specs = matches.get_strs("cfg").unwrap_or(&[]);
-    let atoms = match atoms(alloc, specs)? {
+    let atoms = match atoms(alloc, &asked.cfgs)? {
         Ok(atoms) => atoms,
         Err(word) => return Ok(Err(word)),
     };
@@ -87,8 +81,8 @@ pub(crate) fn read_options<'a>(
     };
     Ok(Ok(Options {
         krate,
-        skipped: skipped_names(alloc, matches)?,
-        edition: edition(alloc, year(matches))?,
-        only_active: matches.get_flag("active"),
+        skipped: skipped_names(alloc, asked)?,
+        edition: edition(alloc, year(asked.edition))?,
+        only_active: asked.only_active,
     }))
 }

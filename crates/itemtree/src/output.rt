@@ -1,5 +1,6 @@
 //! What is written on standard output, and told on standard error.
 use crate::commands::Failure;
+use itemtree_options::Command;
 use std::alloc::Global;
 use std::env::FillError;
 use std::fmt::Display;
@@ -51,11 +52,13 @@ fn is_dumb(rt: &HostRuntime) -> bool {
     }
 }
 
-/// Whether standard output is in colour, by the word of `--color`.
-pub(crate) fn is_colored(rt: &HostRuntime, word: Option<&str>) -> bool {
-    match word {
-        Some("always") => true,
-        Some("never") => false,
+/// Whether standard output is in colour, as `--color` says or the terminal.
+pub(crate) fn is_colored(rt: &HostRuntime, command: Command<'_>) -> bool {
+    match command {
+        Command::Outline {
+            is_colored: Some(is_colored),
+            ..
+        } => is_colored,
         _ => rt.stdout().is_terminal() && !wants_no_color(rt) && !is_dumb(rt),
     }
 }

@@ -1,13 +1,13 @@
 //! The request in JSON that `item_tree_tool` reads.
 use crate::commands::{FAILED, Failure};
-use crate::files::{Filter, files_of, read};
+use crate::files::{files_of, read};
 use crate::options::atoms_of;
 use crate::output::{complain, complain_of, write_out};
-use clap::ArgMatches;
 use hir_input::{Crate, HirFileId};
 use item_tree_db::Place;
 use item_tree_request::request::show::{Show, ShowKind, TreeShow};
 use itemtree_commands::Options;
+use itemtree_options::Asked;
 use request_writer::RequestOptions;
 use source_request::source_request;
 use std::alloc::{AllocError, Global};
@@ -39,12 +39,8 @@ fn shows_of(alloc: Global, words: &[&str], count: usize) -> Result<Vec<Show>, Al
 }
 
 /// The texts of the files, and of those below folders; nothing if one of them cannot be read, which is told on standard error.
-fn texts_of(
-    rt: &HostRuntime,
-    paths: &[&str],
-    filter: Filter<'_, '_>,
-) -> Result<Option<Vec<String>>, AllocError> {
-    let found = files_of(rt, paths, filter)?;
+fn texts_of(rt: &HostRuntime, asked: &Asked<'_>) -> Result<Option<Vec<String>>, AllocError> {
+    let found = files_of(rt, &asked.files, &asked.filter)?;
     if !found.faults.is_empty() {
         complain_of(rt, &found.faults);
         return Ok(None);
@@ -66,21 +62,21 @@ fn texts_of(
 pub(crate) fn write_request(
     rt: &HostRuntime,
     options: Options,
-    matches: &ArgMatches<'_>,
+    asked: &Asked<'_>,
+    has_bodies: bool,
 ) -> Result<u8, Failure> {
     let alloc = rt.alloc();
-    let paths = matches.get_strs("files").unwrap_or(&[]);
-    let Some(texts) = texts_of(rt, paths, Filter::new(matches))? else {
+    let Some(texts) = texts_of(rt, asked)? else {
         return Ok(FAILED);
     };
-    let shows = shows_of(alloc, matches.get_strs("show").unwrap_or(&[]), texts.len())?;
-    let asked = RequestOptions {
-        bodies: !matches.get_flag("no-bodies"),
+    let shows = shows_of(alloc, &asked.shows, texts.len())?;
+    let written = RequestOptions {
+        bodies: has_bodies,
         skipped: options.skipped,
         edition: options.edition,
-        cfg: atoms_of(alloc, matches)?,
+        cfg: atoms_of(alloc, asked)?,
     };
-    match source_request(alloc, &texts, &asked, &shows) {
+    match source_request(alloc, &texts, &written, &shows) {
         Ok(request) => {
             write_out(rt, &request)?;
             write_out(rt, "\n")?;

@@ -1,0 +1,55 @@
+//! The command line, as clap takes it.
+use crate::table::{Argument, Description, Form, STATUSES, descriptions};
+use clap::{Arg, Command};
+use std::alloc::{AllocError, Global};
+
+fn placed<'a>(arg: Arg<'a>, argument: &Argument) -> Arg<'a> {
+    match argument.form {
+        Form::Long => arg.long(argument.id),
+        Form::Short(letter) => arg.long(argument.id).short(letter),
+        Form::Word => arg.required(true),
+    }
+}
+
+fn valued<'a>(arg: Arg<'a>, argument: &Argument) -> Arg<'a> {
+    arg.num_args(argument.most.min(1)..=argument.most)
+        .value_name(argument.value)
+        .value_parser(argument.parser)
+        .default_values(argument.default)
+}
+
+fn arg<'a>(alloc: Global, argument: &Argument) -> Result<Arg<'a>, AllocError> {
+    let arg = Arg::new(alloc, argument.id)
+        .action(argument.action)
+        .help(argument.help);
+    let arg = valued(placed(arg, argument), argument);
+    if argument.needs_tree {
+        arg.requires_arg("tree")
+    } else {
+        Ok(arg)
+    }
+}
+
+fn subcommand<'a>(alloc: Global, description: &Description) -> Result<Command<'a>, AllocError> {
+    let mut command = Command::new(alloc, description.name)
+        .about(description.about)
+        .after_help(description.after);
+    for argument in description.arguments {
+        command = command.arg(arg(alloc, argument)?)?;
+    }
+    Ok(command)
+}
+
+/// The whole command line.
+pub(crate) fn command<'a>(alloc: Global) -> Result<Command<'a>, AllocError> {
+    let mut command = Command::new(alloc, "itemtree")
+        .version("0.2.0")
+        .about("Lists the items, imports and declarations of Rust files, and what changed in them")
+        .after_help(STATUSES)
+        .subcommand_required(true)
+        .arg_required_else_help(true);
+    for description in descriptions() {
+        command = command.subcommand(subcommand(alloc, description)?)?;
+    }
+    Ok(command)
+}

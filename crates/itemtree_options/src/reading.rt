@@ -1,0 +1,186 @@
+//! What is asked on a command line.
+use crate::building::command;
+use crate::folders::Filter;
+use clap::error::ErrorKind;
+use clap::{ArgMatches, Error};
+use std::alloc::{AllocError, Global};
+
+/// A command, and what it alone is told.
+#[derive(Clone, Copy)]
+pub enum Command<'a> {
+    Outline {
+        /// How many levels are listed; nothing: all.
+        depth: Option<usize>,
+        is_json: bool,
+        /// Whether lines are in colour; nothing: on a terminal.
+        is_colored: Option<bool>,
+    },
+    Page {
+        /// Whether ids are written.
+        has_ids: bool,
+    },
+    Imports,
+    /// `imports --duplicates`.
+    Duplicates,
+    Find {
+        /// A name, or a path of names.
+        name: &'a str,
+    },
+    Tags {
+        /// The file to write.
+        output: &'a str,
+    },
+    Changed {
+        old: &'a str,
+        new: &'a str,
+        /// Whether only the item trees are compared.
+        is_of_trees: bool,
+    },
+    Request {
+        /// Whether the texts of bodies are written.
+        has_bodies: bool,
+    },
+    Serve,
+    Check,
+}
+
+/// What a command is told. An option that it does not know is as one that is not given.
+#[derive(Drop)]
+pub struct Asked<'a> {
+    pub command: Command<'a>,
+    /// The files and folders.
+    pub files: Vec<&'a str>,
+    /// What of folders is taken.
+    pub filter: Filter<'a>,
+    /// The year of the edition: 2015, 2018, 2021 or 2024.
+    pub edition: u16,
+    /// The words after `--cfg`.
+    pub cfgs: Vec<&'a str>,
+    /// Whether what a cfg disables is left out.
+    pub only_active: bool,
+    /// Whether the members of items are listed.
+    pub has_members: bool,
+    /// The words after `--skip`.
+    pub skipped: Vec<&'a str>,
+    /// Whether documentation is kept or compared.
+    pub has_docs: bool,
+    /// What a request asks for of each file: `page`, `tree` or `imports`.
+    pub shows: Vec<&'a str>,
+}
+
+/// What a command line is.
+#[derive(Drop)]
+pub enum CommandLine<'a> {
+    /// It asks for a command.
+    Asked(Asked<'a>),
+    /// It asks for this text, as the help.
+    Help(String),
+    /// It is wrong, as this text says.
+    Wrong(String),
+}
+
+fn words<'a>(
+    alloc: Global,
+    matches: &ArgMatches<'a>,
+    id: &str,
+) -> Result<Vec<&'a str>, AllocError> {
+    matches.get_strs(id).unwrap_or(&[]).to_vec(alloc)
+}
+
+fn word<'a>(matches: &ArgMatches<'a>, id: &str) -> &'a str {
+    matches.get_str(id).unwrap_or("")
+}
+
+/// What `--color` says.
+fn is_colored(matches: &ArgMatches<'_>) -> Option<bool> {
+    match word(matches, "color") {
+        "always" => Some(true),
+        "never" => Some(false),
+        _ => None,
+    }
+}
+
+fn command_of<'a>(name: &str, matches: &ArgMatches<'a>) -> Command<'a> {
+    match name {
+        "outline" => Command::Outline {
+            depth: matches.get_one::<usize>("depth"),
+            is_json: matches.get_flag("json"),
+            is_colored: is_colored(matches),
+        },
+        "page" => Command::Page {
+            has_ids: word(matches, "ids") != "off",
+        },
+        "imports" if matches.get_flag("duplicates") => Command::Duplicates,
+        "imports" => Command::Imports,
+        "find" => Command::Find {
+            name: word(matches, "name"),
+        },
+        "tags" => Command::Tags {
+            output: word(matches, "output"),
+        },
+        "changed" => Command::Changed {
+            old: word(matches, "old"),
+            new: word(matches, "new"),
+            is_of_trees: matches.get_flag("tree"),
+        },
+        "request" => Command::Request {
+            has_bodies: !matches.get_flag("no-bodies"),
+        },
+        "serve" => Command::Serve,
+        _ => Command::Check,
+    }
+}
+
+fn asked_of<'a>(
+    alloc: Global,
+    name: &str,
+    matches: &ArgMatches<'a>,
+) -> Result<Asked<'a>, AllocError> {
+    let filter = Filter {
+        has_hidden: matches.get_flag("hidden"),
+        excluded: words(alloc, matches, "exclude")?,
+    };
+    Ok(Asked {
+        command: command_of(name, matches),
+        files: words(alloc, matches, "files")?,
+        filter,
+        edition: matches.get_one::<u16>("edition").unwrap_or(2024),
+        cfgs: words(alloc, matches, "cfg")?,
+        only_active: matches.get_flag("active"),
+        has_members: !matches.get_flag("no-members"),
+        skipped: words(alloc, matches, "skip")?,
+        has_docs: matches.get_flag("docs"),
+        shows: words(alloc, matches, "show")?,
+    })
+}
+
+/// What is printed where no command is asked for.
+fn printed<'a>(alloc: Global, error: &Error) -> Result<CommandLine<'a>, AllocError> {
+    if error.kind() == ErrorKind::OutOfMemory {
+        return Err(AllocError);
+    }
+    let text = format!(in alloc; "{error}")?;
+    if error.use_stderr() {
+        Ok(CommandLine::Wrong(text))
+    } else {
+        Ok(CommandLine::Help(text))
+    }
+}
+
+/// Reads the words of a command line, the program's name first.
+///
+/// # Errors
+///
+/// If there is no memory.
+pub fn read_command_line<'a>(
+    alloc: Global,
+    words: &'a [String],
+) -> Result<CommandLine<'a>, AllocError> {
+    match command(alloc)?.try_get_matches_from(words) {
+        Ok(matches) => match matches.subcommand() {
+            Some((name, inner)) => Ok(CommandLine::Asked(asked_of(alloc, name, inner)?)),
+            None => Ok(CommandLine::Wrong(String::new(alloc))),
+        },
+        Err(error) => printed(alloc, &error),
+    }
+}

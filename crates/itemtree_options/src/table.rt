@@ -1,0 +1,267 @@
+//! The commands and their arguments, with what help says of them.
+use clap::ArgAction;
+use clap::builder::ValueParser;
+
+/// Where an argument stands.
+#[derive(Clone, Copy)]
+pub(crate) enum Form {
+    /// Behind two hyphens.
+    Long,
+    /// So, or this letter behind one.
+    Short(char),
+    /// At its place, where it has to be.
+    Word,
+}
+
+/// An argument of a command.
+pub(crate) struct Argument {
+    pub(crate) id: &'static str,
+    pub(crate) form: Form,
+    pub(crate) action: ArgAction,
+    /// The most values that it takes at once.
+    pub(crate) most: usize,
+    /// How help calls its value.
+    pub(crate) value: &'static str,
+    pub(crate) parser: ValueParser<'static>,
+    /// Its value where it is not given, if it has one.
+    pub(crate) default: &'static [&'static str],
+    /// Whether `--tree` has to be given too.
+    pub(crate) needs_tree: bool,
+    pub(crate) help: &'static str,
+}
+
+const FLAG: Argument = Argument {
+    id: "",
+    form: Form::Long,
+    action: ArgAction::SetTrue,
+    most: 0,
+    value: "",
+    parser: ValueParser::Bool,
+    default: &[],
+    needs_tree: false,
+    help: "",
+};
+
+/// An argument like another but for these fields and its help.
+macro_rules! argument {
+    ($base:ident $($field:ident: $value:expr),*; $help:literal) => {
+        Argument { $($field: $value,)* help: $help, ..$base }
+    };
+}
+
+const ONE: Argument =
+    argument!(FLAG action: ArgAction::Set, most: 1, parser: ValueParser::String; "");
+
+const SEVERAL: Argument = argument!(ONE action: ArgAction::Append; "");
+
+const WORD: Argument = argument!(ONE form: Form::Word; "");
+
+const FILES: Argument =
+    argument!(WORD id: "files", value: "FILE", action: ArgAction::Append, most: usize::MAX;
+    "Rust files; a folder stands for its .rs files at every depth, and - for standard input");
+
+const EDITION: Argument = argument!(ONE id: "edition", value: "YEAR",
+    parser: ValueParser::Names(&["2015", "2018", "2021", "2024"]), default: &["2024"];
+    "The edition of the files: its keywords cannot be names, and are written as r#NAME");
+
+const HIDDEN: Argument = argument!(FLAG id: "hidden";
+    "Of folders, take hidden entries and folders called target too");
+
+const EXCLUDE: Argument = argument!(SEVERAL id: "exclude", value: "GLOB";
+    "Of folders, leave out what has such a name, or such a path below the folder");
+
+const CFG: Argument = argument!(SEVERAL id: "cfg", value: "SPEC";
+    "A cfg that is set: NAME or KEY=\"VALUE\"; may be given several times");
+
+const ACTIVE: Argument = argument!(FLAG id: "active"; "Leave out what a cfg disables");
+
+const NO_MEMBERS: Argument = argument!(FLAG id: "no-members"; "Leave out the members of items");
+
+const SKIP: Argument = argument!(SEVERAL id: "skip", value: "NAME";
+    "An attribute to leave out of the tree; may be given several times. If it is not given, these are:
+doc, stable, unstable, target_feature, allow, expect, warn, deny, forbid, repr, inline, track_caller, must_use");
+
+const DOCS: Argument = argument!(FLAG id: "docs"; "Keep documentation, if --skip is not given");
+
+const DEPTH: Argument =
+    argument!(ONE id: "depth", value: "N", parser: ValueParser::Unsigned(0, u32::MAX as u64);
+    "Only the outermost N levels of items and members");
+
+const COLOR: Argument = argument!(ONE id: "color", value: "WHEN",
+    parser: ValueParser::Names(&["auto", "always", "never"]), default: &["auto"];
+    "Whether lines are in colour; auto: on a terminal, unless NO_COLOR is set");
+
+const JSON: Argument = argument!(FLAG id: "json";
+    "Write a JSON object for each file, on a line of its own");
+
+const IDS: Argument = argument!(ONE id: "ids", value: "WHEN",
+    parser: ValueParser::Names(&["on", "off"]), default: &["on"];
+    "Whether rust-analyzer's ids of items are written");
+
+const DUPLICATES: Argument = argument!(FLAG id: "duplicates";
+    "Only imports that repeat an earlier one of their module, each with its place");
+
+const NAME: Argument = argument!(WORD id: "name", value: "NAME";
+    "f or b::f at any depth, T::f in an impl of T too; ::a::b::f or crate::a::b::f from a file's top");
+
+const OUTPUT: Argument =
+    argument!(ONE id: "output", form: Form::Short('o'), value: "FILE", default: &["tags"];
+    "Where to write them; - for standard output");
+
+const DOCS_TOO: Argument = argument!(DOCS id: "docs";
+    "Compare documentation too; with --tree, if --skip is not given");
+
+const TREE: Argument = argument!(FLAG id: "tree";
+    "Compare the item trees alone, which keep no signatures, fields, variants, values or members");
+
+const CFG_OF_TREE: Argument = Argument {
+    needs_tree: true,
+    ..CFG
+};
+
+const SKIP_OF_TREE: Argument = Argument {
+    needs_tree: true,
+    ..SKIP
+};
+
+const OLD: Argument = argument!(WORD id: "old", value: "OLD";
+    "The file as it was, or a folder; - for standard input");
+
+const NEW: Argument = argument!(WORD id: "new", value: "NEW";
+    "The file as it is now, or a folder; - for standard input");
+
+const SHOW: Argument = argument!(SEVERAL id: "show", value: "KIND",
+    parser: ValueParser::Names(&["page", "tree", "imports"]);
+    "What the request asks to be shown of each file; may be given several times");
+
+const NO_BODIES: Argument = argument!(FLAG id: "no-bodies"; "Leave the texts of bodies out");
+
+/// A command, with what stands behind its help.
+pub(crate) struct Description {
+    pub(crate) name: &'static str,
+    pub(crate) about: &'static str,
+    pub(crate) after: &'static str,
+    pub(crate) arguments: &'static [Argument],
+}
+
+static OUTLINE: Description = Description {
+    name: "outline",
+    about: "Lists the items of files and their members",
+    after: "Example: itemtree outline --cfg 'feature=\"extra\"' --active --depth 2 src
+
+Status: 0, or 2 at an error",
+    arguments: &[
+        EDITION, HIDDEN, EXCLUDE, CFG, ACTIVE, NO_MEMBERS, DEPTH, COLOR, JSON, FILES,
+    ],
+};
+
+static PAGE: Description = Description {
+    name: "page",
+    about: "Writes the debug pages of item trees, as rust-analyzer shows them",
+    after: "Example: itemtree page --ids off src/lib.rs
+
+Status: 0, or 2 at an error",
+    arguments: &[EDITION, HIDDEN, EXCLUDE, CFG, SKIP, DOCS, IDS, FILES],
+};
+
+static IMPORTS: Description = Description {
+    name: "imports",
+    about: "Lists the imports of files, also those that a cfg disables",
+    after: "Example: itemtree imports --duplicates src
+
+Status: 0, or 2 at an error",
+    arguments: &[EDITION, HIDDEN, EXCLUDE, DUPLICATES, FILES],
+};
+
+static FIND: Description = Description {
+    name: "find",
+    about: "Tells where a name or a path of names is declared",
+    after: "Example: itemtree find Circle::area src
+
+Status: 0 if something is found, 1 if nothing is, 2 at an error",
+    arguments: &[
+        EDITION, HIDDEN, EXCLUDE, CFG, ACTIVE, NO_MEMBERS, NAME, FILES,
+    ],
+};
+
+static TAGS: Description = Description {
+    name: "tags",
+    about: "Writes a tags file, by which editors jump to names",
+    after: "Example: itemtree tags src
+
+Status: 0, or 2 at an error",
+    arguments: &[
+        EDITION, HIDDEN, EXCLUDE, CFG, ACTIVE, NO_MEMBERS, OUTPUT, FILES,
+    ],
+};
+
+static CHANGED: Description = Description {
+    name: "changed",
+    about: "Lists the items and members that differ between two files, but for bodies of functions",
+    after: "Example: itemtree changed old/lib.rs src/lib.rs
+
+Signatures, fields, variants, values, attributes and members are compared too. With --tree none of these
+counts but attributes, and of attributes none that is left out: another #[repr] or #[must_use] is no change.
+
+Status: 0 if nothing differs, 1 if something does, 2 at an error",
+    arguments: &[
+        EDITION,
+        HIDDEN,
+        EXCLUDE,
+        DOCS_TOO,
+        TREE,
+        CFG_OF_TREE,
+        SKIP_OF_TREE,
+        OLD,
+        NEW,
+    ],
+};
+
+static REQUEST: Description = Description {
+    name: "request",
+    about: "Writes the request in JSON that sets these files, as item_tree_tool reads it",
+    after: "Example: itemtree request --show page src/lib.rs | item_tree_tool
+
+Status: 0, or 2 at an error; then nothing is written",
+    arguments: &[
+        EDITION, HIDDEN, EXCLUDE, CFG, SKIP, DOCS, SHOW, NO_BODIES, FILES,
+    ],
+};
+
+static SERVE: Description = Description {
+    name: "serve",
+    about: "Answers requests in JSON line by line: each line of standard input by one of standard output",
+    after: "Example: echo '{\"crates\":[{\"root\":0}],\"edits\":[],\"shows\":[]}' | itemtree serve
+
+Status: 0 at the end of the input, 2 if the command line is wrong, 6 if reading or writing fails",
+    arguments: &[],
+};
+
+static CHECK: Description = Description {
+    name: "check",
+    about: "Tells which items, brackets and quotes of files could not be read",
+    after: "Example: itemtree check src
+
+This is no syntax check. It sees words that begin no item, items without an end or a name, brackets and quotes
+that do not pair, and paths and attributes that cannot be read; not what else signatures, types and bodies hold.
+
+Status: 0 if nothing is wrong, 1 if something is, 2 at an error",
+    arguments: &[EDITION, HIDDEN, EXCLUDE, FILES],
+};
+
+/// The commands, as help lists them.
+pub(crate) fn descriptions() -> [&'static Description; 9] {
+    [
+        &OUTLINE, &PAGE, &IMPORTS, &FIND, &TAGS, &CHANGED, &REQUEST, &SERVE, &CHECK,
+    ]
+}
+
+/// What stands behind the help of the program.
+pub(crate) const STATUSES: &str = "Statuses:
+  0  done: a name is found, nothing is wrong, nothing differs
+  1  find: nothing is found; check: something is wrong; changed: something differs
+  2  an error: the command line is wrong, a file cannot be read or has no tree,
+     memory runs out or writing fails. What can be done is done all the same
+  6  serve: reading or writing fails
+
+'itemtree COMMAND --help' has an example and the statuses of a command.";
