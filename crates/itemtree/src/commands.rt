@@ -125,7 +125,7 @@ impl Run<'_> {
             Command::Duplicates => duplicates(alloc, source, options)?,
             Command::Find { .. } => self.find(source)?,
             Command::Tags { .. } => self.push_tags(source)?,
-            _ => {
+            Command::Check | Command::Changed { .. } | Command::Request { .. } | Command::Serve => {
                 let checked = check(alloc, source, options)?;
                 return Ok((checked.text, checked.is_clean));
             }
