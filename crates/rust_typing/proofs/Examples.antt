@@ -37,6 +37,7 @@ use Rattle.rust_items.specs.Typed.{begins_at, has_body}
 use Rattle.rust_items.proofs.Places.{Span, adds_item, adds_problem_at, adds_use_trees, list_from, turn_found}
 use Rattle.rust_items.proofs.UntilItems.{Rows, found_rows}
 use Rattle.rust_typing.specs.Laws.{with_body, OpensAt, IsBody, BeginsPlain, IsTyped}
+use Rattle.rust_typing.specs.Loose.{none_loose, loose_in}
 
 -- ` 1 `
 one : List ℕ
@@ -61,6 +62,19 @@ one_plain = refl
 two_plain : BeginsPlain two
 unfolding two first_cut is_wide_start is_wide_continue past_digits
 two_plain = refl
+
+same_loose : loose_in two ≡ loose_in one
+unfolding one two first_cut is_wide_start is_wide_continue past_digits
+same_loose = refl
+
+-- `({)}`: brackets are counted across braces, and `])(`: the first two close nothing, and the last is open
+across : loose_in (40 ∷ 123 ∷ 41 ∷ 125 ∷ []) ≡ none_loose
+unfolding first_cut is_wide_start
+across = refl
+
+counted : loose_in (93 ∷ 41 ∷ 40 ∷ []) ≡ record { closing = 2; opening = 1 }
+unfolding first_cut is_wide_start
+counted = refl
 
 -- ---- a text of which all is so that is asked
 

@@ -10,3 +10,8 @@ pub mod BodyStarts
 pub mod Opened
 pub mod Full
 pub mod Examples
+pub mod Ended
+pub mod EndedLeaves
+pub mod ProblemsAlike
+pub mod Unended
+pub mod Loose

@@ -22,7 +22,7 @@ use Rattle.rust_typing.proofs.Returns.{feeds_body, body_length, place_stays, pla
 
 -- ---- places
 
-place_is : (q m m' s : List ℕ) (n k : ℕ) → n ≤ length (with_body (with_feeds q) (with_feeds m) (with_feeds s)) → IsMoved (with_feeds q) (with_feeds m) (with_feeds m') (with_feeds s) n k
+pub place_is : (q m m' s : List ℕ) (n k : ℕ) → n ≤ length (with_body (with_feeds q) (with_feeds m) (with_feeds s)) → IsMoved (with_feeds q) (with_feeds m) (with_feeds m') (with_feeds s) n k
     → place_in (with_body q m' s) k ≡ shifted_by q m m' (place_in (with_body q m s) n)
 place_is q m m' s n k l (unmoved i e) = ap (place_in (with_body q m' s)) e ∙ place_stays q m m' s n i
 place_is q m m' s n k l (moves c low e f) =

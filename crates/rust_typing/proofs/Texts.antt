@@ -25,7 +25,6 @@ use Rattle.rust_cursor.proofs.Turns.{turns_stop}
 use Rattle.rust_metas.specs.Attributes.{is_style, is_doc, is_attribute, is_behind, inner_attributes, attributes}
 use Rattle.rust_metas.specs.Literals.{style_by}
 use Rattle.rust_items.proofs.UntilLeaves.{BeginPlain}
-use Rattle.rust_items.proofs.UntilItems.{Rows, RowsAlike}
 use Rattle.rust_typing.specs.Laws.{with_body, OpensAt, is_plain, first_plain, BeginsPlain}
 
 -- ---- the braces
@@ -71,9 +70,18 @@ bodies_at edition q m m' s h h' = refl
 abbrev pub IsMoved : List ℕ → List ℕ → List ℕ → List ℕ → ℕ → ℕ → Type 0
 IsMoved q m m' s = Moves (length q) (end_of (close_of s)) (suc (length q) + length m) (suc (length q) + length m')
 
-pub moved_by : (edition : EditionYear) (q m m' s : List ℕ) (h : StandsAlone m) (h' : StandsAlone m') {r r' : Rows} → RowsAlike (SamePlace (bodies edition q m m' s h h')) r r' → RowsAlike (IsMoved q m m' s) r r'
+-- what is so of the two bodies, and of places that are moved so
+pub of_bodies : (edition : EditionYear) (q m m' s : List ℕ) (h : StandsAlone m) (h' : StandsAlone m') (P : List Piece → List Piece → Type 0) → P (body (length q) m) (body (length q) m') → (let b = bodies edition q m m' s h h' in P b.old b.new)
 unfolding bodies
-moved_by edition q m m' s h h' a = a
+of_bodies edition q m m' s h h' P a = a
+
+pub of_places : (edition : EditionYear) (q m m' s : List ℕ) (h : StandsAlone m) (h' : StandsAlone m') (P : (ℕ → ℕ → Type 0) → Type 0) → P (IsMoved q m m' s) → P (SamePlace (bodies edition q m m' s h h'))
+unfolding bodies
+of_places edition q m m' s h h' P a = a
+
+pub are_moved : (edition : EditionYear) (q m m' s : List ℕ) (h : StandsAlone m) (h' : StandsAlone m') (P : (ℕ → ℕ → Type 0) → Type 0) → P (SamePlace (bodies edition q m m' s h h')) → P (IsMoved q m m' s)
+unfolding bodies
+are_moved edition q m m' s h h' P a = a
 
 -- ---- the tokens
 

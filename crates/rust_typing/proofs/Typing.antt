@@ -20,7 +20,7 @@ use Rattle.rust_items.specs.SourceFiles.{found_in, items_in, read_of, IsFile}
 use Rattle.rust_items.proofs.Bodiless.{with_bodiless}
 use Rattle.rust_items.proofs.UntilItems.{Rows, rows_of, RowsAlike, by_rows, ListAlike, FileUntil, of_none, alike, file_until, found_rows}
 use Rattle.rust_typing.specs.Laws.{with_body, IsTyped, TypingInside}
-use Rattle.rust_typing.proofs.Texts.{bodies, bodies_at, IsMoved, moved_by, tokens_beside, begin_plain}
+use Rattle.rust_typing.proofs.Texts.{bodies, bodies_at, IsMoved, are_moved, tokens_beside, begin_plain}
 
 -- ---- what was found
 
@@ -76,7 +76,11 @@ both_read edition q m m' s t =
         let same : has_body (length q) (found_in edition x).spans ≡ has_body (length q) (read_of edition x).1.0.spans = ap (λ (r : Rows). has_body (length q) r.1.0) (found_rows edition x) in
         let some = t.body in
         absurd cc
-    by (alike a v r) = record { attrs = a; items = v; found = by_rows (found_rows edition x) (found_rows edition x') (moved_by edition q m m' s t.alone t.alone_new r) }
+    by (alike a v r) = record {
+      attrs = a;
+      items = v;
+      found = by_rows (found_rows edition x) (found_rows edition x') (are_moved edition q m m' s t.alone t.alone_new (λ same. RowsAlike same (rows_of (read_of edition x).1.0) (rows_of (read_of edition x').1.0)) r);
+    }
 
 pub same_ids : (edition : EditionYear) (x x' : List ℕ) (place place' : ℕ → ℕ) (file file' : SourceFile) (f : IsFile edition x place file) (g : IsFile edition x' place' file')
     → (found_in edition x').rows ≡ (found_in edition x).rows → g.ids ≡ f.ids

@@ -1,6 +1,7 @@
 //! What follows from the definitions; the functions do nothing.
 
 ghost use Rattle.rust_typing.specs.Laws.{TypingInside};
+ghost use Rattle.rust_typing.specs.Loose.{ProblemsMove};
 ghost use Rattle.rust_typing.specs.Moved.{BodyIsTold, PlacesMove};
 ghost use Rattle.rust_typing.specs.Opened.{BodyOpens};
 ghost use Rattle.rust_typing.specs.Problems.{ProblemsStand};
@@ -28,4 +29,9 @@ fn body_opens()
 // Problems stand in the text.
 fn problems_stand()
     ensures { ProblemsStand }
+{}
+
+// The same problems are told where typing leaves as many brackets loose; they stand where they stood, or are moved with the text.
+fn problems_move()
+    ensures { ProblemsMove }
 {}
