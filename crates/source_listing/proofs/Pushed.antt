@@ -12,9 +12,10 @@ use Rattle.listed_members.specs.Listed.{Listed, Reading}
 use Rattle.source_listing.specs.Tags.{scope_field}
 use Rattle.source_listing.specs.Search.{Query, segment, is_member_found, whole_found, found_lines, found_member, found_members}
 
-pub six_pushed : (o p i v w n e o1 o2 o3 o4 o5 o6 : List ℕ) → o1 ≡ o ++ p → o2 ≡ o1 ++ i → o3 ≡ o2 ++ v → o4 ≡ o3 ++ w → o5 ≡ o4 ++ n → o6 ≡ o5 ++ e
-    → o6 ≡ o ++ (p ++ i ++ v ++ w ++ n ++ e)
-six_pushed o p i v w n e o1 o2 o3 o4 o5 o6 a b c d f g = rw (g, f, d, c, b, a) (simp append_assoc)
+-- a line, pushed part by part, of which the first has a place and blanks
+pub line_pushed : (o p i v w n e o1 o2 o3 o4 o5 : List ℕ) → o1 ≡ o ++ p ++ i → o2 ≡ o1 ++ v → o3 ≡ o2 ++ w → o4 ≡ o3 ++ n → o5 ≡ o4 ++ e
+    → o5 ≡ o ++ (p ++ i ++ v ++ w ++ n ++ e)
+line_pushed o p i v w n e o1 o2 o3 o4 o5 a b c d f = rw (f, d, c, b, a) (simp append_assoc)
 
 -- the lines of one more item and its members that are looked for
 pub one_more_found : (s : Source) (x : Reading) (reserved : List (List ℕ)) (places : List ItemPlace) (q : Query) (rs : List RowView) (r : RowView)

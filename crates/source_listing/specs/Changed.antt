@@ -5,8 +5,8 @@ use Rattle.rust_items.specs.declared.source_file.ItemPlace.{ItemPlace}
 use Rattle.item_changes.specs.declared.compare.ChangeKind.{ChangeKind}
 use Rattle.item_changes.specs.declared.compare.ChangeKind.TheVariants.{Removed, Added, Changed}
 use Rattle.item_changes.specs.Changes.{ChangeView}
-use Rattle.source_listing.specs.Lines.{Source, name_text, subject_text, word}
-use Rattle.source_listing.specs.Places.{item_place, spot_of}
+use Rattle.source_listing.specs.Lines.{Source, name_text, stand_text, subject_text, word}
+use Rattle.source_listing.specs.Places.{place_of}
 
 -- a file, and where its items stand
 pub record Side : Type 0 where
@@ -25,7 +25,7 @@ side_of _ old new = new
 
 -- the place of an item, what became of it, the word of its kind, and its name or what else it is told by
 abbrev pub change_line : List (List ℕ) → Side → ChangeView → List ℕ
-change_line reserved s c = item_place s.source.path (spot_of s.source.text s.places c.row.id) ++ change_word c.kind ++ word c.row.id.kind ++ name_text reserved c.row.name ++ subject_text reserved c.row.subject ++ codes "\n"
+change_line reserved s c = stand_text s.source (place_of c.row.id s.places) ++ change_word c.kind ++ word c.row.id.kind ++ name_text reserved c.row.name ++ subject_text reserved c.row.subject ++ codes "\n"
 
 abbrev pub line_between : List (List ℕ) → Side → Side → ChangeView → List ℕ
 line_between reserved old new c = change_line reserved (side_of c.kind old new) c

@@ -1,5 +1,5 @@
 -- Texts in colours of a terminal.
-use Rattle.std.specs.Prelude.{ℕ, Bool, if◌then◌else◌, List, ◌∷◌, ◌++◌, codes}
+use Rattle.std.specs.Prelude.{ℕ, Bool, if◌then◌else◌, List, [], ◌∷◌, ◌++◌, codes}
 
 -- after this a terminal writes faint
 abbrev pub faint : List ℕ
@@ -17,6 +17,10 @@ bold = 27 ∷ codes "[1m"
 abbrev pub usual : List ℕ
 usual = 27 ∷ codes "[0m"
 
+-- what makes a terminal write so, if colours are wanted
+abbrev pub sequence : Bool → List ℕ → List ℕ
+sequence is_colored color = if is_colored then color else []
+
 -- a text in a colour, if colours are wanted
-abbrev pub colored : Bool → List ℕ → List ℕ → List ℕ
-colored is_colored color text = if is_colored then color ++ text ++ usual else text
+unfoldable pub colored : Bool → List ℕ → List ℕ → List ℕ
+colored is_colored color text = sequence is_colored color ++ text ++ sequence is_colored usual

@@ -1,5 +1,5 @@
 -- What lines are made of, and those of problems.
-use Rattle.std.specs.Prelude.{ℕ, Bool, true, false, not, ◌&&◌, ◌||◌, ◌*◌, ◌==◌, nat_lt, if◌then◌else◌, List, [], ◌++◌, codes, length, replicate, Option, Some, None}
+use Rattle.std.specs.Prelude.{ℕ, Bool, true, false, not, ◌&&◌, ◌||◌, ◌*◌, ◌==◌, nat_lt, if◌then◌else◌, List, [], ◌++◌, codes, length, replicate, Option, Some, None, option_map}
 use Rattle.std.specs.List.{flat_map}
 use Rattle.hir_input.specs.declared.ids.AstIdKind.{AstIdKind}
 use Rattle.hir_input.specs.declared.ids.AstIdKind.TheVariants as kind
@@ -15,10 +15,11 @@ use Rattle.item_tree.specs.Tree.{Tree, single, glob, prefixed}
 use Rattle.item_tree.specs.UseText.{shown_prefix, shown_rename}
 use Rattle.item_rows.specs.Rows.{RowView, Subject, no_subject, used, called}
 use Rattle.line_index.specs.Positions.{position_of}
+use Rattle.rust_items.specs.declared.source_file.ItemPlace.{ItemPlace}
 use Rattle.source_problems.specs.declared.problem.SourceProblem.{SourceProblem}
 use Rattle.source_problems.specs.declared.problem.SourceProblemKind.{SourceProblemKind}
 use Rattle.source_problems.specs.declared.problem.SourceProblemKind.TheVariants as problem
-use Rattle.source_listing.specs.Places.{place_text}
+use Rattle.source_listing.specs.Places.{place_text, stands_at}
 
 -- the word of a kind
 abbrev pub word : AstIdKind → List ℕ
@@ -47,6 +48,15 @@ pub record Source : Type 0 where
 -- file, line and column of a byte of the text
 abbrev pub place_at : Source → ℕ → List ℕ
 place_at s at = place_text s.path (position_of s.text at)
+
+-- where something stands in a file; all has a place
+abbrev pub at_text : Source → Option ℕ → List ℕ
+at_text s None = s.path ++ codes ": "
+at_text s (Some at) = place_at s at
+
+-- the same of an item
+abbrev pub stand_text : Source → Option ItemPlace → List ℕ
+stand_text s place = at_text s (option_map stands_at place)
 
 -- ---- items
 

@@ -1,24 +1,19 @@
 -- The lines of an outline.
-use Rattle.std.specs.Prelude.{ℕ, Bool, ◌+◌, List, [], ◌∷◌, ◌++◌, codes, filter, Option, Some, None}
+use Rattle.std.specs.Prelude.{ℕ, Bool, ◌+◌, List, [], ◌∷◌, ◌++◌, codes, filter, Option, Some}
 use Rattle.std.specs.List.{flat_map}
 use Rattle.hir_input.specs.declared.edition.EditionYear.{EditionYear}
 use Rattle.hir_input.specs.Cfg.{AtomView}
-use Rattle.item_rows.specs.Rows.{RowView}
+use Rattle.item_rows.specs.Rows.{RowView, Subject, no_subject}
 use Rattle.rust_items.specs.declared.source_file.ItemPlace.{ItemPlace}
 use Rattle.source_rows.specs.Labels.{member_word}
 use Rattle.listed_members.specs.Listed.{Listed, Reading, header_of, members_of}
 use Rattle.source_listing.specs.Colors.{bold, colored, cyan, faint}
-use Rattle.source_listing.specs.Lines.{Choice, Source, indent, is_chosen, is_listed, line_end, name_text, place_at, subject_text, visibility_text, word}
-use Rattle.source_listing.specs.Places.{place_of, stands_at}
+use Rattle.source_listing.specs.Lines.{Choice, Source, indent, is_chosen, is_listed, line_end, name_text, place_at, stand_text, subject_text, visibility_text, word}
+use Rattle.source_listing.specs.Places.{place_of}
 
 -- where the headers and the members of a file are read
 abbrev pub reading : Source → EditionYear → Option (List AtomView) → Reading
 reading s year options = record { text = s.text; edition = year; options = options }
-
--- where an item stands; each has a place
-abbrev pub stand_text : Source → Option ItemPlace → List ℕ
-stand_text s None = s.path ++ codes ": "
-stand_text s (Some p) = place_at s (stands_at p)
 
 -- which items have lines, and whether these are in colour
 pub record Look : Type 0 where
@@ -31,20 +26,20 @@ header_text [] = []
 header_text (b ∷ bs) = codes " " ++ b ∷ bs
 
 -- what the word of a kind is followed by: the header of an impl, a name, or what else an item is told by
-abbrev pub title : List (List ℕ) → List ℕ → RowView → List ℕ
-title reserved header r = header_text header ++ name_text reserved r.name ++ subject_text reserved r.subject
+abbrev pub title : List (List ℕ) → List ℕ → Option (List ℕ) → Subject → List ℕ
+title reserved header name subject = header_text header ++ name_text reserved name ++ subject_text reserved subject
 
 -- the line of an item: its place, four blanks for each item that it stands in, its visibility, the word of its kind, its title, and whether a cfg disables it
 abbrev pub item_line : Source → List (List ℕ) → Bool → Option ItemPlace → List ℕ → RowView → List ℕ
 item_line s reserved is_colored place header r =
     colored is_colored faint (stand_text s place) ++ indent r.level ++ visibility_text reserved r.visibility ++ colored is_colored cyan (word r.id.kind)
-    ++ colored is_colored bold (title reserved header r) ++ line_end r.is_active
+    ++ colored is_colored bold (title reserved header r.name r.subject) ++ line_end r.is_active
 
--- the line of a member of an item in so many others, one level deeper
+-- the line of a member of an item in so many others, one level deeper; its title is its name alone
 abbrev pub member_line : Source → List (List ℕ) → Bool → ℕ → Listed → List ℕ
 member_line s reserved is_colored level m =
     colored is_colored faint (place_at s m.at) ++ indent level ++ codes "    " ++ visibility_text reserved (Some m.visibility) ++ colored is_colored cyan (member_word m.kind)
-    ++ colored is_colored bold (name_text reserved (Some m.name)) ++ line_end m.is_active
+    ++ colored is_colored bold (title reserved [] (Some m.name) no_subject) ++ line_end m.is_active
 
 -- the lines of those members of an item in so many others that are chosen
 abbrev pub member_lines : Source → List (List ℕ) → Look → ℕ → List Listed → List ℕ

@@ -1,5 +1,5 @@
 -- Where an item stands, by its id.
-use Rattle.std.specs.Prelude.{◌≢◌, ℕ, Bool, ◌==◌, ◌&&◌, if◌then◌else◌, List, [], ◌∷◌, ◌++◌, codes, decimal, Option, Some, None, option_map}
+use Rattle.std.specs.Prelude.{◌≢◌, ℕ, Bool, ◌==◌, ◌&&◌, if◌then◌else◌, List, [], ◌∷◌, ◌++◌, codes, decimal, Option, Some, None}
 use Rattle.std.specs.List.{AllPairs}
 use Rattle.hir_input.specs.declared.ids.FileAstId.{FileAstId}
 use Rattle.line_index.specs.declared.Position.{Position}
@@ -33,9 +33,6 @@ stands_at p = at_name p.name p.range.start
 -- its line and column in a text, and its bytes
 abbrev pub spot_at : List ℕ → ItemPlace → Spot
 spot_at text p = record { position = position_of text (stands_at p); range = p.range }
-
-abbrev pub spot_of : List ℕ → List ItemPlace → FileAstId → Option Spot
-spot_of text places id = option_map (spot_at text) (place_of id places)
 
 -- what an editor and a compiler write of a place: the file, the line and the column
 abbrev pub place_text : List ℕ → Position → List ℕ

@@ -1,5 +1,5 @@
 -- Where a path of names is declared.
-use Rattle.std.specs.Prelude.{ℕ, Bool, not, ◌&&◌, ◌||◌, if◌then◌else◌, List, [], ◌++◌, codes, filter, nat_eq, Option, Some, None, is_some}
+use Rattle.std.specs.Prelude.{ℕ, Bool, not, ◌&&◌, ◌||◌, if◌then◌else◌, List, [], ◌++◌, codes, filter, nat_eq, Option, Some, None, is_some, option_map}
 use Rattle.std.specs.List.{flat_map, ends_with}
 use Rattle.std.specs.Option.{option_or}
 use Rattle.std.specs.Str.{bytes_eq}
@@ -7,9 +7,8 @@ use Rattle.item_rows.specs.Rows.{RowView}
 use Rattle.listed_members.specs.Listed.{Listed, Reading, members_of, type_name_of}
 use Rattle.rust_items.specs.declared.source_file.ItemPlace.{ItemPlace}
 use Rattle.source_rows.specs.Labels.{member_word}
-use Rattle.source_listing.specs.Lines.{Source, name_text, place_at, word}
-use Rattle.source_listing.specs.Outlines.{stand_text}
-use Rattle.source_listing.specs.Places.{place_of}
+use Rattle.source_listing.specs.Lines.{Source, at_text, name_text, word}
+use Rattle.source_listing.specs.Places.{place_of, stands_at}
 
 -- what is looked for: names with two colons before each, from the top on or anywhere, with or without what a cfg disables
 pub record Query : Type 0 where
@@ -49,16 +48,20 @@ is_found q r = is_some r.name && (is_shown q r.is_active && is_path q (item_path
 abbrev pub is_member_found : Query → RowView → Option (List ℕ) → Listed → Bool
 is_member_found q r around m = is_shown q m.is_active && is_path q (path_inside r around m.name)
 
--- the place of an item, the word of its kind and its name
+-- a place, the word of a kind and a name
+abbrev pub found_text : Source → List (List ℕ) → Option ℕ → List ℕ → Option (List ℕ) → List ℕ
+found_text s reserved at word name = at_text s at ++ word ++ name_text reserved name ++ codes "\n"
+
+-- those of an item
 abbrev pub found_line : Source → List (List ℕ) → Option ItemPlace → RowView → List ℕ
-found_line s reserved place r = stand_text s place ++ word r.id.kind ++ name_text reserved r.name ++ codes "\n"
+found_line s reserved place r = found_text s reserved (option_map stands_at place) (word r.id.kind) r.name
 
 abbrev pub if_found : Source → List (List ℕ) → Query → Option ItemPlace → RowView → List ℕ
 if_found s reserved q place r = if is_found q r then found_line s reserved place r else []
 
--- the same of a member
+-- those of a member
 abbrev pub found_member : Source → List (List ℕ) → Listed → List ℕ
-found_member s reserved m = place_at s m.at ++ member_word m.kind ++ name_text reserved (Some m.name) ++ codes "\n"
+found_member s reserved m = found_text s reserved (Some m.at) (member_word m.kind) (Some m.name)
 
 unfoldable pub found_members : Source → List (List ℕ) → Query → RowView → Option (List ℕ) → List Listed → List ℕ
 found_members s reserved q r around ms = flat_map (found_member s reserved) (filter (is_member_found q r around) ms)

@@ -13,7 +13,19 @@ pub(crate) const BOLD: &str = "\x1b[1m";
 
 pub(crate) const USUAL: &str = "\x1b[0m";
 
+/// What makes a terminal write so, if colours are wanted.
+pub(crate) fn push_color(is_colored: bool, color: &str, out: &mut String) -> Result<(), AllocError>
+    ensures { OnOk result (string_bytes out.new ≡ string_bytes out.old
+        ++ spec.sequence is_colored color.now) }
+{
+    if !is_colored {
+        return Ok(());
+    }
+    out.push_str(color)
+}
+
 /// A text, in a colour if colours are wanted.
+#[tactic(auto, unfolding(crate::specs::Colors::colored))]
 pub(crate) fn push_colored(
     is_colored: bool,
     color: &str,
@@ -23,10 +35,7 @@ pub(crate) fn push_colored(
     ensures { let text = spec.colored is_colored color.now text.now in
         OnOk result (string_bytes out.new ≡ string_bytes out.old ++ text) }
 {
-    if !is_colored {
-        return out.push_str(text);
-    }
-    out.push_str(color)?;
+    push_color(is_colored, color, out)?;
     out.push_str(text)?;
-    out.push_str(USUAL)
+    push_color(is_colored, USUAL, out)
 }

@@ -4,7 +4,6 @@ ghost use Rattle.source_listing.specs.Inner.{IsFinderOf, IsSameFinder};
 ghost use Rattle.source_listing.specs.Places as spec;
 
 use crate::places::Places;
-use hir_input::FileAstId;
 use line_index::{LineIndex, Position};
 use rust_items::ItemPlace;
 use rust_paths::TextRange;
@@ -23,6 +22,16 @@ pub(crate) fn stands_at(place: ItemPlace) -> usize
     match place.name {
         Some(name) => name.start,
         None => place.range.start,
+    }
+}
+
+/// The same of one whose place may not be known.
+pub(crate) fn stand_of(place: Option<ItemPlace>) -> Option<usize>
+    ensures { result ≡ option_map spec.stands_at place }
+{
+    match place {
+        Some(place) => Some(stands_at(place)),
+        None => None,
     }
 }
 
@@ -55,15 +64,5 @@ impl<'a> Finder<'a> {
             }),
             None => None,
         }
-    }
-
-    /// Where the item of an id stands.
-    pub(crate) fn find(&mut self, id: FileAstId) -> Option<Spot>
-        requires { spec.AreDistinct self.old.places.all.now }
-        ensures spot { result ≡ spec.spot_of self.old.lines self.old.places.all.now id }
-        ensures same { IsSameFinder self.old self.new }
-    {
-        let place = self.places.find(id);
-        self.spot(place)
     }
 }

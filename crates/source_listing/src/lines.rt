@@ -3,10 +3,10 @@ ghost use Rattle.std.specs.Prelude.{◌≡◌, ◌+◌, ◌++◌, OnOk, option_c
 ghost use Rattle.item_rows.specs.Views.{row_view};
 ghost use Rattle.source_listing.specs.Inner.{IsPrinterOf, IsSameFile, file_of, places_of, reserved_of};
 ghost use Rattle.source_listing.specs.Lines as spec;
-ghost use Rattle.source_listing.specs.Places.{AreDistinct, item_place, place_text, spot_of};
+ghost use Rattle.source_listing.specs.Places.{AreDistinct, item_place, place_of, place_text};
 ghost use Rattle.source_listing.specs.Views.{choice_view, source_view};
 
-use crate::finder::{Finder, Spot};
+use crate::finder::{Finder, Spot, stand_of};
 use crate::subjects::push_subject;
 use hir_input::{AstIdKind, Edition, FileAstId, ModPath, Name, PathKind};
 use item_rows::Row;
@@ -214,6 +214,21 @@ impl<'a> Printer<'a> {
 }
 
 impl Printer<'_> {
+    /// Where something stands in the file.
+    pub(crate) fn push_at(&mut self, at: Option<usize>, out: &mut String) -> Result<(), AllocError>
+        ensures text { OnOk result (string_bytes out.new ≡ string_bytes out.old
+            ++ spec.at_text (file_of self.old) at) }
+        ensures same { IsSameFile self.old self.new }
+    {
+        match at {
+            Some(at) => {
+                let position = self.finder.lines.position(at);
+                push_place(self.path, position, out)
+            }
+            None => push_spot(self.path, None, out),
+        }
+    }
+
     /// Where the item of an id stands.
     pub(crate) fn push_place_of(
         &mut self,
@@ -221,11 +236,11 @@ impl Printer<'_> {
         out: &mut String,
     ) -> Result<(), AllocError>
         requires { AreDistinct (places_of self.old) }
-        ensures text { let spot = spot_of (file_of self.old).text (places_of self.old) id in
-            OnOk result (string_bytes out.new ≡ string_bytes out.old ++ item_place (file_of self.old).path spot) }
+        ensures text { let place = place_of id (places_of self.old) in
+            OnOk result (string_bytes out.new ≡ string_bytes out.old ++ spec.stand_text (file_of self.old) place) }
         ensures same { IsSameFile self.old self.new }
     {
-        let spot = self.finder.find(id);
-        push_spot(self.path, spot, out)
+        let place = self.finder.places.find(id);
+        self.push_at(stand_of(place), out)
     }
 }

@@ -1,24 +1,23 @@
 //! Outlines as lines of text.
 ghost use Rattle.std.specs.Prelude.{◌≡◌, ◌++◌, ◌∷◌, [], IfOk, OnOk, Some, option_copied, string_bytes, map};
 ghost use Rattle.item_rows.specs.Rows as rows;
-ghost use Rattle.item_rows.specs.Views.{row_view};
+ghost use Rattle.item_rows.specs.Views.{row_view, subject_view};
 ghost use Rattle.listed_members.specs.Views.{listed_view, reading_view};
 ghost use Rattle.source_listing.specs.Colors.{bold, colored, faint};
 ghost use Rattle.source_listing.specs.Inner.{IsSameFile, file_of, places_of, reserved_of};
-ghost use Rattle.source_listing.specs.Lines.{name_text, place_at};
+ghost use Rattle.source_listing.specs.Lines.{at_text, indent};
 ghost use Rattle.source_listing.specs.Outlines as spec;
 ghost use Rattle.source_listing.specs.Places.{AreDistinct};
 ghost use Rattle.source_listing.specs.Views.{look_view, source_view};
 
-use crate::colors::{BOLD, CYAN, FAINT, USUAL, push_colored};
-use crate::finder::stands_at;
+use crate::colors::{BOLD, CYAN, FAINT, USUAL, push_color, push_colored};
+use crate::finder::stand_of;
 use crate::lines::{
-    Choice, Printer, Source, push_end, push_indent, push_name, push_place, push_spot,
-    push_visibility, word,
+    Choice, Printer, Source, push_end, push_indent, push_name, push_visibility, word,
 };
 use crate::subjects::push_subject;
 use hir_input::{CfgOptions, Edition, Name};
-use item_rows::{Row, item_rows};
+use item_rows::{Row, Subject, item_rows};
 use item_tree::ItemTree;
 use listed_members::{ListedMember, Reading};
 use rust_items::ItemPlace;
@@ -45,120 +44,45 @@ fn push_header(header: &str, out: &mut String) -> Result<(), AllocError>
     out.push_str(header)
 }
 
-/// What follows the word of a kind.
+/// What follows the word of a kind, bold if colours are wanted.
+#[tactic(auto, unfolding(crate::specs::Colors::colored))]
 fn push_title(
+    is_colored: bool,
     edition: &Edition,
-    row: &Row<'_>,
     header: &str,
+    name: Option<&Name>,
+    subject: Subject<'_>,
     out: &mut String,
 ) -> Result<(), AllocError>
-    ensures { let text = spec.title edition.now.reserved.items header.now (row_view row.now) in
-        OnOk result (string_bytes out.new ≡ string_bytes out.old ++ text) }
+    ensures { let text = spec.title edition.now.reserved.items header.now
+        (option_copied name.entry) (subject_view subject.entry) in
+        OnOk result (string_bytes out.new ≡ string_bytes out.old ++ colored is_colored bold text) }
 {
+    push_color(is_colored, BOLD, out)?;
     push_header(header, out)?;
-    push_name(edition, row.name, out)?;
-    push_subject(edition, row.subject, out)
-}
-
-/// The same, bold if colours are wanted.
-fn push_bold_title(
-    is_colored: bool,
-    edition: &Edition,
-    row: &Row<'_>,
-    header: &str,
-    out: &mut String,
-) -> Result<(), AllocError>
-    ensures { let text = spec.title edition.now.reserved.items header.now (row_view row.now) in
-        OnOk result (string_bytes out.new ≡ string_bytes out.old ++ colored is_colored bold text) }
-{
-    if !is_colored {
-        return push_title(edition, row, header, out);
-    }
-    out.push_str(BOLD)?;
-    push_title(edition, row, header, out)?;
-    out.push_str(USUAL)
-}
-
-/// A name behind a blank, bold if colours are wanted.
-fn push_bold_name(
-    is_colored: bool,
-    edition: &Edition,
-    name: &Name,
-    out: &mut String,
-) -> Result<(), AllocError>
-    ensures { let text = name_text edition.now.reserved.items (Some name.now) in
-        OnOk result (string_bytes out.new ≡ string_bytes out.old ++ colored is_colored bold text) }
-{
-    if !is_colored {
-        return push_name(edition, Some(name), out);
-    }
-    out.push_str(BOLD)?;
-    push_name(edition, Some(name), out)?;
-    out.push_str(USUAL)
+    push_name(edition, name, out)?;
+    push_subject(edition, subject, out)?;
+    push_color(is_colored, USUAL, out)
 }
 
 impl Printer<'_> {
-    pub(crate) fn push_at(&mut self, at: usize, out: &mut String) -> Result<(), AllocError>
-        ensures text { OnOk result
-            (string_bytes out.new ≡ string_bytes out.old ++ place_at (file_of self.old) at) }
-        ensures same { IsSameFile self.old self.new }
-    {
-        let position = self.finder.lines.position(at);
-        push_place(self.path, position, out)
-    }
-
-    /// Where an item stands.
-    pub(crate) fn push_stand(
-        &mut self,
-        place: Option<ItemPlace>,
-        out: &mut String,
-    ) -> Result<(), AllocError>
-        ensures text { OnOk result
-            (string_bytes out.new ≡ string_bytes out.old
-            ++ spec.stand_text (file_of self.old) place) }
-        ensures same { IsSameFile self.old self.new }
-    {
-        match place {
-            Some(place) => self.push_at(stands_at(place), out),
-            None => push_spot(self.path, None, out),
-        }
-    }
-
-    /// The same of a byte and of an item, faint if colours are wanted.
-    fn push_faint_at(
+    /// Where something stands, faint if colours are wanted, and four blanks for each level.
+    #[tactic(auto, unfolding(crate::specs::Colors::colored))]
+    fn push_head(
         &mut self,
         is_colored: bool,
-        at: usize,
+        at: Option<usize>,
+        level: usize,
         out: &mut String,
     ) -> Result<(), AllocError>
-        ensures text { let text = place_at (file_of self.old) at in
-            OnOk result (string_bytes out.new ≡ string_bytes out.old ++ colored is_colored faint text) }
+        ensures text { let place = colored is_colored faint (at_text (file_of self.old) at) in
+            OnOk result (string_bytes out.new ≡ string_bytes out.old ++ place ++ indent level) }
         ensures same { IsSameFile self.old self.new }
     {
-        if !is_colored {
-            return self.push_at(at, out);
-        }
-        out.push_str(FAINT)?;
+        push_color(is_colored, FAINT, out)?;
         self.push_at(at, out)?;
-        out.push_str(USUAL)
-    }
-
-    fn push_faint_stand(
-        &mut self,
-        is_colored: bool,
-        place: Option<ItemPlace>,
-        out: &mut String,
-    ) -> Result<(), AllocError>
-        ensures text { let text = spec.stand_text (file_of self.old) place in
-            OnOk result (string_bytes out.new ≡ string_bytes out.old ++ colored is_colored faint text) }
-        ensures same { IsSameFile self.old self.new }
-    {
-        if !is_colored {
-            return self.push_stand(place, out);
-        }
-        out.push_str(FAINT)?;
-        self.push_stand(place, out)?;
-        out.push_str(USUAL)
+        push_color(is_colored, USUAL, out)?;
+        push_indent(level, out)
     }
 
     /// The line of an item, which stands there.
@@ -175,11 +99,10 @@ impl Printer<'_> {
             OnOk result (string_bytes out.new ≡ string_bytes out.old ++ line (row_view row.now)) }
         ensures same { IsSameFile self.old self.new }
     {
-        self.push_faint_stand(is_colored, place, out)?;
-        push_indent(row.level, out)?;
+        self.push_head(is_colored, stand_of(place), row.level, out)?;
         push_visibility(self.edition, row.visibility, out)?;
         push_colored(is_colored, CYAN, word(row.id.kind), out)?;
-        push_bold_title(is_colored, self.edition, row, header, out)?;
+        push_title(is_colored, self.edition, header, row.name, row.subject, out)?;
         push_end(row.is_active, out)
     }
 
@@ -196,12 +119,12 @@ impl Printer<'_> {
             OnOk result (string_bytes out.new ≡ string_bytes out.old ++ line (listed_view member.now)) }
         ensures same { IsSameFile self.old self.new }
     {
-        self.push_faint_at(is_colored, member.at, out)?;
-        push_indent(level, out)?;
+        let name = Some(&member.name);
+        self.push_head(is_colored, Some(member.at), level, out)?;
         out.push_str("    ")?;
         push_visibility(self.edition, Some(&member.visibility), out)?;
         push_colored(is_colored, CYAN, member_word(member.kind), out)?;
-        push_bold_name(is_colored, self.edition, &member.name, out)?;
+        push_title(is_colored, self.edition, "", name, Subject::Nothing, out)?;
         push_end(member.is_active, out)
     }
 

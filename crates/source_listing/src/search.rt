@@ -11,6 +11,7 @@ ghost use Rattle.source_listing.specs.Search as spec;
 ghost use Rattle.source_listing.specs.Places.{AreDistinct};
 ghost use Rattle.source_listing.specs.Views.{query_view, source_view};
 
+use crate::finder::stand_of;
 use crate::lines::{Printer, Source, push_name, word};
 use hir_input::{CfgOptions, Edition, Name};
 use item_rows::{Row, item_rows};
@@ -31,11 +32,12 @@ pub struct Query<'a> {
     pub only_active: bool,
 }
 
-fn push_segment(name: &Name, path: &mut String) -> Result<(), AllocError>
+/// Two colons and a name.
+pub(crate) fn push_segment(name: &str, path: &mut String) -> Result<(), AllocError>
     ensures { OnOk result (string_bytes path.new ≡ string_bytes path.old ++ spec.segment name.now) }
 {
     path.push_str("::")?;
-    path.push_str(name.text())
+    path.push_str(name)
 }
 
 pub(crate) fn push_scope(scope: &[&Name], path: &mut String) -> Result<(), AllocError>
@@ -43,7 +45,7 @@ pub(crate) fn push_scope(scope: &[&Name], path: &mut String) -> Result<(), Alloc
         OnOk result (string_bytes path.new ≡ string_bytes path.old ++ segments) }
 {
     for name in scope {
-        push_segment(name, path)?;
+        push_segment(name.text(), path)?;
     }
     Ok(())
 }
@@ -63,7 +65,7 @@ fn push_own_segment(name: Option<&Name>, path: &mut String) -> Result<(), AllocE
         OnOk result (string_bytes path.new ≡ string_bytes path.old ++ segment) }
 {
     match name {
-        Some(name) => push_segment(name, path),
+        Some(name) => push_segment(name.text(), path),
         None => Ok(()),
     }
 }
@@ -83,7 +85,7 @@ fn path_of(
     let mut path = String::new(alloc);
     push_scope(&row.scope, &mut path)?;
     push_own_segment(around, &mut path)?;
-    push_segment(name, &mut path)?;
+    push_segment(name.text(), &mut path)?;
     Ok(path)
 }
 
@@ -138,20 +140,22 @@ impl Query<'_> {
 }
 
 impl Printer<'_> {
-    /// The place, the kind and the name of an item.
+    /// A place, the word of a kind and a name.
     fn push_found(
         &mut self,
-        row: &Row<'_>,
-        place: Option<ItemPlace>,
+        at: Option<usize>,
+        word: &str,
+        name: Option<&Name>,
         out: &mut String,
     ) -> Result<(), AllocError>
-        ensures text { let line = spec.found_line (file_of self.old) (reserved_of self.old) place in
-            OnOk result (string_bytes out.new ≡ string_bytes out.old ++ line (row_view row.now)) }
+        ensures text { let line = spec.found_text (file_of self.old) (reserved_of self.old) at
+            word.now (option_copied name.entry) in
+            OnOk result (string_bytes out.new ≡ string_bytes out.old ++ line) }
         ensures same { IsSameFile self.old self.new }
     {
-        self.push_stand(place, out)?;
-        out.push_str(word(row.id.kind))?;
-        push_name(self.edition, row.name, out)?;
+        self.push_at(at, out)?;
+        out.push_str(word)?;
+        push_name(self.edition, name, out)?;
         out.push_str("\n")
     }
 
@@ -172,23 +176,7 @@ impl Printer<'_> {
         if !query.finds(alloc, row)? {
             return Ok(());
         }
-        self.push_found(row, place, out)
-    }
-
-    /// The place, the kind and the name of a member.
-    fn push_found_member(
-        &mut self,
-        member: &ListedMember,
-        out: &mut String,
-    ) -> Result<(), AllocError>
-        ensures text { let line = spec.found_member (file_of self.old) (reserved_of self.old) in
-            OnOk result (string_bytes out.new ≡ string_bytes out.old ++ line (listed_view member.now)) }
-        ensures same { IsSameFile self.old self.new }
-    {
-        self.push_at(member.at, out)?;
-        out.push_str(member_word(member.kind))?;
-        push_name(self.edition, Some(&member.name), out)?;
-        out.push_str("\n")
+        self.push_found(stand_of(place), word(row.id.kind), row.name, out)
     }
 
     /// The line of a member, if that is looked for.
@@ -211,7 +199,8 @@ impl Printer<'_> {
         if !query.finds_member(alloc, row, around, member)? {
             return Ok(());
         }
-        self.push_found_member(member, out)
+        let word = member_word(member.kind);
+        self.push_found(Some(member.at), word, Some(&member.name), out)
     }
 
     /// The lines of the members of an item that are looked for.

@@ -1,20 +1,30 @@
 //! Paths of names that are looked for, as they are written.
-ghost use Rattle.std.specs.Prelude.{◌≡◌, ◌++◌, ◌==◌, IfOk, OnOk, map, option_map, string_bytes};
+ghost use Rattle.std.specs.Prelude.{◌≡◌, ◌==◌, IfOk, map, option_map, string_bytes};
 ghost use Rattle.std.specs.List.{slice_split};
 ghost use Rattle.source_listing.specs.Sought as spec;
-ghost use Rattle.source_listing.specs.Search.{segment};
 ghost use Rattle.source_listing.specs.Views.{sought_view};
 
+use crate::search::push_segment;
 use rust_lexer::is_identifier;
 use std::alloc::{AllocError, Global};
 
 /// A path of names that is looked for.
-#[derive(Debug, Drop)]
+#[derive(Debug)]
 pub struct SoughtPath {
     /// Its names with two colons before each, as `::a::b`.
     pub path: String,
     /// Whether it may begin in any module, and not at the top alone.
     pub is_anywhere: bool,
+}
+
+// (Written out: what is derived is proved anew, field by field, in each crate that drops one.)
+impl Drop for SoughtPath {
+    fn drop(self) {
+        let SoughtPath {
+            path: _,
+            is_anywhere: _,
+        } = self;
+    }
 }
 
 /// What stands in a text behind another.
@@ -55,13 +65,6 @@ fn name_before<'a>(gap: &str, word: &'a str) -> Option<&'a str>
     sought_name(word)
 }
 
-fn push_name(name: &str, path: &mut String) -> Result<(), AllocError>
-    ensures { OnOk result (string_bytes path.new ≡ string_bytes path.old ++ segment name.now) }
-{
-    path.push_str("::")?;
-    path.push_str(name)
-}
-
 /// What stands between the colons of a text.
 fn words(alloc: Global, text: &str) -> Result<Vec<&str>, AllocError>
     ensures { IfOk result (λ words. map (λ w. w.now) words.items
@@ -86,7 +89,7 @@ fn joined_names(alloc: Global, words: &[&str]) -> Result<Option<String>, AllocEr
         let Some(name) = name_before(gap, word) else {
             return Ok(None);
         };
-        push_name(name, &mut path)?;
+        push_segment(name, &mut path)?;
         left = rest;
     }
     let [word] = left else {
@@ -95,7 +98,7 @@ fn joined_names(alloc: Global, words: &[&str]) -> Result<Option<String>, AllocEr
     let Some(name) = sought_name(word) else {
         return Ok(None);
     };
-    push_name(name, &mut path)?;
+    push_segment(name, &mut path)?;
     Ok(Some(path))
 }
 

@@ -1,17 +1,23 @@
-use Rattle.std.proofs.Common.{rules, string_bytes}
+use Rattle.std.proofs.Common.{◌++◌, ◌∙◌, ap, rules, string_bytes}
 use Rattle.std.proofs.lemmas.Result.{on_ok_weaker}
 use Rattle.std.specs.Prelude.{option_copied}
-use Rattle.item_rows.specs.Views.{row_view}
-use Rattle.source_listing.specs.Colors.{bold, colored, cyan}
-use Rattle.source_listing.specs.Inner.{reserved_of}
+use Rattle.item_rows.specs.Views.{subject_view}
+use Rattle.source_listing.specs.Colors.{bold, colored, cyan, faint}
+use Rattle.source_listing.specs.Inner.{file_of, reserved_of}
 use Rattle.source_listing.specs.Lines as spec
 use Rattle.source_listing.specs.Outlines.{title}
-use Rattle.source_listing.proofs.Pushed.{six_pushed}
+use Rattle.source_listing.proofs.Pushed.{line_pushed}
 use Rattle.source_listing.proofs.lines.Printer.push_item.Goals as goal
 
 pub returns-clause-text : goal.returns-clause-text
 returns-clause-text c =
-    on_ok_weaker c.push_end.result (six_pushed (string_bytes c.args.out.now) _ _ (spec.visibility_text (reserved_of c.args.self.now) (option_copied c.args.row.now.visibility)) (colored c.args.is_colored cyan (spec.word c.args.row.now.id.kind))
-    (colored c.args.is_colored bold (title (reserved_of c.args.self.now) c.args.header.now (row_view c.args.row.now))) _ (string_bytes c.push_faint_stand.new.out) (string_bytes c.push_indent.new.out)
-    (string_bytes c.push_visibility.new.out) (string_bytes c.push_colored.new.out) (string_bytes c.push_bold_title.new.out) (string_bytes c.push_end.new.out) c.in_ok-push_faint_stand.ensures.text c.in_ok-push_indent.ensures
-    (search rules) (search rules) (search rules)) c.push_end.ensures
+    let out = string_bytes c.args.out.now in
+    let row = c.args.row.now in
+    let file = file_of c.args.self.now in
+    let reserved = reserved_of c.args.self.now in
+    let colors = c.args.is_colored in
+    let head = c.in_ok-push_head.ensures.text ∙ ap (λ at. out ++ colored colors faint (spec.at_text file at) ++ spec.indent row.level) c.stand_of.ensures in
+    on_ok_weaker c.push_end.result (line_pushed out (colored colors faint (spec.stand_text file c.args.place)) (spec.indent row.level) (spec.visibility_text reserved (option_copied row.visibility))
+    (colored colors cyan (spec.word row.id.kind)) (colored colors bold (title reserved c.args.header.now (option_copied row.name) (subject_view row.subject))) _
+    (string_bytes c.push_head.new.out) (string_bytes c.push_visibility.new.out) (string_bytes c.push_colored.new.out) (string_bytes c.push_title.new.out) (string_bytes c.push_end.new.out)
+    head (search rules) (search rules) (search rules)) c.push_end.ensures
