@@ -15,7 +15,7 @@ PROGRAM is itemtree, and TOOL is item_tree_tool. The parts, all of them where no
 - damaged: edits, shows and first lines that are damaged at random, beside the forms in Python
 - noise: random bytes between good lines
 - unread: a client that never reads its answers
-- many: 10,000 edits, whose memory and processor time stay level
+- many: 10,000 edits, whose memory and processor time stay level; and many items of one name
 
 A random session follows from the seed and its number alone, and what is damaged from the seed.
 """
@@ -72,7 +72,7 @@ def refused(number, error, told=None):
 
 # What is expected where a pointer leads, by its last step, or by the one before where that is a place in a list.
 EXPECTED_LINE = {
-    'a list': 'crates skipped edits shows reserved cfg attrs stmts', 'an object': 'edition syntax', 'two byte places': 'range',
+    'a list': 'crates skipped edits shows reserved cfg attrs stmts files', 'an object': 'edition syntax', 'two byte places': 'range',
     'a number below 2^32': 'file block root', 'a number below 2^64': 'start since', 'the number of a crate': 'crate', 'a string': 'text',
     'a name or path': 'name', 'a kind of edit': 'edit', 'a kind of show': 'show', 'text or json': 'as', '2015, 2018, 2021 or 2024': 'year',
     'a value without a float': 'id',
@@ -84,7 +84,7 @@ EXPECTED_SYNTAX = {
 }
 EXPECTED_IN = {
     'an object without a float': 'edits shows', 'an object': 'crates attrs items metas list', 'a name': 'skipped reserved',
-    'a number below 2^64': 'range',
+    'a number below 2^64': 'range', 'a number below 2^32': 'files',
 }
 
 
@@ -423,6 +423,11 @@ def wrong_show(value, crates):
         'outline': [krate, file], 'import_places': [krate, file], 'problems': [file], 'find': [('name', wrong_asked_path, True)]})
 
 
+def wrong_files(value):
+    """The files of a crate, which are read first."""
+    return wrong_keys(value, [('files', list_of(wrong_u32), False)]) if isinstance(value, dict) else None
+
+
 def wrong_crate(value):
     return wrong_keys(value, [('root', wrong_u32, True), ('cfg', list_of(wrong_atom), False), ATTRS])
 
@@ -434,8 +439,8 @@ def wrong_edition(value):
 def wrong_opening(value):
     """The keys of a first line that set up its session."""
     return unknown_key(value, LINE_KEYS) or wrong_keys(value, [
-        ('crates', list_of(wrong_crate), False), ('skipped', list_of(wrong_name), False), ('edition', wrong_edition, False),
-        ('start', wrong_u64, False)])
+        ('crates', list_of(wrong_files), False), ('crates', list_of(wrong_crate), False), ('skipped', list_of(wrong_name), False),
+        ('edition', wrong_edition, False), ('start', wrong_u64, False)])
 
 
 wrong_u32, wrong_u64 = number_up_to(2**32 - 1), number_up_to(LAST)
@@ -509,6 +514,10 @@ WRONG_SETTINGS = {
         ([{'root': 0, 'cfg': 'test'}], '/0/cfg'), ([{'root': 0, 'cfg': ['']}], '/0/cfg/0'), ([{'root': 0, 'attrs': {}}], '/0/attrs'),
         ([{'root': 0, 'attrs': [{}]}], '/0/attrs/0/meta'), ([{'attrs': 0, 'cfg': 0, 'root': ''}], '/0/root'),
         ([{'attrs': 0, 'cfg': [{'value': 0}], 'root': 0}], '/0/cfg/0/key'), ([{'root': 0, 'attrs': [0]}, {}], '/0/attrs/0'),
+        ([{'root': 0, 'files': 0}], '/0/files'), ([{'root': 0, 'files': {}}], '/0/files'), ([{'root': 0, 'files': ''}], '/0/files'),
+        ([{'root': 0, 'files': [2**32]}], '/0/files/0'), ([{'root': 0, 'files': [0, 0, -1]}], '/0/files/2'),
+        ([{'root': 0, 'files': [None]}], '/0/files/0'), ([{'root': 0, 'files': [0.5]}], '/0/files/0'),
+        ([0, {'files': ['0']}], '/1/files/0'), ([{'files': []}, {'root': 0, 'files': True}], '/1/files'), ([{'files': []}], '/0/root'),
     ],
     'skipped': [('doc', ''), ({}, ''), ([''], '/0'), ([1], '/0'), (['a\nb'], '/0'), ([None], '/0'), (['a', 'b', ['c']], '/2')],
     'edition': [
@@ -744,8 +753,9 @@ GOOD_SHOWS = [
         'a::crate::b')),
 ]
 GOOD_OPENING = {
-    'crates': [{'root': 0, 'noted': {}}, {'root': 2**32 - 1, 'cfg': ['a', {'key': 'a', 'value': ''}], 'attrs': GOOD_METAS},
-               {'root': 0, 'cfg': None, 'attrs': None}],
+    'crates': [{'root': 0, 'noted': {}, 'files': [2**32 - 1, 0, 1, 0]},
+               {'root': 2**32 - 1, 'cfg': ['a', {'key': 'a', 'value': ''}], 'attrs': GOOD_METAS, 'files': []},
+               {'root': 0, 'cfg': None, 'attrs': None, 'files': None}],
     'skipped': ['doc', 'a'], 'edition': {'year': 2018, 'reserved': ['f', 'é']}, 'start': 2**63,
 }
 GOOD_OPENINGS = [GOOD_OPENING, {}, {'edition': {}, 'crates': []}, {'edition': {'reserved': [], 'year': None}, 'skipped': [], 'start': LAST},
@@ -1200,6 +1210,30 @@ def check_found(program):
          answered(9, [found[0] + found[3]]))])
 
 
+def check_files(program):
+    """Of a crate with files, only these are told of where changes and items are listed. A macro's result is a file, and blocks stay."""
+    items = {'root': 'macro_items', 'items': [FUNCTION]}
+    edits = [{'edit': 'set_text', 'file': 0, 'text': 'fn f() {}'}, {**SET, 'file': 2, 'syntax': items}, {**SET, 'file': 3, 'syntax': items},
+             {'edit': 'set_block', 'block': 3, 'stmts': [{'item': FUNCTION}]}]
+    crates = [{'root': 0, 'files': [3, 0, 7, 0]}, {'root': 0}, {'root': 0, 'files': []}]
+    own = [(0, 'file', 0), (1, 'file', 0), (1, 'file', 2), (0, 'file', 3), (1, 'file', 3), *((krate, 'block', 3) for krate in (0, 1, 2))]
+    number = {('file', 0): 1, ('file', 2): 2, ('file', 3): 3, ('block', 3): 4}
+    at = {('file', 0): {'line': 1, 'column': 4, 'range': [0, 9]}}
+    found = [dict(sorted({kind: place, 'crate': krate, 'id': 'Fn[BE8F, 0]', **at.get((kind, place), {})}.items())) for krate, kind, place in own]
+    changes = [(f'crate {krate} {kind} {place} change {number[kind, place]}\n',
+                dict(sorted({kind: place, 'crate': krate, 'change': number[kind, place]}.items()))) for krate, kind, place in own]
+    shows = [{'show': 'find', 'name': 'f'}, {'show': 'find', 'name': '::f'}, {'show': 'find', 'name': 'a::f'}, {'show': 'changed', 'since': 0},
+             {'show': 'changed', 'since': 2}, {'show': 'changed', 'since': 0, 'as': 'json'}, {**PAGE, 'file': 2}]
+    check_lines(program, 'files of crates', [
+        ({'crates': crates, 'edits': edits, 'shows': shows}, answered(4, [
+            found, found, [], ''.join(line for line, _ in changes), ''.join(line for line, told in changes if told['change'] > 2),
+            [told for _, told in changes], PAGED])),
+        ({'edits': [{'edit': 'set_text', 'file': 0, 'text': ''}, {'edit': 'set_text', 'file': 2, 'text': 'fn f() {}'}], 'shows': shows[:1]},
+         answered(6, [[dict(sorted({**at['file', 0], **told}.items())) if told.get('file') == 2 else told for told in found
+                       if told.get('file') != 0]])),
+        ({'crates': crates}, no_request(6, '/crates'))])
+
+
 def check_found_paths(program):
     """Paths are those of the modules around an item. What a text sets has its place in it."""
     module = {'is': 'module', 'name': 'a', 'items': [FUNCTION, {'is': 'extern_block', 'items': [{**FUNCTION, 'name': 'g'}]}]}
@@ -1273,6 +1307,8 @@ EXPECTED = [
     (b'[]', '', 'an object'), ({'id': 0.5}, '/id', 'a value without a float'), ({'crates': 1}, '/crates', 'a list'),
     ({'crates': [1]}, '/crates/0', 'an object'), ({'crates': [{}]}, '/crates/0/root', 'a number below 2^32'),
     ({'crates': [{'root': 0, 'cfg': 0}]}, '/crates/0/cfg', 'a list'), ({'skipped': ['']}, '/skipped/0', 'a name'),
+    ({'crates': [{'root': 0, 'files': 0}]}, '/crates/0/files', 'a list'),
+    ({'crates': [{'root': 0, 'files': [0, -1]}]}, '/crates/0/files/1', 'a number below 2^32'),
     ({'edition': 1}, '/edition', 'an object'), ({'edition': {'year': 1}}, '/edition/year', '2015, 2018, 2021 or 2024'),
     ({'edition': {'reserved': [0]}}, '/edition/reserved/0', 'a name'), ({'start': -1}, '/start', 'a number below 2^64'),
     ({'edit': []}, '/edit', 'no such key'), ({'5': []}, '/5', 'no such key'), ({'edits': {}}, '/edits', 'a list'),
@@ -1371,6 +1407,7 @@ def check_skipped(program):
 def check_places(options):
     program, found = options.program, texts()
     check_found(program)
+    check_files(program)
     check_found_paths(program)
     check_values(program)
     check_editions(program)
@@ -1516,7 +1553,7 @@ class Random:
     def __init__(self, material, seed, number):
         self.material, self.chance = material, random.Random(f'{seed} {number}')
         self.start = self.chance.choice([0, 0, 5, 2**63, LAST - 3])
-        self.crates = [{'root': 0, 'cfg': self.flags()} for _ in range(self.chance.choice([0, 1, 1, 1, 2, 2, 3]))]
+        self.crates = [{'root': 0, 'cfg': self.flags(), **self.files()} for _ in range(self.chance.choice([0, 1, 1, 1, 2, 2, 3]))]
         self.opening = {'crates': self.crates, 'start': self.start, 'skipped': self.chance.choice([[], ['a'], ['doc', 'b']]),
                         'edition': self.chance.choice([{}, {'year': 2015}, {'reserved': ['f', 'type']}])}
         # The edits that stand, as they were sent, and as TOOL reads them.
@@ -1524,6 +1561,14 @@ class Random:
 
     def flags(self):
         return self.chance.sample(FLAGS, self.chance.randrange(3))
+
+    def files(self):
+        """The files of half of the crates, in any order and some of them twice."""
+        return {'files': self.chance.choices(range(5), k=self.chance.randrange(5))} if self.chance.random() < 0.5 else {}
+
+    def is_told(self, krate, file):
+        """Whether what stands in a file, or in a block where that is None, is told of in a crate."""
+        return file is None or file in self.crates[krate].get('files', [file])
 
     def item(self, depth=0):
         kind = self.chance.choice(['fn', 'struct', 'const', 'module', 'use', 'impl', 'static', 'enum'])
@@ -1622,11 +1667,15 @@ def tool_texts(tool, case, shows):
     want(done.returncode == 0, f'{tool}: status {done.returncode}', done.stderr)
     text = done.stdout.decode()
     # Without crates nothing changes.
-    return [as_asked(show, text) for show, text in zip(shows, text.split(mark)[:-1] if case.crates else [text] * len(shows))]
+    return [as_asked(case, show, text) for show, text in zip(shows, text.split(mark)[:-1] if case.crates else [text] * len(shows))]
 
 
-def as_asked(show, text):
-    """The text of a show, or the values that it tells of if these are asked for."""
+def as_asked(case, show, text):
+    """The text of a show, or the values that it tells of if these are asked for. TOOL passes over the files of crates."""
+    if show['show'] == 'changed':
+        lines = [(line, line.split(' ')) for line in text.splitlines(True)]
+        text = ''.join(line for line, (_, krate, place, number, *_) in lines
+                       if case.is_told(int(krate), int(number) if place == 'file' else None))
     if show.get('as') != 'json':
         return text
     told = (line.split(' ') for line in text.splitlines())
@@ -1677,11 +1726,17 @@ def try_at_once(server, program, case):
              for kind in ('outline', 'import_places', 'tree')]
     shows += [{**show, 'as': 'json'} for show in shows if show['show'] == 'tree']
     shows += [{'show': 'problems', **place} for place in places]
-    shows += [{'show': 'find', 'name': path} for name in NAMES for path in (name, f'::{name}', f'a::{name}', f'crate::f::{name}')]
-    got = server.ask({'shows': shows})
+    finds = [{'show': 'find', 'name': path} for name in NAMES for path in (name, f'::{name}', f'a::{name}', f'crate::f::{name}')]
+    got = server.ask({'shows': shows + finds})
     with Server(program) as other:
-        wanted = other.ask({**case.opening, 'edits': case.sent, 'shows': shows})
+        wanted = other.ask({**case.opening, 'edits': case.sent, 'shows': shows + finds})
     want(got == wanted, 'all edits at once', got, wanted)
+    with Server(program) as other:
+        crates = [{**krate, 'files': None} for krate in case.crates]
+        whole = json.loads(other.ask({**case.opening, 'crates': crates, 'edits': case.sent, 'shows': finds}))['shows']
+    found = json.loads(got)['shows'][len(shows):]
+    wanted = [[told for told in entries if case.is_told(told['crate'], told.get('file'))] for entries in whole]
+    want(found == wanted, 'what is found, beside crates with all files', found, wanted)
 
 
 def try_session(program, tool, material, seed, number):
@@ -1739,7 +1794,7 @@ ODD = [{}, [], 0, -1, 65536, 2**32, LAST, -2**63, True, 'x', '', 'a\nb', None, [
        'unreadable', ['plain', 'a'], ['super', 1], {'in': ['abs']}, {'not': None}, {'key': 'a'}, {'item': FUNCTION}, {'call': {}},
        {'meta': 'path'}, FUNCTION]
 FLOATS = [0.5, 1e300, LAST + 1, -2**63 - 1]
-ADDED = ['noted', 'is', 'name', 'vis', 'items', 'attrs', 'item', 'call', 'key', 'all', 'not', 'in', 'span', 'file', 'block']
+ADDED = ['noted', 'is', 'name', 'vis', 'items', 'attrs', 'item', 'call', 'key', 'all', 'not', 'in', 'span', 'file', 'files', 'block']
 
 
 def places(value):
@@ -1960,7 +2015,29 @@ def marks_of(program):
     return marks
 
 
+def find_seconds(program, count):
+    """The processor time that finding takes where so many modules of one file have functions of one name."""
+    text = ''.join(f'mod m{at} {{ fn new() {{}} }}\n' for at in range(count))
+    with Server(program) as server:
+        server.ask({**OPENED, 'edits': [{'edit': 'set_text', 'file': 0, 'text': text}], 'shows': [{'show': 'find', 'name': 'old'}]})
+        before = server.seconds()
+        got = json.loads(server.ask({'shows': [{'show': 'find', 'name': name} for name in ('new', '::new', f'm{count - 1}::new')]}))
+        took = server.seconds() - before
+        tell([len(found) for found in got['shows']] == [count, 0, 1], f'find among {count} of one name', got)
+        lines = [found['line'] for found in got['shows'][0]]
+        tell(sorted(lines) == list(range(1, count + 1)), f'the lines of {count} of one name', lines)
+        ends_well(server, 'many of one name')
+    return took
+
+
+def check_one_name(options):
+    # Four times the file takes about four times as long.
+    early, late = (min(find_seconds(options.program, count) for _ in range(2)) for count in (2000, 8000))
+    tell(late <= 8 * early + 0.1, 'find reads a file once', f'{early} s, and {late} s for four times the file')
+
+
 def check_many(options):
+    check_one_name(options)
     # Others may have had the processor, so the best of some thousands counts, and a second run.
     for _ in range(2):
         marks = marks_of(options.program)

@@ -1,6 +1,8 @@
 pub mod Readings
 pub mod Pieces
 pub mod Paths
+pub mod Finders
+pub mod Numbers
 pub mod Kept
 pub mod Ranges
 pub mod Spliced

@@ -20,6 +20,7 @@ use Rattle.item_tree_request.proofs.Made.{is_made, is_unmade, found_in_map}
 use Rattle.decl_index.specs.Entries.{IndexView}
 use Rattle.decl_index.proofs.Laws.{behind_after}
 use Rattle.source_session.specs.Edits.{LineEdit}
+use Rattle.source_session.specs.Files.{CrateFiles}
 use Rattle.source_session.specs.declared.error.LineError.{LineError}
 use Rattle.source_session.specs.declared.error.LineError.TheVariants.{NotJson, NotRequest, NotChanged, Refused, TooLong}
 use Rattle.source_session.specs.declared.error.LineError.TheVariants as why
@@ -72,16 +73,16 @@ same_length edition texts (l ∷ ls) [] cs h = absurd h
 same_length edition texts (l ∷ ls) (e ∷ es) [] h = absurd h
 
 -- nothing is made
-pub made_none : (s u : Session) → u.count ≡ s.count → u.edition ≡ s.edition → u.table ≡ s.table → ((file : ℕ) → text_in u.texts file ≡ text_in s.texts file) → AreMade s [] [] u
-made_none s u count edition table texts = record { count = count; edition = edition; table = subst (IsAfter s.table []) (sym table) (after_none s.table); texts = texts }
+pub made_none : (s u : Session) → u.count ≡ s.count → u.files ≡ s.files → u.edition ≡ s.edition → u.table ≡ s.table → ((file : ℕ) → text_in u.texts file ≡ text_in s.texts file) → AreMade s [] [] u
+made_none s u count files edition table texts = record { count = count; files = files; edition = edition; table = subst (IsAfter s.table []) (sym table) (after_none s.table); texts = texts }
 
-pub stopped_none : (s : Session) (asked : List LineEdit) (u : Session) → u.count ≡ s.count → u.edition ≡ s.edition → u.table ≡ s.table → ((file : ℕ) → text_in u.texts file ≡ text_in s.texts file) → IsStopped s asked u
-stopped_none s asked u count edition table texts = record { edits = []; changes = []; count = 0; meant = inl refl; made = made_none s u count edition table texts }
+pub stopped_none : (s : Session) (asked : List LineEdit) (u : Session) → u.count ≡ s.count → u.files ≡ s.files → u.edition ≡ s.edition → u.table ≡ s.table → ((file : ℕ) → text_in u.texts file ≡ text_in s.texts file) → IsStopped s asked u
+stopped_none s asked u count files edition table texts = record { edits = []; changes = []; count = 0; meant = inl refl; made = made_none s u count files edition table texts }
 
 -- memory runs out, or an edit means nothing
 pub unmeant : (s : Session) (asked : List LineEdit) (e : LineError) → TellsFault (FailsAt s.edition.0 (text_in s.texts) asked) e → IsUnedited s asked s e
 unmeant s asked (NotChanged place cause) h = (h, refl)
-unmeant s asked why.OutOfMemory h = stopped_none s asked s refl refl refl (λ file. refl)
+unmeant s asked why.OutOfMemory h = stopped_none s asked s refl refl refl refl (λ file. refl)
 unmeant s asked (NotJson column) h = absurd h
 unmeant s asked (NotRequest pointer) h = absurd h
 unmeant s asked (Refused place cause) h = absurd h
@@ -151,9 +152,9 @@ module _ (s u : State) (old room new : Texts) (edits : List Edit) (changes : Lis
   texts_after : (file : ℕ) → text_in new file ≡ text_after (text_in old) (take (made_count (length edits) made) changes) file
   texts_after file = put file ∙ text_over old room (take n changes) same file ∙ ap (λ k. text_after (text_in old) (take k changes) file) count_is
 
-  pub files_made : (count : ℕ) (edition : EditionView)
-      → AreMade (session_of count edition s old) (take (made_count (length edits) made) (map edit_view edits)) (take (made_count (length edits) made) changes) (session_of count edition u new)
-  files_made count edition = record { count = refl; edition = refl; table = after_first s u edits made ok refused; texts = texts_after }
+  pub files_made : (count : ℕ) (files : CrateFiles) (edition : EditionView)
+      → AreMade (session_of count files edition s old) (take (made_count (length edits) made) (map edit_view edits)) (take (made_count (length edits) made) changes) (session_of count files edition u new)
+  files_made count files edition = record { count = refl; files = refl; edition = refl; table = after_first s u edits made ok refused; texts = texts_after }
 
   pub files_together : (count : ℕ) (index : IndexView) → AreTogether count s old index → IsFooting s u → All LeavesPlaced changes → AreTogether count u new index
   files_together count index t footing placed =

@@ -24,10 +24,11 @@ use Rattle.decl_index.specs.declared.entry.Entry.{Entry}
 use Rattle.rust_items.specs.declared.source_file.ItemPlace.{ItemPlace}
 use Rattle.source_listing.specs.Outlines.{reading}
 use Rattle.source_listing.proofs.NoFloats.{no_float_in_outline, no_float_in_imports, no_float_in_problems}
+use Rattle.source_session.specs.Files.{CrateFiles}
 use Rattle.source_session.specs.Found.{ast_of, found_form, found_in, id_form, in_file, place_by_id, IsFound}
 use Rattle.source_session.specs.Inner.{AreUnfloating, Knowing}
 use Rattle.source_session.specs.Sessions.{Session}
-use Rattle.source_session.specs.Shown.{all_items, change_form, change_with, imports_form, item_objects, items_member, outline_form, pathless, problems_form, tree_form, tree_of, AreChangeValues}
+use Rattle.source_session.specs.Shown.{all_items, change_form, change_with, imports_form, item_objects, items_member, outline_form, pathless, problems_form, tree_form, tree_of, AreChangeValues, IsTextOf}
 use Rattle.source_session.specs.Sought.{SoughtItem, is_sought}
 use Rattle.source_session.specs.SourceTexts.{text_bytes, text_places, all_places, text_problems}
 use Rattle.source_session.specs.Texts.{Texts, text_at, text_in}
@@ -101,14 +102,18 @@ no_float_tree u krate place = no_float_change (item_objects u krate place) (plac
 pub no_float_imports : (u : Session) (krate : Crate) (place : Place) → has_float (imports_form u krate place) ≡ false
 no_float_imports u krate place = let t = text_at u.texts place in no_float_in_imports (text_bytes t) u.edition.1 (all_places t) (tree_of u krate place).forest
 
-pub no_float_changes : (s : State) (since : ℕ) (d : Data) → AreChangeValues s since d → has_float d ≡ false
-no_float_changes s since d h = ap has_float h.2 ∙ no_float_in_changes h.0
+pub no_float_changes : (files : CrateFiles) (s : State) (since : ℕ) (d : Data) → AreChangeValues files s since d → has_float d ≡ false
+no_float_changes files s since d h = ap has_float h.2 ∙ no_float_in_changes h.0
+
+pub no_float_written : (files : CrateFiles) (reserved : List (List ℕ)) (s : State) (show : Show) (d : Data) → IsTextOf files reserved s show d → has_float d ≡ false
+no_float_written files reserved s (OfTree show) d h = ap has_float h
+no_float_written files reserved s (Changed since) d h = ap has_float h.2
 
 pub no_float_problems : (u : Session) (file : HirFileId) → has_float (problems_form u file) ≡ false
 no_float_problems u file = let t = text_in u.texts file.0 in no_float_in_problems (text_bytes t) (text_problems t)
 
-pub no_float_found_value : (s : State) (texts : Texts) (q : SoughtItem) (d : Data) → IsFound s texts q d → has_float d ≡ false
-no_float_found_value s texts q d h = ap has_float h.2 ∙ no_float_in_found s texts (filter (is_sought s q) h.0)
+pub no_float_found_value : (files : CrateFiles) (s : State) (texts : Texts) (q : SoughtItem) (d : Data) → IsFound files s texts q d → has_float d ≡ false
+no_float_found_value files s texts q d h = ap has_float h.2 ∙ no_float_in_found s texts (filter (is_sought files s q) h.0)
 
 -- ---- one value more
 

@@ -1,5 +1,5 @@
 -- Words that private contracts alone cite.
-use Rattle.std.specs.Prelude.{◌≡◌, ℕ, ◌<◌, ◌^◌, false, if◌then◌else◌, List, [], ◌∷◌, length, map, Option, Some, None, IsSome, IfSome, Result, Ok, Err, IfOk}
+use Rattle.std.specs.Prelude.{◌≡◌, ℕ, ◌<◌, ◌^◌, ◌&&◌, false, if◌then◌else◌, List, [], ◌∷◌, length, map, Option, Some, None, IsSome, IfSome, Result, Ok, Err, IfOk}
 use Rattle.std.specs.declared.alloc.Global.{Global}
 use Rattle.std.specs.declared.vec.Vec.{Vec}
 use Rattle.serde_json.specs.declared.value.Value.{Value}
@@ -9,7 +9,6 @@ use Rattle.serde_json.specs.Written.{items_have_float}
 use Rattle.hir_input_json.specs.Editions.{EditionView}
 use Rattle.item_tree_db.specs.State.{State}
 use Rattle.source_listing.specs.Places.{AreDistinct}
-use Rattle.def_collector.specs.declared.collector.Declaration as code
 use Rattle.decl_index.specs.declared.entry.Entry.{Entry}
 use Rattle.decl_index.specs.Entries.{IndexView, IsBehind}
 use Rattle.source_session.specs.declared.error.LineError.{LineError}
@@ -18,6 +17,7 @@ use Rattle.source_session.specs.declared.splice.ChangeFault.{ChangeFault}
 use Rattle.source_session.specs.Edits.{LineEdit}
 use Rattle.source_session.specs.declared.expected.Steps as code_steps
 use Rattle.source_session.specs.Expected.{Steps}
+use Rattle.source_session.specs.Files.{CrateFiles, is_in_crate}
 use Rattle.source_session.specs.Found.{found_form}
 use Rattle.source_session.specs.Sought.{SoughtItem, is_at, path_of}
 use Rattle.source_session.specs.declared.texts.SourceText.{SourceText}
@@ -66,8 +66,8 @@ abbrev pub Knowing : ℕ → State → Type 0
 Knowing count table = (n : ℕ) → n < count → n < 2 ^ 32 → n < length table.crates
 
 -- the session of these parts
-abbrev pub session_of : ℕ → EditionView → State → Texts → Session
-session_of count edition table texts = record { count = count; edition = edition; table = table; texts = texts }
+abbrev pub session_of : ℕ → CrateFiles → EditionView → State → Texts → Session
+session_of count files edition table texts = record { count = count; files = files; edition = edition; table = table; texts = texts }
 
 -- how the parts of a session belong together
 pub record AreTogether (count : ℕ) (table : State) (texts : Texts) (index : IndexView) : Type 0 where
@@ -75,13 +75,9 @@ pub record AreTogether (count : ℕ) (table : State) (texts : Texts) (index : In
   pub behind : IsBehind index table
   pub placed : (file : ℕ) → IsPlaced (text_in texts file)
 
--- the id of a declared item, and the names of the modules around it
-abbrev pub declared_scope : code.Declaration → ℕ × List (List ℕ)
-declared_scope d = (d.id, map (λ name. name.now) d.path.items)
-
--- the object of an entry, if its item has the path that is looked for
-abbrev pub found_one : State → Texts → SoughtItem → Entry → List Data
-found_one s texts q e = if is_at q.path (path_of s e) then found_form s texts e ∷ [] else []
+-- the object of an entry, if it is in its crate and its item has the path that is looked for
+abbrev pub found_one : CrateFiles → State → Texts → SoughtItem → Entry → List Data
+found_one files s texts q e = if is_in_crate files e.krate e.place && is_at q.path (path_of s e) then found_form s texts e ∷ [] else []
 
 -- the steps of a pointer as data
 abbrev pub steps_view : code_steps.Steps → Steps

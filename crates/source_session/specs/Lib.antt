@@ -3,6 +3,7 @@ pub mod Edits
 pub mod Parts
 pub mod Sought
 pub mod Shows
+pub mod Files
 pub mod Lines
 pub mod Expected
 pub mod Errors
@@ -15,4 +16,5 @@ pub mod Replies
 pub mod Histories
 pub mod LineViews
 pub mod Refusals
+pub mod Finders
 pub mod Inner

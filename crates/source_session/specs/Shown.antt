@@ -1,5 +1,6 @@
 -- What is shown of a session.
-use Rattle.std.specs.Prelude.{◌≡◌, ℕ, false, List, [], codes, map, None}
+use Rattle.std.specs.Prelude.{◌≡◌, ℕ, false, List, [], codes, filter, map, None}
+use Rattle.std.specs.List.{flat_map}
 use Rattle.serde_json.specs.Data.{Data, string, array, object, Members, no_members, member}
 use Rattle.serde_json.specs.View.{items_of}
 use Rattle.hir_input.specs.declared.ids.Crate.{Crate}
@@ -9,13 +10,16 @@ use Rattle.item_tree_db.specs.declared.place.Place.{Place}
 use Rattle.item_tree_db.specs.declared.place.Place.TheVariants.{File, Block}
 use Rattle.item_tree_db.specs.Since.{Change, IsSince}
 use Rattle.item_tree_db.specs.State.{State, change_number, unfolding_at}
-use Rattle.item_tree_request.specs.Outputs.{IsPrinted}
+use Rattle.item_tree_request.specs.Outputs.{change_line, printed}
+use Rattle.item_tree_request.specs.declared.request.show.Show.{Show}
+use Rattle.item_tree_request.specs.declared.request.show.Show.TheVariants.{OfTree, Changed}
 use Rattle.source_listing.specs.ImportObjects.{import_objects}
 use Rattle.source_listing.specs.Lines.{Choice, Source}
 use Rattle.source_listing.specs.Objects.{count_form, tree_objects, problem_objects}
 use Rattle.source_listing.specs.Outlines.{reading}
 use Rattle.source_session.specs.declared.show.LineShow.{LineShow}
 use Rattle.source_session.specs.declared.show.LineShow.TheVariants.{Table, Outline, TreeItems, ImportPlaces, Changes, Problems, Find}
+use Rattle.source_session.specs.Files.{CrateFiles, is_change_in}
 use Rattle.source_session.specs.Found.{IsFound}
 use Rattle.source_session.specs.Sessions.{Session}
 use Rattle.source_session.specs.SourceTexts.{text_bytes, text_places, all_places, text_problems}
@@ -73,22 +77,31 @@ items_member items = member (codes "items") (array (items_of items)) no_members
 abbrev pub tree_form : Session → Crate → Place → Data
 tree_form u krate place = change_with (items_member (item_objects u krate place)) (place, krate, change_number u.table place krate.0)
 
--- the objects of all changes since a number
-abbrev pub AreChangeValues : State → ℕ → Data → Type 0
-AreChangeValues s since d = (changes : List Change) × IsSince s since changes × (d ≡ array (items_of (map change_form changes)))
+-- all changes since a number in what the crates have
+abbrev pub AreOwnChanges : CrateFiles → State → ℕ → List Change → Type 0
+AreOwnChanges files s since own = (changes : List Change) × IsSince s since changes × (own ≡ filter (is_change_in files) changes)
+
+-- their objects
+abbrev pub AreChangeValues : CrateFiles → State → ℕ → Data → Type 0
+AreChangeValues files s since d = (changes : List Change) × AreOwnChanges files s since changes × (d ≡ array (items_of (map change_form changes)))
+
+-- their lines
+abbrev pub AreChangeLines : CrateFiles → State → ℕ → Data → Type 0
+AreChangeLines files s since d = (changes : List Change) × AreOwnChanges files s since changes × (d ≡ string (flat_map change_line changes))
 
 -- ---- shows
 
 -- the text of a show of a request, under these reserved words
-abbrev pub IsText : (List ℕ → Type 0) → Data → Type 0
-IsText IsWritten d = (text : List ℕ) × IsWritten text × (d ≡ string text)
+abbrev pub IsTextOf : CrateFiles → List (List ℕ) → State → Show → Data → Type 0
+IsTextOf files reserved s (OfTree show) d = d ≡ string (printed reserved s show)
+IsTextOf files reserved s (Changed since) d = AreChangeLines files s since d
 
 -- the value of a show
 abbrev pub IsShown : Session → LineShow → Data → Type 0
-IsShown u (Table show) d = IsText (IsPrinted u.edition.1 u.table show) d
+IsShown u (Table show) d = IsTextOf u.files u.edition.1 u.table show d
 IsShown u (Outline krate file) d = d ≡ outline_form u krate file
 IsShown u (TreeItems krate place) d = d ≡ tree_form u krate place
 IsShown u (ImportPlaces krate place) d = d ≡ imports_form u krate place
-IsShown u (Changes since) d = AreChangeValues u.table since d
+IsShown u (Changes since) d = AreChangeValues u.files u.table since d
 IsShown u (Problems file) d = d ≡ problems_form u file
-IsShown u (Find sought) d = IsFound u.table u.texts sought d
+IsShown u (Find sought) d = IsFound u.files u.table u.texts sought d

@@ -1,5 +1,5 @@
 -- Paths of names that are looked for.
-use Rattle.std.specs.Prelude.{ℕ, Bool, false, ◌==◌, ◌&&◌, if◌then◌else◌, List, [], ◌∷◌, ◌++◌, codes, map}
+use Rattle.std.specs.Prelude.{ℕ, Bool, false, ◌==◌, ◌&&◌, if◌then◌else◌, List, [], ◌∷◌, ◌++◌, codes, map, Option, Some, None}
 use Rattle.std.specs.List.{flat_map}
 use Rattle.std.specs.Option.{unwrap_or}
 use Rattle.serde_json.specs.Data.{Data}
@@ -13,6 +13,7 @@ use Rattle.decl_index.specs.Lookup.{has_name}
 use Rattle.rust_paths.specs.Names.{behind_hash}
 use Rattle.source_listing.specs.Search.{segment, is_path}
 use Rattle.source_listing.specs.Sought.{Sought, sought}
+use Rattle.source_session.specs.Files.{CrateFiles, is_in_crate}
 use Rattle.source_session.specs.Parts.{parts, last_part}
 
 -- a path that is looked for, and its last name
@@ -48,10 +49,13 @@ asked_path_in = required_at (codes "name") asked_path
 abbrev pub own_scope : ℕ × Declaration → ℕ × List (List ℕ)
 own_scope d = (d.0, d.1.path)
 
--- that of the item of this id
+-- that of the item of this id, if it declares something
+abbrev pub found_scope : ℕ → List (ℕ × List (List ℕ)) → Option (List (List ℕ))
+found_scope i [] = None
+found_scope i (d ∷ ds) = if d.0 == i then Some d.1 else found_scope i ds
+
 abbrev pub scope_by_id : ℕ → List (ℕ × List (List ℕ)) → List (List ℕ)
-scope_by_id i [] = []
-scope_by_id i (d ∷ ds) = if d.0 == i then d.1 else scope_by_id i ds
+scope_by_id i ds = unwrap_or (found_scope i ds) []
 
 -- the names of the inline modules around the item of an id
 abbrev pub scope_at : Unfolding → ℕ → List (List ℕ)
@@ -69,6 +73,6 @@ path_of s e = path_within (unfolding_at s e.place e.krate.0) e.id e.name
 abbrev pub is_at : Sought → List ℕ → Bool
 is_at q path = is_path (record { path = q.path; is_anywhere = q.is_anywhere; only_active = false }) path
 
--- whether the entry has the last name, and its item the path
-abbrev pub is_sought : State → SoughtItem → Entry → Bool
-is_sought s q e = has_name q.name e && is_at q.path (path_of s e)
+-- whether the entry has the last name and is in its crate, and its item has the path
+abbrev pub is_sought : CrateFiles → State → SoughtItem → Entry → Bool
+is_sought files s q e = has_name q.name e && (is_in_crate files e.krate e.place && is_at q.path (path_of s e))

@@ -1,123 +1,91 @@
 //! The objects of what is found.
-ghost use Rattle.std.specs.Prelude.{ℕ, List, None, ◌≡◌, ◌++◌, IfOk, OnOk, All, map, string_bytes};
+ghost use Rattle.std.specs.Prelude.{ℕ, List, None, ◌≡◌, ◌++◌, true, All, IfOk, IfSome, OnOk, map, string_bytes};
 ghost use Rattle.std.specs.List.{flat_map};
 ghost use Rattle.serde_json.specs.Data.{string};
 ghost use Rattle.serde_json.specs.View.{view};
 ghost use Rattle.hir_input.specs.Id.{shown_id};
+ghost use Rattle.item_tree.specs.Shown.{IsContained};
+ghost use Rattle.item_tree_db.specs.State.{IsKnown};
 ghost use Rattle.decl_index.specs.Entries.{IsDeclared};
-ghost use Rattle.source_listing.specs.Places.{is_id, place_of, stands_at};
-ghost use Rattle.source_listing.specs.Search.{segment};
+ghost use Rattle.source_listing.specs.Places.{AreDistinct, place_of};
+ghost use Rattle.source_session.specs.Finders.{HaveDistinctIds, IsFinder, FindsIn, IsSameText, KnowsScopes, ast_in, found_with};
 ghost use Rattle.source_session.specs.Found as spec;
-ghost use Rattle.source_session.specs.Inner.{declared_scope, found_one};
-ghost use Rattle.source_session.specs.Sought.{is_at, path_within, path_of as path_is, scope_by_id};
+ghost use Rattle.source_session.specs.Inner.{found_one};
+ghost use Rattle.source_session.specs.Sought.{is_at, path_within};
 
+use crate::files::{Files, is_in_crate};
+use crate::finder::{Scopes, Spots, push_segment};
 use crate::sought::SoughtItem;
-use crate::texts::{Texts, text_of};
+use crate::texts::{Texts, text_at};
 use decl_index::Entry;
-use def_collector::{Declaration, collect};
 use hir_input::{BlockId, Crate, FileAstId, HirFileId, Name};
 use item_tree::{ItemTree, ModItemId};
 use item_tree_db::{Place, Sources};
-use line_index::{LineIndex, Position};
+use line_index::Position;
 use rust_items::ItemPlace;
 use serde_json::{Value, json};
 use std::alloc::{AllocError, Global};
 
 // ---- paths of items
 
-fn push_segment(name: &Name, path: &mut String) -> Result<(), AllocError>
-    ensures { OnOk result (string_bytes path.new ≡ string_bytes path.old ++ segment name.now) }
+// What is around the items of a tree, if that is not known.
+fn scopes_of<'a>(
+    alloc: Global,
+    tree: &'a ItemTree,
+    known: Option<Scopes<'a>>,
+) -> Result<Scopes<'a>, AllocError>
+    requires { IfSome known (KnowsScopes tree.now) }
+    ensures { IfOk result (KnowsScopes tree.now) }
 {
-    path.push_str("::")?;
-    path.push_str(name.text())
-}
-
-fn push_scope(scope: &[&Name], path: &mut String) -> Result<(), AllocError>
-    ensures { OnOk result (string_bytes path.new ≡ string_bytes path.old
-        ++ flat_map (λ n. segment n.now) scope.now) }
-{
-    for name in scope {
-        push_segment(name, path)?;
+    match known {
+        Some(scopes) => Ok(scopes),
+        None => Scopes::new(alloc, tree),
     }
-    Ok(())
-}
-
-// The names of the modules around the item of an id, one of these declarations.
-fn scope_of<'a, 'tree>(declarations: &'a [Declaration<'tree>], id: ModItemId) -> &'a [&'tree Name]
-    ensures { map (λ n. n.now) result.now ≡ scope_by_id id (map declared_scope declarations.now) }
-{
-    let mut left = declarations;
-    while let [declaration, rest @ ..] = left {
-        if declaration.id == id {
-            return &declaration.path;
-        }
-        left = rest;
-    }
-    &[]
 }
 
 // The path of the item of an id, which has this name.
-fn path_of(alloc: Global, tree: &ItemTree, id: ModItemId, name: &Name) -> Result<String, AllocError>
-    ensures { IfOk result (λ path. string_bytes path ≡ path_within tree.now id name.now) }
+fn path_of<'a>(
+    alloc: Global,
+    tree: &'a ItemTree,
+    scopes: &mut Option<Scopes<'a>>,
+    id: ModItemId,
+    name: &Name,
+) -> Result<String, AllocError>
+    requires { IfSome scopes.old (KnowsScopes tree.now) }
+    ensures path { IfOk result (λ path. string_bytes path ≡ path_within tree.now id name.now) }
+    ensures scopes { IfSome scopes.new (KnowsScopes tree.now) }
 {
-    let collected = collect(alloc, tree)?;
+    let mut known = scopes_of(alloc, tree, scopes.take())?;
     let mut path = String::new(alloc);
-    push_scope(scope_of(&collected.declarations, id), &mut path)?;
+    known.push_scope(id, &mut path)?;
     push_segment(name, &mut path)?;
+    *scopes = Some(known);
     Ok(path)
 }
 
-// Whether an item has the path that is looked for. Its tree is read only where the name alone does not tell.
+// Whether an item has the path that is looked for. What is around the items of its tree is read only where the name alone does not
+// tell.
 #[tactic(auto, using(crate::proofs::Paths::name_tells))]
-fn is_found(
+fn is_found<'a>(
     alloc: Global,
-    sources: &Sources,
     sought: &SoughtItem,
     entry: &Entry,
+    tree: &'a ItemTree,
+    scopes: &mut Option<Scopes<'a>>,
 ) -> Result<bool, AllocError>
-    requires { IsDeclared sources.now entry.now }
-    ensures { IfOk result (λ found. found ≡ is_at sought.now.path (path_is sources.now entry.now)) }
+    requires { IfSome scopes.old (KnowsScopes tree.now) }
+    ensures found { IfOk result
+        (λ found. found ≡ is_at sought.now.path
+        (path_within tree.now entry.now.id entry.now.name)) }
+    ensures scopes { IfSome scopes.new (KnowsScopes tree.now) }
 {
     let mut own = String::new(alloc);
     push_segment(&entry.name, &mut own)?;
     if sought.is_end(&own) {
         return Ok(true);
     }
-    let tree = sources.tree(entry.place, entry.krate);
-    let path = path_of(alloc, tree, entry.id, &entry.name)?;
+    let path = path_of(alloc, tree, scopes, entry.id, &entry.name)?;
     Ok(sought.is_at(&path))
-}
-
-// ---- their places
-
-fn is_id(id: FileAstId, other: FileAstId) -> bool
-    ensures { result ≡ is_id id other }
-{
-    id.kind as u8 == other.kind as u8 && id.hash == other.hash && id.number == other.number
-}
-
-// The first place of an id.
-fn place_of(places: &[ItemPlace], id: FileAstId) -> Option<ItemPlace>
-    ensures { result ≡ place_of id places.now }
-{
-    let mut left = places;
-    while let [place, rest @ ..] = left {
-        if is_id(id, place.id) {
-            return Some(*place);
-        }
-        left = rest;
-    }
-    None
-}
-
-// An item stands at its name, or where it begins.
-fn stands_at(place: ItemPlace) -> usize
-    ensures { result ≡ stands_at place }
-{
-    match place.name {
-        Some(name) => name.start,
-        None => place.range.start,
-    }
 }
 
 // ---- their objects
@@ -158,19 +126,19 @@ fn in_file(
     file: HirFileId,
     krate: Crate,
     id: FileAstId,
-    text: &str,
-    place: Option<ItemPlace>,
+    spots: &mut Spots<'_>,
 ) -> Result<Value, AllocError>
-    ensures { IfOk result (λ value. view value
-        ≡ spec.in_file file krate (string (shown_id id)) text.now place) }
+    requires { AreDistinct spots.old.places.now }
+    ensures value { let place = place_of id spots.old.places.now in
+        IfOk result (λ value. view value ≡ spec.in_file file krate (string (shown_id id)) spots.old.lines place) }
+    ensures same { IsSameText spots.old spots.new }
 {
-    let id = id.to_string(alloc)?;
-    let Some(place) = place else {
-        return placeless_value(alloc, file, krate, id);
+    let shown = id.to_string(alloc)?;
+    let Some(place) = spots.place(id) else {
+        return placeless_value(alloc, file, krate, shown);
     };
-    let mut lines = LineIndex::new(text);
-    let at = lines.position(stands_at(place));
-    placed_value(alloc, file, krate, id, at, place)
+    let at = spots.position(place);
+    placed_value(alloc, file, krate, shown, at, place)
 }
 
 fn in_block(alloc: Global, block: BlockId, krate: Crate, id: FileAstId) -> Result<Value, AllocError>
@@ -181,70 +149,155 @@ fn in_block(alloc: Global, block: BlockId, krate: Crate, id: FileAstId) -> Resul
     json!(in alloc; {"block": block, "crate": krate, "id": id})
 }
 
+// The object of an item of a place with this text.
 fn found_value(
     alloc: Global,
-    sources: &Sources,
-    texts: &Texts,
+    tree: &ItemTree,
     entry: &Entry,
+    spots: &mut Spots<'_>,
 ) -> Result<Value, AllocError>
-    requires { IsDeclared sources.now entry.now }
-    ensures { IfOk result (λ value. view value
-        ≡ spec.found_form sources.now texts.now.entries entry.now) }
+    requires contained { IsContained tree.now entry.now.id }
+    requires distinct { AreDistinct spots.old.places.now }
+    ensures value { let id = ast_in tree.now entry.now.id in
+        IfOk result (λ value. view value ≡ found_with spots.old.lines spots.old.places.now entry.now.place entry.now.krate id) }
+    ensures same { IsSameText spots.old spots.new }
 {
-    let tree = sources.tree(entry.place, entry.krate);
     let id = entry.id.ast_id(tree);
     match entry.place {
-        Place::File(file) => match text_of(texts, file.0) {
-            Some(text) => {
-                let place = place_of(&text.places, id);
-                in_file(alloc, file, entry.krate, id, text.text.as_str(), place)
-            }
-            None => in_file(alloc, file, entry.krate, id, "", None),
-        },
+        Place::File(file) => in_file(alloc, file, entry.krate, id, spots),
         Place::Block(block) => in_block(alloc, block, entry.krate, id),
     }
 }
 
-// Adds the object of an entry, if its item has the path.
-fn push_found(
-    alloc: Global,
-    sources: &Sources,
-    texts: &Texts,
-    sought: &SoughtItem,
-    entry: &Entry,
-    values: &mut Vec<Value>,
-) -> Result<(), AllocError>
-    requires { IsDeclared sources.now entry.now }
-    ensures { let found = found_one sources.now texts.now.entries sought.now entry.now in
-        OnOk result (map view values.new.items ≡ map view values.old.items ++ found) }
-{
-    if !is_found(alloc, sources, sought, entry)? {
-        return Ok(());
-    }
-    values.push(found_value(alloc, sources, texts, entry)?)?;
-    Ok(())
+// ---- one entry after another
+
+/// What finds the items of a crate's tree of a place.
+#[derive(Drop)]
+pub(crate) struct Finder<'a> {
+    place: Place,
+    krate: Crate,
+    tree: &'a ItemTree,
+    /// What is around the items, if that was asked for.
+    scopes: Option<Scopes<'a>>,
+    spots: Spots<'a>,
 }
 
-/// The objects of the entries whose items have the path that is looked for, of some with its last name.
+fn is_same_place(place: Place, other: Place) -> bool
+    ensures { result ≡ true → place ≡ other }
+{
+    match (place, other) {
+        (Place::File(file), Place::File(other)) => file.0 == other.0,
+        (Place::Block(block), Place::Block(other)) => block.0 == other.0,
+        _ => false,
+    }
+}
+
+impl Finder<'_> {
+    // Whether the entry is of this tree.
+    fn is_of(&self, entry: &Entry) -> bool
+        ensures { result ≡ true → (self.now.place ≡ entry.now.place)
+            × (self.now.krate ≡ entry.now.krate) }
+    {
+        is_same_place(self.place, entry.place) && self.krate.0 == entry.krate.0
+    }
+}
+
+fn new_finder<'a>(sources: &'a Sources, texts: &'a Texts, entry: &Entry) -> Finder<'a>
+    requires known { IsKnown sources.now entry.now.krate }
+    requires placed { HaveDistinctIds texts.now.entries }
+    ensures { FindsIn sources.now texts.now.entries entry.now.place entry.now.krate result }
+{
+    Finder {
+        place: entry.place,
+        krate: entry.krate,
+        tree: sources.tree(entry.place, entry.krate),
+        scopes: None,
+        spots: Spots::new(text_at(texts, entry.place)),
+    }
+}
+
+// The last one, if it is of the entry's tree, or else a new one.
+fn finder_for<'a>(
+    sources: &'a Sources,
+    texts: &'a Texts,
+    entry: &Entry,
+    last: Option<Finder<'a>>,
+) -> Finder<'a>
+    requires known { IsKnown sources.now entry.now.krate }
+    requires placed { HaveDistinctIds texts.now.entries }
+    requires last { IfSome last (IsFinder sources.now texts.now.entries) }
+    ensures { FindsIn sources.now texts.now.entries entry.now.place entry.now.krate result }
+{
+    match last {
+        Some(finder) if finder.is_of(entry) => finder,
+        _ => new_finder(sources, texts, entry),
+    }
+}
+
+// Adds the object of an entry, if it is in its crate and its item has the path, and hands on what finds the items of its tree.
+#[tactic(auto, using(crate::proofs::Finders::is_object, crate::proofs::Finders::contained))]
+fn push_found<'a>(
+    alloc: Global,
+    files: &[Option<Files>],
+    sources: &'a Sources,
+    texts: &'a Texts,
+    sought: &SoughtItem,
+    entry: &Entry,
+    last: Option<Finder<'a>>,
+    values: &mut Vec<Value>,
+) -> Result<Option<Finder<'a>>, AllocError>
+    requires declared { IsDeclared sources.now entry.now }
+    requires placed { HaveDistinctIds texts.now.entries }
+    requires last { IfSome last (IsFinder sources.now texts.now.entries) }
+    ensures found { let found = found_one files.now sources.now texts.now.entries sought.now
+        entry.now in
+        OnOk result (map view values.new.items ≡ map view values.old.items ++ found) }
+    ensures finder { IfOk result
+        (λ finder. IfSome finder (IsFinder sources.now texts.now.entries)) }
+{
+    if !is_in_crate(files, entry.krate, entry.place) {
+        return Ok(last);
+    }
+    let mut finder = finder_for(sources, texts, entry, last);
+    if !is_found(alloc, sought, entry, finder.tree, &mut finder.scopes)? {
+        return Ok(Some(finder));
+    }
+    values.push(found_value(alloc, finder.tree, entry, &mut finder.spots)?)?;
+    Ok(Some(finder))
+}
+
+/// The objects of the entries that are in their crates and whose items have the path that is looked for, of some with its last name.
 ///
 /// # Errors
 ///
 /// Only if memory runs out.
 pub(crate) fn found_values(
     alloc: Global,
+    files: &[Option<Files>],
     sources: &Sources,
     texts: &Texts,
     sought: &SoughtItem,
     entries: &[Entry],
 ) -> Result<Vec<Value>, AllocError>
-    requires { All (IsDeclared sources.now) entries.now }
+    requires declared { All (IsDeclared sources.now) entries.now }
+    requires placed { HaveDistinctIds texts.now.entries }
     ensures { let found = flat_map
-        (found_one sources.now texts.now.entries sought.now) entries.now in
+        (found_one files.now sources.now texts.now.entries sought.now) entries.now in
         IfOk result (λ values. map view values.items ≡ found) }
 {
     let mut values = Vec::new(alloc);
+    let mut finder = None;
     for entry in entries {
-        push_found(alloc, sources, texts, sought, entry, &mut values)?;
+        finder = push_found(
+            alloc,
+            files,
+            sources,
+            texts,
+            sought,
+            entry,
+            finder,
+            &mut values,
+        )?;
     }
     Ok(values)
 }

@@ -6,6 +6,8 @@ mod conversation;
 mod edit;
 mod error;
 mod expected;
+mod files;
+mod finder;
 mod found;
 mod keys;
 mod laws;

@@ -11,6 +11,7 @@ ghost use Rattle.source_session.specs.LineViews.{asked_view, first_view, setting
 ghost use Rattle.source_session.specs.Shows.{NamesCrate, line_show};
 
 use crate::edit::{LineEdit, edit_of};
+use crate::files::{Files, crate_files_at};
 use crate::keys::{LineObject, only_known};
 use crate::show::{LineShow, show_of};
 use hir_input::{Edition, Name};
@@ -27,6 +28,8 @@ use std::alloc::{AllocError, Global};
 #[derive(Drop)]
 pub(crate) struct Settings {
     pub(crate) crates: Vec<CrateData>,
+    /// The files that they have; one without any given has all.
+    pub(crate) files: Vec<Option<Files>>,
     pub(crate) skipped: Vec<Name>,
     pub(crate) edition: Edition,
     pub(crate) start: u64,
@@ -106,12 +109,14 @@ fn settings_in(alloc: Global, members: &mut Map<String, Value>) -> Result<Settin
     ensures left { OnOk result (held members.new
         ≡ without (codes "edition") (without (codes "skipped") (without (codes "crates") (held members.old)))) }
 {
+    let files = crate_files_at(alloc, members)?;
     let crates = crates_at(alloc, members)?;
     let skipped = skipped_at(alloc, members)?;
     let edition = edition_at(alloc, members)?;
     let start = u64_at(alloc, members, "start")?;
     Ok(Settings {
         crates,
+        files,
         skipped,
         edition,
         start,

@@ -2,6 +2,7 @@
 ghost use Rattle.std.specs.Prelude.{ℕ, List, ◌≡◌, All, MatchResult, map};
 ghost use Rattle.decl_index.specs.Entries.{IndexView};
 ghost use Rattle.source_session.specs.Edits.{IsUsable, edit_view};
+ghost use Rattle.source_session.specs.Files.{CrateFiles};
 ghost use Rattle.source_session.specs.LineViews.{settings_view};
 ghost use Rattle.source_session.specs.Inner.{AreTogether, Knowing, session_of};
 ghost use Rattle.source_session.specs.Refusals.{made_count, outcome_of};
@@ -9,6 +10,7 @@ ghost use Rattle.source_session.specs.Sessions.{IsEdited, IsUnedited, new_sessio
 
 use crate::edit::LineEdit;
 use crate::error::LineError;
+use crate::files::Files;
 use crate::line::Settings;
 use crate::meaning::meanings_of;
 use crate::texts::{Texts, make_room, put_first};
@@ -24,6 +26,7 @@ use std::marker::Model;
 #[derive(Drop)]
 pub(crate) struct Session {
     pub(crate) count: usize,
+    pub(crate) files: Vec<Option<Files>>,
     pub(crate) edition: Edition,
     pub(crate) sources: Sources,
     pub(crate) texts: Texts,
@@ -34,14 +37,15 @@ impl Model for Session {
     ghost use Rattle.hir_input.specs.Edition.{edition_view};
     ghost use Rattle.std.specs.Coded.{codes};
     ghost use Rattle.item_tree_db.specs.Codes.{state_code};
+    ghost use Rattle.source_session.specs.Files.{files_code};
     ghost use Rattle.source_session.specs.Inner.{AreTogether};
     ghost use Rattle.source_session.specs.Sessions as spec;
 
     ghost Value = { spec.Session };
 
-    ghost coded = { Prim.hlevel (codes, state_code) };
+    ghost coded = { Prim.hlevel (codes, state_code, files_code) };
 
-    ghost view = { λ x. record { count = x.count; edition = edition_view x.edition; table = x.sources; texts = x.texts.entries } };
+    ghost view = { λ x. record { count = x.count; files = x.files.items; edition = edition_view x.edition; table = x.sources; texts = x.texts.entries } };
 
     ghost invariant = { λ x. AreTogether x.count x.sources x.texts.entries x.index };
 }
@@ -80,7 +84,8 @@ fn edit_files(
 ) -> Result<(), LineError>
     requires usable { All (IsUsable count) edits.items }
     requires known { Knowing count sources.old }
-    ensures edited { (reserved : List (List ℕ)) → let over = session_of count (edition, reserved) in
+    ensures edited { (files : CrateFiles) (reserved : List (List ℕ))
+        → let over = session_of count files (edition, reserved) in
         MatchResult result
         (λ _. IsEdited (over sources.old texts.old.entries) (map edit_view edits.items) (over sources.new texts.new.entries))
         (IsUnedited (over sources.old texts.old.entries) (map edit_view edits.items) (over sources.new texts.new.entries)) }
@@ -101,6 +106,7 @@ impl Session {
     {
         Session {
             count: settings.crates.len(),
+            files: settings.files,
             edition: settings.edition,
             sources: Sources::new(alloc, settings.crates, settings.skipped, settings.start),
             texts: BTreeMap::new(alloc),

@@ -1,14 +1,18 @@
 //! The values of shows.
-ghost use Rattle.std.specs.Prelude.{◌≡◌, All, IfOk, false, map};
-ghost use Rattle.std.specs.List.{AllZip};
+ghost use Rattle.std.specs.Prelude.{◌≡◌, ◌++◌, All, IfOk, OnOk, false, filter, map, string_bytes};
+ghost use Rattle.std.specs.List.{AllZip, flat_map};
+ghost use Rattle.serde_json.specs.Data.{string};
 ghost use Rattle.serde_json.specs.View.{view};
 ghost use Rattle.serde_json.specs.Written.{has_float};
-ghost use Rattle.item_tree_request.specs.Outputs.{IsPrinted, Knows};
+ghost use Rattle.item_tree_db.specs.State.{IsKnown};
+ghost use Rattle.item_tree_request.specs.Outputs.{Knows, change_line, printed};
+ghost use Rattle.source_session.specs.Files.{is_change_in};
 ghost use Rattle.source_session.specs.Found.{IsFound};
 ghost use Rattle.source_session.specs.Inner.{AreUnfloating};
 ghost use Rattle.source_session.specs.Shows.{IsNamed, NamesCrate};
-ghost use Rattle.source_session.specs.Shown.{AreChangeValues, IsShown, IsText, change_form, change_with, imports_form, item_objects, items_member, outline_form, problems_form, tree_form};
+ghost use Rattle.source_session.specs.Shown.{AreChangeLines, AreChangeValues, AreOwnChanges, IsShown, IsTextOf, change_form, change_with, imports_form, item_objects, items_member, outline_form, problems_form, tree_form};
 
+use crate::files::{Files, is_in_crate};
 use crate::found::found_values;
 use crate::session::Session;
 use crate::show::LineShow;
@@ -16,30 +20,45 @@ use crate::sought::SoughtItem;
 use crate::texts::{text_at, text_of};
 use hir_input::{Crate, Edition, HirFileId};
 use item_tree_db::{ChangedSince, Place, Sources};
-use item_tree_request::request::show::Show;
-use item_tree_request::show::Pages;
+use item_tree_request::request::show::{Show, TreeShow};
+use item_tree_request::show::{Pages, push_change};
 use item_tree_request::show_writer::ShowWriter;
 use serde_json::{Value, json};
 use source_listing::{Choice, Source, import_items, outline_items, problem_items};
 use std::alloc::{AllocError, Global};
 
-// The text of a show of a request.
-fn table_value(
+// ---- changes
+
+// Those of some changes that are in their crates.
+#[tactic(auto, using(crate::proofs::Paths::is_kept, crate::proofs::Paths::is_left))]
+fn kept_changes(
     alloc: Global,
-    sources: &Sources,
-    edition: &Edition,
-    show: Show,
-) -> Result<Value, AllocError>
-    requires { Knows sources.now show }
-    ensures { IfOk result (λ value. IsText (IsPrinted edition.now.reserved.items sources.now show)
-        (view value)) }
+    files: &[Option<Files>],
+    changes: ChangedSince<'_>,
+) -> Result<Vec<(Place, Crate, u64)>, AllocError>
+    ensures { IfOk result (λ kept. kept.items ≡ filter (is_change_in files.now) changes.entry) }
 {
-    let mut text = String::new(alloc);
-    Pages.push_show(alloc, sources, edition, show, &mut text)?;
-    Ok(Value::String(text))
+    let mut kept = Vec::new(alloc);
+    for (place, krate, change) in changes {
+        if is_in_crate(files, krate, place) {
+            kept.push((place, krate, change))?;
+        }
+    }
+    Ok(kept)
 }
 
-// ---- changes
+// What changed in the crates since a number.
+fn changes_since(
+    alloc: Global,
+    files: &[Option<Files>],
+    sources: &Sources,
+    since: u64,
+) -> Result<Vec<(Place, Crate, u64)>, AllocError>
+    ensures { IfOk result (λ changes. AreOwnChanges files.now sources.now since changes.items) }
+{
+    let changes = kept_changes(alloc, files, sources.changed_since(since))?;
+    Ok(changes)
+}
 
 fn change_value(alloc: Global, place: Place, krate: Crate, change: u64) -> Result<Value, AllocError>
     ensures { IfOk result (λ value. view value ≡ change_form (place, krate, change)) }
@@ -57,22 +76,53 @@ fn change_value(alloc: Global, place: Place, krate: Crate, change: u64) -> Resul
     }
 }
 
-fn change_values(alloc: Global, changes: ChangedSince<'_>) -> Result<Vec<Value>, AllocError>
-    ensures { IfOk result (λ values. map view values.items ≡ map change_form changes.entry) }
+fn change_values(alloc: Global, changes: &[(Place, Crate, u64)]) -> Result<Vec<Value>, AllocError>
+    ensures { IfOk result (λ values. map view values.items ≡ map change_form changes.now) }
 {
-    let mut values = Vec::new(alloc);
+    let mut values = Vec::with_capacity(alloc, changes.len())?;
     for (place, krate, change) in changes {
-        values.push(change_value(alloc, place, krate, change)?)?;
+        values.push(change_value(alloc, *place, *krate, *change)?)?;
     }
     Ok(values)
 }
 
-// What changed since a number.
-fn changes_value(alloc: Global, sources: &Sources, since: u64) -> Result<Value, AllocError>
-    ensures { IfOk result (λ value. AreChangeValues sources.now since (view value)) }
+// The objects of what changed in the crates since a number.
+fn changes_value(
+    alloc: Global,
+    files: &[Option<Files>],
+    sources: &Sources,
+    since: u64,
+) -> Result<Value, AllocError>
+    ensures { IfOk result (λ value. AreChangeValues files.now sources.now since (view value)) }
 {
-    let values = change_values(alloc, sources.changed_since(since))?;
+    let changes = changes_since(alloc, files, sources, since)?;
+    let values = change_values(alloc, &changes)?;
     Ok(Value::Array(values))
+}
+
+fn push_changes(changes: &[(Place, Crate, u64)], text: &mut String) -> Result<(), AllocError>
+    ensures { OnOk result (string_bytes text.new ≡ string_bytes text.old
+        ++ flat_map change_line changes.now) }
+{
+    for (place, krate, change) in changes {
+        push_change(*place, *krate, *change, text)?;
+    }
+    Ok(())
+}
+
+// The lines of what changed in the crates since a number.
+fn changes_text(
+    alloc: Global,
+    files: &[Option<Files>],
+    sources: &Sources,
+    since: u64,
+) -> Result<Value, AllocError>
+    ensures { IfOk result (λ value. AreChangeLines files.now sources.now since (view value)) }
+{
+    let changes = changes_since(alloc, files, sources, since)?;
+    let mut text = String::new(alloc);
+    push_changes(&changes, &mut text)?;
+    Ok(Value::String(text))
 }
 
 // A change, with the items that the tree has since then.
@@ -97,6 +147,40 @@ fn tree_value(
             let block = block.0;
             json!(in alloc; {"block": block, "change": change, "crate": krate, "items": items})
         }
+    }
+}
+
+// ---- shows of a request, by their texts
+
+fn tree_text(
+    alloc: Global,
+    sources: &Sources,
+    edition: &Edition,
+    show: TreeShow,
+) -> Result<Value, AllocError>
+    requires { IsKnown sources.now show.krate }
+    ensures { IfOk result (λ value. view value
+        ≡ string (printed edition.now.reserved.items sources.now show)) }
+{
+    let mut text = String::new(alloc);
+    Pages.push_show(alloc, sources, edition, Show::OfTree(show), &mut text)?;
+    Ok(Value::String(text))
+}
+
+fn table_value(
+    alloc: Global,
+    files: &[Option<Files>],
+    sources: &Sources,
+    edition: &Edition,
+    show: Show,
+) -> Result<Value, AllocError>
+    requires { Knows sources.now show }
+    ensures { IfOk result (λ value. IsTextOf files.now edition.now.reserved.items sources.now show
+        (view value)) }
+{
+    match show {
+        Show::OfTree(show) => tree_text(alloc, sources, edition, show),
+        Show::Changed { since } => changes_text(alloc, files, sources, since),
     }
 }
 
@@ -173,9 +257,10 @@ impl Session {
     }
 
     fn changes(&self, alloc: Global, since: u64) -> Result<Value, AllocError>
-        ensures { IfOk result (λ value. AreChangeValues self.now.table since (view value)) }
+        ensures { IfOk result (λ value. AreChangeValues self.now.files self.now.table since
+            (view value)) }
     {
-        changes_value(alloc, &self.sources, since)
+        changes_value(alloc, &self.files, &self.sources, since)
     }
 
     fn problems(&self, alloc: Global, file: HirFileId) -> Result<Value, AllocError>
@@ -190,12 +275,20 @@ impl Session {
 
     fn find(&mut self, alloc: Global, sought: &SoughtItem) -> Result<Value, AllocError>
         ensures found { IfOk result
-            (λ value. IsFound self.old.table self.old.texts sought.now (view value)) }
+            (λ value. IsFound self.old.files self.old.table self.old.texts sought.now
+            (view value)) }
         ensures same { self.new ≡ self.old }
     {
         self.index.refresh(alloc, &self.sources)?;
         let entries = self.index.lookup(sought.name());
-        let values = found_values(alloc, &self.sources, &self.texts, sought, entries)?;
+        let values = found_values(
+            alloc,
+            &self.files,
+            &self.sources,
+            &self.texts,
+            sought,
+            entries,
+        )?;
         Ok(Value::Array(values))
     }
 
@@ -207,7 +300,9 @@ impl Session {
         ensures same { self.new ≡ self.old }
     {
         match show {
-            LineShow::Table(show) => table_value(alloc, &self.sources, &self.edition, *show),
+            LineShow::Table(show) => {
+                table_value(alloc, &self.files, &self.sources, &self.edition, *show)
+            }
             LineShow::Outline { krate, file } => self.outline(alloc, *krate, *file),
             LineShow::TreeItems { krate, place } => self.tree_items(alloc, *krate, *place),
             LineShow::ImportPlaces { krate, place } => self.import_places(alloc, *krate, *place),

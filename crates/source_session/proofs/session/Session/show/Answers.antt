@@ -3,9 +3,9 @@ use Rattle.serde_json.specs.View.{view}
 use Rattle.serde_json.specs.Written.{has_float}
 use Rattle.source_session.specs.declared.show.LineShow.TheVariants.{Table, Outline, TreeItems, ImportPlaces}
 use Rattle.source_session.specs.Found.{IsFound}
-use Rattle.source_session.specs.Shown.{AreChangeValues, IsShown, imports_form, outline_form, problems_form, tree_form}
+use Rattle.source_session.specs.Shown.{AreChangeValues, IsShown, IsTextOf, imports_form, outline_form, problems_form, tree_form}
 use Rattle.source_session.specs.Shows.{NamesCrate}
-use Rattle.source_session.proofs.Named.{if_ok, no_float_changes, no_float_found_value, no_float_imports, no_float_outline, no_float_problems, no_float_tree, show_known}
+use Rattle.source_session.proofs.Named.{if_ok, no_float_changes, no_float_found_value, no_float_imports, no_float_outline, no_float_problems, no_float_tree, no_float_written, show_known}
 use Rattle.source_session.proofs.session.Session.show.Goals as goal
 
 pub table_value-requires : goal.table_value-requires
@@ -28,6 +28,13 @@ pub import_places-requires : goal.import_places-requires
 import_places-requires c =
     let is : c.args.show.now ≡ ImportPlaces c.in-ImportPlaces.krate c.in-ImportPlaces.place = search rules in
     subst (NamesCrate c.args.self.now.count) is c.requires
+
+pub returns-in-Table-clause-no_float : goal.returns-in-Table-clause-no_float
+returns-in-Table-clause-no_float c =
+    let u = c.args.self.now in
+    let show = c.in-Table.show in
+    let written : IfOk c.table_value.result (λ value. IsTextOf u.files u.edition.1 u.table show (view value)) = search rules in
+    if_ok (λ value. IsTextOf u.files u.edition.1 u.table show (view value)) (λ value. has_float (view value) ≡ false) c.table_value.result (λ value h. no_float_written u.files u.edition.1 u.table show (view value) h) written
 
 pub returns-in-Outline-clause-shown : goal.returns-in-Outline-clause-shown
 returns-in-Outline-clause-shown c =
@@ -64,8 +71,8 @@ returns-in-ImportPlaces-clause-no_float c =
 
 pub returns-in-Changes-clause-no_float : goal.returns-in-Changes-clause-no_float
 returns-in-Changes-clause-no_float c =
-    let s = c.args.self.now.table in
-    if_ok (λ value. AreChangeValues s c.in-Changes.since (view value)) (λ value. has_float (view value) ≡ false) c.changes.result (λ value h. no_float_changes s c.in-Changes.since (view value) h) c.changes.ensures
+    let u = c.args.self.now in
+    if_ok (λ value. AreChangeValues u.files u.table c.in-Changes.since (view value)) (λ value. has_float (view value) ≡ false) c.changes.result (λ value h. no_float_changes u.files u.table c.in-Changes.since (view value) h) c.changes.ensures
 
 pub returns-in-Problems-clause-no_float : goal.returns-in-Problems-clause-no_float
 returns-in-Problems-clause-no_float c =
@@ -76,4 +83,4 @@ returns-in-Problems-clause-no_float c =
 pub returns-in-Find-clause-no_float : goal.returns-in-Find-clause-no_float
 returns-in-Find-clause-no_float c =
     let u = c.args.self.now in
-    if_ok (λ value. IsFound u.table u.texts c.in-Find.sought (view value)) (λ value. has_float (view value) ≡ false) c.find.result (λ value h. no_float_found_value u.table u.texts c.in-Find.sought (view value) h) c.find.ensures.found
+    if_ok (λ value. IsFound u.files u.table u.texts c.in-Find.sought (view value)) (λ value. has_float (view value) ≡ false) c.find.result (λ value h. no_float_found_value u.files u.table u.texts c.in-Find.sought (view value) h) c.find.ensures.found

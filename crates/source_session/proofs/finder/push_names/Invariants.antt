@@ -2,7 +2,7 @@
 use Rattle.std.proofs.Common.{◌≡◌, ◌++◌, take, string_bytes}
 use Rattle.std.specs.List.{flat_map}
 use Rattle.source_listing.specs.Search.{segment}
-use Rattle.source_session.proofs.found.push_scope.Given as goal
+use Rattle.source_session.proofs.finder.push_names.Given as goal
 
 abbrev pub invariant-loop-name : goal.invariant-loop-name
-invariant-loop-name l = string_bytes l.path ≡ string_bytes l.initial.path ++ flat_map (λ n. segment n.now) (take l.name-index l.scope)
+invariant-loop-name l = string_bytes l.path ≡ string_bytes l.initial.path ++ flat_map (λ n. segment n.now) (take l.name-index l.names)

@@ -1,0 +1,123 @@
+-- Items found by their ids.
+use Rattle.std.proofs.Common.{◌≡◌, ◌≢◌, ℕ, suc, zero, ◌<◌, ◌≤◌, ◌-◌, ◌==◌, List, [], ◌∷◌, Bor, length, drop, map, Option, Some, None, IsSome, refl, sym, ap, ◌∙◌, subst, arith, ⊎_elim}
+use Rattle.std.specs.Prelude.{slice_index_or}
+use Rattle.std.specs.List.{AllPairs, flat_map}
+use Rattle.std.specs.Option.{option_map_or}
+use Rattle.std.proofs.lemmas.Bool.{cases_Bool}
+use Rattle.std.proofs.lemmas.Bool.Decides.{nat_tests}
+use Rattle.std.proofs.lemmas.List.{length-drop}
+use Rattle.hir_input.specs.declared.ids.Crate.{Crate}
+use Rattle.hir_input.specs.declared.ids.FileAstId.{FileAstId}
+use Rattle.item_tree.specs.Layout.{node_at}
+use Rattle.item_tree.specs.Node.{Unfolding}
+use Rattle.item_tree.specs.Shown.{IsContained}
+use Rattle.item_tree_db.specs.declared.place.Place.{Place}
+use Rattle.item_tree_db.specs.declared.place.Place.TheVariants.{File, Block}
+use Rattle.item_tree_db.specs.State.{State, unfolding_at}
+use Rattle.def_collector.specs.Declarations.{node_name}
+use Rattle.def_collector.specs.DeclarationView.{id_of}
+use Rattle.def_collector.specs.declared.collector.Declaration as code
+use Rattle.decl_index.specs.declared.entry.Entry.{Entry}
+use Rattle.decl_index.specs.Entries.{IsDeclared}
+use Rattle.rust_items.specs.declared.source_file.ItemPlace.{ItemPlace}
+use Rattle.source_listing.specs.Ends.{IsEndOf}
+use Rattle.source_listing.specs.Places.{AreDistinct, place_of}
+use Rattle.source_listing.specs.Search.{segment}
+use Rattle.source_listing.proofs.Found.{found_later}
+use Rattle.source_listing.proofs.Pushed.{segments_of}
+use Rattle.source_session.specs.declared.texts.SourceText.{SourceText}
+use Rattle.source_session.specs.Finders.{HaveDistinctIds, declared_scope, found_with, head_place, head_scope}
+use Rattle.source_session.specs.Found.{found_in}
+use Rattle.source_session.specs.Inner.{IsPlaced}
+use Rattle.source_session.specs.Sought.{found_scope}
+use Rattle.source_session.specs.SourceTexts.{text_bytes, text_places}
+use Rattle.source_session.specs.Texts.{Texts, text_at, text_in}
+
+-- ---- what is around items
+
+abbrev Scope : Type 0
+Scope = ℕ × List (List ℕ)
+
+abbrev own_id : Scope → ℕ
+own_id x = x.0
+
+abbrev Differ : ℕ → ℕ → Type 0
+Differ i j = i ≢ j
+
+-- what is found has the id
+has_id : (id : ℕ) (xs : List Scope) (s : List (List ℕ)) → found_scope id xs ≡ Some s → (k : ℕ) × (k < length (map own_id xs)) × ((q : ℕ) → slice_index_or (map own_id xs) k q ≡ id)
+has_id id [] s e = absurd (cc)
+has_id id (x ∷ xs) s e =
+    ⊎_elim
+    (λ t. (0, omega arith, λ q. grind (arith, nat_tests, t)))
+    (λ t.
+    let rest : found_scope id xs ≡ Some s = rw t at e in
+    let at = has_id id xs s rest in (suc at.0, omega arith, at.2))
+    (cases_Bool (x.0 == id))
+
+later : (id k : ℕ) (xs : List Scope) (s : List (List ℕ)) → AllPairs Differ (map own_id xs) → found_scope id (drop k xs) ≡ Some s → found_scope id xs ≡ Some s
+later id zero xs s once e = e
+later id (suc k) [] s once e = e
+later id (suc k) (x ∷ xs) s once e =
+    let rest = later id k xs s (λ i j q less within. once (suc i) (suc j) q (omega arith) (omega arith)) e in
+    let at = has_id id xs s rest in
+    ⊎_elim
+    (λ t. absurd (once 0 (suc at.0) id (omega arith) (omega (arith, at.1)) (let same : x.0 ≡ id = grind (arith, nat_tests, t) in same ∙ sym (at.2 id))))
+    (λ t. rw t rest)
+    (cases_Bool (x.0 == id))
+
+ids_are : (ds : List code.Declaration) → map own_id (map declared_scope ds) ≡ map id_of ds
+ids_are [] = refl
+ids_are (d ∷ ds) = ap (λ is. d.id ∷ is) (ids_are ds)
+
+drop_scopes : (k : ℕ) (ds : List code.Declaration) → map declared_scope (drop k ds) ≡ drop k (map declared_scope ds)
+drop_scopes zero ds = refl
+drop_scopes (suc k) [] = refl
+drop_scopes (suc k) (d ∷ ds) = drop_scopes k ds
+
+-- of declarations with different ids, the first one behind some is the only one
+pub scope_later : (id k : ℕ) (ds left found : List code.Declaration) → AllPairs (λ i j. i ≢ j) (map id_of ds) → left ≡ drop k ds → 0 < length found → head_scope found ≡ found_scope id (map declared_scope left) → head_scope found ≡ found_scope id (map declared_scope ds)
+scope_later id k ds left [] once is some e = absurd (omega (arith, some))
+scope_later id k ds left (d ∷ found) once is some e =
+    let s = map (λ name. name.now) d.path.items in
+    sym (later id k (map declared_scope ds) s (subst (AllPairs Differ) (sym (ids_are ds)) once)
+    (ap (found_scope id) (sym (ap (map declared_scope) is ∙ drop_scopes k ds)) ∙ sym e))
+
+-- names one after another
+pub segments_are : (names : List (Bor (List ℕ))) → flat_map (λ n. segment n.now) names ≡ flat_map segment (map (λ n. n.now) names)
+segments_are names = sym (segments_of (λ n. n.now) names)
+
+-- ---- where items stand
+
+is_end : {A : Type 0} (k : ℕ) (all : List A) → k ≤ length all → IsEndOf (drop k all) all
+is_end k all within =
+    let count : length all - length (drop k all) ≡ k = omega (arith, within, length-drop k all) in
+    ap (λ n. drop n all) count
+
+-- of different places, the first one behind some is the only one
+pub place_later : (id : FileAstId) (k : ℕ) (all left found : List ItemPlace) → AreDistinct all → k ≤ length all → left ≡ drop k all → 0 < length found → head_place found ≡ place_of id left → head_place found ≡ place_of id all
+place_later id k all left [] distinct within is some e = absurd (omega (arith, some))
+place_later id k all left (p ∷ found) distinct within is some e = sym (found_later id (drop k all) all p distinct (is_end k all within) (ap (place_of id) (sym is) ∙ sym e))
+
+places_distinct : (t : Option SourceText) → IsPlaced t → AreDistinct (text_places t)
+places_distinct None h = λ i j p less within. absurd (omega (arith, less, within))
+places_distinct (Some t) h = h
+
+pub all_placed : (texts : Texts) → ((file : ℕ) → IsPlaced (text_in texts file)) → HaveDistinctIds texts
+all_placed texts h (File file) = places_distinct (text_in texts file.0) (h file.0)
+all_placed texts h (Block block) = places_distinct None tt
+
+-- ---- entries
+
+has_some : {A B : Type 0} (h : A → Option B) (o : Option A) (b : B) → option_map_or h o None ≡ Some b → IsSome o
+has_some h None b e = absurd (cc)
+has_some h (Some a) b e = refl
+
+-- an entry's item is in its tree
+pub contained : (s : State) (e : Entry) (u : Unfolding) → IsDeclared s e → u ≡ unfolding_at s e.place e.krate.0 → IsContained u e.id
+contained s e u d is = subst (λ (v : Unfolding). IsContained v e.id) (sym is) (has_some node_name (node_at (unfolding_at s e.place e.krate.0).forest e.id) e.name d.named)
+
+-- its object is that of an item of its place
+pub is_object : (texts : Texts) (place : Place) (krate : Crate) (id : Option FileAstId) → found_with (text_bytes (text_at texts place)) (text_places (text_at texts place)) place krate id ≡ found_in texts place krate id
+is_object texts (File file) krate id = refl
+is_object texts (Block block) krate id = refl

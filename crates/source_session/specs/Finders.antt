@@ -1,0 +1,80 @@
+-- What private contracts alone cite of finding items by their ids.
+use Rattle.std.specs.Prelude.{◌≡◌, ◌≢◌, ℕ, List, [], ◌∷◌, map, Option, Some, None, IfSome, option_map}
+use Rattle.std.specs.List.{AllPairs}
+use Rattle.std.specs.Option.{option_and_then}
+use Rattle.serde_json.specs.Data.{Data}
+use Rattle.hir_input.specs.declared.ids.Crate.{Crate}
+use Rattle.hir_input.specs.declared.ids.FileAstId.{FileAstId}
+use Rattle.item_tree.specs.Layout.{node_at}
+use Rattle.item_tree.specs.Node.{Unfolding, node_ast}
+use Rattle.item_tree_db.specs.declared.place.Place.{Place}
+use Rattle.item_tree_db.specs.declared.place.Place.TheVariants.{File, Block}
+use Rattle.item_tree_db.specs.State.{State, unfolding_at}
+use Rattle.def_collector.specs.Declarations.{declared_at}
+use Rattle.def_collector.specs.DeclarationView.{id_of}
+use Rattle.def_collector.specs.declared.collector.Declaration as code
+use Rattle.rust_items.specs.declared.source_file.ItemPlace.{ItemPlace}
+use Rattle.source_listing.specs.Places.{AreDistinct, place_of}
+use Rattle.source_session.specs.declared.finder.Scopes.{Scopes}
+use Rattle.source_session.specs.declared.finder.Spots.{Spots}
+use Rattle.source_session.specs.declared.found.Finder.{Finder}
+use Rattle.source_session.specs.Found.{id_form, in_block, in_file}
+use Rattle.source_session.specs.Sought.{own_scope}
+use Rattle.source_session.specs.SourceTexts.{text_bytes, text_places}
+use Rattle.source_session.specs.Texts.{Texts, text_at}
+
+-- ---- what is around items
+
+-- the id of a declared item, and the names of the modules around it
+abbrev pub declared_scope : code.Declaration → ℕ × List (List ℕ)
+declared_scope d = (d.id, map (λ name. name.now) d.path.items)
+
+-- the names around the first of some declarations
+abbrev pub head_scope : List code.Declaration → Option (List (List ℕ))
+head_scope [] = None
+head_scope (d ∷ ds) = Some (map (λ name. name.now) d.path.items)
+
+-- what is around each item of a tree is known, once
+pub record KnowsScopes (u : Unfolding) (x : Scopes) : Type 0 where
+  pub all : map declared_scope x.declarations.items ≡ map own_scope (declared_at u)
+  pub once : AllPairs (λ i j. i ≢ j) (map id_of x.declarations.items)
+
+-- ---- where items stand
+
+-- the first of some places
+abbrev pub head_place : List ItemPlace → Option ItemPlace
+head_place [] = None
+head_place (p ∷ ps) = Some p
+
+-- the places are those of the same text
+abbrev pub IsSameText : Spots → Spots → Type 0
+IsSameText old new = (new.lines ≡ old.lines) × (new.places.now ≡ old.places.now)
+
+-- ---- both
+
+-- what finds items finds those of a crate's tree of a place
+pub record FindsIn (s : State) (texts : Texts) (at : Place) (of : Crate) (f : Finder) : Type 0 where
+  pub place : f.place ≡ at
+  pub krate : f.krate ≡ of
+  pub tree : f.tree.now ≡ unfolding_at s at of.0
+  pub scopes : IfSome f.scopes (KnowsScopes f.tree.now)
+  pub lines : f.spots.lines ≡ text_bytes (text_at texts at)
+  pub places : f.spots.places.now ≡ text_places (text_at texts at)
+  pub distinct : AreDistinct f.spots.places.now
+
+-- those of some place
+abbrev pub IsFinder : State → Texts → Finder → Type 0
+IsFinder s texts f = FindsIn s texts f.place f.krate f
+
+-- no two items of one text have the same id
+abbrev pub HaveDistinctIds : Texts → Type 0
+HaveDistinctIds texts = (place : Place) → AreDistinct (text_places (text_at texts place))
+
+-- the id of an item in its file
+abbrev pub ast_in : Unfolding → ℕ → Option FileAstId
+ast_in u i = option_map node_ast (node_at u.forest i)
+
+-- the object of an item of a place with this text
+abbrev pub found_with : List ℕ → List ItemPlace → Place → Crate → Option FileAstId → Data
+found_with text places (File file) krate id = in_file file krate (id_form id) text (option_and_then (λ a. place_of a places) id)
+found_with text places (Block block) krate id = in_block block krate (id_form id)
