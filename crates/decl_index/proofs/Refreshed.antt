@@ -18,12 +18,12 @@ use Rattle.item_tree.specs.Walk.{of_id}
 use Rattle.item_tree.proofs.Walking.{of_id_nothing}
 use Rattle.item_tree_db.specs.declared.place.Place.{Place}
 use Rattle.item_tree_db.specs.PlaceOrder.{place_cmp_total}
-use Rattle.item_tree_db.specs.State.{State, change_number}
+use Rattle.item_tree_db.specs.State.{State, IsKnown, change_number}
 use Rattle.item_tree_db.specs.Since.{Change, change_cmp, IsGrounded, IsSince, IsLate}
 use Rattle.def_collector.specs.Declarations.{node_name}
 use Rattle.decl_index.specs.declared.entry.Entry.{Entry}
 use Rattle.decl_index.specs.EntryOrder.{entry_cmp, entry_cmp_total}
-use Rattle.decl_index.specs.Entries.{IsDeclared, IsListing, IsBehind, entries_at, entries_of}
+use Rattle.decl_index.specs.Entries.{IsDeclared, IsListing, IsBehind, IsBehindAt, entries_at, entries_of}
 use Rattle.decl_index.specs.Inner.{is_current, AreRead}
 use Rattle.decl_index.proofs.Lists.{Once, filter_all, filter_contains, flat_map_all, flat_map_contains, once_append, once_flat_map, strict}
 use Rattle.decl_index.proofs.Order.{same_entries}
@@ -46,12 +46,41 @@ module _ (s : State) (old : List Entry) where
   sound None h e c t = absurd (omega (arith, c.1, ap length h))
   sound (Some n) h e c t = let p = passes e.krate.0 (length s.crates) n (number_of s e) t in (h.unchanged e p.0 p.1).0 c
 
+  below : (number : Option ℕ) → IsBehind (number, old) s → (e : Entry) → Contains old e → (number_of s e ≤ unwrap_or number 0) ⊎ (number_of s e ≤ s.start) → number_of s e ≤ unwrap_or number 0
+  below None h e c low = absurd (omega (arith, c.1, ap length h))
+  below (Some n) h e c low = elim low as (λ _. number_of s e ≤ n) [ inl p ↦ p | inr p ↦ omega (arith, h.started) ]
+
   whole : (number : Option ℕ) → IsBehind (number, old) s → IsGrounded s → (e : Entry) → IsDeclared s e → (number_of s e ≤ unwrap_or number 0) ⊎ (number_of s e ≤ s.start) → Contains old e × (number_of s e ≤ unwrap_or number 0)
   whole None h g e d low =
       absurd (none-some e.name (sym (of_id_nothing None node_name e.id) ∙ ap (λ (u : Unfolding). of_id u None node_name e.id) (sym (g.empty e.place e.krate.0 d.known (elim low as (λ _. number_of s e ≤ s.start) [ inl p ↦ omega arith | inr p ↦ p ]))) ∙ d.named))
   whole (Some n) h g e d low =
       let below : number_of s e ≤ n = elim low as (λ _. number_of s e ≤ n) [ inl p ↦ p | inr p ↦ omega (arith, h.started) ] in
       ((h.unchanged e d.known below).1 d, below)
+
+  -- where no tree changed, the index is that of the table
+  module _ (number : Option ℕ) (places : List Place) (behind : IsBehindAt (number, old) places s) (grounded : IsGrounded s) (none : (c : Change) → IsLate s (unwrap_or number 0) c → ⊥) where
+    low : (e : Entry) → IsKnown s e.krate → (number_of s e ≤ unwrap_or number 0) ⊎ (number_of s e ≤ s.start)
+    low e known = elim (cases_lt (unwrap_or number 0) (number_of s e)) as (λ _. (number_of s e ≤ unwrap_or number 0) ⊎ (number_of s e ≤ s.start)) [
+      | inr p ↦ inl p
+      | inl p ↦ elim (cases_lt s.start (number_of s e)) as (λ _. (number_of s e ≤ unwrap_or number 0) ⊎ (number_of s e ≤ s.start)) [
+        | inl q ↦ absurd (none (e.place, e.krate, number_of s e) (record { known = known; number = refl; above = p; above_start = q }))
+        | inr q ↦ inr q
+      ]
+    ]
+
+    still : (e : Entry) → Contains old e → IsKnown s e.krate → number_of s e ≤ unwrap_or number 0
+    still e c known = below number behind.behind e c (low e known)
+
+    pub unmoved : IsStrictlySortedBy entry_cmp old → IsListing s old
+    unmoved rises = record {
+      declared = λ k d l.
+          let e = slice_index_or old k d in
+          let c = All-contains_itself old k d l in
+          let known = behind.known k d l in
+          sound number behind.behind e c (passed e.krate.0 (length s.crates) (unwrap_or number 0) (number_of s e) known (still e c known));
+      whole = λ e d. (whole number behind.behind grounded e d (low e d.known)).0;
+      in_order = rises;
+    }
 
 -- ---- trees that changed
 

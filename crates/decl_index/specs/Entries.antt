@@ -2,14 +2,14 @@
 use Rattle.std.specs.Prelude.{◌≡◌, ◌↔◌, ℕ, ◌≤◌, List, [], ◌∷◌, Option, Some, None, All, length}
 use Rattle.std.specs.List.{Contains, flat_map}
 use Rattle.std.specs.List.Sorted.{IsStrictlySortedBy}
-use Rattle.std.specs.Option.{option_map_or}
+use Rattle.std.specs.Option.{option_map_or, unwrap_or}
 use Rattle.hir_input.specs.declared.ids.Crate.{Crate}
 use Rattle.item_tree.specs.Node.{Unfolding}
 use Rattle.item_tree.specs.Reach.{all_ids}
 use Rattle.item_tree.specs.Walk.{of_id}
 use Rattle.item_tree_db.specs.declared.place.Place.{Place}
 use Rattle.item_tree_db.specs.State.{State, IsKnown, unfolding_at, change_number}
-use Rattle.item_tree_db.specs.Since.{Change, IsSince}
+use Rattle.item_tree_db.specs.Since.{Change, IsSince, HoldLate}
 use Rattle.def_collector.specs.Declarations.{node_name}
 use Rattle.decl_index.specs.declared.entry.Entry.{Entry}
 use Rattle.decl_index.specs.EntryOrder.{entry_cmp}
@@ -50,6 +50,12 @@ pub record AreAsOf (n : ℕ) (entries : List Entry) (s : State) : Type 0 where
 abbrev pub IsBehind : IndexView → State → Type 0
 IsBehind (None, entries) s = entries ≡ []
 IsBehind (Some n, entries) s = AreAsOf n entries s
+
+-- it is behind by no more than these places have: its entries are of known crates, and each tree that changed since is of one of the places
+pub record IsBehindAt (index : IndexView) (places : List Place) (s : State) : Type 0 where
+  pub behind : IsBehind index s
+  pub known : All (λ e. IsKnown s e.krate) index.1
+  pub late : HoldLate s (unwrap_or index.0 0) places
 
 -- ---- how many entries the changed trees have
 

@@ -1,13 +1,14 @@
 //! The index.
-ghost use Rattle.std.specs.Prelude.{◌≡◌, ◌++◌, None, Some, [], filter, IfOk, OnOk, OnErr};
+ghost use Rattle.std.specs.Prelude.{◌≡◌, ◌++◌, All, List, None, Some, [], filter, IfOk, OnOk, OnErr};
 ghost use Rattle.std.specs.List.{flat_map};
 ghost use Rattle.std.specs.List.Sorted.{IsPermutation, IsSorted, IsStrictlySortedBy};
 ghost use Rattle.std.specs.Option.{unwrap_or};
 ghost use Rattle.item_tree.specs.Shown.{IsContained};
 ghost use Rattle.item_tree.specs.Walk.{AreContained};
+ghost use Rattle.item_tree_db.specs.Since.{HoldLate};
 ghost use Rattle.item_tree_db.specs.State.{IsKnown};
 ghost use Rattle.decl_index.specs.EntryOrder.{entry_cmp};
-ghost use Rattle.decl_index.specs.Entries.{entries_at, entries_by, HasChanged, IsBehind, IsIndexOf};
+ghost use Rattle.decl_index.specs.Entries.{entries_at, entries_by, entries_of, HasChanged, IsBehind, IsBehindAt, IsIndexOf};
 ghost use Rattle.decl_index.specs.Inner.{is_current, AreRead};
 ghost use Rattle.decl_index.specs.Lookup.{has_name};
 
@@ -15,8 +16,9 @@ use crate::entry::Entry;
 use def_collector::name_at;
 use hir_input::{Crate, Name};
 use item_tree::{ItemTree, ModItemId};
-use item_tree_db::{Place, Sources};
+use item_tree_db::{ChangedSince, Place, Sources};
 use std::alloc::{AllocError, Global};
+use std::collections::BTreeSet;
 use std::marker::Model;
 use tree_walk::preorder;
 
@@ -93,14 +95,62 @@ impl DeclIndex {
         requires { IsBehind self.old sources.now }
         ensures index { OnOk result (IsIndexOf sources.now self.new) }
         ensures behind { IsBehind self.new sources.now }
+        ensures at { OnOk result ((named : List Place) → IsBehindAt self.new named sources.now) }
         ensures changed { IfOk result (HasChanged sources.now (unwrap_or self.old.0 0)) }
         ensures err { OnErr result (self.new ≡ self.old) }
     {
         let since = self.number.unwrap_or(0);
-        let mut fresh = read_since(alloc, sources, since)?;
+        let fresh = read_since(alloc, sources, since)?;
+        self.renew(sources, since, fresh)
+    }
+
+    /// The same, where each tree that changed since the last refresh is of one of these places: it looks at no others, and where
+    /// none changed, at no entry.
+    ///
+    /// # Errors
+    ///
+    /// Those of `refresh`.
+    pub fn refresh_among(
+        &mut self,
+        alloc: Global,
+        sources: &Sources,
+        places: &BTreeSet<Place>,
+    ) -> Result<usize, AllocError>
+        requires { IsBehindAt self.old places.now.keys sources.now }
+        ensures index { OnOk result (IsIndexOf sources.now self.new) }
+        ensures at { OnOk result ((named : List Place) → IsBehindAt self.new named sources.now) }
+        ensures changed { IfOk result (HasChanged sources.now (unwrap_or self.old.0 0)) }
+        ensures err { OnErr result (self.new ≡ self.old) }
+    {
+        let since = self.number.unwrap_or(0);
+        if sources.changed_among(since, places).next().is_none() {
+            self.number = Some(sources.number());
+            return Ok(0);
+        }
+        let fresh = read_among(alloc, sources, since, places)?;
+        self.renew(sources, since, fresh)
+    }
+
+    // Puts the entries of all trees that changed since the last refresh in place of theirs.
+    fn renew(
+        &mut self,
+        sources: &Sources,
+        since: u64,
+        mut fresh: Vec<Entry>,
+    ) -> Result<usize, AllocError>
+        requires from { since ≡ unwrap_or self.old.0 0 }
+        requires behind { IsBehind self.old sources.now }
+        requires read { AreRead sources.now since fresh.items }
+        ensures index { OnOk result (IsIndexOf sources.now self.new) }
+        ensures behind { IsBehind self.new sources.now }
+        ensures at { OnOk result ((named : List Place) → IsBehindAt self.new named sources.now) }
+        ensures changed { IfOk result (HasChanged sources.now since) }
+        ensures err { OnErr result (self.new ≡ self.old) }
+    {
         let count = fresh.len();
+        let number = sources.number();
         replace(&mut self.entries, sources, since, &mut fresh)?;
-        self.number = Some(sources.number());
+        self.number = Some(number);
         Ok(count)
     }
 }
@@ -119,8 +169,33 @@ fn named<'a>(entries: &'a [Entry], name: &Name) -> &'a [Entry]
 fn read_since(alloc: Global, sources: &Sources, since: u64) -> Result<Vec<Entry>, AllocError>
     ensures { IfOk result (λ fresh. AreRead sources.now since fresh.items) }
 {
+    read_changed(alloc, sources, sources.changed_since(since))
+}
+
+// The same, where they are of these places.
+fn read_among(
+    alloc: Global,
+    sources: &Sources,
+    since: u64,
+    places: &BTreeSet<Place>,
+) -> Result<Vec<Entry>, AllocError>
+    requires { HoldLate sources.now since places.now.keys }
+    ensures { IfOk result (λ fresh. AreRead sources.now since fresh.items) }
+{
+    read_changed(alloc, sources, sources.changed_among(since, places))
+}
+
+// The entries of trees that changed.
+fn read_changed(
+    alloc: Global,
+    sources: &Sources,
+    changes: ChangedSince<'_>,
+) -> Result<Vec<Entry>, AllocError>
+    requires { All (λ c. IsKnown sources.now c.1) changes }
+    ensures { IfOk result (λ fresh. fresh.items ≡ entries_of sources.now changes.entry) }
+{
     let mut fresh = Vec::new(alloc);
-    for (place, krate, _) in sources.changed_since(since) {
+    for (place, krate, _) in changes {
         read_tree(alloc, sources, place, krate, &mut fresh)?;
     }
     Ok(fresh)

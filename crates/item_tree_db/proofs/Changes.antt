@@ -5,23 +5,25 @@ use Rattle.std.specs.Ordering.{nat_cmp, ordering_then}
 use Rattle.std.specs.declared.cmp.Ordering.{Ordering}
 use Rattle.std.specs.declared.cmp.Ordering.TheVariants.{Less}
 use Rattle.std.specs.List.{AllByRecursion, flat_map}
+use Rattle.std.specs.BTreeMap.{is_at}
+use Rattle.std.specs.List.Sorted.{IsStrictlySortedBy}
 use Rattle.std.specs.Map.{keys_of}
 use Rattle.std.proofs.lemmas.Bool.Decides.{nat_tests}
 use Rattle.std.proofs.lemmas.Cmp.{eq_by_cmp_equiv}
 use Rattle.std.proofs.lemmas.List.{length-map}
-use Rattle.std.proofs.lemmas.List.Elements.{All-nil, All-cons, All-append, All-weaker, All-filter, All-contains, All-contains_itself, Contains-append_left, Contains-append_right, Contains-append_cases, filter_passes}
+use Rattle.std.proofs.lemmas.List.Elements.{All-nil, All-cons, All-head, All-tail, All-append, All-weaker, All-filter, All-contains, All-contains_itself, Contains-append_left, Contains-append_right, Contains-append_cases, filter_passes}
 use Rattle.std.proofs.lemmas.List.Kept.{AllPairs-cons, AllPairs-filter}
 use Rattle.std.proofs.lemmas.Map.Keys.{sorted_head, sorted_tail, IsDistinct-from_sorted}
-use Rattle.std.proofs.lemmas.Map.Views.{Contains-from_lookup, lookup-from_Contains}
+use Rattle.std.proofs.lemmas.Map.Views.{lookup-from_Contains}
 use Rattle.std.proofs.lemmas.Option.{IfSome_then, same_Some, none-some, slice_get_within}
 use Rattle.item_tree_db.specs.declared.place.Place.{Place}
 use Rattle.item_tree_db.specs.declared.rows.Row.{Row}
 use Rattle.item_tree_db.specs.PlaceOrder.{place_cmp, place_cmp_total}
-use Rattle.item_tree_db.specs.Since.{Change, change_cmp, IsLate, IsSince}
+use Rattle.item_tree_db.specs.Since.{Change, change_cmp, IsLate, IsSince, IsSinceAmong, HoldLate}
 use Rattle.item_tree_db.specs.Inner.Shelf.{Shelved, Places, placed_at, IsInOrder}
-use Rattle.item_tree_db.specs.State.{Held, crate_limit, change_number}
+use Rattle.item_tree_db.specs.State.{Held, State, crate_limit, change_number}
 use Rattle.item_tree_db.specs.Inner.Table.{Table, held_of, state_of, IsSound}
-use Rattle.item_tree_db.specs.Inner.Walk.{changes_from, all_changes, late}
+use Rattle.item_tree_db.specs.Inner.Walk.{HasFewRows, Walk, all_changes, changes_from, late, over, over_all, rows_in}
 use Rattle.item_tree_db.proofs.Places.{IsBelow, equal_of, equal_cmp}
 use Rattle.item_tree_db.proofs.Steps.{found}
 
@@ -69,27 +71,11 @@ tells k i (r ∷ rows) (suc j) n h =
     Contains-append_right ((k, record { 0 = i }, r.changed) ∷ []) (changes_from k (i + 1) rows) (k, record { 0 = i + suc j }, n)
     (subst (λ (m : ℕ). Contains (changes_from k (i + 1) rows) (k, record { 0 = m }, n)) here (tells k (i + 1) rows j n h))
 
--- ---- all places
+-- ---- places
 
--- what a place has has this number in crate i
+-- of what a place has, crate i has this number
 abbrev HasNumber : Option Shelved → ℕ → ℕ → Type 0
-HasNumber o i n = (v : Shelved) × (o ≡ Some v) × (slice_get (held_of v).changed i ≡ Some n)
-
-abbrev changes_of : Place × Shelved → List Change
-changes_of slot = changes_from slot.0 0 slot.1.rows
-
-found_in : (l : Places) → IsInOrder l → (e : Change) → Contains (all_changes l) e → HasNumber (placed_at l e.0) e.1.0 e.2
-found_in l s e h =
-    let r = in_piece changes_of l e h in
-    let t = All-contains (IsOf r.0.0 0 r.0.1.rows) (changes_of r.0) e (told r.0.0 0 r.0.1.rows) r.2 in
-    let here : e.1.0 ≡ t.j = let q = t.krate in omega arith in
-    let found = lookup-from_Contains (eq_by_cmp_equiv place_cmp_total) r.0.0 r.0.1 l (IsDistinct-from_sorted place_cmp (keys_of l) s) r.1 in
-    (r.0.1, ap (placed_at l) t.place ∙ found, ap (slice_get (held_of r.0.1).changed) here ∙ t.number)
-
-find_in : (l : Places) (k : Place) (i n : ℕ) → HasNumber (placed_at l k) i n → Contains (all_changes l) (k, record { 0 = i }, n)
-find_in l k i n (placed, h, g) =
-    let here : 0 + i ≡ i = omega arith in
-    piece_in changes_of l (k, placed) _ (Contains-from_lookup equal_of k placed l h) (subst (λ (m : ℕ). Contains (changes_from k 0 placed.rows) (k, record { 0 = m }, n)) here (tells k 0 placed.rows i n g))
+HasNumber o i n = slice_get (map (λ (row : Row). row.changed) (rows_in o)) i ≡ Some n
 
 -- changes of one place are in the order of their crates
 behind : (d e : Change) → d.0 ≡ e.0 → d.1.0 < e.1.0 → change_cmp d e ≡ Less
@@ -114,14 +100,56 @@ order_onto k i (r ∷ rows) rest far h =
     (All-weaker (IsOf k (i + 1) rows) (Before c) (λ e t. behind c e (sym t.place) (let q = t.krate in omega arith)) mine (told k (i + 1) rows))
     (All-weaker (λ e. IsBelow k e.0) (Before c) (λ e p. beyond c e p) rest far)) (order_onto k (i + 1) rows rest far h)
 
-all_above : (k : Place) (l : Places) → AllByRecursion (IsBelow k) (keys_of l) → All (λ e. IsBelow k e.0) (all_changes l)
-all_above k [] h = All-nil (λ (e : Change). IsBelow k e.0)
-all_above k (slot ∷ l) h = All-append (λ (e : Change). IsBelow k e.0) (changes_of slot) (all_changes l)
-    (All-weaker (IsOf slot.0 0 slot.1.rows) (λ e. IsBelow k e.0) (λ e t. subst (IsBelow k) (sym t.place) h.0) (changes_of slot) (told slot.0 0 slot.1.rows)) (all_above k l h.1)
+module _ (l : Places) where
+  abbrev changes_of : Place → List Change
+  changes_of place = changes_from place 0 (rows_in (placed_at l place))
 
-order_all : (l : Places) → IsInOrder l → AllPairs Before (all_changes l)
-order_all [] s = λ i j d p q. absurd (omega arith)
-order_all (slot ∷ l) s = order_onto slot.0 0 slot.1.rows (all_changes l) (all_above slot.0 l (sorted_head place_cmp slot.0 (keys_of l) s)) (order_all l (sorted_tail place_cmp slot.0 (keys_of l) s))
+  -- the changes of a walk over these places
+  pub over_is : (places : List Place) → all_changes (over l places) ≡ flat_map changes_of places
+  over_is [] = refl
+  over_is (place ∷ places) = ap (λ (cs : List Change). changes_of place ++ cs) (over_is places)
+
+  found_in : (places : List Place) (e : Change) → Contains (flat_map changes_of places) e → Contains places e.0 × HasNumber (placed_at l e.0) e.1.0 e.2
+  found_in places e h =
+      let r = in_piece changes_of places e h in
+      let t = All-contains (IsOf r.0 0 (rows_in (placed_at l r.0))) (changes_of r.0) e (told r.0 0 (rows_in (placed_at l r.0))) r.2 in
+      let here : e.1.0 ≡ t.j = let q = t.krate in omega arith in (
+        subst (Contains places) (sym t.place) r.1,
+        ap (λ (p : Place). slice_get (map (λ (row : Row). row.changed) (rows_in (placed_at l p))) e.1.0) t.place ∙ ap (slice_get (map (λ (row : Row). row.changed) (rows_in (placed_at l r.0)))) here ∙ t.number,
+      )
+
+  find_in : (places : List Place) (k : Place) (i n : ℕ) → Contains places k → HasNumber (placed_at l k) i n → Contains (flat_map changes_of places) (k, record { 0 = i }, n)
+  find_in places k i n c h =
+      let here : 0 + i ≡ i = omega arith in
+      let rows = rows_in (placed_at l k) in
+      piece_in changes_of places k _ c (subst (λ (m : ℕ). Contains (changes_from k 0 rows) (k, record { 0 = m }, n)) here (tells k 0 rows i n h))
+
+  all_above : (k : Place) (places : List Place) → AllByRecursion (IsBelow k) places → All (λ e. IsBelow k e.0) (flat_map changes_of places)
+  all_above k [] h = All-nil (λ (e : Change). IsBelow k e.0)
+  all_above k (place ∷ places) h = All-append (λ (e : Change). IsBelow k e.0) (changes_of place) (flat_map changes_of places)
+      (All-weaker (IsOf place 0 (rows_in (placed_at l place))) (λ e. IsBelow k e.0) (λ e t. subst (IsBelow k) (sym t.place) h.0) (changes_of place) (told place 0 (rows_in (placed_at l place)))) (all_above k places h.1)
+
+  order_all : (places : List Place) → IsStrictlySortedBy place_cmp places → AllPairs Before (flat_map changes_of places)
+  order_all [] s = λ i j d p q. absurd (omega arith)
+  order_all (place ∷ places) s = order_onto place 0 (rows_in (placed_at l place)) (flat_map changes_of places) (all_above place places (sorted_head place_cmp place places s)) (order_all places (sorted_tail place_cmp place places s))
+
+  over_entries : (xs : Places) → All (λ e. placed_at l e.0 ≡ Some e.1) xs → over_all xs ≡ over l (keys_of xs)
+  over_entries [] h = refl
+  over_entries (e ∷ xs) h =
+      let here = ap rows_in (sym (All-head (λ e. placed_at l e.0 ≡ Some e.1) e xs h)) in
+      λ j. (e.0, here j) ∷ over_entries xs (All-tail (λ e. placed_at l e.0 ≡ Some e.1) e xs h) j
+
+  -- a walk over all places is one over those of the entries
+  over_keys : IsInOrder l → over_all l ≡ over l (keys_of l)
+  over_keys s = over_entries l (All-weaker (Contains l) (λ e. placed_at l e.0 ≡ Some e.1) (λ e c. lookup-from_Contains (eq_by_cmp_equiv place_cmp_total) e.0 e.1 l (IsDistinct-from_sorted place_cmp (keys_of l) s) c) l (All-contains_itself l))
+
+-- a place that has a number is one of them
+key_of : (l : Places) (k : Place) (i n : ℕ) → HasNumber (placed_at l k) i n → Contains (keys_of l) k
+key_of [] k i n h = absurd (none-some n h)
+key_of (e ∷ l) k i n h = elim (is_at (place_cmp k) e.0) as (λ b. is_at (place_cmp k) e.0 ≡ b → HasNumber (cond b (Some e.1) (placed_at l k)) i n → Contains (e.0 ∷ keys_of l) k) [
+  | true ↦ λ t g. (0, omega arith, sym (equal_of k e.0 t))
+  | false ↦ λ t g. Contains-append_right (e.0 ∷ []) (keys_of l) k (key_of l k i n g)
+] refl h
 
 -- ---- against what callers see
 
@@ -134,46 +162,72 @@ both_above n start c p q = let r : max n start < c = omega arith in grind (arith
 abbrev number_in : ℕ → ℕ → Option Shelved → ℕ
 number_in start i o = unwrap_or (option_and_then (λ (held : Held). slice_get held.changed i) (option_map held_of o)) start
 
+-- the number of a row
+row_is : (start i n : ℕ) (o : Option Shelved) → HasNumber o i n → number_in start i o ≡ n
+row_is start i n None h = absurd (none-some n h)
+row_is start i n (Some v) h = ap (λ (o : Option ℕ). unwrap_or o start) h
+
 -- a number that is not the start is one of a row
 row_of : (start i n : ℕ) (o : Option Shelved) → n ≡ number_in start i o → start < n → HasNumber o i n
 row_of start i n None e p = absurd (omega arith)
 row_of start i n (Some v) e p = elim (slice_get (held_of v).changed i) as (λ r. slice_get (held_of v).changed i ≡ r → n ≡ unwrap_or r start → HasNumber (Some v) i n) [
   | None ↦ λ g q. absurd (omega arith)
-  | Some m ↦ λ g q. (v, refl, g ∙ ap (λ (x : ℕ). Some x) (sym q))
+  | Some m ↦ λ g q. g ∙ ap (λ (x : ℕ). Some x) (sym q)
 ] refl e
 
-module _ (t : Table) (sound : IsSound t) (s : IsInOrder t.places) (n : ℕ) where
+-- a row is of a crate
+row_within : (count i n : ℕ) (o : Option Shelved) → IfSome o (λ p. length p.rows ≡ count) → HasNumber o i n → i < count
+row_within count i n None many h = absurd (none-some n h)
+row_within count i n (Some v) many h = subst (λ (m : ℕ). i < m) (length-map v.rows _ ∙ many) (slice_get_within (held_of v).changed i n h)
+
+-- where these places hold all of them
+pub since_among : (s : State) (n : ℕ) (places : List Place) (changes : List Change) → HoldLate s n places → IsSinceAmong s n places changes → IsSince s n changes
+since_among s n places changes hold h = record {
+  late = All-weaker (λ c. IsLate s n c × Contains places c.0) (IsLate s n) (λ c p. p.0) changes h.late;
+  whole = λ c l. h.whole c l (hold c l);
+  in_order = h.in_order;
+}
+
+module _ (t : Table) (sound : IsSound t) (n : ℕ) where
   abbrev passes : Change → Bool
   passes c = nat_lt (max n t.start) c.2
-
-  abbrev all : List Change
-  all = all_changes t.places
 
   number_is : (place : Place) (i : ℕ) → change_number (state_of t) place i ≡ number_in t.start i (placed_at t.places place)
   number_is place i = ap (λ (o : Option Held). unwrap_or (option_and_then (λ held. slice_get held.changed i) o) t.start) (found t.places place)
 
-  is_late : (e : Change) → Contains all e → passes e ≡ true → IsLate (state_of t) n e
-  is_late e h r =
-      let f = found_in t.places s e h in
-      let many : length f.0.rows ≡ length t.crates = subst (λ (o : Option Shelved). IfSome o (λ p. length p.rows ≡ length t.crates)) f.1 (sound.rows e.0) in
-      let within = slice_get_within (held_of f.0).changed e.1.0 e.2 f.2 in
-      let above = above_both n t.start e.2 r in
-      record {
-        known = subst (λ (m : ℕ). e.1.0 < m) (length-map f.0.rows _ ∙ many) within;
-        number = sym (number_is e.0 e.1.0 ∙ ap (number_in t.start e.1.0) f.1 ∙ ap (λ (o : Option ℕ). unwrap_or o t.start) f.2);
-        above = above.0;
-        above_start = above.1;
-      }
+  row_late : (e : Change) → IsLate (state_of t) n e → HasNumber (placed_at t.places e.0) e.1.0 e.2
+  row_late e h = row_of t.start e.1.0 e.2 (placed_at t.places e.0) (h.number ∙ number_is e.0 e.1.0) h.above_start
 
-  all_late : (c : Change) → IsLate (state_of t) n c → Contains all c
-  all_late (place, krate, number) h = find_in t.places place krate.0 number (row_of t.start krate.0 number (placed_at t.places place) (h.number ∙ number_is place krate.0) h.above_start)
+  module _ (places : List Place) where
+    abbrev all : List Change
+    all = flat_map (changes_of t.places) places
 
-  pub since_is : IsSince (state_of t) n (late (max n t.start) all)
-  since_is = record {
-    late = λ k d w. is_late _ (All-filter passes (Contains all) all (All-contains_itself all) k d w) (filter_passes passes all k d w);
-    whole = λ c h. filter_in passes c all (all_late c h) (both_above n t.start c.2 h.above h.above_start);
-    in_order = AllPairs-filter Before passes all (order_all t.places s);
-  }
+    is_late : (e : Change) → Contains all e → passes e ≡ true → IsLate (state_of t) n e × Contains places e.0
+    is_late e h r =
+        let f = found_in t.places places e h in
+        let above = above_both n t.start e.2 r in (
+          record {
+            known = row_within (length t.crates) e.1.0 e.2 (placed_at t.places e.0) (sound.rows e.0) f.1;
+            number = sym (number_is e.0 e.1.0 ∙ row_is t.start e.1.0 e.2 (placed_at t.places e.0) f.1);
+            above = above.0;
+            above_start = above.1;
+          },
+          f.0,
+        )
 
-pub few_rows : (t : Table) → IsSound t → length t.crates ≤ crate_limit → (place : Place) → IfSome (placed_at t.places place) (λ placed. length placed.rows ≤ crate_limit)
+    among : IsStrictlySortedBy place_cmp places → IsSinceAmong (state_of t) n places (filter passes all)
+    among s = record {
+      late = λ k d w. is_late _ (All-filter passes (Contains all) all (All-contains_itself all) k d w) (filter_passes passes all k d w);
+      whole = λ c h i. filter_in passes c all (find_in t.places places c.0 c.1.0 c.2 i (row_late c h)) (both_above n t.start c.2 h.above h.above_start);
+      in_order = AllPairs-filter Before passes all (order_all t.places places s);
+    }
+
+    pub among_is : IsStrictlySortedBy place_cmp places → IsSinceAmong (state_of t) n places (late (max n t.start) (all_changes (over t.places places)))
+    among_is s = subst (λ (cs : List Change). IsSinceAmong (state_of t) n places (filter passes cs)) (sym (over_is t.places places)) (among s)
+
+  pub since_is : IsInOrder t.places → IsSince (state_of t) n (late (max n t.start) (all_changes (over_all t.places)))
+  since_is s = since_among (state_of t) n (keys_of t.places) _ (λ c h. key_of t.places c.0 c.1.0 c.2 (row_late c h))
+      (subst (λ (w : Walk). IsSinceAmong (state_of t) n (keys_of t.places) (filter passes (all_changes w))) (sym (over_keys t.places s)) (among_is (keys_of t.places) s))
+
+pub few_rows : (t : Table) → IsSound t → length t.crates ≤ crate_limit → HasFewRows t.places
 few_rows t sound few place = IfSome_then (placed_at t.places place) (sound.rows place) (λ placed many. omega (arith, many, few))

@@ -1,7 +1,9 @@
 -- Histories: the change number without a test, one more edit, and what an index rests on.
-use Rattle.std.proofs.Common.{◌≡◌, ◌≢◌, inl, inr, ℕ, zero, suc, ◌+◌, ◌<◌, ◌≤◌, Bool, true, false, not, List, [], ◌∷◌, ◌++◌, length, take, cond, Some, None, Option, IfSome, slice_get, refl, sym, ap, subst, ◌∙◌, arith, true≢false}
+use Rattle.std.proofs.Common.{◌≡◌, ◌≢◌, ◌⊎◌, inl, inr, ℕ, zero, suc, ◌+◌, ◌<◌, ◌≤◌, Bool, true, false, not, List, [], ◌∷◌, ◌++◌, length, take, cond, Some, None, Option, IfSome, slice_get, refl, sym, ap, subst, ◌∙◌, arith, true≢false, All, Contains}
 use Rattle.std.specs.Option.{option_or, option_map, unwrap_or}
 use Rattle.std.proofs.lemmas.Bool.{not-false, not-true, cases_lt}
+use Rattle.std.proofs.lemmas.List.Elements.{All-head, All-tail}
+use Rattle.std.proofs.lemmas.Option.{none-some, same_Some}
 use Rattle.std.proofs.lemmas.List.{take_all, take-append-le, length-append}
 use Rattle.hir_input.specs.Cfg.{AtomView}
 use Rattle.hir_input.specs.Syntax.{SyntaxView}
@@ -10,7 +12,10 @@ use Rattle.item_tree.specs.Code.Node.{unfolding_code}
 use Rattle.item_tree.specs.Same.{same, equal_of_same, same_of_equal}
 use Rattle.item_tree_db.specs.declared.place.Place.{Place}
 use Rattle.item_tree_db.specs.State.{State, present, unfolding_of, unfolding_at, change_number}
-use Rattle.item_tree_db.specs.Edits.{EditView, set, remove, set_cfg}
+use Rattle.item_tree_db.specs.PlaceOrder.{same_place}
+use Rattle.item_tree_db.specs.Since.{HoldLate}
+use Rattle.item_tree_db.specs.Edits.{EditView, set, remove, set_cfg, NamesPlaceOf}
+use Rattle.item_tree_db.proofs.Places.{same_is}
 use Rattle.item_tree_db.specs.Refusal.{TreeFits, FitsAfter, FirstFit}
 use Rattle.item_tree_db.specs.History.{sets, gives, under, crate_after, last_some, last_below, present_after, unfolding_after, moves, changed_after, IsChangeNumber, IsAfter, IsFooting}
 
@@ -210,3 +215,48 @@ footing s u es bounded after = record {
   numbers = λ place i p low. (kept_low s u es place i after p low).number;
   trees = λ place i p low. (kept_low s u es place i after p low).tree;
 }
+
+-- ---- which places edits name
+
+last_take : {B : Type 0} (f : EditView → Option B) (es : List EditView) (m : ℕ) (e : EditView) → slice_get es m ≡ Some e → f e ≡ None → last_some f (take (suc m) es) ≡ last_some f (take m es)
+last_take f [] m e at none = absurd (none-some e at)
+last_take f (x ∷ es) zero e at none = ap f (same_Some x e at) ∙ none
+last_take f (x ∷ es) (suc m) e at none = ap (λ o. option_or o (f x)) (last_take f es m e at none)
+
+edit_at : (P : EditView → Type 0) (es : List EditView) (m : ℕ) → All P es → m < length es → (e : EditView) × (slice_get es m ≡ Some e) × P e
+edit_at P [] m h p = absurd (omega arith)
+edit_at P (e ∷ es) zero h p = (e, refl, All-head P e es h)
+edit_at P (e ∷ es) (suc m) h p = edit_at P es m (All-tail P e es h) (omega arith)
+
+-- an edit that names one of some places names this one of them, or leaves it
+record Leaves (place : Place) (e : EditView) : Type 0 where
+  pub syntax : sets place e ≡ None
+  pub crates : (i : ℕ) → gives i e ≡ None
+
+names_or_leaves : (places : List Place) (e : EditView) (place : Place) → NamesPlaceOf places e → Contains places place ⊎ Leaves place e
+names_or_leaves places (set at syntax) place h = elim (same_place at place) as (λ b. same_place at place ≡ b → Contains places place ⊎ Leaves place (set at syntax)) [
+  | true ↦ λ t. inl (subst (Contains places) (sym (same_is place at t)) h)
+  | false ↦ λ t. inr (record { syntax = ap (λ b. cond b (Some (Some syntax)) None) t; crates = λ i. refl })
+] refl
+names_or_leaves places (remove at) place h = elim (same_place at place) as (λ b. same_place at place ≡ b → Contains places place ⊎ Leaves place (remove at)) [
+  | true ↦ λ t. inl (subst (Contains places) (sym (same_is place at t)) h)
+  | false ↦ λ t. inr (record { syntax = ap (λ b. cond b (Some None) None) t; crates = λ i. refl })
+] refl
+names_or_leaves places (set_cfg k o) place h = absurd h
+
+left_at : (s : State) (es : List EditView) (place : Place) (i m : ℕ) (e : EditView) → slice_get es m ≡ Some e → Leaves place e → unfolding_after s (take m es) place i ≡ unfolding_after s (take (suc m) es) place i
+left_at s es place i m e at leaves j = unfolding_of s.skipped place (under (sym (last_take (gives i) es m e at (leaves.crates i)) j) (slice_get s.crates i)) (unwrap_or (sym (last_take (sets place) es m e at leaves.syntax) j) (present s place))
+
+-- where these places hold what changed since a number and what the edits name, they hold what changed after them
+pub late_after : (s u : State) (es : List EditView) (n : ℕ) (old new : List Place) → IsAfter s es u → ((place : Place) → Contains old place → Contains new place) → All (NamesPlaceOf new) es → HoldLate s n old → HoldLate u n new
+late_after s u es n old new after more names hold c l =
+    let known : c.1.0 < length s.crates = rw (← after.count) l.known in
+    elim (change_number_is s es c.0 c.1.0 u after known) as (λ _. Contains new c.0) [
+      | inl same ↦ more c.0 (hold c (record { known = known; number = l.number ∙ same.number; above = l.above; above_start = subst (λ (m : ℕ). m < c.2) after.start l.above_start }))
+      | inr last ↦
+          let edit = edit_at (NamesPlaceOf new) es last.0 names last.1.in_list in
+          elim (names_or_leaves new edit.0 c.0 edit.2) as (λ _. Contains new c.0) [
+            | inl h ↦ h
+            | inr leaves ↦ absurd (last.1.moved (left_at s es c.0 c.1.0 last.0 edit.0 edit.1 leaves))
+          ]
+    ]

@@ -17,6 +17,8 @@ use Rattle.item_tree_db.specs.Refusal.{TreeFits}
 use Rattle.item_tree_db.specs.Inner.Settled.{settled, settled_row, cleared, empty_row}
 use Rattle.item_tree_db.specs.Inner.Shelf.{Shelved, Places, placed_at, syntax_in, row_in, HasPut, set_to, change_at, recast, recast_each, IsInOrder}
 use Rattle.item_tree_db.specs.Inner.Sizes.{PlacesFit}
+use Rattle.item_tree_db.specs.Inner.Walk.{HasFew, HasFewRows, Walk, over, over_all, rows_in}
+use Rattle.item_tree_db.specs.State.{crate_limit}
 use Rattle.item_tree_db.proofs.Places.{IsBelow, equal_of, itself}
 
 -- ---- lists in order
@@ -30,7 +32,7 @@ not_behind : (e : Place × Shelved) (l : Places) → IsInOrder (e ∷ l) → (q 
 not_behind e l s q t = ap (placed_at l) (equal_of q e.0 t) ∙ none_below e.0 l (sorted_head place_cmp e.0 (keys_of l) s)
 
 -- what holds of what each place has, holds of each entry
-pub each : (P : Shelved → Type 0) (l : Places) → IsInOrder l → ((q : Place) → IfSome (placed_at l q) P) → AllByRecursion (λ e. P e.1) l
+each : (P : Shelved → Type 0) (l : Places) → IsInOrder l → ((q : Place) → IfSome (placed_at l q) P) → AllByRecursion (λ e. P e.1) l
 each P [] s h = tt
 each P (e ∷ l) s h = (
   subst (λ (b : Bool). IfSome (cond b (Some e.1) (placed_at l e.0)) P) (itself e.0) (h e.0),
@@ -40,10 +42,29 @@ each P (e ∷ l) s h = (
   ] refl (h q)),
 )
 
+-- ---- walks
+
+few_each : (l : Places) → AllByRecursion (λ e. length e.1.rows ≤ crate_limit) l → HasFew (over_all l)
+few_each [] h = tt
+few_each (e ∷ l) h = (h.0, few_each l h.1)
+
+-- each place of a walk over all has few rows
+pub few_over_all : (l : Places) → IsInOrder l → HasFewRows l → HasFew (over_all l)
+few_over_all l s h = few_each l (each (λ placed. length placed.rows ≤ crate_limit) l s h)
+
+few_in : (o : Option Shelved) → IfSome o (λ placed. length placed.rows ≤ crate_limit) → length (rows_in o) ≤ crate_limit
+few_in None h = omega arith
+few_in (Some placed) h = h
+
+-- and of one over these
+pub few_over : (l : Places) → HasFewRows l → (places : List Place) → HasFew (over l places)
+few_over l h [] = tt
+few_over l h (place ∷ places) = (few_in (placed_at l place) (h place), few_over l h places)
+
 -- how many steps a walk over these places makes
-abbrev pub steps : Places → ℕ
+abbrev pub steps : Walk → ℕ
 steps [] = 0
-steps (slot ∷ slots) = length slot.1.rows + 1 + steps slots
+steps (slot ∷ slots) = length slot.1 + 1 + steps slots
 
 -- ---- one crate
 

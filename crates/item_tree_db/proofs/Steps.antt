@@ -27,7 +27,7 @@ use Rattle.item_tree_db.specs.History.{sets, gives, under, present_after, unfold
 use Rattle.item_tree_db.specs.Refusal.{TreeFits, TreePasses, FitsAfter, UnlessMemory, IsRefusal}
 use Rattle.item_tree_db.specs.Inner.Settled.{settled_row, empty_row, fresh_row, brought}
 use Rattle.item_tree_db.specs.Inner.Shelf.{Shelved, Places, placed_at, syntax_in, row_in, HasPut, set_to, removed, change_at, recast, recast_each, fresh_of, IsInOrder}
-use Rattle.item_tree_db.specs.Inner.Sizes.{PlacesFit, PlacesPass}
+use Rattle.item_tree_db.specs.Inner.Sizes.{CratesFit, PlacesFit, PlacesPass}
 use Rattle.item_tree_db.specs.Since.{IsGrounded}
 use Rattle.item_tree_db.specs.Inner.Source.{source_place, source_syntax, edit_of}
 use Rattle.item_tree_db.specs.Inner.Table.{Table, table_from, held_of, state_of, syntax_at, row_at, lowered_at, next_number, next_table, IsSound, IsLed, IsStep, IsRowOf}
@@ -98,6 +98,7 @@ module _ (t : Table) (sound : IsSound t) (k : Place) (e : EditView) where
     own = sound.own q;
     long = sound.rows q;
     syntax = ap (λ o. unwrap_or o (syntax_at t q)) (sym none);
+    fits = sound.fits q;
     rows = λ i p. same_kept (next_number t) (row_at t q i) (lowered_at t q i) (sound.trees q i p);
   }
 
@@ -116,12 +117,14 @@ removed_led t k None h = record {
   own = tt;
   long = tt;
   syntax = ap (λ b. unwrap_or (cond b (Some None) None) None) (sym (same_here k));
+  fits = λ i. tt;
   rows = λ i p. same_kept (next_number t) (empty_row t.start) nothing refl;
 }
 removed_led t k (Some placed) h = record {
   own = tt;
   long = length-map placed.rows _ ∙ h;
   syntax = ap (λ b. unwrap_or (cond b (Some None) None) (syntax_in (Some placed))) (sym (same_here k));
+  fits = λ i. tt;
   rows = λ i p. get_cleared (next_number t) (empty_row t.start) placed.rows i (rw h p);
 }
 
@@ -141,6 +144,13 @@ module _ (t : Table) (k : ℕ) (o : List AtomView) where
   given_at i = elim (nat_eq k i) as (λ b. nat_eq k i ≡ b → slice_get crates_now i ≡ under (cond b (Some o) None) (slice_get t.crates i)) [
     | true ↦ λ h. ap (slice_get crates_now) (sym (equal k i h)) ∙ get_here (given o) k t.crates ∙ ap (λ (m : ℕ). option_map (given o) (slice_get t.crates m)) (equal k i h)
     | false ↦ λ h. get_other (given o) k i t.crates (not_equal k i h)
+  ] refl
+
+  -- what fits in it under these options and in the others, fits in each
+  each_fits : (q : Place) (x : Option SyntaxView) → TreeFits t.skipped q (slice_get crates_now k) x → ((i : ℕ) → TreeFits t.skipped q (slice_get t.crates i) x) → (i : ℕ) → TreeFits t.skipped q (slice_get crates_now i) x
+  each_fits q x here there i = elim (nat_eq k i) as (λ b. nat_eq k i ≡ b → TreeFits t.skipped q (slice_get crates_now i) x) [
+    | true ↦ λ h. subst (λ (m : ℕ). TreeFits t.skipped q (slice_get crates_now m) x) (equal k i h) here
+    | false ↦ λ h. subst (λ (c : Option CrateView). TreeFits t.skipped q c x) (sym (get_other (given o) k i t.crates (not_equal k i h))) (there i)
   ] refl
 
   -- what a place has then
@@ -163,9 +173,10 @@ module _ (t : Table) (k : ℕ) (o : List AtomView) where
       ] refl
 
   cfg_led : (q : Place) (old : Option Shelved) → IfSome (option_and_then (λ p. p.source) old) (λ s. source_place s ≡ q) → IfSome old (λ p. length p.rows ≡ length t.crates)
-      → ((i : ℕ) → i < length t.crates → (row_in t.start old i).tree ≡ unfolding_of t.skipped q (slice_get t.crates i) (syntax_in old)) → IsLed t crates_now (set_cfg k o) q old (option_map (recast_at q) old)
-  cfg_led q None own long trees = record { own = tt; long = tt; syntax = refl; rows = λ i p. same_kept (next_number t) (empty_row t.start) nothing refl }
-  cfg_led q (Some p) own long trees = record { own = own; long = length-change_at _ k p.rows ∙ long; syntax = refl; rows = λ i w. cfg_row q p long i w (trees i w) }
+      → ((i : ℕ) → i < length t.crates → (row_in t.start old i).tree ≡ unfolding_of t.skipped q (slice_get t.crates i) (syntax_in old)) → ((i : ℕ) → TreeFits t.skipped q (slice_get crates_now i) (syntax_in old))
+      → IsLed t crates_now (set_cfg k o) q old (option_map (recast_at q) old)
+  cfg_led q None own long trees fits = record { own = tt; long = tt; syntax = refl; fits = fits; rows = λ i p. same_kept (next_number t) (empty_row t.start) nothing refl }
+  cfg_led q (Some p) own long trees fits = record { own = own; long = length-change_at _ k p.rows ∙ long; syntax = refl; fits = fits; rows = λ i w. cfg_row q p long i w (trees i w) }
 
 -- ---- what a step leaves
 
@@ -194,6 +205,7 @@ module _ (t : Table) (e : EditView) (crates : List CrateView) (new : Places) (so
     rows = λ place. rw step.count (step.led place).long;
     started = let c = sound.started in omega arith;
     trees = λ place i p. row_by (λ r. r.tree ≡ lowered_at u place i) place i p (λ e. e) refl;
+    fits = λ place. (step.led place).fits;
     bounded = λ place i p. let b = sound.bounded place i (rw (← step.count) p) in row_by (λ r. r.changed ≤ t.number + 1) place i p (λ e. omega arith) (omega arith);
     grounded = λ place i p. let s = sound.started in row_by (λ r. r.changed ≤ t.start → r.tree ≡ nothing) place i p (λ e. sound.grounded place i (rw (← step.count) p)) (λ low. absurd (omega arith));
   }
@@ -229,11 +241,11 @@ module _ (t : Table) (e : EditView) (crates : List CrateView) (new : Places) (so
   })
 
 pub grounded : (t : Table) → IsSound t → IsGrounded (state_of t)
-grounded t h = record { started = h.started; empty = λ place i p low. unfolding_is t place i ∙ sym (h.trees place i p) ∙ h.grounded place i p (rw (← change_is t place i) low) }
+grounded t h = record { started = h.started; bounded = λ place i p. rw (change_is t place i) (h.bounded place i p); empty = λ place i p low. unfolding_is t place i ∙ sym (h.trees place i p) ∙ h.grounded place i p (rw (← change_is t place i) low) }
 
 -- a table to which edits led
 pub footing_of : (t : Table) → IsSound t → (s u : State) (es : List EditView) → state_of t ≡ u → IsAfter s es u → IsFooting s u
-footing_of t h s u es is after = footing s u es (subst (λ (z : State). (place : Place) (i : ℕ) → i < length z.crates → change_number z place i ≤ z.number) is (λ place i p. rw (change_is t place i) (h.bounded place i p))) after
+footing_of t h s u es is after = footing s u es (subst (λ (z : State). (place : Place) (i : ℕ) → i < length z.crates → change_number z place i ≤ z.number) is (grounded t h).bounded) after
 
 -- ---- what each edit makes of the table
 
@@ -246,8 +258,9 @@ module _ (crates : List CrateData) (skipped : List (List ℕ)) (start number : �
   t = table_from crates skipped start number places
 
   pub set_made : (source : Source) (fresh : List Row) → fresh ≡ map (λ krate. brought (number + 1) skipped (source_place source) (source_syntax source) (crate_view krate)) crates
+      → CratesFit t.crates skipped (source_place source) (source_syntax source)
       → HasPut (source_place source) (Some (set_to start (number + 1) source fresh (placed_at places (source_place source)))) places new → IsMade s (edit_view (edit_of source)) (next_table t t.crates new)
-  set_made source fresh e put =
+  set_made source fresh e fits put =
       let k = source_place source in
       let view = source_syntax source in
       let old = placed_at places k in
@@ -257,9 +270,27 @@ module _ (crates : List CrateData) (skipped : List (List ℕ)) (start number : �
         own = refl;
         long = length-set start (number + 1) fresh source old (rw many (sound.rows k)) ∙ many;
         syntax = ap (λ b. unwrap_or (cond b (Some (Some view)) None) (syntax_in old)) (sym (same_here k));
+        fits = fits;
         rows = λ i p. row_set start (number + 1) fresh source old i (rw many (sound.rows k)) (rw many p) ∙ ap (settled_row (number + 1) (row_at t k i)) (brings i p);
       }) in
       subst (λ (e : EditView). IsMade s e (next_table t t.crates new)) (set_is source) (made t (set k view) t.crates new sound step s is)
+
+  pub again_made : (k : Place) (view : SyntaxView) → present s k ≡ Some view → IsMade s (set k view) (next_table t t.crates places)
+  again_made k view had =
+      let is_had : syntax_at t k ≡ Some view = sym (present_is t k) ∙ ap (λ (z : State). present z k) is ∙ had in
+      let step = one_place t sound k (set k view) (placed_at places k) places (λ q h. ap (λ b. cond b (Some (Some view)) None) h) (λ i. refl) (record { here = refl; others = λ q n. refl }) (record {
+        own = sound.own k;
+        long = sound.rows k;
+        syntax = is_had ∙ ap (λ b. unwrap_or (cond b (Some (Some view)) None) (syntax_at t k)) (sym (same_here k));
+        fits = sound.fits k;
+        rows = λ i p. same_kept (number + 1) (row_at t k i) (lowered_at t k i) (sound.trees k i p);
+      }) in
+      made t (set k view) t.crates places sound step s is
+
+  pub again_fits : (k : Place) (view : SyntaxView) → present s k ≡ Some view → FitsAfter s [] (set k view)
+  again_fits k view had =
+      let is_had : syntax_at t k ≡ Some view = sym (present_is t k) ∙ ap (λ (z : State). present z k) is ∙ had in
+      subst (λ (z : State). FitsAfter z [] (set k view)) is (λ i. subst (TreeFits skipped k (slice_get t.crates i)) is_had (sound.fits k i))
 
   pub removed_made : (k : Place) → HasPut k (option_map (removed (number + 1)) (placed_at places k)) places new → IsMade s (remove k) (next_table t t.crates new)
   removed_made k put =
@@ -269,16 +300,17 @@ module _ (crates : List CrateData) (skipped : List (List ℕ)) (start number : �
   -- options are given to a crate, which is this one then
   module _ (k : Crate) (o : List AtomView) (krate : CrateView) (at : slice_get (change_at k.0 (given o) (map crate_view crates)) k.0 ≡ Some krate) where
     pub cfg_made : (after : List CrateData) → map crate_view after ≡ change_at k.0 (given o) (map crate_view crates) → (fresh : List (Place × Row)) → fresh ≡ fresh_each (fresh_of (number + 1) skipped (Some krate)) places
-        → IsInOrder places → ((q : Place) → placed_at new q ≡ recast_each (number + 1) k.0 fresh q (placed_at places q)) → IsMade s (set_cfg k.0 o) (table_from after skipped start (number + 1) new)
-    cfg_made after same fresh e order each =
+        → IsInOrder places → PlacesFit skipped (Some krate) places → ((q : Place) → placed_at new q ≡ recast_each (number + 1) k.0 fresh q (placed_at places q)) → IsMade s (set_cfg k.0 o) (table_from after skipped start (number + 1) new)
+    cfg_made after same fresh e order fits each =
         let n = number + 1 in
         let now = change_at k.0 (given o) t.crates in
         let fresh_now : Option CrateView → List (Place × Row) = λ c. fresh_each (fresh_of n skipped c) places in
         let placed = λ (q : Place). each q ∙ ap (λ (l : List (Place × Row)). recast_each n k.0 l q (placed_at places q)) (e ∙ ap fresh_now (sym at)) ∙ recast_is n k.0 (fresh_of n skipped (slice_get now k.0)) places order q in
+        let fit = λ (q : Place). each_fits t k.0 o q (syntax_at t q) (subst (λ (c : Option CrateView). TreeFits skipped q c (syntax_at t q)) (sym at) (fits q)) (sound.fits q) in
         let step : IsStep t (set_cfg k.0 o) now new = record {
           count = length-change_at (given o) k.0 t.crates;
           under_it = given_at t k.0 o;
-          led = λ q. subst (IsLed t now (set_cfg k.0 o) q (placed_at places q)) (sym (placed q)) (cfg_led t k.0 o q (placed_at places q) (sound.own q) (sound.rows q) (sound.trees q));
+          led = λ q. subst (IsLed t now (set_cfg k.0 o) q (placed_at places q)) (sym (placed q)) (cfg_led t k.0 o q (placed_at places q) (sound.own q) (sound.rows q) (sound.trees q) (fit q));
         } in
         subst (λ (l : List CrateView). IsMade s (set_cfg k.0 o) (next_table t l new)) (sym same) (made t (set_cfg k.0 o) now new sound step s is)
 

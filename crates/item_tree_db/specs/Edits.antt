@@ -1,5 +1,6 @@
 -- Edits as plain data.
 use Rattle.std.specs.Prelude.{ℕ, List, map, take}
+use Rattle.std.specs.List.{Contains}
 use Rattle.hir_input.specs.Cfg.{AtomView}
 use Rattle.hir_input.specs.Syntax.{SyntaxView, syntax_view, block_view}
 use Rattle.item_tree_db.specs.declared.edit.Edit.{Edit}
@@ -21,6 +22,12 @@ edit_view (RemoveFile file) = remove (File file)
 edit_view (SetBlock block syntax) = set (Block block) (block_view syntax)
 edit_view (RemoveBlock block) = remove (Block block)
 edit_view (SetCfg krate options) = set_cfg krate.0 options
+
+-- it sets or removes one of these places, and gives no options
+abbrev pub NamesPlaceOf : List Place → EditView → Type 0
+NamesPlaceOf places (set place syntax) = Contains places place
+NamesPlaceOf places (remove place) = Contains places place
+NamesPlaceOf places (set_cfg i options) = ⊥
 
 -- those of a list before its refused one
 abbrev pub edits_before : AllRefused → List Edit → List EditView

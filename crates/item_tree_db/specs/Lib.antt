@@ -4,6 +4,7 @@ pub mod Edits
 pub mod TreeIds
 pub mod History
 pub mod Refusal
+pub mod Again
 pub mod Since
 pub mod Codes
 pub mod Inner

@@ -25,9 +25,10 @@ pub record IsLate (s : State) (n : ℕ) (c : Change) : Type 0 where
   pub above : n < c.2
   pub above_start : s.start < c.2
 
--- what an index starts from: a tree whose change number is not above the start is empty
+-- what an index starts from: no change number is above the number, and a tree whose number is not above the start is empty
 pub record IsGrounded (s : State) : Type 0 where
   pub started : s.start ≤ s.number
+  pub bounded : (place : Place) (i : ℕ) → i < length s.crates → change_number s place i ≤ s.number
   pub empty : (place : Place) (i : ℕ) → i < length s.crates → change_number s place i ≤ s.start → unfolding_at s place i ≡ nothing
 
 -- exactly those, each once and in order
@@ -35,3 +36,13 @@ pub record IsSince (s : State) (n : ℕ) (changes : List Change) : Type 0 where
   pub late : All (IsLate s n) changes
   pub whole : (c : Change) → IsLate s n c → Contains changes c
   pub in_order : AllPairs (λ c d. change_cmp c d ≡ Less) changes
+
+-- those of them that are of these places
+pub record IsSinceAmong (s : State) (n : ℕ) (places : List Place) (changes : List Change) : Type 0 where
+  pub late : All (λ c. IsLate s n c × Contains places c.0) changes
+  pub whole : (c : Change) → IsLate s n c → Contains places c.0 → Contains changes c
+  pub in_order : AllPairs (λ c d. change_cmp c d ≡ Less) changes
+
+-- all of them are of these places
+abbrev pub HoldLate : State → ℕ → List Place → Type 0
+HoldLate s n places = (c : Change) → IsLate s n c → Contains places c.0

@@ -1,5 +1,6 @@
 //! The entries of places, in their order.
 ghost use Rattle.std.specs.Prelude.{◌≡◌, ◌≤◌, [], length, map, slice_get, Some, option_map, option_and_then, option_copied, IfOk, IfErr, IfSome, OnOk, OnErr};
+ghost use Rattle.std.specs.List.Sorted.{IsStrictlySortedBy};
 ghost use Rattle.item_tree.specs.CrateView.{crate_view};
 ghost use Rattle.item_tree_db.specs.declared.place.Place.{Place};
 ghost use Rattle.item_tree_db.specs.Inner.Settled.{settled};
@@ -8,16 +9,17 @@ ghost use Rattle.item_tree_db.specs.Inner.Sizes.{PlacesFit, PlacesPass};
 ghost use Rattle.item_tree_db.specs.Refusal.{UnlessMemory};
 ghost use Rattle.item_tree_db.specs.Inner.Source.{source_place};
 ghost use Rattle.item_tree_db.specs.State.{crate_limit};
-ghost use Rattle.item_tree_db.specs.Inner.Walk.{all_changes, late};
+ghost use Rattle.item_tree_db.specs.PlaceOrder.{place_cmp};
+ghost use Rattle.item_tree_db.specs.Inner.Walk.{HasFewRows, all_changes, late, over, over_all, rows_in};
 
 use crate::place::Place;
 use crate::rows::{Row, clear, lower_row, settle, settle_first, settle_row};
-use crate::since::ChangedSince;
+use crate::since::{ChangedSince, Chosen, Slots};
 use crate::source::Source;
 use hir_input::Name;
 use item_tree::{CrateData, LowerError};
 use std::alloc::Global;
-use std::collections::BTreeMap;
+use std::collections::{BTreeMap, BTreeSet};
 use std::marker::Model;
 
 /// What a place has: what is set at it, and a tree and a change number for each crate.
@@ -147,6 +149,16 @@ impl Shelf {
         }
     }
 
+    /// The rows of a place: none where it was never set.
+    pub fn rows(&self, place: Place) -> &[Row]
+        ensures { result.now ≡ rows_in (placed_at self.now place) }
+    {
+        match self.entries.get(&place) {
+            Some(entry) => entry.rows(),
+            None => &[],
+        }
+    }
+
     /// Sets a place, with what that brings to each crate. All growth comes before the first change.
     pub fn set(
         &mut self,
@@ -237,11 +249,19 @@ impl Shelf {
 
     /// The change numbers above a bound.
     pub fn late(&self, above: u64) -> ChangedSince<'_>
-        requires { (place : Place)
-            → IfSome (placed_at self.now place) (λ placed. length placed.rows ≤ crate_limit) }
-        ensures value { result ≡ late above (all_changes self.now) }
+        requires { HasFewRows self.now }
+        ensures value { result ≡ late above (all_changes (over_all self.now)) }
         ensures in_order { IsInOrder self.now }
     {
-        ChangedSince::new(self.entries.iter(), above)
+        ChangedSince::new(Slots::All(self.entries.iter()), above)
+    }
+
+    /// Those of some places.
+    pub fn late_among<'a>(&'a self, above: u64, places: &'a BTreeSet<Place>) -> ChangedSince<'a>
+        requires { HasFewRows self.now }
+        ensures value { result ≡ late above (all_changes (over self.now places.now.keys)) }
+        ensures in_order { IsStrictlySortedBy place_cmp places.now.keys }
+    {
+        ChangedSince::new(Slots::Among(Chosen::new(places.iter(), self)), above)
     }
 }

@@ -1,5 +1,5 @@
 //! The table of trees.
-ghost use Rattle.std.specs.Prelude.{◌≡◌, ◌≢◌, ◌<◌, ◌≤◌, ◌↔◌, ◌∷◌, [], length, map, slice_get, option_map, option_copied, unwrap_or, Some, IsTrue, IfOk, IfErr, IfSome, OnOk, OnErr, IsErrAnd};
+ghost use Rattle.std.specs.Prelude.{◌≡◌, ◌≢◌, ◌⊎◌, ◌<◌, ◌≤◌, ◌↔◌, ◌∷◌, [], length, map, slice_get, option_map, option_copied, unwrap_or, Some, IsTrue, IsNone, IfOk, IfErr, IfSome, IfNone, OnSome, OnOk, OnErr, IsErrAnd};
 ghost use Rattle.std.specs.List.{AllByRecursion};
 ghost use Rattle.hir_input.specs.Syntax.{syntax_view, block_view};
 ghost use Rattle.item_tree.specs.declared.fault.EditFault.TheVariants.{TooManyEdits, Lower};
@@ -10,9 +10,10 @@ ghost use Rattle.item_tree_db.specs.Edits.{edit_view, edits_before, remove as re
 ghost use Rattle.item_tree_db.specs.History.{IsAfter, IsFooting, IgnoresBodies};
 ghost use Rattle.item_tree_db.specs.Inner.Settled.{empty_row};
 ghost use Rattle.item_tree_db.specs.Inner.Shelf.{change_at};
-ghost use Rattle.item_tree_db.specs.Since.{IsGrounded, IsSince};
+ghost use Rattle.item_tree_db.specs.Since.{IsGrounded, IsSince, IsSinceAmong};
 ghost use Rattle.item_tree_db.specs.Inner.Source.{source_place, source_syntax, edit_of};
 ghost use Rattle.item_tree_db.specs.Inner.Table.{IsRowOf};
+ghost use Rattle.item_tree_db.specs.Again.{IsSetAgain};
 ghost use Rattle.item_tree_db.specs.Refusal.{last_number, NamesKnown, FitsAfter, FirstFit, IsRefusal};
 
 use crate::edit::{AllRefused, Edit, EditRefused};
@@ -25,6 +26,7 @@ use hir_input::ast::{BlockExpr, Syntax};
 use hir_input::{BlockId, CfgOptions, Crate, HirFileId, Name};
 use item_tree::{CrateData, EditFault, ItemTree, LowerError};
 use std::alloc::Global;
+use std::collections::BTreeSet;
 use std::marker::Model;
 use std::mem;
 
@@ -240,6 +242,25 @@ impl Sources {
         Ok(self.number)
     }
 
+    /// Makes the edit that sets a file to the syntax that it has, and gives its number: for a text in which only a body
+    /// was typed in. Lowers nothing, changes no tree and takes no memory.
+    ///
+    /// `None` where the file has no syntax or the table has the last number: then nothing changes.
+    pub fn set_again(&mut self, file: HirFileId) -> Option<u64>
+        ensures in_range { self.old.number ≤ last_number }
+        ensures again { OnSome result (IsSetAgain self.old (Place.File file) self.new) }
+        ensures number { IfSome result (λ number. number ≡ self.new.number) }
+        ensures footing { IsFooting self.old self.new }
+
+        ensures none { IfNone result (self.new ≡ self.old) }
+        ensures cause { IsNone result
+            ↔ (IsNone (present self.old (Place.File file)) ⊎ (self.old.number ≡ last_number)) }
+    {
+        self.file_syntax(file)?;
+        self.number = self.number.checked_add(1)?;
+        Some(self.number)
+    }
+
     /// Makes edits up to the first refused one, and gives the number after the last.
     ///
     /// A refusal names the refused edit's place and hands it back; the edits before it stay made, and those
@@ -320,6 +341,14 @@ impl Sources {
         ensures grounded { IsGrounded self.now }
     {
         self.places.late(n.max(self.start))
+    }
+
+    /// Those of `changed_since` that are of some places. Takes no memory, and looks at these places alone.
+    pub fn changed_among<'a>(&'a self, n: u64, places: &'a BTreeSet<Place>) -> ChangedSince<'a>
+        ensures among { IsSinceAmong self.now n places.now.keys result }
+        ensures grounded { IsGrounded self.now }
+    {
+        self.places.late_among(n.max(self.start), places)
     }
 
     // What is set at a place.

@@ -9,6 +9,7 @@ use Rattle.item_tree_db.specs.declared.place.Place.{Place}
 use Rattle.item_tree_db.specs.declared.rows.Row.{Row}
 use Rattle.item_tree_db.specs.Edits.{EditView}
 use Rattle.item_tree_db.specs.History.{sets, gives, under}
+use Rattle.item_tree_db.specs.Refusal.{TreeFits}
 use Rattle.item_tree_db.specs.Inner.Settled.{settled_row, fresh_row}
 use Rattle.item_tree_db.specs.Inner.Shelf.{Shelved, Places, placed_at, source_in, syntax_in, row_in, AreOwn, HasRows}
 use Rattle.item_tree_db.specs.Inner.Source.{source_place, source_syntax}
@@ -51,12 +52,13 @@ pub record IsRowOf (s : State) (place : Place) (i : ℕ) (row : Row) : Type 0 wh
   pub tree : row.tree ≡ unfolding_at s place i
   pub changed : row.changed ≡ change_number s place i
 
--- each tree is what its syntax fixes; no change number is above the number, and where one is not above the start, the tree is empty
+-- each tree is what its syntax fixes and passes no size; no change number is above the number, and where one is not above the start, the tree is empty
 pub record IsSound (t : Table) : Type 0 where
   pub own : AreOwn t.places
   pub rows : HasRows (length t.crates) t.places
   pub started : t.start ≤ t.number
   pub trees : (place : Place) (i : ℕ) → i < length t.crates → (row_at t place i).tree ≡ lowered_at t place i
+  pub fits : (place : Place) (i : ℕ) → TreeFits t.skipped place (slice_get t.crates i) (syntax_at t place)
   pub bounded : (place : Place) (i : ℕ) → i < length t.crates → (row_at t place i).changed ≤ t.number
   pub grounded : (place : Place) (i : ℕ) → i < length t.crates → (row_at t place i).changed ≤ t.start → (row_at t place i).tree ≡ nothing
 
@@ -69,11 +71,12 @@ next_number t = t.number + 1
 abbrev pub next_table : Table → List CrateView → Places → Table
 next_table t crates places = record { crates = crates; skipped = t.skipped; start = t.start; number = next_number t; places = places }
 
--- what a place has then, where it had `old`: each row is settled with the tree that the syntax then fixes
+-- what a place has then, where it had `old`: each row is settled with the tree that the syntax then fixes, which passes no size
 pub record IsLed (t : Table) (crates : List CrateView) (edit : EditView) (place : Place) (old new : Option Shelved) : Type 0 where
   pub own : IfSome (source_in new) (λ source. source_place source ≡ place)
   pub long : IfSome new (λ placed. length placed.rows ≡ length t.crates)
   pub syntax : syntax_in new ≡ unwrap_or (sets place edit) (syntax_in old)
+  pub fits : (i : ℕ) → TreeFits t.skipped place (slice_get crates i) (syntax_in new)
   pub rows : (i : ℕ) → i < length t.crates → row_in t.start new i ≡ settled_row (next_number t) (row_in t.start old i) (fresh_row (next_number t) t.skipped place (slice_get crates i) (syntax_in new))
 
 -- the edit leads from the table t to these crates and places

@@ -1,29 +1,62 @@
 -- The change numbers of a shelf, one after another.
-use Rattle.std.specs.Prelude.{ℕ, ◌+◌, ◌≤◌, List, [], ◌∷◌, ◌++◌, drop, filter, length, nat_lt}
+use Rattle.std.specs.Prelude.{ℕ, ◌+◌, ◌≤◌, List, [], ◌∷◌, ◌++◌, drop, filter, length, map, nat_lt, Option, IfSome}
 use Rattle.std.specs.List.{AllByRecursion, flat_map}
+use Rattle.std.specs.Option.{option_map_or}
 use Rattle.item_tree_db.specs.declared.place.Place.{Place}
 use Rattle.item_tree_db.specs.declared.rows.Row.{Row}
+use Rattle.item_tree_db.specs.declared.since.Chosen.{Chosen}
+use Rattle.item_tree_db.specs.declared.since.Slots.{Slots}
+use Rattle.item_tree_db.specs.declared.since.Slots.TheVariants.{All, Among}
 use Rattle.item_tree_db.specs.Since.{Change}
-use Rattle.item_tree_db.specs.Inner.Shelf.{Places}
+use Rattle.item_tree_db.specs.Inner.Shelf.{Shelved, Places, placed_at}
 use Rattle.item_tree_db.specs.State.{crate_limit}
+
+-- places with their rows, as a walk meets them
+abbrev pub Walk : Type 0
+Walk = List (Place × List Row)
+
+-- the rows of a place: none where it was never set
+abbrev pub rows_in : Option Shelved → List Row
+rows_in placed = option_map_or (λ p. p.rows) placed []
+
+-- over all places
+abbrev pub over_all : Places → Walk
+over_all = map (λ slot. (slot.0, slot.1.rows))
+
+-- over these
+abbrev pub over : Places → List Place → Walk
+over places = map (λ place. (place, rows_in (placed_at places place)))
+
+-- over those that the code has chosen
+abbrev pub chosen_walk : Chosen → Walk
+chosen_walk chosen = over chosen.shelf.now chosen.places
+
+-- what the code has left of one
+abbrev pub walk_of : Slots → Walk
+walk_of (All entries) = over_all entries
+walk_of (Among chosen) = chosen_walk chosen
 
 -- of a place, from the crate i on
 abbrev pub changes_from : Place → ℕ → List Row → List Change
 changes_from place i [] = []
 changes_from place i (row ∷ rows) = (place, record { 0 = i }, row.changed) ∷ changes_from place (i + 1) rows
 
--- of all places
-abbrev pub all_changes : Places → List Change
-all_changes = flat_map (λ slot. changes_from slot.0 0 slot.1.rows)
+-- of all its places
+abbrev pub all_changes : Walk → List Change
+all_changes = flat_map (λ slot. changes_from slot.0 0 slot.1)
 
 -- those above a bound
 abbrev pub late : ℕ → List Change → List Change
 late above = filter (λ c. nat_lt above c.2)
 
 -- what is left of a place and the crates from i on, and of the places behind it
-abbrev pub left : ℕ → Place → ℕ → List Row → Places → List Change
+abbrev pub left : ℕ → Place → ℕ → List Row → Walk → List Change
 left above place i rows slots = late above (changes_from place i (drop i rows) ++ all_changes slots)
 
 -- each place has no more rows than crates may be
-abbrev pub HasFew : Places → Type 0
-HasFew = AllByRecursion (λ slot. length slot.1.rows ≤ crate_limit)
+abbrev pub HasFew : Walk → Type 0
+HasFew = AllByRecursion (λ slot. length slot.1 ≤ crate_limit)
+
+-- so has each of a shelf
+abbrev pub HasFewRows : Places → Type 0
+HasFewRows places = (place : Place) → IfSome (placed_at places place) (λ placed. length placed.rows ≤ crate_limit)

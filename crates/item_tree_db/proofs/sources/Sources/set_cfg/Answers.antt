@@ -22,7 +22,8 @@ invariant_of-self c =
     let krate = crate_view c.index.result.now in
     let at = given_here c.args.options i.crates.items after k.0 c.index.result.now c.index.ensures (subst (λ (z : State). k.0 < length z.crates) (sym c.self.view_is) c.requires.known) c.swap_options.ensures.count c.swap_options.ensures.swapped in
     let fresh = c.in-Ok.ensures.fresh ∙ (λ j. fresh_each (fresh_of (i.number + 1) (c.deref.ensures.value j) (Some krate)) i.places) in
-    let made = cfg_made i.crates.items i.skipped.items i.start i.number i.places c.recast.new.self c.args.self.now c.self.invariant.sound c.self.view_is k c.args.options krate at after c.swap_options.ensures.swapped c.in-Ok.fresh.items fresh c.in-Ok.ensures.in_order c.recast.ensures in
+    let fits = subst (λ (names : List (List ℕ)). PlacesFit names (Some krate) i.places) c.deref.ensures.value c.in-Ok.ensures.fits in
+    let made = cfg_made i.crates.items i.skipped.items i.start i.number i.places c.recast.new.self c.args.self.now c.self.invariant.sound c.self.view_is k c.args.options krate at after c.swap_options.ensures.swapped c.in-Ok.fresh.items fresh c.in-Ok.ensures.in_order fits c.recast.ensures in
     record { few = subst (λ (m : ℕ). m ≤ crate_limit) (sym c.swap_options.ensures.count) c.self.invariant.few; sound = made.sound; empty = c.self.invariant.empty }
 
 pub returns-in-Ok : goal.returns-in-Ok
@@ -33,8 +34,8 @@ returns-in-Ok c =
     let krate = crate_view c.index.result.now in
     let at = given_here c.args.options i.crates.items after k.0 c.index.result.now c.index.ensures (subst (λ (z : State). k.0 < length z.crates) (sym c.self.view_is) c.requires.known) c.swap_options.ensures.count c.swap_options.ensures.swapped in
     let fresh = c.in-Ok.ensures.fresh ∙ (λ j. fresh_each (fresh_of (i.number + 1) (c.deref.ensures.value j) (Some krate)) i.places) in
-    let made = cfg_made i.crates.items i.skipped.items i.start i.number i.places c.recast.new.self c.args.self.now c.self.invariant.sound c.self.view_is k c.args.options krate at after c.swap_options.ensures.swapped c.in-Ok.fresh.items fresh c.in-Ok.ensures.in_order c.recast.ensures in
     let fits = subst (λ (names : List (List ℕ)). PlacesFit names (Some krate) i.places) c.deref.ensures.value c.in-Ok.ensures.fits in
+    let made = cfg_made i.crates.items i.skipped.items i.start i.number i.places c.recast.new.self c.args.self.now c.self.invariant.sound c.self.view_is k c.args.options krate at after c.swap_options.ensures.swapped c.in-Ok.fresh.items fresh c.in-Ok.ensures.in_order fits c.recast.ensures in
     record {
       ok = made.after;
       fits = cfg_fits i.crates.items i.skipped.items i.start i.number i.places i.places c.args.self.now c.self.invariant.sound c.self.view_is k c.args.options krate at fits;

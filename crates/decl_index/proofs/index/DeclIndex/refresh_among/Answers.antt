@@ -1,0 +1,28 @@
+use Rattle.std.proofs.Common.{rules, ◌≡◌, ℕ, [], List, Some, refl, ap, subst, sym, arith, Contains}
+use Rattle.std.specs.Option.{unwrap_or}
+use Rattle.item_tree_db.specs.Since.{Change, IsLate}
+use Rattle.decl_index.specs.Entries.{IndexView, IsBehindAt, IsListing}
+use Rattle.decl_index.proofs.Laws.{behind_at_index}
+use Rattle.decl_index.proofs.Refreshed.{unmoved}
+use Rattle.decl_index.proofs.index.DeclIndex.refresh_among.Goals as goal
+
+same_listing : (c : goal.After-self-1) → IsListing c.args.sources.now c.self.inside.entries.items
+same_listing c =
+    let s = c.args.sources.now in
+    let i = c.self.inside in
+    let behind = subst (λ (index : IndexView). IsBehindAt index c.args.places.now.keys s) (sym c.self.view_is) c.requires in
+    let ended : c.changed_among.result ≡ [] = search rules in
+    let none = λ (d : Change) (l : IsLate s (unwrap_or i.number 0) d).
+    let late = subst (λ (n : ℕ). IsLate s n d) (sym c.unwrap_or-since.ensures) l in
+    let there : Contains [] d = subst (λ (cs : List Change). Contains cs d) ended (c.changed_among.ensures.among.whole d late (behind.late d l)) in
+    absurd (omega (arith, there.1)) in
+    unmoved s i.entries.items i.number c.args.places.now.keys behind c.changed_among.ensures.grounded none c.self.invariant
+
+pub returns-then-is_none-clause-index : goal.returns-then-is_none-clause-index
+returns-then-is_none-clause-index c = record { number = ap Some c.number.ensures; listing = same_listing c }
+
+pub returns-then-is_none-clause-at : goal.returns-then-is_none-clause-at
+returns-then-is_none-clause-at c =
+    let s = c.args.sources.now in
+    let entries = c.self.inside.entries.items in
+    λ named. subst (λ (n : ℕ). IsBehindAt (Some n, entries) named s) (sym c.number.ensures) (behind_at_index s (Some s.number, entries) named c.changed_among.ensures.grounded (record { number = refl; listing = same_listing c }))

@@ -1,0 +1,19 @@
+use Rattle.std.proofs.Common.{◌++◌, All, List, sym, ap, subst, ◌∙◌, append_assoc}
+use Rattle.std.proofs.lemmas.List.Elements.{All-tail}
+use Rattle.item_tree_db.specs.Since.{Change}
+use Rattle.item_tree_db.specs.State.{IsKnown}
+use Rattle.decl_index.specs.declared.entry.Entry.{Entry}
+use Rattle.decl_index.specs.Entries.{entries_at, entries_of}
+use Rattle.decl_index.proofs.index.read_changed.Goals as goal
+
+pub loop-place-preserved : goal.loop-place-preserved
+loop-place-preserved c =
+    let s = c.args.sources.now in
+    let left = entries_of s c.next.new.self in
+    let known = λ (d : Change). IsKnown s d.1 in
+    record {
+      known = All-tail known _ c.next.new.self (subst (All known) c.in-Some.ensures.steps c.loop-place.invariant.known);
+      read = ap (λ (xs : List Entry). xs ++ left) c.in_ok-read_tree.ensures ∙ append_assoc c.loop-place.fresh.items (entries_at s c.in-Some.place c.in-Some.krate) left
+          ∙ ap (λ (cs : List Change). c.loop-place.fresh.items ++ entries_of s cs) (sym c.in-Some.ensures.steps)
+          ∙ c.loop-place.invariant.read;
+    }

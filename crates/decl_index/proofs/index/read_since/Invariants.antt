@@ -1,7 +1,0 @@
--- what is read and the entries of what is left are the entries of all
-use Rattle.std.proofs.Common.{◌≡◌, ◌++◌}
-use Rattle.decl_index.specs.Entries.{entries_of}
-use Rattle.decl_index.proofs.index.read_since.Given as goal
-
-abbrev pub invariant-loop-place : goal.invariant-loop-place
-invariant-loop-place l = l.fresh.items ++ entries_of l.sources l.place-iterator ≡ entries_of l.sources l.initial.place-iterator
