@@ -9,19 +9,19 @@ use Rattle.rust_cursor.specs.Words.{symbol, is_empty}
 use Rattle.rust_cursor.specs.Nests.{is_mark, nest_inside, nest_behind}
 use Rattle.rust_cursor.specs.Extents.{stops, ends, opened_behind}
 
-record AreFalse (a b c : Bool) : Type 0 where
-  first : a ≡ false
-  second : b ≡ false
-  third : c ≡ false
+pub record AreFalse (a b c : Bool) : Type 0 where
+  pub first : a ≡ false
+  pub second : b ≡ false
+  pub third : c ≡ false
 
-none_of : (a b c : Bool) → (not a && (not b && not c)) ≡ true → AreFalse a b c
+pub none_of : (a b c : Bool) → (not a && (not b && not c)) ≡ true → AreFalse a b c
 none_of false false false e = record { first = refl; second = refl; third = refl }
 none_of false false true e = absurd cc
 none_of false true c e = absurd cc
 none_of true b c e = absurd cc
 
 -- a brace is left open
-left_by : (opens closes : Bool) (n : ℕ) → (n == 0) ≡ false → (n == 1 && closes) ≡ false → ((if opens then n + 1 else (if closes then n - 1 else n)) == 0) ≡ false
+pub left_by : (opens closes : Bool) (n : ℕ) → (n == 0) ≡ false → (n == 1 && closes) ≡ false → ((if opens then n + 1 else (if closes then n - 1 else n)) == 0) ≡ false
 left_by true closes n some more = grind (arith, nat_tests)
 left_by false true n some more = grind (arith, nat_tests)
 left_by false false n some more = some

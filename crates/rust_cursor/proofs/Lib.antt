@@ -5,6 +5,7 @@ pub mod Turns
 pub mod Scans
 pub mod Reaches
 pub mod Leads
+pub mod Clipped
 pub mod Matched
 pub mod Laid
 pub mod Rests
@@ -16,6 +17,7 @@ pub mod Tests
 pub mod Parting
 pub mod Views
 pub mod Braced
+pub mod Unkept
 pub mod Walk
 pub mod Passing
 pub mod Local

@@ -6,7 +6,7 @@ use Rattle.rust_cursor.specs.Words.{symbol}
 use Rattle.rust_cursor.proofs.Alike as stands
 use Rattle.rust_cursor.proofs.Level.{Level, level_beside, level_here, level_next, level_on, start_level, end_level}
 use Rattle.rust_cursor.proofs.Local as local
-use Rattle.rust_cursor.proofs.Parting.{Onward, into, on, UntilBy, gone, kept, Same, Parting, UpTo, by_next, by_kept, Entering, Levels}
+use Rattle.rust_cursor.proofs.Parting.{Onward, into, on, UntilBy, gone, kept, Same, Parting, UpTo, by_kept, Entering, Levels}
 use Rattle.rust_cursor.proofs.Passing.{behind_angles_beside, behind_closed_beside, behind_tree_beside, beyond_beside}
 use Rattle.rust_cursor.proofs.Places.{SamePlace, at_place}
 use Rattle.rust_cursor.proofs.TreeTexts.{tree_text_until}

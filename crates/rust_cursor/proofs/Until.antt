@@ -1,5 +1,5 @@
 -- Readers that may go into the braces: they see tokens beside alike until one does.
-use Rattle.std.proofs.Common.{◌≡◌, ◌≤◌, ℕ, zero, suc, ◌+◌, length, false, Option, List, [], ◌∷◌, ◌++◌, subst, arith, map}
+use Rattle.std.proofs.Common.{◌≡◌, ◌≤◌, ℕ, suc, ◌+◌, length, false, Option, List, [], ◌∷◌, ◌++◌, subst, arith, map}
 use Rattle.rust_lexer.specs.Piece.{Piece}
 use Rattle.rust_lexer.specs.Alone.{moved}
 use Rattle.rust_cursor.specs.Tokens.{Tokens, end_of}

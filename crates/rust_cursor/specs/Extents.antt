@@ -1,6 +1,7 @@
 -- The texts of what is taken: what stands in brackets, and what is left of an item.
-use Rattle.std.specs.Prelude.{ℕ, ◌==◌, Bool, true, false, not, ◌&&◌, ◌||◌, if◌then◌else◌, Option, Some, None, List, [], ◌∷◌, ◌++◌, length, string_bytes, codes}
+use Rattle.std.specs.Prelude.{◌≡◌, ◌≤◌, ◌+◌, ℕ, ◌==◌, Bool, true, false, not, ◌&&◌, ◌||◌, if◌then◌else◌, Option, Some, None, List, [], ◌∷◌, ◌++◌, length, string_bytes, codes}
 use Rattle.std.specs.Str.{bytes_eq}
+use Rattle.hir_input.specs.declared.edition.EditionYear.{EditionYear}
 use Rattle.rust_lexer.specs.Piece.{Piece}
 use Rattle.rust_cursor.specs.declared.cursor.nest.Before.{Before}
 use Rattle.rust_cursor.specs.declared.cursor.nest.Before.TheVariants as befores
@@ -55,6 +56,12 @@ begins_within ts =
     else (if bytes_eq (word ts) (codes "use") then is_at_identifier (bumped ts)
     else (if bytes_eq (word ts) (codes "static") then not (bytes_eq (word (bumped ts)) (codes "move") || bytes_eq (word (bumped ts)) (codes "async")) && begins_item ts
     else begins_item ts))
+
+-- a byte with which a word begins that can begin an item
+abbrev pub leads_item : ℕ → Bool
+leads_item c =
+    (c == 99 || (c == 101 || (c == 105 || (c == 109 || (c == 112 || (c == 115 || c == 117))))))
+    || (c == 102 || c == 116)
 
 -- An item begins, in no brace.
 abbrev pub begins : Nest → Tokens → Bool
@@ -154,6 +161,28 @@ taking_from e done last opened nest ts (_ ∷ more_left) =
 -- goes on taking where this stands, behind a text and braces that were opened
 unfoldable pub taking : Extent → List ℕ → ℕ → Option Tokens → Nest → Reader ExcerptRead
 taking e done last opened nest ts = taking_from e done last opened nest ts ts.left
+
+-- a text where it is kept, and else none
+abbrev pub kept_text : Bool → List ℕ → List ℕ
+kept_text keeps text = if keeps then text else []
+
+-- the same reading, without its text unless that is kept
+abbrev pub clipped : Bool → ExcerptRead × Tokens → ExcerptRead × Tokens
+clipped keeps read = (excerpt (kept_text keeps read.0.text) read.0.is_ended read.0.block, read.1)
+
+-- what is taken of these tokens behind a place where no text is kept
+abbrev pub taking_on : ℕ → List Piece → Nest → Extent → Option Tokens → Option ℕ → EditionYear → ExcerptRead × Tokens
+taking_on past left nest e opened u y =
+    clipped false (taking e [] 0 opened nest (record { past = past; left = left; unended = u; edition = y }))
+
+-- Where no text is kept, taking goes on from the second place, in these braces, as from the first.
+pub record LeadsOn (past : ℕ) (left : List Piece) (nest : Nest) (past' : ℕ) (left' : List Piece) (nest' : Nest) : Type 0 where
+  pub same : (e : Extent) (opened : Option Tokens) (u : Option ℕ) (y : EditionYear) → taking_on past' left' nest' e opened u y ≡ taking_on past left nest e opened u y
+  pub fewer : length left' ≤ length left
+  pub braces : nest'.braces + length left' ≤ nest.braces + length left
+  pub inner : nest'.inner + length left' ≤ nest.inner + length left
+  pub others : nest'.others ≡ nest.others
+  pub angles : nest'.angles ≡ nest.angles
 
 -- where what comes first stands behind this
 unfoldable pub taken : Before → Extent → Reader ExcerptRead

@@ -155,17 +155,21 @@ nest_outside nest ts = record {
   before = before_outside nest ts;
 }
 
--- Behind the next token, in braces. Other brackets in them are counted by themselves, and a brace closes whatever their number is.
-abbrev pub nest_inside : Nest → Tokens → Nest
-nest_inside nest ts = record {
-  braces = braces_behind nest.braces (symbol ts);
+-- Behind this symbol, in braces. Other brackets in them are counted by themselves, and a brace closes whatever their number is.
+abbrev pub inside_behind : Nest → ℕ → Nest
+inside_behind nest c = record {
+  braces = braces_behind nest.braces c;
   others = nest.others;
   free = nest.free;
   angles = nest.angles;
-  inner = count_behind nest.inner (symbol ts);
-  is_torn = nest.is_torn || closes_none nest.inner (symbol ts);
-  before = if nest.braces == 1 && symbol ts == 125 then behind_braces nest else nest.before;
+  inner = count_behind nest.inner c;
+  is_torn = nest.is_torn || closes_none nest.inner c;
+  before = if nest.braces == 1 && c == 125 then behind_braces nest else nest.before;
 }
+
+-- the same behind the next token
+abbrev pub nest_inside : Nest → Tokens → Nest
+nest_inside nest ts = inside_behind nest (symbol ts)
 
 -- where what stands behind the next token is
 unfoldable pub nest_behind : Nest → Tokens → Nest

@@ -1,6 +1,6 @@
 //! A cursor over the tokens of a text.
 
-ghost use Rattle.std.specs.Prelude.{◌≡◌, ◌≤◌, ◌<◌, ◌^◌, IfSome, MatchOption, length};
+ghost use Rattle.std.specs.Prelude.{◌≡◌, ◌∷◌, ◌≤◌, ◌<◌, ◌^◌, IfSome, MatchOption, length};
 ghost use Rattle.std.specs.List.{filter};
 ghost use Rattle.rust_lexer.specs.Tokens.{is_significant};
 ghost use Rattle.rust_cursor.specs.Tokens.{last_unended, left_of, place_if_open, tokens_of};
@@ -51,6 +51,16 @@ fn place_if_open(token: &Token<'_>) -> Option<usize>
         None
     } else {
         Some(token.at())
+    }
+}
+
+/// Puts down the place of a token that nothing is behind, if it is not ended: of all tokens only the last one tells.
+#[inline(always)]
+fn note_last(token: &Token<'_>, lexer: &Lexer<'_>, last: &mut Option<usize>)
+    ensures { last_unended last.new lexer.now ≡ last_unended last.old (token.now ∷ lexer.now) }
+{
+    if lexer.is_empty() {
+        *last = place_if_open(&token.copy());
     }
 }
 

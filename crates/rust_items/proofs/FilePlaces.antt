@@ -25,7 +25,7 @@ use Rattle.rust_items.specs.Ids.{held_with_ids, with_ids}
 use Rattle.rust_items.specs.Places.{Telling, id_of, name_of, IsWritten, held, IsPlace, ArePlaces, nothing, placed}
 use Rattle.rust_items.proofs.Names.{IsToken, told_behind, told_written}
 use Rattle.rust_items.specs.LineEnds.{with_feeds, returns_from, place_by, place_in, moved_span}
-use Rattle.rust_items.specs.SourceFiles.{places, behind_attributes, found_in, items_in, IsFile, IsSourceFile}
+use Rattle.rust_items.specs.SourceFiles.{FileView, places, behind_attributes, file_view, found_in, items_in, IsFileView, IsSourceFile}
 use Rattle.rust_items.proofs.LineEnds.{returns_count, place_rises_in, place_within, moved_place, places_moved}
 use Rattle.rust_items.proofs.Places.{few, widened, retold, row_kind, place_kind, place_span, Adds, adds_problem_at, AreFound, same_problem_at, items_found}
 use Rattle.rust_items.proofs.TreesRead.{IsRead, read_around}
@@ -186,17 +186,13 @@ placed_text edition text found items t ids are =
     rw (t.adds.spans, spans_moved place t.ps) (rw (none_left (with_ids items ids).1) at all.0)
 
 -- the places of a text are those of its items
+pub view_placed : (edition : EditionYear) (text : List ℕ) (file : FileView) → IsFileView edition text file → ArePlaces (IsWritten text) 0 (length text) (items_of file.syntax) file.places []
+view_placed edition text file is = rw (is.syntax, is.places) (placed_text edition text _ _ (text_found edition (with_feeds text)) is.ids is.are_ids)
+
 pub file_placed : (edition : EditionYear) (text : List ℕ) (file : SourceFile) → IsSourceFile edition text file → ArePlaces (IsWritten text) 0 (length text) (items_of (syntax_view file.syntax)) file.places.items []
-file_placed edition text file is = rw (is.syntax, is.places) (placed_text edition text _ _ (text_found edition (with_feeds text)) is.ids is.are_ids)
+file_placed edition text file is = view_placed edition text (file_view file) is
 
--- what is read of a text with line feeds alone is read of the text
-pub same_file : (edition : EditionYear) (text feeds : List ℕ) (len : ℕ) (returns : List ℕ) (file : SourceFile) → feeds ≡ with_feeds text → len ≡ length (with_feeds text) → returns ≡ returns_from 0 text
-    → IsFile edition feeds (place_by len returns) file → IsSourceFile edition text file
-unfolding place_in
-same_file edition text feeds len returns file f l r is =
-    subst (λ (p : List ℕ × (ℕ × List ℕ)). IsFile edition p.0 (place_by p.1.0 p.1.1) file)
-    (let e : (feeds, (len, returns)) ≡ (with_feeds text, (length (with_feeds text), returns_from 0 text)) = cc in e) is
-
+-- what is read of a block with line feeds alone is read of the text
 pub same_block : (edition : EditionYear) (text feeds : List ℕ) (len : ℕ) (returns : List ℕ) (read : SourceBlock) → feeds ≡ with_feeds text → len ≡ length (with_feeds text) → returns ≡ returns_from 0 text
     → IsBlockOf edition feeds (place_by len returns) read → IsBlock edition text read
 unfolding place_in
@@ -218,8 +214,8 @@ places_at (id ∷ ids) (s ∷ spans) zero d e l = refl
 places_at (id ∷ ids) (s ∷ spans) (suc k) d e l = places_at ids spans k d (omega arith) (omega arith)
 
 -- no two places of a text that is not too long have one id
-pub file_distinct : (edition : EditionYear) (text : List ℕ) (file : SourceFile) → IsSourceFile edition text file → length text ≤ 4294967296 → AllPairs (λ p q. p.id ≢ q.id) file.places.items
-file_distinct edition text file is short i j d before within same =
+pub view_distinct : (edition : EditionYear) (text : List ℕ) (file : FileView) → IsFileView edition text file → length text ≤ 4294967296 → AllPairs (λ p q. p.id ≢ q.id) file.places
+view_distinct edition text file is short i j d before within same =
     let feeds = with_feeds text in
     let t = text_found edition feeds in
     let rows = (found_in edition feeds).rows in
@@ -230,10 +226,13 @@ file_distinct edition text file is short i j d before within same =
     let span_count : length spans ≡ length t.ps = length-map (found_in edition feeds).spans (moved_span (place_in text)) ∙ ap length t.adds.spans ∙ length-map t.ps place_span in
     let bounded : length t.ps ≤ 0 + (length feeds - 0) = few t.are in
     let pairs : length is.ids ≡ length spans = omega arith in
-    let place_count : length file.places.items ≡ length is.ids = ap length is.places ∙ places_length is.ids spans pairs in
+    let place_count : length file.places ≡ length is.ids = ap length is.places ∙ places_length is.ids spans pairs in
     let low : i < length is.ids = omega arith in
     let high : j < length is.ids = omega arith in
-    let first : (get_or file.places.items i d).id ≡ id_at is.ids i = ap (λ l. (get_or l i d).id) is.places ∙ places_at is.ids spans i d pairs low in
-    let second : (get_or file.places.items j d).id ≡ id_at is.ids j = ap (λ l. (get_or l j d).id) is.places ∙ places_at is.ids spans j d pairs high in
+    let first : (get_or file.places i d).id ≡ id_at is.ids i = ap (λ l. (get_or l i d).id) is.places ∙ places_at is.ids spans i d pairs low in
+    let second : (get_or file.places j d).id ≡ id_at is.ids j = ap (λ l. (get_or l j d).id) is.places ∙ places_at is.ids spans j d pairs high in
     let one : i ≡ j = distinct rows is.ids is.are_ids (omega arith) i j low high (sym first ∙ same ∙ second) in
     absurd (omega arith)
+
+pub file_distinct : (edition : EditionYear) (text : List ℕ) (file : SourceFile) → IsSourceFile edition text file → length text ≤ 4294967296 → AllPairs (λ p q. p.id ≢ q.id) file.places.items
+file_distinct edition text file is = view_distinct edition text (file_view file) is

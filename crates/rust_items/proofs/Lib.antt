@@ -11,6 +11,9 @@ pub mod FilePlaces
 pub mod BlockPlaces
 pub mod UsesTold
 pub mod Bodiless
+pub mod Bare
+pub mod Clipped
+pub mod BareFiles
 pub mod UntilFields
 pub mod UntilLeaves
 pub mod UntilItems

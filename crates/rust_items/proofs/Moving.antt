@@ -1,5 +1,5 @@
 -- The places of a file are those of another, moved, where what was found stands alike in both.
-use Rattle.std.proofs.Common.{◌≡◌, ◌≤◌, ℕ, Option, Some, None, List, [], ◌∷◌, length, refl, ap, sym, ◌∙◌, map}
+use Rattle.std.proofs.Common.{◌≡◌, ◌≤◌, ℕ, Option, Some, List, [], ◌∷◌, length, refl, ap, sym, ◌∙◌, map}
 use Rattle.std.specs.Prelude.{option_map}
 use Rattle.hir_input.specs.declared.edition.EditionYear.{EditionYear}
 use Rattle.hir_input.specs.declared.ids.FileAstId.{FileAstId}
@@ -7,9 +7,8 @@ use Rattle.rust_cursor.proofs.Places.{AreAlike, no_more, one_more, IsAlike, neit
 use Rattle.rust_paths.specs.declared.names.TextRange.{TextRange}
 use Rattle.rust_leaves.proofs.Beside.{SameRange}
 use Rattle.rust_items.specs.declared.log.ItemSpan.{ItemSpan}
-use Rattle.rust_items.specs.declared.source_file.SourceFile.{SourceFile}
 use Rattle.rust_items.specs.LineEnds.{moved_range, moved_span}
-use Rattle.rust_items.specs.SourceFiles.{places, found_in, IsFile}
+use Rattle.rust_items.specs.SourceFiles.{FileView, places, found_in, IsFile}
 use Rattle.rust_items.proofs.LineEnds.{moved_place}
 use Rattle.rust_items.proofs.UntilItems.{SpanAlike}
 use Rattle.rust_items.proofs.Within.{IsIn, IsMaybeIn, AreIn, spans_in}
@@ -38,9 +37,9 @@ module _ (same : ℕ → ℕ → Type 0) (end : ℕ) (old new move : ℕ → ℕ
   spans_are l (one_more {x = x} {y = y} {xs = xs} {ys = ys} h k) = ap (λ z. z ∷ map (moved_span new) ys) (span_is x y l.0 h) ∙ ap (λ z. moved_span move (moved_span old x) ∷ z) (spans_are l.1 k)
 
 -- the same ids stand at places that are moved
-pub files_moved : (edition : EditionYear) (x x' : List ℕ) (old new move : ℕ → ℕ) (same : ℕ → ℕ → Type 0) → ((n k : ℕ) → n ≤ length x → same n k → new k ≡ move (old n)) → (file file' : SourceFile)
+pub files_moved : (edition : EditionYear) (x x' : List ℕ) (old new move : ℕ → ℕ) (same : ℕ → ℕ → Type 0) → ((n k : ℕ) → n ≤ length x → same n k → new k ≡ move (old n)) → (file file' : FileView)
     (f : IsFile edition x old file) (g : IsFile edition x' new file') → g.ids ≡ f.ids → AreAlike (SpanAlike same) (found_in edition x).spans (found_in edition x').spans
-    → file'.places.items ≡ map (moved_place move) file.places.items
+    → file'.places ≡ map (moved_place move) file.places
 files_moved edition x x' old new move same place_is file file' f g ids a =
     g.places ∙ ap (λ (l : List FileAstId). places l (map (moved_span new) (found_in edition x').spans)) ids
     ∙ ap (places f.ids) (spans_are same (length x) old new move place_is (spans_in edition x) a)

@@ -1,5 +1,5 @@
 -- Which braces are a body is told by the places of what was read.
-use Rattle.std.proofs.Common.{◌≡◌, ◌<◌, ◌≤◌, ◌+◌, ◌==◌, ◌||◌, ℕ, suc, Option, Some, None, List, [], ◌∷◌, length, refl, ap, ◌∙◌, map, arith}
+use Rattle.std.proofs.Common.{◌≡◌, ◌<◌, ◌≤◌, ◌==◌, ◌||◌, ℕ, Option, Some, None, List, [], ◌∷◌, length, refl, ap, ◌∙◌, map, arith}
 use Rattle.std.specs.Prelude.{nat_lt, option_map}
 use Rattle.std.proofs.lemmas.Bool.Decides.{nat_tests}
 use Rattle.hir_input.specs.declared.edition.EditionYear.{EditionYear}
@@ -7,9 +7,8 @@ use Rattle.hir_input.specs.declared.ids.FileAstId.{FileAstId}
 use Rattle.rust_cursor.proofs.Leads.{when}
 use Rattle.rust_paths.specs.declared.names.TextRange.{TextRange}
 use Rattle.rust_items.specs.declared.log.ItemSpan.{ItemSpan}
-use Rattle.rust_items.specs.declared.source_file.SourceFile.{SourceFile}
 use Rattle.rust_items.specs.LineEnds.{with_feeds, place_in, moved_range, moved_span}
-use Rattle.rust_items.specs.SourceFiles.{places, found_in, IsSourceFile}
+use Rattle.rust_items.specs.SourceFiles.{FileView, places, found_in, IsFileView}
 use Rattle.rust_items.specs.Typed.{begins_at, has_body, has_body_at}
 use Rattle.rust_items.proofs.LineEnds.{place_rises_in}
 use Rattle.rust_items.proofs.Within.{IsMaybeIn, AreIn, spans_in, as_many}
@@ -44,8 +43,8 @@ module _ (place : ℕ → ℕ) (end : ℕ) (rises : (m n : ℕ) → m < n → n 
   places_told (id ∷ ids) (s ∷ ss) e h =
       ap (λ t. t || has_body_at (place at) (places ids (map (moved_span place) ss))) (body_told s.body h.0.1.1) ∙ ap (λ t. begins_at at s.body || t) (places_told ids ss (omega arith) h.1)
 
-pub file_told : (edition : EditionYear) (old : List ℕ) (read : SourceFile) (f : IsSourceFile edition old read) (at : ℕ) → at ≤ length (with_feeds old)
-    → has_body_at (place_in old at) read.places.items ≡ has_body at (found_in edition (with_feeds old)).spans
+pub file_told : (edition : EditionYear) (old : List ℕ) (read : FileView) (f : IsFileView edition old read) (at : ℕ) → at ≤ length (with_feeds old)
+    → has_body_at (place_in old at) read.places ≡ has_body at (found_in edition (with_feeds old)).spans
 file_told edition old read f at low =
     let x = with_feeds old in
     ap (has_body_at (place_in old at)) f.places

@@ -8,8 +8,8 @@ use Rattle.hir_input.specs.declared.edition.EditionYear.{EditionYear}
 use Rattle.hir_input.specs.declared.ids.AstIdKind.{AstIdKind}
 use Rattle.hir_input.specs.declared.ids.AstIdKind.TheVariants as kind
 use Rattle.hir_input.specs.Attr.{MetaView}
-use Rattle.hir_input.specs.Bodies.{node_without_body, named_without_body, item_without_bodies, items_without_bodies}
-use Rattle.hir_input.specs.Syntax.{NodeView, NamedView, ItemView, ItemViews, fn_kind, static_kind, type_alias_kind, plain_item, listed_module, listed_extern_block, macro_call, item_and, items_from, module_from, extern_block_from}
+use Rattle.hir_input.specs.Bodies.{item_without_bodies}
+use Rattle.hir_input.specs.Syntax.{ItemView, ItemViews, fn_kind, static_kind, type_alias_kind, plain_item, macro_call, module_from, extern_block_from}
 use Rattle.rust_cursor.specs.Tokens.{Tokens}
 use Rattle.rust_cursor.specs.Words.{symbol, at, eat, is_at_end, bumped}
 use Rattle.rust_cursor.specs.Elements.{most, beyond}
@@ -46,6 +46,7 @@ use Rattle.rust_items.specs.Items.{BlockRead, span_of, and_flaw, and_item, and_l
 use Rattle.rust_items.specs.Typed.{begins_at, has_body}
 use Rattle.rust_items.specs.SourceFiles.{found_in, read_of}
 use Rattle.rust_items.specs.Places.{Telling, IsBodyIn, ArePlaces, nothing, placed}
+use Rattle.rust_items.proofs.Bare.{extern_alike, list_of, module_alike, extern_block_alike}
 use Rattle.rust_items.proofs.Leads.{named_leads, behind_others_leads, front_takes, front_start}
 use Rattle.rust_items.proofs.Places.{adds_item, adds_problem_at, adds_use_trees, AreFound, Finds, FindsIn, list_from, list_found, place_span, inside_found, turn_found, turn_with_found, extern_turn_found, extern_inside_found, unless_found, items_found}
 use Rattle.rust_items.proofs.UntilLeaves.{FrontAlike, front_until, BeginPlain, LeafUntil, leaf_lost, leaf_same, leaf_until, LeafLost, leaf_gone}
@@ -280,13 +281,6 @@ module _ (b : Bodies) (depth start start' : ℕ) (i : SamePlace b start start') 
 
 -- ---- extern blocks
 
-extern_alike : (i : ItemView) → option_map item_without_bodies (as_extern i) ≡ as_extern (item_without_bodies i)
-extern_alike (plain_item fn_kind n) = refl
-extern_alike (plain_item static_kind n) = refl
-extern_alike (plain_item type_alias_kind n) = refl
-extern_alike (macro_call c) = refl
-extern_alike _ = refl
-
 module _ (b : Bodies) (depth start start' : ℕ) (i : SamePlace b start start') (f f' : Found) (e : FoundAlike b f f') where
   kept_until : (end end' : ℕ) (ts us : Tokens) (l m : LeafRead) (o o' : Option ItemView) → SamePlace b end end' → LeafAlike b l m → option_map item_without_bodies o' ≡ option_map item_without_bodies o → Beside b ts us
       → FoundUntil ItemAlike b f ((extern_kept depth start end l o f).0, ((extern_kept depth start end l o f).1, ts)) ((extern_kept depth start' end' m o' f').0, ((extern_kept depth start' end' m o' f').1, us))
@@ -395,14 +389,10 @@ unfolding passed
 unpassed b (lost g m) = absurd (let no : true ≡ false = g.unpassed in cc)
 unpassed b (same k) = same (record { value = k.value; found = k.found; rest = unpassed_beside b _ _ k.rest })
 
-list_of : (o : Option ItemView) → map item_without_bodies (option_to_list o) ≡ option_to_list (option_map item_without_bodies o)
-list_of None = refl
-list_of (Some i) = refl
-
 more_alike : (done done' : List ItemView) (o o' : Option ItemView) → ListAlike done done' → ItemAlike o o' → ListAlike (done ++ option_to_list o) (done' ++ option_to_list o')
 more_alike done done' o o' a e =
     map-append item_without_bodies done' (option_to_list o') ∙ ap (λ l. l ++ map item_without_bodies (option_to_list o')) a
-    ∙ ap (λ l. map item_without_bodies done ++ l) (list_of o' ∙ ap option_to_list e ∙ sym (list_of o)) ∙ sym (map-append item_without_bodies done (option_to_list o))
+    ∙ ap (λ l. map item_without_bodies done ++ l) (list_of item_without_bodies o' ∙ ap option_to_list e ∙ sym (list_of item_without_bodies o)) ∙ sym (map-append item_without_bodies done (option_to_list o))
 
 module _ (end : ℕ) (ends : Tokens → Bool) (ends_same : (b : Bodies) (ts us : Tokens) → Beside b ts us → ends us ≡ ends ts) (turn : Finder (Option ItemView)) (finds : Finds end turn)
     (each : (b : Bodies) → BeginPlain b → UpToFound end b turn) where
@@ -464,14 +454,6 @@ module _ (end : ℕ) (turn : Finder (Option ItemView)) (finds : Finds end turn) 
 
 -- ---- items that hold others
 
-from_list : (is : List ItemView) → items_without_bodies (items_from is) ≡ items_from (map item_without_bodies is)
-from_list [] = refl
-from_list (i ∷ is) = ap (item_and (item_without_bodies i)) (from_list is)
-
-module_alike : (n : NamedView) (semicolon : Bool) (is : Option (List ItemView)) → item_without_bodies (module_from n semicolon is) ≡ module_from (named_without_body n) semicolon (option_map (map item_without_bodies) is)
-module_alike n semicolon None = refl
-module_alike n semicolon (Some is) = ap (listed_module (named_without_body n) semicolon) (from_list is)
-
 module_same : (attrs attrs' : List MetaView) (n n' : Option (List ℕ)) (v v' : Option Visibility) (s s' : Bool) (is is' : Option (List ItemView)) → attrs' ≡ attrs → n' ≡ n → v' ≡ v → s' ≡ s
     → option_map (map item_without_bodies) is' ≡ option_map (map item_without_bodies) is → item_without_bodies (module_from (named_node attrs' n' v' []) s' is') ≡ item_without_bodies (module_from (named_node attrs n v []) s is)
 module_same attrs attrs' n n' v v' s s' is is' a b c d e =
@@ -479,10 +461,6 @@ module_same attrs attrs' n n' v v' s s' is is' a b c d e =
     ∙ ap (λ (t : Option Visibility). module_from (named_node attrs' n' t []) s (option_map (map item_without_bodies) is)) c
     ∙ ap (λ (t : Option (List ℕ)). module_from (named_node attrs' t v []) s (option_map (map item_without_bodies) is)) b
     ∙ ap (λ (t : List MetaView). module_from (named_node t n v []) s (option_map (map item_without_bodies) is)) a ∙ sym (module_alike (named_node attrs n v []) s is)
-
-extern_block_alike : (n : NodeView) (is : Option (List ItemView)) → item_without_bodies (extern_block_from n is) ≡ extern_block_from (node_without_body n) (option_map (map item_without_bodies) is)
-extern_block_alike n None = refl
-extern_block_alike n (Some is) = ap (listed_extern_block (node_without_body n)) (from_list is)
 
 extern_block_same : (attrs attrs' : List MetaView) (is is' : Option (List ItemView)) → attrs' ≡ attrs → option_map (map item_without_bodies) is' ≡ option_map (map item_without_bodies) is
     → item_without_bodies (extern_block_from (node attrs' []) is') ≡ item_without_bodies (extern_block_from (node attrs []) is)

@@ -1,14 +1,13 @@
 -- What is told of items stands in the text.
-use Rattle.std.proofs.Common.{◌≡◌, ◌<◌, ◌≤◌, ◌+◌, ℕ, Option, Some, None, List, [], ◌∷◌, length, refl, ap, sym, subst, ◌∙◌, map, arith}
+use Rattle.std.proofs.Common.{◌≡◌, ◌<◌, ◌≤◌, ◌+◌, ℕ, Option, Some, None, List, [], ◌∷◌, length, ap, sym, subst, ◌∙◌, map, arith}
 use Rattle.std.proofs.lemmas.List.{length-map}
 use Rattle.hir_input.specs.declared.edition.EditionYear.{EditionYear}
 use Rattle.hir_input.specs.Syntax.{ItemViews}
 use Rattle.rust_paths.specs.declared.names.TextRange.{TextRange}
 use Rattle.rust_items.specs.declared.log.ItemSpan.{ItemSpan}
 use Rattle.rust_items.specs.declared.source_file.ItemPlace.{ItemPlace}
-use Rattle.rust_items.specs.declared.source_file.SourceFile.{SourceFile}
 use Rattle.rust_items.specs.Places.{Telling, IsBodyIn, IsNameIn, ArePlaces, nothing, placed}
-use Rattle.rust_items.specs.SourceFiles.{found_in, IsFile}
+use Rattle.rust_items.specs.SourceFiles.{FileView, found_in, IsFile}
 use Rattle.rust_items.proofs.FilePlaces.{text_found}
 use Rattle.rust_items.proofs.Places.{row_kind, place_kind, place_span}
 
@@ -46,7 +45,7 @@ spans_in edition x =
     subst (λ (l : List ItemSpan). AreIn (length x) l) (sym t.adds.spans) (all_in (length x) t.are (omega arith) tt)
 
 -- there is an id for each
-pub as_many : (edition : EditionYear) (x : List ℕ) (place : ℕ → ℕ) (file : SourceFile) (f : IsFile edition x place file) → length f.ids ≡ length (found_in edition x).spans
+pub as_many : (edition : EditionYear) (x : List ℕ) (place : ℕ → ℕ) (file : FileView) (f : IsFile edition x place file) → length f.ids ≡ length (found_in edition x).spans
 as_many edition x place file f =
     let t = text_found edition x in
     f.are_ids.as_many ∙ sym (length-map (found_in edition x).rows row_kind) ∙ ap length t.adds.rows ∙ length-map t.ps place_kind ∙ sym (length-map t.ps place_span) ∙ sym (ap length t.adds.spans)

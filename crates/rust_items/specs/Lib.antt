@@ -1,6 +1,7 @@
 pub mod Found
 pub mod Items
 pub mod Blocks
+pub mod Clipped
 pub mod Views
 pub mod Ids
 pub mod LineEnds

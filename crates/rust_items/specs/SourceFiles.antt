@@ -1,12 +1,14 @@
 -- Source files.
-use Rattle.std.specs.Prelude.{◌≡◌, ℕ, true, List, [], ◌∷◌, map}
+use Rattle.std.specs.Prelude.{◌≡◌, ℕ, Bool, true, false, List, [], ◌∷◌, map}
 use Rattle.hir_input.specs.declared.edition.EditionYear.{EditionYear}
 use Rattle.hir_input.specs.declared.ids.FileAstId.{FileAstId}
-use Rattle.hir_input.specs.Syntax.{ItemView, ItemViews, source_file, items_from, syntax_view}
+use Rattle.hir_input.specs.Bodies.{without_bodies}
+use Rattle.hir_input.specs.Syntax.{ItemView, ItemViews, SyntaxView, source_file, items_from, syntax_view}
 use Rattle.rust_cursor.specs.Tokens.{Tokens, tokens_of}
 use Rattle.rust_metas.specs.Attributes.{inner_attributes}
 use Rattle.rust_ids.specs.Ids.{AreIds}
 use Rattle.rust_items.specs.declared.log.ItemSpan.{ItemSpan}
+use Rattle.rust_items.specs.declared.log.Problem.{Problem}
 use Rattle.rust_items.specs.declared.log.ProblemKind.TheVariants as problem
 use Rattle.rust_items.specs.declared.source_file.ItemPlace.{ItemPlace}
 use Rattle.rust_items.specs.declared.source_file.SourceFile.{SourceFile}
@@ -37,16 +39,53 @@ found_in edition text = and_problem_at problem.Unterminated (read_of edition tex
 unfoldable pub items_in : EditionYear → List ℕ → ItemViews
 items_in edition text = items_from (read_of edition text).0
 
+-- what is read of a text, as plain data
+pub record FileView : Type 0 where
+  pub syntax : SyntaxView
+  pub places : List ItemPlace
+  pub use_trees : List ℕ
+  pub problems : List Problem
+
+abbrev pub file_view : SourceFile → FileView
+file_view file = record { syntax = syntax_view file.syntax; places = file.places.items; use_trees = file.use_trees.items; problems = file.problems.items }
+
 -- what is read of a text without returns, with the places that these have in another
-pub record IsFile (edition : EditionYear) (text : List ℕ) (place : ℕ → ℕ) (file : SourceFile) : Type 0 where
+pub record IsFile (edition : EditionYear) (text : List ℕ) (place : ℕ → ℕ) (file : FileView) : Type 0 where
   -- each item has its id
   pub ids : List FileAstId
   pub are_ids : AreIds (found_in edition text).rows ids
-  pub syntax : syntax_view file.syntax ≡ source_file (inner_attributes (tokens_of edition text)).0 (with_ids (items_in edition text) ids).0
-  pub places : file.places.items ≡ places ids (map (moved_span place) (found_in edition text).spans)
-  pub use_trees : file.use_trees.items ≡ map place (found_in edition text).use_trees
-  pub problems : file.problems.items ≡ map (moved_problem place) (found_in edition text).problems
+  pub syntax : file.syntax ≡ source_file (inner_attributes (tokens_of edition text)).0 (with_ids (items_in edition text) ids).0
+  pub places : file.places ≡ places ids (map (moved_span place) (found_in edition text).spans)
+  pub use_trees : file.use_trees ≡ map place (found_in edition text).use_trees
+  pub problems : file.problems ≡ map (moved_problem place) (found_in edition text).problems
+
+-- what is read of a text of an edition, as plain data
+abbrev pub IsFileView : EditionYear → List ℕ → FileView → Type 0
+IsFileView edition text file = IsFile edition (with_feeds text) (place_in text) file
 
 -- what is read of a text of an edition
 abbrev pub IsSourceFile : EditionYear → List ℕ → SourceFile → Type 0
-IsSourceFile edition text file = IsFile edition (with_feeds text) (place_in text) file
+IsSourceFile edition text file = IsFileView edition text (file_view file)
+
+-- ---- without bodies
+
+-- what was read, without the texts of bodies
+abbrev pub bare_file : FileView → FileView
+bare_file file = record { syntax = without_bodies file.syntax; places = file.places; use_trees = file.use_trees; problems = file.problems }
+
+-- the same unless they are kept
+abbrev pub clipped_file : Bool → FileView → FileView
+clipped_file true file = file
+clipped_file false file = bare_file file
+
+-- what is read of a text without returns, with the texts of bodies or without
+pub record IsClipped (keeps : Bool) (edition : EditionYear) (text : List ℕ) (place : ℕ → ℕ) (file : FileView) : Type 0 where
+  pub read : FileView
+  pub is_read : IsFile edition text place read
+  pub clipped : file ≡ clipped_file keeps read
+
+-- what is read of a text of an edition, without the texts of bodies
+pub record IsBareFile (edition : EditionYear) (text : List ℕ) (file : FileView) : Type 0 where
+  pub read : FileView
+  pub is_read : IsFileView edition text read
+  pub bare : file ≡ bare_file read

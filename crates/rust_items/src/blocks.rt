@@ -169,6 +169,7 @@ fn take_called<'t>(
     }
 }
 
+#[tactic(auto, using(crate::proofs::Clipped::kept_whole))]
 fn take_item<'t>(
     alloc: Global,
     cursor: &mut Cursor<'t>,
@@ -181,7 +182,7 @@ fn take_item<'t>(
         (log_view log.new) cursor.new }
 {
     let front = front_behind(alloc, cursor, start, attrs)?;
-    let item = behind_front(alloc, cursor, MOST_DEPTH, front, log)?;
+    let item = behind_front(alloc, cursor, true, MOST_DEPTH, front, log)?;
     Ok(item_part(item))
 }
 

@@ -3,9 +3,11 @@
 ghost use Rattle.std.specs.Prelude.{◌≡◌, ◌++◌, ◌+◌, ◌<◌, IfOk, OnOk, map, false, [], option_map, option_to_list};
 ghost use Rattle.hir_input.specs.Attr.{meta_view};
 ghost use Rattle.hir_input.specs.Syntax.{item_view, extern_item_view, extern_block_from};
+ghost use Rattle.rust_leaves.specs.Clipped.{clipped_item, with_value};
 ghost use Rattle.rust_leaves.specs.Kinds.{node};
 ghost use Rattle.rust_leaves.specs.Leaves.{no_name};
 ghost use Rattle.rust_leaves.specs.Views.{leaf_view};
+ghost use Rattle.rust_items.specs.Clipped.{clipped_block, clipped_item_if, clipped_turn};
 ghost use Rattle.rust_items.specs.Found.{Finds, log_view};
 ghost use Rattle.rust_items.specs.Items as spec;
 ghost use Rattle.rust_items.specs.Views.{extern_inside_view};
@@ -88,18 +90,22 @@ fn kept<'t>(
     }
 }
 
+#[tactic(auto, using(crate::proofs::Clipped::extern_by_clipped))]
 fn extern_by<'t>(
     alloc: Global,
     cursor: &mut Cursor<'t>,
+    keeps_bodies: bool,
     depth: usize,
     log: &mut Log<'t>,
 ) -> Result<Option<ExternItem>, AllocError>
     ensures { Finds (option_map extern_item_view)
-        (spec.extern_by depth (log_view log.old) cursor.old) result (log_view log.new) cursor.new }
+        (with_value (clipped_item_if keeps_bodies)
+        (spec.extern_by depth (log_view log.old) cursor.old)) result
+        (log_view log.new) cursor.new }
 {
     let front = take_front(alloc, cursor)?;
     let start = front.start;
-    match take_leaf(alloc, cursor, front)? {
+    match take_leaf(alloc, cursor, keeps_bodies, front)? {
         Some(leaf) => {
             let end = cursor.past();
             kept(leaf, depth, start, end, log)
@@ -113,15 +119,17 @@ fn extern_by<'t>(
 }
 
 /// An item of an extern block, or none.
-#[tactic(auto, unfolding(crate::specs::Items::extern_turn))]
+#[tactic(auto, using(crate::proofs::Clipped::extern_turn_clipped))]
 fn extern_turn<'t>(
     alloc: Global,
     cursor: &mut Cursor<'t>,
+    keeps_bodies: bool,
     depth: usize,
     log: &mut Log<'t>,
 ) -> Result<Option<ExternItem>, AllocError>
     ensures { Finds (option_map extern_item_view)
-        (spec.extern_turn depth (log_view log.old) cursor.old) result
+        (with_value (clipped_item_if keeps_bodies)
+        (spec.extern_turn depth (log_view log.old) cursor.old)) result
         (log_view log.new) cursor.new }
 {
     if cursor.is_at_end() {
@@ -129,7 +137,7 @@ fn extern_turn<'t>(
         cursor.bump();
         return Ok(None);
     }
-    extern_by(alloc, cursor, depth, log)
+    extern_by(alloc, cursor, keeps_bodies, depth, log)
 }
 
 fn push_some(items: &mut Vec<ExternItem>, item: Option<ExternItem>) -> Result<(), AllocError>
@@ -150,11 +158,12 @@ fn push_some(items: &mut Vec<ExternItem>, item: Option<ExternItem>) -> Result<()
 fn extern_items<'t>(
     alloc: Global,
     cursor: &mut Cursor<'t>,
+    keeps_bodies: bool,
     depth: usize,
     log: &mut Log<'t>,
 ) -> Result<Vec<ExternItem>, AllocError>
     ensures { Finds (λ v. map extern_item_view v.items)
-        (spec.finding (spec.is_list_end false) (spec.extern_turn depth)
+        (spec.finding (spec.is_list_end false) (clipped_turn keeps_bodies (spec.extern_turn depth))
         (log_view log.old) cursor.old) result (log_view log.new) cursor.new }
 {
     let mut items = Vec::new(alloc);
@@ -164,7 +173,7 @@ fn extern_items<'t>(
             return Ok(items);
         }
         let past = cursor.past();
-        let item = extern_turn(alloc, cursor, depth, log)?;
+        let item = extern_turn(alloc, cursor, keeps_bodies, depth, log)?;
         push_some(&mut items, item)?;
         cursor.pass_beyond(past);
     }
@@ -172,15 +181,17 @@ fn extern_items<'t>(
 }
 
 /// Takes the braces of an extern block, if they come next.
-#[tactic(auto, unfolding(crate::specs::Items::extern_inside))]
+#[tactic(auto, using(crate::proofs::Clipped::extern_inside_clipped))]
 fn extern_inside<'t>(
     alloc: Global,
     cursor: &mut Cursor<'t>,
+    keeps_bodies: bool,
     depth: usize,
     log: &mut Log<'t>,
 ) -> Result<ExternInside, AllocError>
     ensures { Finds extern_inside_view
-        (spec.extern_inside depth (log_view log.old) cursor.old) result
+        (with_value (clipped_block keeps_bodies)
+        (spec.extern_inside depth (log_view log.old) cursor.old)) result
         (log_view log.new) cursor.new }
 {
     if cursor.symbol() != b'{' {
@@ -192,7 +203,7 @@ fn extern_inside<'t>(
     }
     cursor.bump();
     let attrs = inner_attributes(alloc, cursor)?;
-    let items = extern_items(alloc, cursor, depth, log)?;
+    let items = extern_items(alloc, cursor, keeps_bodies, depth, log)?;
     let is_ended = cursor.eat(b'}');
     Ok(ExternInside {
         attrs,
@@ -241,22 +252,24 @@ fn push_block<'t>(
 }
 
 /// Takes an extern block, behind `extern` and the name of an interface.
-#[tactic(auto, unfolding(crate::specs::Items::extern_block))]
+#[tactic(auto, using(crate::proofs::Clipped::extern_block_clipped))]
 pub(crate) fn extern_block<'t>(
     alloc: Global,
     cursor: &mut Cursor<'t>,
+    keeps_bodies: bool,
     depth: usize,
     front: Front,
     log: &mut Log<'t>,
 ) -> Result<Item, AllocError>
     requires { depth < 129 }
     ensures { Finds item_view
+        (with_value (clipped_item keeps_bodies)
         (spec.extern_block depth front.start (map meta_view front.attrs.items)
-        (log_view log.old) cursor.old) result (log_view log.new) cursor.new }
+        (log_view log.old) cursor.old)) result (log_view log.new) cursor.new }
 {
     let mut more = Log::new(alloc);
     let start = front.start;
-    let inside = extern_inside(alloc, cursor, depth + 1, &mut more)?;
+    let inside = extern_inside(alloc, cursor, keeps_bodies, depth + 1, &mut more)?;
     let end = cursor.past();
     push_block(log, depth, start, end, inside.is_ended, more)?;
     block_item(alloc, front, inside)

@@ -3,9 +3,11 @@
 ghost use Rattle.std.specs.Prelude.{◌≡◌, ◌++◌, IfOk, OnOk, map, option_map, option_to_list, []};
 ghost use Rattle.hir_input.specs.Attr.{meta_view};
 ghost use Rattle.hir_input.specs.Syntax.{item_view, module_from};
+ghost use Rattle.rust_items.specs.Clipped.{clipped_block, clipped_item_if, clipped_turn};
 ghost use Rattle.rust_items.specs.Found.{Finds, log_view};
 ghost use Rattle.rust_items.specs.Items as spec;
 ghost use Rattle.rust_items.specs.Views.{inside_view};
+ghost use Rattle.rust_leaves.specs.Clipped.{clipped_item, with_value};
 ghost use Rattle.rust_leaves.specs.Kinds.{named_node};
 ghost use Rattle.rust_leaves.specs.Views.{front_view, name_view};
 
@@ -112,15 +114,17 @@ fn module_item(
 
 /// Takes the braces of a module, if they come next.
 #[cycle(items)]
-#[tactic(auto, using(crate::proofs::Steps::inside_deep, crate::proofs::Steps::inside_none, crate::proofs::Steps::inside_some))]
+#[tactic(auto, using(crate::proofs::Clipped::deep_clipped, crate::proofs::Clipped::none_clipped, crate::proofs::Clipped::some_clipped))]
 fn module_inside<'t>(
     alloc: Global,
     cursor: &mut Cursor<'t>,
+    keeps_bodies: bool,
     left: usize,
     log: &mut Log<'t>,
 ) -> Result<Inside, AllocError>
-    ensures { Finds inside_view (spec.inside left (log_view log.old) cursor.old) result
-        (log_view log.new) cursor.new }
+    ensures { Finds inside_view
+        (with_value (clipped_block keeps_bodies) (spec.inside left (log_view log.old) cursor.old))
+        result (log_view log.new) cursor.new }
 {
     if cursor.symbol() != b'{' {
         return Ok(no_inside(alloc, false));
@@ -132,7 +136,7 @@ fn module_inside<'t>(
     }
     cursor.bump();
     let attrs = inner_attributes(alloc, cursor)?;
-    let items = items(alloc, cursor, false, left - 1, log)?;
+    let items = items(alloc, cursor, keeps_bodies, false, left - 1, log)?;
     let is_ended = cursor.eat(b'}');
     Ok(Inside {
         attrs,
@@ -142,41 +146,46 @@ fn module_inside<'t>(
 }
 
 #[cycle(items)]
+#[tactic(auto, using(crate::proofs::Clipped::unless_clipped))]
 fn inside_unless<'t>(
     alloc: Global,
     cursor: &mut Cursor<'t>,
+    keeps_bodies: bool,
     semicolon: bool,
     left: usize,
     log: &mut Log<'t>,
 ) -> Result<Inside, AllocError>
     ensures { Finds inside_view
-        (spec.inside_unless semicolon (spec.inside left) (log_view log.old) cursor.old) result
+        (with_value (clipped_block keeps_bodies)
+        (spec.inside_unless semicolon (spec.inside left) (log_view log.old) cursor.old)) result
         (log_view log.new) cursor.new }
 {
     if semicolon {
         return Ok(no_inside(alloc, false));
     }
-    module_inside(alloc, cursor, left, log)
+    module_inside(alloc, cursor, keeps_bodies, left, log)
 }
 
 /// Takes a module, behind `mod`.
 #[cycle(items)]
-#[tactic(auto, unfolding(crate::specs::Items::module_at))]
+#[tactic(auto, using(crate::proofs::Clipped::module_clipped))]
 fn module<'t>(
     alloc: Global,
     cursor: &mut Cursor<'t>,
+    keeps_bodies: bool,
     left: usize,
     front: Front,
     log: &mut Log<'t>,
 ) -> Result<Item, AllocError>
     ensures { Finds item_view
-        (spec.module_at left (front_view front) (log_view log.old) cursor.old) result
+        (with_value (clipped_item keeps_bodies)
+        (spec.module_at left (front_view front) (log_view log.old) cursor.old)) result
         (log_view log.new) cursor.new }
 {
     let named = item_name(alloc, cursor)?;
     let semicolon = cursor.eat(b';');
     let mut more = Log::new(alloc);
-    let inside = inside_unless(alloc, cursor, semicolon, left, &mut more)?;
+    let inside = inside_unless(alloc, cursor, keeps_bodies, semicolon, left, &mut more)?;
     let end = cursor.past();
     let is_ended = semicolon || inside.is_ended;
     push_module(
@@ -193,42 +202,46 @@ fn module<'t>(
 
 /// An item behind what stands in front of it, or none: then tokens are passed over.
 #[cycle(items)]
-#[tactic(auto, unfolding(crate::specs::Items::behind_front, crate::specs::Items::module_at))]
+#[tactic(auto, using(crate::proofs::Clipped::behind_front_clipped))]
 pub(crate) fn behind_front<'t>(
     alloc: Global,
     cursor: &mut Cursor<'t>,
+    keeps_bodies: bool,
     left: usize,
     front: Front,
     log: &mut Log<'t>,
 ) -> Result<Option<Item>, AllocError>
     ensures { Finds (option_map item_view)
-        (spec.behind_front left (front_view front) (log_view log.old) cursor.old) result
+        (with_value (clipped_item_if keeps_bodies)
+        (spec.behind_front left (front_view front) (log_view log.old) cursor.old)) result
         (log_view log.new) cursor.new }
 {
     match front.head {
         Head::Module => {
-            let item = module(alloc, cursor, left, front, log)?;
+            let item = module(alloc, cursor, keeps_bodies, left, front, log)?;
             Ok(Some(item))
         }
         Head::ExternBlock => {
-            let item = extern_block(alloc, cursor, depth_of(left), front, log)?;
+            let item = extern_block(alloc, cursor, keeps_bodies, depth_of(left), front, log)?;
             Ok(Some(item))
         }
-        _ => leaf_turn(alloc, cursor, depth_of(left), front, log),
+        _ => leaf_turn(alloc, cursor, keeps_bodies, depth_of(left), front, log),
     }
 }
 
 /// An item, or none.
 #[cycle(items)]
-#[tactic(auto, unfolding(crate::specs::Items::turn, crate::specs::Items::behind_front))]
+#[tactic(auto, using(crate::proofs::Clipped::turn_clipped))]
 fn turn<'t>(
     alloc: Global,
     cursor: &mut Cursor<'t>,
+    keeps_bodies: bool,
     left: usize,
     log: &mut Log<'t>,
 ) -> Result<Option<Item>, AllocError>
-    ensures { Finds (option_map item_view) (spec.turn left (log_view log.old) cursor.old) result
-        (log_view log.new) cursor.new }
+    ensures { Finds (option_map item_view)
+        (with_value (clipped_item_if keeps_bodies)
+        (spec.turn left (log_view log.old) cursor.old)) result (log_view log.new) cursor.new }
 {
     if cursor.is_at_end() {
         log.push_problem(ProblemKind::Unmatched, cursor.at())?;
@@ -236,7 +249,7 @@ fn turn<'t>(
         return Ok(None);
     }
     let front = take_front(alloc, cursor)?;
-    behind_front(alloc, cursor, left, front, log)
+    behind_front(alloc, cursor, keeps_bodies, left, front, log)
 }
 
 /// The items of a file, or of a module.
@@ -245,12 +258,14 @@ fn turn<'t>(
 pub(crate) fn items<'t>(
     alloc: Global,
     cursor: &mut Cursor<'t>,
+    keeps_bodies: bool,
     is_top: bool,
     left: usize,
     log: &mut Log<'t>,
 ) -> Result<Vec<Item>, AllocError>
     ensures { Finds (λ v. map item_view v.items)
-        (spec.items is_top left (log_view log.old) cursor.old) result
+        (spec.finding (spec.is_list_end is_top) (clipped_turn keeps_bodies (spec.turn left))
+        (log_view log.old) cursor.old) result
         (log_view log.new) cursor.new }
 {
     let mut items = Vec::new(alloc);
@@ -260,7 +275,7 @@ pub(crate) fn items<'t>(
             return Ok(items);
         }
         let past = cursor.past();
-        let item = turn(alloc, cursor, left, log)?;
+        let item = turn(alloc, cursor, keeps_bodies, left, log)?;
         push_some(&mut items, item)?;
         cursor.pass_beyond(past);
     }

@@ -1,18 +1,22 @@
 //! Source files.
 
-ghost use Rattle.std.specs.Prelude.{◌≡◌, ◌≢◌, ◌≤◌, ◌^◌, [], length, AllPairs, IfOk, OnOk, map};
-ghost use Rattle.hir_input.specs.Syntax.{items_of, syntax_view};
-ghost use Rattle.rust_items.specs.Found.{log_view};
-ghost use Rattle.rust_items.specs.LineEnds.{moved_span, place_by};
+ghost use Rattle.std.specs.Prelude.{◌≡◌, ◌≢◌, ◌≤◌, ◌^◌, [], true, length, AllPairs, IfOk, OnOk, map};
+ghost use Rattle.hir_input.specs.Syntax.{item_view, items_of, syntax_view};
+ghost use Rattle.rust_leaves.specs.Clipped.{with_value};
+ghost use Rattle.rust_items.specs.Clipped.{clipped_items};
+ghost use Rattle.rust_items.specs.Found.{Finds, log_view};
+ghost use Rattle.rust_items.specs.Items as found;
+ghost use Rattle.rust_items.specs.LineEnds.{moved_span, place_by, place_in, with_feeds};
 ghost use Rattle.rust_items.specs.Places.{ArePlaces, IsWritten};
 ghost use Rattle.rust_items.specs.SourceFiles as spec;
+ghost use Rattle.rust_items.specs.Views.{reading_file};
 
 use crate::ids::{Supply, items_with_ids};
 use crate::items::{MOST_DEPTH, items};
 use crate::line_ends::{LineEnds, has_return, with_feeds};
 use crate::log::{ItemSpan, Log, Problem, ProblemKind};
-use hir_input::ast::Syntax;
-use hir_input::{EditionYear, FileAstId};
+use hir_input::ast::{Item, Syntax};
+use hir_input::{EditionYear, FileAstId, Meta};
 use rust_cursor::Cursor;
 use rust_ids::assign;
 use rust_metas::inner_attributes;
@@ -77,21 +81,47 @@ pub(crate) fn places(
     Ok(places)
 }
 
+/// What was read of a text, before its items are a syntax.
+#[derive(Drop)]
+pub(crate) struct Reading {
+    pub attrs: Vec<Meta>,
+    pub items: Vec<Item>,
+    pub places: Vec<ItemPlace>,
+    pub use_trees: Vec<usize>,
+    pub problems: Vec<Problem>,
+}
+
+/// The items of a text, behind its inner attributes.
+#[tactic(auto, using(crate::proofs::Clipped::finding_clipped))]
+fn top_items<'t>(
+    alloc: Global,
+    cursor: &mut Cursor<'t>,
+    keeps_bodies: bool,
+    log: &mut Log<'t>,
+) -> Result<Vec<Item>, AllocError>
+    ensures { Finds (λ v. map item_view v.items)
+        (with_value (clipped_items keeps_bodies)
+        (found.items true 128 (log_view log.old) cursor.old)) result (log_view log.new) cursor.new }
+{
+    items(alloc, cursor, keeps_bodies, true, MOST_DEPTH, log)
+}
+
 /// What is read of a text of an edition with line feeds alone.
-#[tactic(auto, unfolding(crate::specs::SourceFiles::found_in, crate::specs::SourceFiles::items_in), using(crate::proofs::Numbering::with_ids_list))]
-fn file_of(
+#[tactic(auto, unfolding(crate::specs::SourceFiles::found_in, rust_leaves::specs::Clipped::with_value), using(crate::proofs::Numbering::with_ids_list, crate::proofs::BareFiles::is_clipped))]
+fn reading_of(
     alloc: Global,
     text: &str,
+    keeps_bodies: bool,
     edition: EditionYear,
     ends: &LineEnds,
-) -> Result<SourceFile, AllocError>
-    ensures { IfOk result (λ file. spec.IsFile edition text.now
-        (place_by ends.now.len ends.now.returns.items) file) }
+) -> Result<Reading, AllocError>
+    ensures { IfOk result (λ read. spec.IsClipped keeps_bodies edition text.now
+        (place_by ends.now.len ends.now.returns.items) (reading_file read)) }
 {
     let mut cursor = Cursor::new(text, edition);
     let attrs = inner_attributes(alloc, &mut cursor)?;
     let mut log = Log::new(alloc);
-    let items = items(alloc, &mut cursor, true, MOST_DEPTH, &mut log)?;
+    let items = top_items(alloc, &mut cursor, keeps_bodies, &mut log)?;
     log.push_problem_at(ProblemKind::Unterminated, cursor.unended())?;
     let ids = assign(alloc, &log.rows)?;
     let places = places(alloc, &ids, &log.spans, ends)?;
@@ -99,8 +129,9 @@ fn file_of(
     let problems = ends.problems(alloc, &log.problems)?;
     let mut supply = Supply { rest: &ids };
     let items = items_with_ids(alloc, items, &mut supply)?;
-    Ok(SourceFile {
-        syntax: Syntax::SourceFile { attrs, items },
+    Ok(Reading {
+        attrs,
+        items,
         places,
         use_trees,
         problems,
@@ -108,16 +139,51 @@ fn file_of(
 }
 
 /// What is read of a text, whichever line ends it has.
-#[tactic(auto, using(crate::proofs::FilePlaces::same_file))]
-fn read_file(alloc: Global, text: &str, edition: EditionYear) -> Result<SourceFile, AllocError>
-    ensures { IfOk result (λ file. spec.IsSourceFile edition text.now file) }
+fn read_text(
+    alloc: Global,
+    text: &str,
+    keeps_bodies: bool,
+    edition: EditionYear,
+) -> Result<Reading, AllocError>
+    ensures { IfOk result (λ read. spec.IsClipped keeps_bodies edition (with_feeds text.now)
+        (place_in text.now) (reading_file read)) }
 {
     if !has_return(text) {
         let ends = LineEnds::none(alloc, text);
-        return file_of(alloc, text, edition, &ends);
+        return reading_of(alloc, text, keeps_bodies, edition, &ends);
     }
     let (feeds, ends) = with_feeds(alloc, text)?;
-    file_of(alloc, &feeds, edition, &ends)
+    reading_of(alloc, &feeds, keeps_bodies, edition, &ends)
+}
+
+fn file_of(reading: Reading) -> SourceFile
+    ensures { spec.file_view result ≡ reading_file reading }
+{
+    SourceFile {
+        syntax: Syntax::SourceFile {
+            attrs: reading.attrs,
+            items: reading.items,
+        },
+        places: reading.places,
+        use_trees: reading.use_trees,
+        problems: reading.problems,
+    }
+}
+
+#[tactic(auto, using(crate::proofs::BareFiles::file_seen))]
+fn read_file(alloc: Global, text: &str, edition: EditionYear) -> Result<SourceFile, AllocError>
+    ensures { IfOk result (λ file. spec.IsSourceFile edition text.now file) }
+{
+    let reading = read_text(alloc, text, true, edition)?;
+    Ok(file_of(reading))
+}
+
+#[tactic(auto, using(crate::proofs::BareFiles::bare_seen))]
+fn read_bare(alloc: Global, text: &str, edition: EditionYear) -> Result<SourceFile, AllocError>
+    ensures { IfOk result (λ file. spec.IsBareFile edition text.now (spec.file_view file)) }
+{
+    let reading = read_text(alloc, text, false, edition)?;
+    Ok(file_of(reading))
 }
 
 /// Reads the items of a text. The edition tells which words are names.
@@ -141,4 +207,24 @@ pub fn read_source_file(
         → IfOk result (λ file. AllPairs (λ p q. p.id ≢ q.id) file.places.items) }
 {
     read_file(alloc, text, edition)
+}
+
+/// Reads the items of a text as `read_source_file` does, but leaves the texts of all bodies empty.
+///
+/// # Errors
+///
+/// Only if memory runs out.
+#[tactic(auto, using(crate::proofs::BareFiles::bare_placed, crate::proofs::BareFiles::bare_distinct))]
+pub fn read_without_bodies(
+    alloc: Global,
+    text: &str,
+    edition: EditionYear,
+) -> Result<SourceFile, AllocError>
+    ensures file { IfOk result (λ file. spec.IsBareFile edition text.now (spec.file_view file)) }
+    ensures placed { IfOk result (λ file. let items = items_of (syntax_view file.syntax) in
+        ArePlaces (IsWritten text.now) 0 (length text.now) items file.places.items []) }
+    ensures distinct { length text.now ≤ 2 ^ 32
+        → IfOk result (λ file. AllPairs (λ p q. p.id ≢ q.id) file.places.items) }
+{
+    read_bare(alloc, text, edition)
 }

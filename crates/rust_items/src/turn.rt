@@ -2,7 +2,9 @@
 
 ghost use Rattle.std.specs.Prelude.{◌≡◌, IfOk, OnOk, option_map};
 ghost use Rattle.hir_input.specs.Syntax.{item_view};
+ghost use Rattle.rust_leaves.specs.Clipped.{with_value};
 ghost use Rattle.rust_leaves.specs.Views.{front_view, leaf_view};
+ghost use Rattle.rust_items.specs.Clipped.{clipped_item_if};
 ghost use Rattle.rust_items.specs.Found.{Finds, and_problem_at, log_view};
 ghost use Rattle.rust_items.specs.Items as spec;
 
@@ -124,20 +126,22 @@ fn kept<'t>(
 }
 
 /// An item that holds none, or tokens that begin no item.
-#[tactic(auto, unfolding(crate::specs::Items::leaf_turn))]
+#[tactic(auto, using(crate::proofs::Clipped::leaf_turn_clipped))]
 pub(crate) fn leaf_turn<'t>(
     alloc: Global,
     cursor: &mut Cursor<'t>,
+    keeps_bodies: bool,
     depth: usize,
     front: Front,
     log: &mut Log<'t>,
 ) -> Result<Option<Item>, AllocError>
     ensures { Finds (option_map item_view)
-        (spec.leaf_turn depth (front_view front) (log_view log.old) cursor.old) result
+        (with_value (clipped_item_if keeps_bodies)
+        (spec.leaf_turn depth (front_view front) (log_view log.old) cursor.old)) result
         (log_view log.new) cursor.new }
 {
     let start = front.start;
-    match take_leaf(alloc, cursor, front)? {
+    match take_leaf(alloc, cursor, keeps_bodies, front)? {
         Some(leaf) => {
             let end = cursor.past();
             kept(leaf, depth, start, end, log)

@@ -1,8 +1,8 @@
 //! Which edits are told to move what was read, and which say that the text is to be read.
 
 use hir_input::{AstIdKind, FileAstId};
-use rust_edits::{Shift, edit_inside};
-use rust_items::{ItemPlace, TextRange};
+use rust_edits::{BodyEdit, edit_inside};
+use rust_items::{ItemPlace, Problem, ProblemKind, TextRange};
 use std::alloc::{AllocError, Global};
 
 // The function `fn f() {..}` that begins at a place, with so many bytes from its `{` up to behind its `}`.
@@ -39,7 +39,7 @@ fn is_moved(
 ) -> Result<bool, AllocError> {
     let function = function(0, text.len().saturating_sub(7));
     match edit_inside(alloc, &[function], text, range, typed)? {
-        Some(shift) => Ok(shift.place(text.len()) == Some(end)),
+        Some(edit) => Ok(edit.shift.place(text.len()) == Some(end)),
         None => Ok(end == 0),
     }
 }
@@ -85,7 +85,7 @@ fn edits_in_bodies_are_told(rt: HostRuntime) {
 }
 
 // In the second of two functions.
-fn second(alloc: Global, front: &str) -> Result<Option<Shift>, AllocError> {
+fn second(alloc: Global, front: &str, typed: &str) -> Result<Option<BodyEdit>, AllocError> {
     let mut text = String::new(alloc);
     text.push_str(front)?;
     text.push_str("fn f() {} fn g() {}")?;
@@ -93,7 +93,7 @@ fn second(alloc: Global, front: &str) -> Result<Option<Shift>, AllocError> {
     let at = start.saturating_add(18);
     let places = [function(start, 2), function(start.saturating_add(10), 2)];
     let range = TextRange { start: at, end: at };
-    edit_inside(alloc, &places, &text, range, "1")
+    edit_inside(alloc, &places, &text, range, typed)
 }
 
 #[test]
@@ -107,7 +107,34 @@ fn what_stands_in_front_is_told(rt: HostRuntime) {
         ("---\n---\n", false),
         ("\u{FEFF}", false),
     ] {
-        let shift = second(rt.alloc(), front).unwrap_or(None);
-        assert_eq!(rt; shift.is_some(), is_told);
+        let edit = second(rt.alloc(), front, "1").unwrap_or(None);
+        assert_eq!(rt; edit.is_some(), is_told);
+    }
+}
+
+// Moves the place of the second function, a use tree and a problem at its end.
+fn moved(edit: &BodyEdit) -> (usize, usize, usize) {
+    let mut items = [function(10, 2)];
+    let mut starts = [19];
+    let mut problems = [Problem {
+        kind: ProblemKind::NoItem,
+        at: 19,
+    }];
+    edit.shift.move_items(&mut items);
+    edit.shift.move_use_trees(&mut starts);
+    edit.shift.move_problems(&mut problems);
+    (items[0].range.end, starts[0], problems[0].at)
+}
+
+#[test]
+fn what_was_read_is_moved_in_place(rt: HostRuntime) {
+    for (typed, keeps_problems) in [("1", true), ("(", false), ("[]", true)] {
+        let Some(edit) = second(rt.alloc(), "", typed).unwrap_or(None) else {
+            assert!(rt; false);
+            return;
+        };
+        assert_eq!(rt; edit.keeps_problems, keeps_problems);
+        let end = typed.len().saturating_add(19);
+        assert_eq!(rt; moved(&edit), (end, end, end));
     }
 }

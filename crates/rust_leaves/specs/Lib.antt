@@ -4,4 +4,5 @@ pub mod Texts
 pub mod Leaves
 pub mod Kinds
 pub mod Statements
+pub mod Clipped
 pub mod Views

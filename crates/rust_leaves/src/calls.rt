@@ -3,9 +3,11 @@
 ghost use Rattle.std.specs.Prelude.{◌≡◌, Some, map, option_map};
 ghost use Rattle.hir_input.specs.Attr.{meta_view};
 ghost use Rattle.rust_cursor.specs.Reader.{Gives};
+ghost use Rattle.rust_leaves.specs.Clipped.{clipped_leaf, clipped_leaf_if, with_value};
 ghost use Rattle.rust_leaves.specs.Kinds as spec;
 ghost use Rattle.rust_leaves.specs.Views.{leaf_view};
 
+use crate::head::second;
 use crate::leaf::Leaf;
 use crate::named::{call_end, item_name_or};
 use crate::texts::{bare, last_text};
@@ -15,17 +17,19 @@ use rust_cursor::Cursor;
 use rust_paths::{TreeStarts, path};
 use std::alloc::{AllocError, Global};
 
-#[tactic(auto, unfolding(crate::specs::Kinds::macro_definition), using(hir_input::proofs::SyntaxViews::item_views))]
+#[tactic(auto, using(hir_input::proofs::SyntaxViews::item_views, crate::proofs::Clipped::macro_definition_clipped))]
 pub(crate) fn macro_definition<'t>(
     alloc: Global,
     cursor: &mut Cursor<'t>,
+    keeps_body: bool,
     attrs: Vec<Meta>,
 ) -> Result<Leaf<'t>, AllocError>
     ensures { Gives leaf_view
-        (spec.macro_definition (map meta_view attrs.items) cursor.old) result cursor.new }
+        (with_value (clipped_leaf keeps_body)
+        (spec.macro_definition (map meta_view attrs.items) cursor.old)) result cursor.new }
 {
     let named = item_name_or(alloc, cursor, "try")?;
-    let rest = call_end(alloc, cursor)?;
+    let rest = call_end(alloc, cursor, keeps_body)?;
     let item = Item::MacroRules(MacroRules {
         hash: 0,
         number: 0,
@@ -50,26 +54,23 @@ pub(crate) fn macro_definition<'t>(
 pub(crate) fn is_called(cursor: &Cursor<'_>) -> bool
     ensures { result ≡ spec.is_called cursor.now }
 {
-    if cursor.symbol() != b'!' {
-        return false;
-    }
-    let mut behind = cursor.ahead();
-    behind.bump();
-    behind.is_at_open()
+    cursor.symbol() == b'!' && second(cursor).is_at_open()
 }
 
-#[tactic(auto, using(hir_input::proofs::SyntaxViews::item_views))]
+#[tactic(auto, using(hir_input::proofs::SyntaxViews::item_views, crate::proofs::Clipped::call_clipped))]
 fn call_behind<'t>(
     alloc: Global,
     cursor: &mut Cursor<'t>,
+    keeps_body: bool,
     attrs: Vec<Meta>,
     path: Option<PathNode>,
     name: &'t str,
 ) -> Result<Leaf<'t>, AllocError>
     ensures { Gives leaf_view
-        (spec.call_behind (map meta_view attrs.items) path name.now cursor.old) result cursor.new }
+        (with_value (clipped_leaf keeps_body)
+        (spec.call_behind (map meta_view attrs.items) path name.now cursor.old)) result cursor.new }
 {
-    let rest = call_end(alloc, cursor)?;
+    let rest = call_end(alloc, cursor, keeps_body)?;
     let item = Item::MacroCall(MacroCall {
         hash: 0,
         number: 0,
@@ -92,14 +93,16 @@ fn call_behind<'t>(
 }
 
 /// Takes a macro call, or nothing where none is written.
-#[tactic(auto, unfolding(crate::specs::Kinds::invocation))]
+#[tactic(auto, using(crate::proofs::Clipped::invocation_clipped))]
 pub(crate) fn invocation<'t>(
     alloc: Global,
     cursor: &mut Cursor<'t>,
+    keeps_body: bool,
     attrs: Vec<Meta>,
 ) -> Result<Option<Leaf<'t>>, AllocError>
     ensures { Gives (option_map leaf_view)
-        (spec.invocation (map meta_view attrs.items) cursor.old) result cursor.new }
+        (with_value (clipped_leaf_if keeps_body)
+        (spec.invocation (map meta_view attrs.items) cursor.old)) result cursor.new }
 {
     let mut ahead = cursor.ahead();
     let path = path(alloc, &mut ahead)?;
@@ -112,5 +115,5 @@ pub(crate) fn invocation<'t>(
     let name = bare(last_text(cursor, ahead.past()));
     ahead.bump();
     *cursor = ahead;
-    Ok(Some(call_behind(alloc, cursor, attrs, path, name)?))
+    Ok(Some(call_behind(alloc, cursor, keeps_body, attrs, path, name)?))
 }

@@ -1,6 +1,7 @@
 //! The words that begin an item, and the modifiers before them.
 
-ghost use Rattle.std.specs.Prelude.{◌≡◌};
+ghost use Rattle.std.specs.Prelude.{◌≡◌, ◌||◌};
+ghost use Rattle.rust_cursor.specs.Words.{bumped, word};
 ghost use Rattle.rust_leaves.specs.Heads as spec;
 
 use rust_cursor::{Cursor, is_among};
@@ -107,39 +108,46 @@ fn extern_modifies(behind: &Cursor<'_>) -> bool
 fn is_auto_trait(cursor: &Cursor<'_>) -> bool
     ensures { result ≡ spec.is_auto_trait cursor.now }
 {
-    if cursor.word() != "auto" {
-        return false;
-    }
-    let mut behind = cursor.ahead();
-    behind.bump();
-    behind.word() == "trait"
+    cursor.word() == "auto" && second(cursor).word() == "trait"
 }
 
-#[tactic(auto, unfolding(crate::specs::Heads::is_modifier_before))]
-fn is_modifier_before(word: &str, behind: &Cursor<'_>) -> bool
-    ensures { result ≡ spec.is_modifier_before word.now behind.now }
+/// What is left behind the next token.
+pub(crate) fn second<'t>(cursor: &Cursor<'t>) -> Cursor<'t>
+    ensures { result ≡ bumped cursor.now }
 {
-    match word {
-        "const" => follows_const(behind.word()) || is_auto_trait(behind),
-        "async" => follows_async(behind.word()),
-        "unsafe" => follows_unsafe(behind.word()) || is_auto_trait(behind),
-        "safe" => follows_safe(behind.word()),
-        "default" => follows_default(behind.word()),
-        "gen" => behind.word() == "fn",
-        "auto" => behind.word() == "trait",
-        "extern" => extern_modifies(behind),
-        _ => false,
-    }
+    let mut second = cursor.ahead();
+    second.bump();
+    second
 }
 
-/// Whether a modifier comes next.
-#[tactic(auto, unfolding(crate::specs::Heads::is_modifier))]
+fn is_const_modifier(behind: &Cursor<'_>) -> bool
+    ensures { result ≡ (spec.follows_const (word behind.now) || spec.is_auto_trait behind.now) }
+{
+    follows_const(behind.word()) || is_auto_trait(behind)
+}
+
+fn is_unsafe_modifier(behind: &Cursor<'_>) -> bool
+    ensures { result ≡ (spec.follows_unsafe (word behind.now) || spec.is_auto_trait behind.now) }
+{
+    follows_unsafe(behind.word()) || is_auto_trait(behind)
+}
+
+/// Whether a modifier comes next. Only behind a word that can be one a token is cut.
+#[tactic(auto, unfolding(crate::specs::Heads::is_modifier, crate::specs::Heads::is_modifier_before))]
 pub(crate) fn is_modifier(cursor: &Cursor<'_>) -> bool
     ensures { result ≡ spec.is_modifier cursor.now }
 {
-    let mut behind = cursor.ahead();
-    behind.bump();
-    is_modifier_before(cursor.word(), &behind)
+    match cursor.word() {
+        "const" => is_const_modifier(&second(cursor)),
+        "async" => follows_async(second(cursor).word()),
+        "unsafe" => is_unsafe_modifier(&second(cursor)),
+        "safe" => follows_safe(second(cursor).word()),
+        "default" => follows_default(second(cursor).word()),
+        "gen" => second(cursor).word() == "fn",
+        "auto" => second(cursor).word() == "trait",
+        "extern" => extern_modifies(&second(cursor)),
+        _ => false,
+    }
 }
 
 #[tactic(auto, unfolding(crate::specs::Heads::behind_modifier))]
@@ -190,9 +198,7 @@ fn macro_rules_head(behind: &Cursor<'_>) -> Head
     if behind.symbol() != b'!' {
         return Head::Other;
     }
-    let mut ahead = behind.ahead();
-    ahead.bump();
-    if ahead.is_at_identifier() {
+    if second(behind).is_at_identifier() {
         Head::MacroRules
     } else {
         Head::Other
@@ -210,11 +216,12 @@ fn union_head(behind: &Cursor<'_>) -> Head
     }
 }
 
+/// What kind of item the next words begin.
 #[tactic(auto, unfolding(crate::specs::Heads::head_by))]
-pub(crate) fn head_by(word: &str, behind: &Cursor<'_>) -> Head
-    ensures { result ≡ spec.head_by word.now behind.now }
+pub(crate) fn head_at(cursor: &Cursor<'_>) -> Head
+    ensures { result ≡ spec.head_by (word cursor.now) (bumped cursor.now) }
 {
-    match word {
+    match cursor.word() {
         "use" => Head::Use,
         "fn" => Head::Fn,
         "impl" => Head::Impl,
@@ -226,9 +233,9 @@ pub(crate) fn head_by(word: &str, behind: &Cursor<'_>) -> Head
         "type" => Head::TypeAlias,
         "mod" => Head::Module,
         "macro" => Head::MacroDef,
-        "union" => union_head(behind),
-        "macro_rules" => macro_rules_head(behind),
-        "extern" => extern_head(behind),
+        "union" => union_head(&second(cursor)),
+        "macro_rules" => macro_rules_head(&second(cursor)),
+        "extern" => extern_head(&second(cursor)),
         _ => Head::Other,
     }
 }
@@ -255,9 +262,7 @@ fn pass_head(head: Head, cursor: &mut Cursor<'_>)
 pub(crate) fn take_head(cursor: &mut Cursor<'_>) -> Head
     ensures { spec.head cursor.old ≡ (result, cursor.new) }
 {
-    let mut behind = cursor.ahead();
-    behind.bump();
-    let head = head_by(cursor.word(), &behind);
+    let head = head_at(cursor);
     pass_head(head, cursor);
     head
 }
@@ -278,23 +283,13 @@ fn is_first_word(word: &str) -> bool
 fn is_union(cursor: &Cursor<'_>) -> bool
     ensures { result ≡ spec.is_union cursor.now }
 {
-    if cursor.word() != "union" {
-        return false;
-    }
-    let mut behind = cursor.ahead();
-    behind.bump();
-    has_name(&behind)
+    cursor.word() == "union" && has_name(&second(cursor))
 }
 
 fn is_segment(cursor: &Cursor<'_>) -> bool
     ensures { result ≡ spec.is_segment cursor.now }
 {
-    if !cursor.is_at_identifier() {
-        return false;
-    }
-    let mut behind = cursor.ahead();
-    behind.bump();
-    behind.is_pair(b':', b':')
+    cursor.is_at_identifier() && second(cursor).is_pair(b':', b':')
 }
 
 /// Passes over names with `::` behind them.

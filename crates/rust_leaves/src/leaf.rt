@@ -3,6 +3,7 @@
 ghost use Rattle.std.specs.Prelude.{◌≡◌, map, option_map};
 ghost use Rattle.hir_input.specs.Attr.{meta_view};
 ghost use Rattle.rust_cursor.specs.Reader.{Gives};
+ghost use Rattle.rust_leaves.specs.Clipped.{clipped_leaf, clipped_leaf_if, with_value};
 ghost use Rattle.rust_leaves.specs.Kinds as spec;
 ghost use Rattle.rust_leaves.specs.Views.{front_view, leaf_view};
 
@@ -61,140 +62,158 @@ macro_rules! named_leaf {
     };
 }
 
-#[tactic(auto, unfolding(crate::specs::Kinds::function), using(hir_input::proofs::SyntaxViews::item_views))]
+#[tactic(auto, using(hir_input::proofs::SyntaxViews::item_views, crate::proofs::Clipped::function_clipped))]
 fn function<'t>(
     alloc: Global,
     cursor: &mut Cursor<'t>,
+    keeps_body: bool,
     attrs: Vec<Meta>,
     visibility: Option<Visibility>,
 ) -> Result<Leaf<'t>, AllocError>
     ensures { Gives leaf_view
-        (spec.function (map meta_view attrs.items) visibility cursor.old) result cursor.new }
+        (with_value (clipped_leaf keeps_body)
+        (spec.function (map meta_view attrs.items) visibility cursor.old)) result cursor.new }
 {
     let named = item_name(alloc, cursor)?;
-    let rest = item_end(alloc, cursor)?;
+    let rest = item_end(alloc, cursor, keeps_body)?;
     let attrs = with_inner(alloc, attrs, rest.block)?;
     Ok(named_leaf!(Fn, alloc, attrs, visibility, named, rest))
 }
 
-#[tactic(auto, unfolding(crate::specs::Kinds::union_item), using(hir_input::proofs::SyntaxViews::item_views))]
+#[tactic(auto, using(hir_input::proofs::SyntaxViews::item_views, crate::proofs::Clipped::union_clipped))]
 fn union_item<'t>(
     alloc: Global,
     cursor: &mut Cursor<'t>,
+    keeps_body: bool,
     attrs: Vec<Meta>,
     visibility: Option<Visibility>,
 ) -> Result<Leaf<'t>, AllocError>
     ensures { Gives leaf_view
-        (spec.union_item (map meta_view attrs.items) visibility cursor.old) result cursor.new }
+        (with_value (clipped_leaf keeps_body)
+        (spec.union_item (map meta_view attrs.items) visibility cursor.old)) result cursor.new }
 {
     let named = item_name(alloc, cursor)?;
-    let rest = item_end(alloc, cursor)?;
+    let rest = item_end(alloc, cursor, keeps_body)?;
     Ok(named_leaf!(Union, alloc, attrs, visibility, named, rest))
 }
 
-#[tactic(auto, unfolding(crate::specs::Kinds::enumeration), using(hir_input::proofs::SyntaxViews::item_views))]
+#[tactic(auto, using(hir_input::proofs::SyntaxViews::item_views, crate::proofs::Clipped::enumeration_clipped))]
 fn enumeration<'t>(
     alloc: Global,
     cursor: &mut Cursor<'t>,
+    keeps_body: bool,
     attrs: Vec<Meta>,
     visibility: Option<Visibility>,
 ) -> Result<Leaf<'t>, AllocError>
     ensures { Gives leaf_view
-        (spec.enumeration (map meta_view attrs.items) visibility cursor.old) result cursor.new }
+        (with_value (clipped_leaf keeps_body)
+        (spec.enumeration (map meta_view attrs.items) visibility cursor.old)) result cursor.new }
 {
     let named = item_name(alloc, cursor)?;
-    let rest = item_end(alloc, cursor)?;
+    let rest = item_end(alloc, cursor, keeps_body)?;
     Ok(named_leaf!(Enum, alloc, attrs, visibility, named, rest))
 }
 
-#[tactic(auto, unfolding(crate::specs::Kinds::trait_item), using(hir_input::proofs::SyntaxViews::item_views))]
+#[tactic(auto, using(hir_input::proofs::SyntaxViews::item_views, crate::proofs::Clipped::trait_clipped))]
 fn trait_item<'t>(
     alloc: Global,
     cursor: &mut Cursor<'t>,
+    keeps_body: bool,
     attrs: Vec<Meta>,
     visibility: Option<Visibility>,
 ) -> Result<Leaf<'t>, AllocError>
     ensures { Gives leaf_view
-        (spec.trait_item (map meta_view attrs.items) visibility cursor.old) result cursor.new }
+        (with_value (clipped_leaf keeps_body)
+        (spec.trait_item (map meta_view attrs.items) visibility cursor.old)) result cursor.new }
 {
     let named = item_name(alloc, cursor)?;
-    let rest = item_end(alloc, cursor)?;
+    let rest = item_end(alloc, cursor, keeps_body)?;
     Ok(named_leaf!(Trait, alloc, attrs, visibility, named, rest))
 }
 
-#[tactic(auto, unfolding(crate::specs::Kinds::macro_def), using(hir_input::proofs::SyntaxViews::item_views))]
+#[tactic(auto, using(hir_input::proofs::SyntaxViews::item_views, crate::proofs::Clipped::macro_def_clipped))]
 fn macro_def<'t>(
     alloc: Global,
     cursor: &mut Cursor<'t>,
+    keeps_body: bool,
     attrs: Vec<Meta>,
     visibility: Option<Visibility>,
 ) -> Result<Leaf<'t>, AllocError>
     ensures { Gives leaf_view
-        (spec.macro_def (map meta_view attrs.items) visibility cursor.old) result cursor.new }
+        (with_value (clipped_leaf keeps_body)
+        (spec.macro_def (map meta_view attrs.items) visibility cursor.old)) result cursor.new }
 {
     let named = item_name(alloc, cursor)?;
-    let rest = macro_end(alloc, cursor)?;
+    let rest = macro_end(alloc, cursor, keeps_body)?;
     Ok(named_leaf!(MacroDef, alloc, attrs, visibility, named, rest))
 }
 
-#[tactic(auto, unfolding(crate::specs::Kinds::type_alias), using(hir_input::proofs::SyntaxViews::item_views))]
+#[tactic(auto, using(hir_input::proofs::SyntaxViews::item_views, crate::proofs::Clipped::type_alias_clipped))]
 fn type_alias<'t>(
     alloc: Global,
     cursor: &mut Cursor<'t>,
+    keeps_body: bool,
     attrs: Vec<Meta>,
     visibility: Option<Visibility>,
 ) -> Result<Leaf<'t>, AllocError>
     ensures { Gives leaf_view
-        (spec.type_alias (map meta_view attrs.items) visibility cursor.old) result cursor.new }
+        (with_value (clipped_leaf keeps_body)
+        (spec.type_alias (map meta_view attrs.items) visibility cursor.old)) result cursor.new }
 {
     let named = item_name(alloc, cursor)?;
-    let rest = value_end(alloc, cursor)?;
+    let rest = value_end(alloc, cursor, keeps_body)?;
     Ok(named_leaf!(TypeAlias, alloc, attrs, visibility, named, rest))
 }
 
-#[tactic(auto, unfolding(crate::specs::Kinds::static_value), using(hir_input::proofs::SyntaxViews::item_views))]
+#[tactic(auto, using(hir_input::proofs::SyntaxViews::item_views, crate::proofs::Clipped::static_clipped))]
 fn static_value<'t>(
     alloc: Global,
     cursor: &mut Cursor<'t>,
+    keeps_body: bool,
     attrs: Vec<Meta>,
     visibility: Option<Visibility>,
 ) -> Result<Leaf<'t>, AllocError>
     ensures { Gives leaf_view
-        (spec.static_value (map meta_view attrs.items) visibility cursor.old) result cursor.new }
+        (with_value (clipped_leaf keeps_body)
+        (spec.static_value (map meta_view attrs.items) visibility cursor.old)) result cursor.new }
 {
     cursor.eat_word("mut");
     let named = item_name(alloc, cursor)?;
-    let rest = value_end(alloc, cursor)?;
+    let rest = value_end(alloc, cursor, keeps_body)?;
     Ok(named_leaf!(Static, alloc, attrs, visibility, named, rest))
 }
 
-#[tactic(auto, unfolding(crate::specs::Kinds::constant), using(hir_input::proofs::SyntaxViews::item_views))]
+#[tactic(auto, using(hir_input::proofs::SyntaxViews::item_views, crate::proofs::Clipped::constant_clipped))]
 fn constant<'t>(
     alloc: Global,
     cursor: &mut Cursor<'t>,
+    keeps_body: bool,
     attrs: Vec<Meta>,
     visibility: Option<Visibility>,
 ) -> Result<Leaf<'t>, AllocError>
     ensures { Gives leaf_view
-        (spec.constant (map meta_view attrs.items) visibility cursor.old) result cursor.new }
+        (with_value (clipped_leaf keeps_body)
+        (spec.constant (map meta_view attrs.items) visibility cursor.old)) result cursor.new }
 {
     let named = item_name(alloc, cursor)?;
     cursor.eat_word("_");
-    let rest = value_end(alloc, cursor)?;
+    let rest = value_end(alloc, cursor, keeps_body)?;
     Ok(named_leaf!(Const, alloc, attrs, visibility, named, rest))
 }
 
-#[tactic(auto, unfolding(crate::specs::Kinds::implementation), using(hir_input::proofs::SyntaxViews::item_views))]
+#[tactic(auto, using(hir_input::proofs::SyntaxViews::item_views, crate::proofs::Clipped::implementation_clipped))]
 fn implementation<'t>(
     alloc: Global,
     cursor: &mut Cursor<'t>,
+    keeps_body: bool,
     attrs: Vec<Meta>,
 ) -> Result<Leaf<'t>, AllocError>
     ensures { Gives leaf_view
-        (spec.implementation (map meta_view attrs.items) cursor.old) result cursor.new }
+        (with_value (clipped_leaf keeps_body)
+        (spec.implementation (map meta_view attrs.items) cursor.old)) result cursor.new }
 {
     let header = cursor.ahead();
-    let rest = impl_end(alloc, cursor)?;
+    let rest = impl_end(alloc, cursor, keeps_body)?;
     let is_trait_impl = has_trait(&header, cursor.past());
     let attrs = with_inner(alloc, attrs, rest.block)?;
     let item = Item::Impl(Impl {
@@ -216,37 +235,42 @@ fn implementation<'t>(
     })
 }
 
-/// Takes an item that holds no items, behind the words that begin it, or nothing where none is written.
+/// Takes an item that holds no items, behind the words that begin it, or nothing where none is written. Its body text is empty
+/// unless it is to be kept.
 ///
 /// # Errors
 ///
 /// Only if memory runs out. The cursor may then stand anywhere.
-#[tactic(auto, unfolding(crate::specs::Kinds::leaf))]
+#[tactic(auto, using(crate::proofs::Clipped::leaf_clipped))]
 pub fn take_leaf<'t>(
     alloc: Global,
     cursor: &mut Cursor<'t>,
+    keeps_body: bool,
     front: Front,
 ) -> Result<Option<Leaf<'t>>, AllocError>
     ensures { Gives (option_map leaf_view)
-        (spec.leaf (front_view front) cursor.old) result cursor.new }
+        (with_value (clipped_leaf_if keeps_body)
+        (spec.leaf (front_view front) cursor.old)) result cursor.new }
 {
     let attrs = front.attrs;
     let visibility = front.visibility;
     let leaf = match front.head {
         Head::Use => use_declaration(alloc, cursor, attrs, visibility)?,
         Head::ExternCrate => crate_item(alloc, cursor, attrs, visibility)?,
-        Head::Fn => function(alloc, cursor, attrs, visibility)?,
-        Head::Impl => implementation(alloc, cursor, attrs)?,
-        Head::Trait => trait_item(alloc, cursor, attrs, visibility)?,
-        Head::Struct => structure(alloc, cursor, attrs, visibility)?,
-        Head::Union => union_item(alloc, cursor, attrs, visibility)?,
-        Head::Enum => enumeration(alloc, cursor, attrs, visibility)?,
-        Head::Const => constant(alloc, cursor, attrs, visibility)?,
-        Head::Static => static_value(alloc, cursor, attrs, visibility)?,
-        Head::TypeAlias => type_alias(alloc, cursor, attrs, visibility)?,
-        Head::MacroDef => macro_def(alloc, cursor, attrs, visibility)?,
-        Head::MacroRules => macro_definition(alloc, cursor, attrs)?,
-        Head::Module | Head::ExternBlock | Head::Other => return invocation(alloc, cursor, attrs),
+        Head::Fn => function(alloc, cursor, keeps_body, attrs, visibility)?,
+        Head::Impl => implementation(alloc, cursor, keeps_body, attrs)?,
+        Head::Trait => trait_item(alloc, cursor, keeps_body, attrs, visibility)?,
+        Head::Struct => structure(alloc, cursor, keeps_body, attrs, visibility)?,
+        Head::Union => union_item(alloc, cursor, keeps_body, attrs, visibility)?,
+        Head::Enum => enumeration(alloc, cursor, keeps_body, attrs, visibility)?,
+        Head::Const => constant(alloc, cursor, keeps_body, attrs, visibility)?,
+        Head::Static => static_value(alloc, cursor, keeps_body, attrs, visibility)?,
+        Head::TypeAlias => type_alias(alloc, cursor, keeps_body, attrs, visibility)?,
+        Head::MacroDef => macro_def(alloc, cursor, keeps_body, attrs, visibility)?,
+        Head::MacroRules => macro_definition(alloc, cursor, keeps_body, attrs)?,
+        Head::Module | Head::ExternBlock | Head::Other => return invocation(
+            alloc, cursor, keeps_body, attrs,
+        ),
     };
     Ok(Some(leaf))
 }

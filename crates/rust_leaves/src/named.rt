@@ -7,6 +7,7 @@ ghost use Rattle.hir_input.specs.Attr.{meta_view};
 ghost use Rattle.rust_cursor.specs.Extents.{excerpt_view};
 ghost use Rattle.rust_cursor.specs.Reader.{Gives};
 ghost use Rattle.rust_cursor.specs.Words.{bumped};
+ghost use Rattle.rust_leaves.specs.Clipped.{clipped_rest, with_value};
 ghost use Rattle.rust_leaves.specs.Leaves as spec;
 ghost use Rattle.rust_leaves.specs.Views.{name_view, rest_view};
 
@@ -136,39 +137,59 @@ fn rest_of<'t>(excerpt: Excerpt<'t>, end: usize) -> Rest<'t>
     }
 }
 
-/// Takes what is left of an item that ends with a semicolon or a block.
-#[tactic(auto, unfolding(crate::specs::Leaves::item_end))]
-pub(crate) fn item_end<'t>(alloc: Global, cursor: &mut Cursor<'t>) -> Result<Rest<'t>, AllocError>
-    ensures { Gives rest_view (spec.item_end cursor.old) result cursor.new }
+/// Takes what is left of an item that ends with a semicolon or a block, and keeps its text where that is asked for.
+#[tactic(auto, using(crate::proofs::Clipped::item_end_clipped))]
+pub(crate) fn item_end<'t>(
+    alloc: Global,
+    cursor: &mut Cursor<'t>,
+    keeps_body: bool,
+) -> Result<Rest<'t>, AllocError>
+    ensures { Gives rest_view
+        (with_value (clipped_rest keeps_body) (spec.item_end cursor.old)) result cursor.new }
 {
-    let excerpt = cursor.item_rest(alloc)?;
+    let excerpt = cursor.item_rest(alloc, keeps_body)?;
     Ok(rest_of(excerpt, cursor.past()))
 }
 
 /// The same of an impl, behind its word.
-#[tactic(auto, unfolding(crate::specs::Leaves::impl_end))]
-pub(crate) fn impl_end<'t>(alloc: Global, cursor: &mut Cursor<'t>) -> Result<Rest<'t>, AllocError>
-    ensures { Gives rest_view (spec.impl_end cursor.old) result cursor.new }
+#[tactic(auto, using(crate::proofs::Clipped::impl_end_clipped))]
+pub(crate) fn impl_end<'t>(
+    alloc: Global,
+    cursor: &mut Cursor<'t>,
+    keeps_body: bool,
+) -> Result<Rest<'t>, AllocError>
+    ensures { Gives rest_view
+        (with_value (clipped_rest keeps_body) (spec.impl_end cursor.old)) result cursor.new }
 {
-    let excerpt = cursor.impl_rest(alloc)?;
+    let excerpt = cursor.impl_rest(alloc, keeps_body)?;
     Ok(rest_of(excerpt, cursor.past()))
 }
 
 /// The same of a macro with parameters.
-#[tactic(auto, unfolding(crate::specs::Leaves::macro_end))]
-pub(crate) fn macro_end<'t>(alloc: Global, cursor: &mut Cursor<'t>) -> Result<Rest<'t>, AllocError>
-    ensures { Gives rest_view (spec.macro_end cursor.old) result cursor.new }
+#[tactic(auto, using(crate::proofs::Clipped::macro_end_clipped))]
+pub(crate) fn macro_end<'t>(
+    alloc: Global,
+    cursor: &mut Cursor<'t>,
+    keeps_body: bool,
+) -> Result<Rest<'t>, AllocError>
+    ensures { Gives rest_view
+        (with_value (clipped_rest keeps_body) (spec.macro_end cursor.old)) result cursor.new }
 {
-    let excerpt = cursor.macro_rest(alloc)?;
+    let excerpt = cursor.macro_rest(alloc, keeps_body)?;
     Ok(rest_of(excerpt, cursor.past()))
 }
 
 /// Takes what is left of an item that ends with a semicolon.
-#[tactic(auto, unfolding(crate::specs::Leaves::value_end))]
-pub(crate) fn value_end<'t>(alloc: Global, cursor: &mut Cursor<'t>) -> Result<Rest<'t>, AllocError>
-    ensures { Gives rest_view (spec.value_end cursor.old) result cursor.new }
+#[tactic(auto, using(crate::proofs::Clipped::value_end_clipped))]
+pub(crate) fn value_end<'t>(
+    alloc: Global,
+    cursor: &mut Cursor<'t>,
+    keeps_body: bool,
+) -> Result<Rest<'t>, AllocError>
+    ensures { Gives rest_view
+        (with_value (clipped_rest keeps_body) (spec.value_end cursor.old)) result cursor.new }
 {
-    let excerpt = cursor.value_rest(alloc)?;
+    let excerpt = cursor.value_rest(alloc, keeps_body)?;
     Ok(rest_of(excerpt, cursor.past()))
 }
 
@@ -197,15 +218,20 @@ fn semicolon_end<'t>(excerpt: Excerpt<'t>, cursor: &mut Cursor<'t>) -> Rest<'t>
 }
 
 /// Takes what a macro is given in its brackets, and the semicolon behind those that are no braces.
-#[tactic(auto, unfolding(crate::specs::Leaves::call_end))]
-pub(crate) fn call_end<'t>(alloc: Global, cursor: &mut Cursor<'t>) -> Result<Rest<'t>, AllocError>
-    ensures { Gives rest_view (spec.call_end cursor.old) result cursor.new }
+#[tactic(auto, using(crate::proofs::Clipped::call_end_clipped))]
+pub(crate) fn call_end<'t>(
+    alloc: Global,
+    cursor: &mut Cursor<'t>,
+    keeps_body: bool,
+) -> Result<Rest<'t>, AllocError>
+    ensures { Gives rest_view
+        (with_value (clipped_rest keeps_body) (spec.call_end cursor.old)) result cursor.new }
 {
     if !cursor.is_at_open() {
         return Ok(no_call(alloc));
     }
     let is_braced = cursor.symbol() == b'{';
-    let excerpt = cursor.tree_body(alloc)?;
+    let excerpt = cursor.tree_body(alloc, keeps_body)?;
     if is_braced {
         return Ok(rest_of(excerpt, cursor.past()));
     }

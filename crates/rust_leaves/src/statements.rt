@@ -7,7 +7,7 @@ ghost use Rattle.rust_leaves.specs.Statements as spec;
 ghost use Rattle.rust_leaves.specs.Views.{call_read_view};
 
 use crate::calls::is_called;
-use crate::head::{Head, head_by, is_modifier};
+use crate::head::{Head, head_at, is_modifier, second};
 use crate::named::range_to;
 use crate::texts::{bare, last_text};
 use hir_input::ast::{MacroCall, PathNode};
@@ -62,13 +62,11 @@ fn is_other(head: Head) -> bool
 fn is_item_head(cursor: &Cursor<'_>) -> bool
     ensures { result ≡ spec.is_item_head cursor.now }
 {
-    let mut behind = cursor.ahead();
-    behind.bump();
-    if is_other(head_by(cursor.word(), &behind)) {
+    if is_other(head_at(cursor)) {
         return false;
     }
     match cursor.word() {
-        "const" | "static" => names_value(&behind),
+        "const" | "static" => names_value(&second(cursor)),
         _ => true,
     }
 }
@@ -306,7 +304,7 @@ fn call_tree<'t>(
         (spec.call_tree (map meta_view attrs.items) path name.now cursor.old) result cursor.new }
 {
     let is_braced = cursor.symbol() == b'{';
-    let excerpt = cursor.tree_body(alloc)?;
+    let excerpt = cursor.tree_body(alloc, true)?;
     let body = range_to(cursor.past(), &excerpt.block);
     let node = MacroCall {
         hash: 0,

@@ -4,6 +4,7 @@ ghost use Rattle.std.specs.Prelude.{◌≡◌, ◌++◌, IfOk, OnOk, map, [], �
 ghost use Rattle.hir_input.specs.Attr.{meta_view};
 ghost use Rattle.hir_input.specs.Syntax.{fields_view};
 ghost use Rattle.rust_cursor.specs.Reader.{Gives};
+ghost use Rattle.rust_leaves.specs.Clipped.{clipped_leaf, with_value};
 ghost use Rattle.rust_leaves.specs.Kinds as kinds;
 ghost use Rattle.rust_leaves.specs.Leaves as spec;
 ghost use Rattle.rust_leaves.specs.Views.{field_view, leaf_view};
@@ -135,19 +136,21 @@ fn struct_fields(
     fields_at(alloc, &mut behind, block.is_some(), header_end(end, block))
 }
 
-#[tactic(auto, unfolding(crate::specs::Kinds::structure), using(hir_input::proofs::SyntaxViews::item_views))]
+#[tactic(auto, using(hir_input::proofs::SyntaxViews::item_views, crate::proofs::Clipped::structure_clipped))]
 pub(crate) fn structure<'t>(
     alloc: Global,
     cursor: &mut Cursor<'t>,
+    keeps_body: bool,
     attrs: Vec<Meta>,
     visibility: Option<Visibility>,
 ) -> Result<Leaf<'t>, AllocError>
     ensures { Gives leaf_view
-        (kinds.structure (map meta_view attrs.items) visibility cursor.old) result cursor.new }
+        (with_value (clipped_leaf keeps_body)
+        (kinds.structure (map meta_view attrs.items) visibility cursor.old)) result cursor.new }
 {
     let named = item_name(alloc, cursor)?;
     let header = cursor.ahead();
-    let rest = item_end(alloc, cursor)?;
+    let rest = item_end(alloc, cursor, keeps_body)?;
     let kind = struct_fields(alloc, &header, cursor.past(), &rest.block)?;
     let item = Item::Struct(Struct {
         hash: 0,

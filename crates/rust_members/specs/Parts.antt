@@ -3,7 +3,7 @@ use Rattle.std.specs.Prelude.{ℕ, zero, suc, Bool, true, false, not, ◌==◌, 
 use Rattle.std.specs.Str.{bytes_eq}
 use Rattle.hir_input.specs.declared.ast.Visibility.{Visibility}
 use Rattle.hir_input.specs.Attr.{MetaView}
-use Rattle.hir_input.specs.Syntax.{ItemView, plain_item, fn_kind, type_alias_kind, const_item, macro_call}
+use Rattle.hir_input.specs.Syntax.{CallView, ItemView, NamedView, plain_item, fn_kind, type_alias_kind, const_item, macro_call}
 use Rattle.rust_cursor.specs.Tokens.{Tokens}
 use Rattle.rust_cursor.specs.Reader.{Reader, ◌>>=◌, pure, look, pass}
 use Rattle.rust_cursor.specs.Words.{symbol, word, at, is_at_end, is_at_open, is_pair, eat, bumped}
@@ -32,12 +32,18 @@ pub record Told : Type 0 where
   pub attrs : List MetaView
   pub visibility : Option Visibility
 
+abbrev pub told_as : MemberKind → NamedView → Told
+told_as kind n = record { kind = kind; attrs = n.node.attrs; visibility = n.visibility }
+
+abbrev pub told_call : CallView → Told
+told_call c = record { kind = member.MacroCall; attrs = c.node.attrs; visibility = None }
+
 -- what may stand in a trait or an impl
 abbrev pub told_of : ItemView → Option Told
-told_of (plain_item fn_kind n) = Some (record { kind = member.Function; attrs = n.node.attrs; visibility = n.visibility })
-told_of (plain_item type_alias_kind n) = Some (record { kind = member.TypeAlias; attrs = n.node.attrs; visibility = n.visibility })
-told_of (const_item n) = Some (record { kind = member.Constant; attrs = n.node.attrs; visibility = n.visibility })
-told_of (macro_call c) = Some (record { kind = member.MacroCall; attrs = c.node.attrs; visibility = None })
+told_of (plain_item fn_kind n) = Some (told_as member.Function n)
+told_of (plain_item type_alias_kind n) = Some (told_as member.TypeAlias n)
+told_of (const_item n) = Some (told_as member.Constant n)
+told_of (macro_call c) = Some (told_call c)
 told_of _ = None
 
 -- the braces of a function alone

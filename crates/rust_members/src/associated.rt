@@ -1,7 +1,7 @@
 //! What stands in a trait or an impl.
 
 ghost use Rattle.std.specs.Prelude.{◌≡◌, option_map};
-ghost use Rattle.hir_input.specs.Syntax.{item_view};
+ghost use Rattle.hir_input.specs.Syntax.{call_view, item_view, named_view};
 ghost use Rattle.rust_cursor.specs.Reader.{Gives};
 ghost use Rattle.rust_leaves.specs.Views.{front_view, leaf_view};
 ghost use Rattle.rust_members.specs.Parts as spec;
@@ -9,7 +9,7 @@ ghost use Rattle.rust_members.specs.Views.{member_view, told_view};
 
 use crate::member::{Member, MemberKind};
 use hir_input::Meta;
-use hir_input::ast::{Item, Visibility};
+use hir_input::ast::{Item, MacroCall, NamedNode, Visibility};
 use rust_cursor::Cursor;
 use rust_leaves::{Front, Leaf, pass_others, take_front, take_leaf};
 use rust_paths::TextRange;
@@ -23,32 +23,40 @@ struct Told {
     visibility: Option<Visibility>,
 }
 
+fn told_as(kind: MemberKind, node: NamedNode) -> Told
+    ensures { told_view result ≡ spec.told_as kind (named_view node) }
+{
+    Told {
+        kind,
+        attrs: node.attrs,
+        visibility: node.visibility,
+    }
+}
+
+fn told_call(call: MacroCall) -> Told
+    ensures { told_view result ≡ spec.told_call (call_view call) }
+{
+    Told {
+        kind: MemberKind::MacroCall,
+        attrs: call.attrs,
+        visibility: None,
+    }
+}
+
 #[tactic(auto, using(hir_input::proofs::SyntaxViews::item_views))]
 fn told_of(item: Item) -> Option<Told>
     ensures { option_map told_view result ≡ spec.told_of (item_view item) }
 {
     match item {
-        Item::Fn(function) => Some(Told {
-            kind: MemberKind::Function,
-            attrs: function.attrs,
-            visibility: function.visibility,
-        }),
-        Item::TypeAlias(alias) => Some(Told {
-            kind: MemberKind::TypeAlias,
-            attrs: alias.attrs,
-            visibility: alias.visibility,
-        }),
-        Item::Const(constant) => Some(Told {
-            kind: MemberKind::Constant,
-            attrs: constant.attrs,
-            visibility: constant.visibility,
-        }),
-        Item::MacroCall(call) => Some(Told {
-            kind: MemberKind::MacroCall,
-            attrs: call.attrs,
-            visibility: None,
-        }),
-        _ => None,
+        Item::Fn(function) => Some(told_as(MemberKind::Function, function)),
+        Item::TypeAlias(alias) => Some(told_as(MemberKind::TypeAlias, alias)),
+        Item::Const(constant) => Some(told_as(MemberKind::Constant, constant)),
+        Item::MacroCall(call) => Some(told_call(call)),
+        other => {
+            // (By a call: else each kind is dropped here, field by field.)
+            drop(other);
+            None
+        }
     }
 }
 
@@ -89,7 +97,7 @@ fn behind_front(
         (spec.behind_front (front_view front) cursor.old) result cursor.new }
 {
     let start = front.start;
-    match take_leaf(alloc, cursor, front)? {
+    match take_leaf(alloc, cursor, false, front)? {
         Some(leaf) => {
             let end = cursor.past();
             Ok(kept(leaf, start, end))

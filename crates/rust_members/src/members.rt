@@ -113,18 +113,14 @@ fn moved_name(name: Option<TextRange>, by: usize) -> Option<TextRange>
 
 /// The member in a text with so many bytes in front.
 #[tactic(auto, using(crate::proofs::Moving::name_fits))]
-fn moved(member: Member, by: usize) -> Member
+fn moved(mut member: Member, by: usize) -> Member
     requires { IsPlaced 0 (18446744073709551615 - by) (member_view member) }
     ensures { member_view result ≡ moved by (member_view member) }
 {
-    Member {
-        kind: member.kind,
-        name: moved_name(member.name, by),
-        range: moved_range(member.range, by),
-        body: moved_name(member.body, by),
-        attrs: member.attrs,
-        visibility: member.visibility,
-    }
+    member.name = moved_name(member.name, by);
+    member.range = moved_range(member.range, by);
+    member.body = moved_name(member.body, by);
+    member
 }
 
 fn all_moved(alloc: Global, members: Vec<Member>, by: usize) -> Result<Vec<Member>, AllocError>

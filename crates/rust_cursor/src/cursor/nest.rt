@@ -193,21 +193,7 @@ impl<'t> Cursor<'t> {
         requires inner { nest.old.inner + 1 < 2 ^ 64 }
         ensures { nest.new ≡ spec.nest_inside nest.old self.now }
     {
-        match self.symbol() {
-            b'{' => nest.braces += 1,
-            b'}' => {
-                if nest.braces == 1 {
-                    nest.before = behind_braces(*nest);
-                }
-                nest.braces = nest.braces.saturating_sub(1);
-            }
-            b'(' | b'[' => nest.inner += 1,
-            b')' | b']' => {
-                nest.is_torn = nest.is_torn || nest.inner == 0;
-                nest.inner = nest.inner.saturating_sub(1);
-            }
-            _ => {}
-        }
+        count_inside(self.symbol(), nest);
     }
 
     /// Tells where what stands behind the next token is.
@@ -229,6 +215,30 @@ impl<'t> Cursor<'t> {
             }
             _ => nest.before = self.before_outside(*nest),
         }
+    }
+}
+
+/// The same of what stands behind a symbol.
+#[inline(always)]
+pub(crate) fn count_inside(symbol: u8, nest: &mut Nest)
+    requires braces { nest.old.braces + 1 < 2 ^ 64 }
+    requires inner { nest.old.inner + 1 < 2 ^ 64 }
+    ensures { nest.new ≡ spec.inside_behind nest.old symbol }
+{
+    match symbol {
+        b'{' => nest.braces += 1,
+        b'}' => {
+            if nest.braces == 1 {
+                nest.before = behind_braces(*nest);
+            }
+            nest.braces = nest.braces.saturating_sub(1);
+        }
+        b'(' | b'[' => nest.inner += 1,
+        b')' | b']' => {
+            nest.is_torn = nest.is_torn || nest.inner == 0;
+            nest.inner = nest.inner.saturating_sub(1);
+        }
+        _ => {}
     }
 }
 
@@ -354,7 +364,8 @@ fn free_behind(nest: Nest, symbol: u8) -> usize
 }
 
 /// The first byte of a word, or 0.
-fn first_byte(word: &str) -> u8
+#[inline(always)]
+pub(crate) fn first_byte(word: &str) -> u8
     ensures { result ≡ slice_index word.now 0 }
 {
     match word.as_bytes() {

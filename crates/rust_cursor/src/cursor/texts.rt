@@ -1,13 +1,16 @@
 //! The texts of what is taken.
 
-ghost use Rattle.std.specs.Prelude.{◌≡◌, ◌≤◌, ◌<◌, ◌+◌, ◌^◌, ◌++◌, ◌==◌, ◌&&◌, not, OnOk, Option, length, string_bytes};
+ghost use Rattle.std.specs.Prelude.{◌≡◌, ◌≤◌, ◌<◌, ◌+◌, ◌^◌, ◌++◌, ◌==◌, ◌&&◌, not, false, if◌then◌else◌, OnOk, Option, length, string_bytes};
+ghost use Rattle.std.specs.List.{filter};
+ghost use Rattle.rust_lexer.specs.Tokens.{is_significant};
 ghost use Rattle.rust_cursor.specs.Extents as spec;
 ghost use Rattle.rust_cursor.specs.Reader.{Gives};
-ghost use Rattle.rust_cursor.specs.Tokens.{Tokens};
+ghost use Rattle.rust_cursor.specs.Tokens.{Tokens, last_unended, left_of};
 ghost use Rattle.rust_cursor.specs.Words.{bumped, is_empty, symbol};
 
-use crate::cursor::Cursor;
-use crate::cursor::nest::{Before, Nest, is_mark};
+use crate::cursor::nest::{Before, Nest, count_inside, first_byte, is_mark};
+use crate::cursor::{Cursor, note_last};
+use rust_lexer::{Lexer, Token};
 use std::alloc::{AllocError, Global};
 
 /// How far tokens are taken, and what stands between their texts.
@@ -28,6 +31,7 @@ pub(crate) enum Extent {
 /// A text that was taken.
 #[derive(Drop)]
 pub struct Excerpt<'t> {
+    /// Empty where it was not to be kept.
     pub text: String,
     /// Whether it ends with its end and its brackets are closed.
     pub is_ended: bool,
@@ -62,13 +66,13 @@ impl<'t> Cursor<'t> {
     fn follows_const(&self) -> bool
         ensures { result ≡ spec.follows_const self.now }
     {
-        let behind = self.second();
         if self.word() == "fn" {
-            return behind.is_at_identifier();
+            return self.second().is_at_identifier();
         }
         if !self.is_at_identifier() {
             return false;
         }
+        let behind = self.second();
         behind.symbol() == b':' && !behind.is_pair(b':', b':')
     }
 
@@ -115,7 +119,8 @@ impl<'t> Cursor<'t> {
     pub(crate) fn begins(&self, nest: Nest) -> bool
         ensures { result ≡ spec.begins nest self.now }
     {
-        if self.word().is_empty() && self.symbol() != b'#' {
+        // Most words begin none, and are told by their first byte.
+        if !leads_item(first_byte(self.word())) && self.symbol() != b'#' {
             return false;
         }
         if nest.others == 0 {
@@ -220,11 +225,18 @@ impl<'t> Cursor<'t> {
 
     #[inline(always)]
     #[tactic(auto, unfolding(crate::specs::Extents::more))]
-    fn push_text(&self, extent: Extent, last: u8, text: &mut String) -> Result<(), AllocError>
+    fn push_text(
+        &self,
+        keeps_text: bool,
+        extent: Extent,
+        last: u8,
+        text: &mut String,
+    ) -> Result<(), AllocError>
         ensures { OnOk result (string_bytes text.new
-            ≡ spec.more extent last (string_bytes text.old) self.now) }
+            ≡ (if keeps_text then spec.more extent last (string_bytes text.old) self.now
+            else string_bytes text.old)) }
     {
-        if self.is_at_doc() {
+        if !keeps_text || self.is_at_doc() {
             return Ok(());
         }
         if text.len() != 0 && self.has_blank(extent, last) {
@@ -254,13 +266,41 @@ impl<'t> Cursor<'t> {
         if braces == 0 || self.is_empty() {
             return false;
         }
-        !(braces == 1 && self.symbol() == b'}')
+        !closes_all(braces, self.symbol())
+    }
+
+    /// Passes over what stands in braces, up to the one that closes the outermost of them.
+    #[inline(never)]
+    fn pass_inside(&mut self, nest: &mut Nest)
+        requires braces { nest.old.braces + length self.old.left < 2 ^ 64 }
+        requires inner { nest.old.inner + length self.old.left < 2 ^ 64 }
+        ensures passed { spec.LeadsOn self.old.past self.old.left nest.old
+            self.new.past self.new.left nest.new }
+        ensures unended { self.new.unended ≡ self.old.unended }
+        ensures edition { self.new.edition ≡ self.old.edition }
+    {
+        let Some(token) = &self.next else {
+            return;
+        };
+        if !self.is_inside(nest.braces) {
+            return;
+        }
+        self.nest_inside(nest);
+        self.past = token.end();
+        pass_braced(
+            &mut self.lexer,
+            &mut self.last,
+            &mut self.next,
+            &mut self.past,
+            nest,
+        );
     }
 
     /// Takes what stands in braces, up to the one that closes the outermost of them.
     #[inline(never)]
     fn take_inside(
         &mut self,
+        keeps_text: bool,
         extent: Extent,
         nest: &mut Nest,
         last: &mut u8,
@@ -270,8 +310,13 @@ impl<'t> Cursor<'t> {
         requires inner { nest.old.inner + length self.old.left < 2 ^ 64 }
         ensures same { OnOk result
             ((opened : Option Tokens)
-            → spec.taking extent (string_bytes text.new) last.new opened nest.new self.new
-            ≡ spec.taking extent (string_bytes text.old) last.old opened nest.old self.old) }
+            → spec.clipped keeps_text
+            (spec.taking extent (string_bytes text.new) last.new opened nest.new self.new)
+            ≡ spec.clipped keeps_text
+            (spec.taking extent (string_bytes text.old) last.old opened nest.old self.old)) }
+        ensures text { OnOk result (spec.kept_text keeps_text (string_bytes text.old)
+            ≡ string_bytes text.old
+            → spec.kept_text keeps_text (string_bytes text.new) ≡ string_bytes text.new) }
         ensures left { OnOk result (length self.new.left ≤ length self.old.left) }
         ensures braces { OnOk result
             (nest.new.braces + length self.new.left ≤ nest.old.braces + length self.old.left) }
@@ -280,22 +325,28 @@ impl<'t> Cursor<'t> {
         ensures others { OnOk result (nest.new.others ≡ nest.old.others) }
         ensures angles { OnOk result (nest.new.angles ≡ nest.old.angles) }
     {
+        if !keeps_text {
+            self.pass_inside(nest);
+            return Ok(());
+        }
         'tokens: while self.is_inside(nest.braces) {
             self.nest_inside(nest);
-            self.push_text(extent, *last, text)?;
+            self.push_text(keeps_text, extent, *last, text)?;
             *last = self.bump_symbol();
         }
         Ok(())
     }
 
-    #[tactic(auto, unfolding(crate::specs::Extents::taken), using(crate::proofs::Scans::taking_stop))]
+    #[tactic(auto, unfolding(crate::specs::Extents::taken), using(crate::proofs::Clipped::clipped_stop))]
     fn take_excerpt(
         &mut self,
         alloc: Global,
+        keeps_text: bool,
         before: Before,
         extent: Extent,
     ) -> Result<Excerpt<'t>, AllocError>
-        ensures { Gives spec.excerpt_view (spec.taken before extent self.old) result self.new }
+        ensures { Gives spec.excerpt_view
+            (spec.clipped keeps_text (spec.taken before extent self.old)) result self.new }
     {
         // That brackets can be counted is known of a cursor that was looked into.
         let _ = &self.next;
@@ -307,7 +358,7 @@ impl<'t> Cursor<'t> {
             self.note_opened(nest, &mut opened);
             let is_call = is_mark(nest.before);
             self.nest_behind(&mut nest);
-            self.push_text(extent, last, &mut text)?;
+            self.push_text(keeps_text, extent, last, &mut text)?;
             if self.ends(extent, is_call, nest) {
                 let block = self.block_at(opened);
                 self.bump();
@@ -319,7 +370,9 @@ impl<'t> Cursor<'t> {
                 });
             }
             last = self.bump_symbol();
-            self.take_inside(extent, &mut nest, &mut last, &mut text)?;
+            if nest.braces != 0 {
+                self.take_inside(keeps_text, extent, &mut nest, &mut last, &mut text)?;
+            }
         }
         Ok(Excerpt {
             text,
@@ -331,7 +384,7 @@ impl<'t> Cursor<'t> {
     fn take_text(&mut self, alloc: Global, extent: Extent) -> Result<String, AllocError>
         ensures { Gives string_bytes (spec.text_taken extent self.old) result self.new }
     {
-        let excerpt = self.take_excerpt(alloc, Before::End, extent)?;
+        let excerpt = self.take_excerpt(alloc, true, Before::End, extent)?;
         Ok(excerpt.text)
     }
 
@@ -343,43 +396,89 @@ impl<'t> Cursor<'t> {
         self.take_text(alloc, Extent::Tree)
     }
 
-    /// Takes a token, or what stands in brackets, and gives the texts of its tokens with a blank between each two.
-    pub fn tree_body(&mut self, alloc: Global) -> Result<Excerpt<'t>, AllocError>
-        ensures { Gives spec.excerpt_view (spec.tree_body self.old) result self.new }
+    /// Takes a token, or what stands in brackets, and gives the texts of its tokens with a blank between each two, or an empty text
+    /// where none is kept.
+    pub fn tree_body(&mut self, alloc: Global, keeps_text: bool) -> Result<Excerpt<'t>, AllocError>
+        ensures { Gives spec.excerpt_view (spec.clipped keeps_text (spec.tree_body self.old))
+            result self.new }
     {
-        self.take_excerpt(alloc, Before::End, Extent::Group)
+        self.take_excerpt(alloc, keeps_text, Before::End, Extent::Group)
     }
 
-    /// Takes what is left of an item that ends with a semicolon, and gives the texts of its tokens with a blank between each two.
+    /// Takes what is left of an item that ends with a semicolon, and gives the texts of its tokens with a blank between each two, or
+    /// an empty text where none is kept.
     ///
     /// Without one it ends before a `}` that closes what is around, and before what can only begin an item.
-    pub fn value_rest(&mut self, alloc: Global) -> Result<Excerpt<'t>, AllocError>
-        ensures { Gives spec.excerpt_view (spec.value_rest self.old) result self.new }
+    pub fn value_rest(&mut self, alloc: Global, keeps_text: bool) -> Result<Excerpt<'t>, AllocError>
+        ensures { Gives spec.excerpt_view (spec.clipped keeps_text (spec.value_rest self.old))
+            result self.new }
     {
-        self.take_excerpt(alloc, Before::End, Extent::Value)
+        self.take_excerpt(alloc, keeps_text, Before::End, Extent::Value)
     }
 
     /// The same of an item that ends with a semicolon, or with a block. The braces of a macro call are no block, and in angle brackets
     /// one that `>` or `,` follows is none of the item's.
-    pub fn item_rest(&mut self, alloc: Global) -> Result<Excerpt<'t>, AllocError>
-        ensures { Gives spec.excerpt_view (spec.item_rest self.old) result self.new }
+    pub fn item_rest(&mut self, alloc: Global, keeps_text: bool) -> Result<Excerpt<'t>, AllocError>
+        ensures { Gives spec.excerpt_view (spec.clipped keeps_text (spec.item_rest self.old))
+            result self.new }
     {
-        self.take_excerpt(alloc, Before::End, Extent::Item)
+        self.take_excerpt(alloc, keeps_text, Before::End, Extent::Item)
     }
 
     /// The same behind the word `impl`. The type or the trait that comes next may begin with `!` or `impl`.
-    pub fn impl_rest(&mut self, alloc: Global) -> Result<Excerpt<'t>, AllocError>
-        ensures { Gives spec.excerpt_view (spec.impl_rest self.old) result self.new }
+    pub fn impl_rest(&mut self, alloc: Global, keeps_text: bool) -> Result<Excerpt<'t>, AllocError>
+        ensures { Gives spec.excerpt_view (spec.clipped keeps_text (spec.impl_rest self.old))
+            result self.new }
     {
-        self.take_excerpt(alloc, Before::Other, Extent::Item)
+        self.take_excerpt(alloc, keeps_text, Before::Other, Extent::Item)
     }
 
     /// The same of a macro with parameters, in whose brackets any tokens may stand.
-    pub fn macro_rest(&mut self, alloc: Global) -> Result<Excerpt<'t>, AllocError>
-        ensures { Gives spec.excerpt_view (spec.macro_rest self.old) result self.new }
+    pub fn macro_rest(&mut self, alloc: Global, keeps_text: bool) -> Result<Excerpt<'t>, AllocError>
+        ensures { Gives spec.excerpt_view (spec.clipped keeps_text (spec.macro_rest self.old))
+            result self.new }
     {
-        self.take_excerpt(alloc, Before::Mark, Extent::Macro)
+        self.take_excerpt(alloc, keeps_text, Before::Mark, Extent::Macro)
     }
+}
+
+/// Whether a symbol closes the last of so many braces.
+#[inline(always)]
+fn closes_all(braces: usize, symbol: u8) -> bool
+    ensures { result ≡ (braces == 1 && symbol == 125) }
+{
+    braces == 1 && symbol == b'}'
+}
+
+/// Passes over tokens in braces up to the brace that closes the outermost of them, which is put down as the next.
+#[inline(always)]
+fn pass_braced<'t>(
+    lexer: &mut Lexer<'t>,
+    last: &mut Option<usize>,
+    next: &mut Option<Token<'t>>,
+    past: &mut usize,
+    nest: &mut Nest,
+)
+    requires some { (nest.old.braces == 0) ≡ false }
+    requires braces { nest.old.braces + length (filter is_significant lexer.old) < 2 ^ 64 }
+    requires inner { nest.old.inner + length (filter is_significant lexer.old) < 2 ^ 64 }
+    ensures passed { spec.LeadsOn past.old (filter is_significant lexer.old) nest.old
+        past.new (left_of next.new lexer.new) nest.new }
+    ensures last { last_unended last.new lexer.new ≡ last_unended last.old lexer.old }
+{
+    'tokens: while let Some(token) = lexer.next() {
+        note_last(&token, lexer, last);
+        if token.is_significant() {
+            let symbol = token.symbol();
+            if closes_all(nest.braces, symbol) {
+                *next = Some(token);
+                return;
+            }
+            count_inside(symbol, nest);
+            *past = token.end();
+        }
+    }
+    *next = None;
 }
 
 /// Adds the text of a token. Most are of one byte.
@@ -391,6 +490,14 @@ fn push_token(text: &mut String, token: &str) -> Result<(), AllocError>
         [byte] if *byte < 128 => text.push(*byte as char),
         _ => text.push_str(token),
     }
+}
+
+/// Whether a word that can begin an item begins with the byte.
+#[inline(always)]
+fn leads_item(first: u8) -> bool
+    ensures { result ≡ spec.leads_item first }
+{
+    matches!(first, b'c' | b'e' | b'i' | b'm' | b'p' | b's' | b'u') || matches!(first, b'f' | b't')
 }
 
 fn opens(symbol: u8) -> bool

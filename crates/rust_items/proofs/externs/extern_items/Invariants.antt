@@ -1,10 +1,11 @@
 use Rattle.std.proofs.Common.{◌≡◌, map, ◌-◌, false}
 use Rattle.hir_input.specs.Syntax.{extern_item_view}
+use Rattle.rust_items.specs.Clipped.{clipped_turn}
 use Rattle.rust_items.specs.Found.{log_view}
 use Rattle.rust_items.specs.Items.{finding_from, finding, is_list_end, extern_turn}
 use Rattle.rust_items.proofs.externs.extern_items.Given as goal
 
 abbrev pub invariant-loop-turn : goal.invariant-loop-turn
 invariant-loop-turn l =
-    finding_from (is_list_end false) (extern_turn l.depth) (l.most - l._turn) (map extern_item_view l.items.items) (log_view l.log) l.cursor
-    ≡ finding (is_list_end false) (extern_turn l.depth) (log_view l.fn.log) l.fn.cursor
+    finding_from (is_list_end false) (clipped_turn l.keeps_bodies (extern_turn l.depth)) (l.most - l._turn) (map extern_item_view l.items.items) (log_view l.log) l.cursor
+    ≡ finding (is_list_end false) (clipped_turn l.keeps_bodies (extern_turn l.depth)) (log_view l.fn.log) l.fn.cursor

@@ -1,14 +1,15 @@
 use Rattle.std.proofs.Common.{map, sym, ◌∙◌}
 use Rattle.std.specs.Prelude.{option_map}
 use Rattle.hir_input.specs.Syntax.{item_view}
+use Rattle.rust_items.specs.Clipped.{clipped_turn}
 use Rattle.rust_items.specs.Found.{log_view}
-use Rattle.rust_items.specs.Items.{items, is_list_end, turn}
+use Rattle.rust_items.specs.Items.{finding, is_list_end, turn}
 use Rattle.rust_items.proofs.Steps.{finding_more}
 use Rattle.rust_items.proofs.items.+items.Goals as goal
 
 pub items-loop-turn-preserved : goal.items-loop-turn-preserved
 items-loop-turn-preserved t c =
-    finding_more (is_list_end c.args.is_top) (turn c.args.left) c.most_turns-most.result c.loop-turn._turn c.past-past.result (map item_view c.loop-turn.items.items) (map item_view c.push_some.new.items.items)
+    finding_more (is_list_end c.args.is_top) (clipped_turn c.args.keeps_bodies (turn c.args.left)) c.most_turns-most.result c.loop-turn._turn c.past-past.result (map item_view c.loop-turn.items.items) (map item_view c.push_some.new.items.items)
     (option_map item_view c.in_ok-item.item) (log_view c.loop-turn.log) (log_view c.turn.new.log) c.loop-turn.cursor c.turn.new.cursor c.pass_beyond.new.self
-    (items c.args.is_top c.args.left (log_view c.args.log.now) c.args.cursor.now)
+    (finding (is_list_end c.args.is_top) (clipped_turn c.args.keeps_bodies (turn c.args.left)) (log_view c.args.log.now) c.args.cursor.now)
     c.loop-turn-test.true (sym c.is_list_end.ensures ∙ c.if-is_list_end.false) c.in_ok-item.ensures c.past-past.ensures c.pass_beyond.ensures c.in_ok-push_some.ensures c.loop-turn.invariant

@@ -1,7 +1,8 @@
 use Rattle.std.proofs.Common.{◌≡◌, map, ◌+◌, ◌-◌, ◌*◌}
 use Rattle.hir_input.specs.Syntax.{item_view}
+use Rattle.rust_items.specs.Clipped.{clipped_turn}
 use Rattle.rust_items.specs.Found.{log_view}
-use Rattle.rust_items.specs.Items.{finding_from, items, is_list_end, turn}
+use Rattle.rust_items.specs.Items.{finding_from, finding, is_list_end, turn}
 use Rattle.rust_items.proofs.items.+items.Given as goal
 
 abbrev pub decreases-module_inside : goal.decreases-module_inside
@@ -24,5 +25,5 @@ decreases-items l = 6 * l.left + 5
 
 abbrev pub invariant-items-loop-turn : goal.invariant-items-loop-turn
 invariant-items-loop-turn l =
-    finding_from (is_list_end l.is_top) (turn l.left) (l.most - l._turn) (map item_view l.items.items) (log_view l.log) l.cursor
-    ≡ items l.is_top l.left (log_view l.fn.log) l.fn.cursor
+    finding_from (is_list_end l.is_top) (clipped_turn l.keeps_bodies (turn l.left)) (l.most - l._turn) (map item_view l.items.items) (log_view l.log) l.cursor
+    ≡ finding (is_list_end l.is_top) (clipped_turn l.keeps_bodies (turn l.left)) (log_view l.fn.log) l.fn.cursor

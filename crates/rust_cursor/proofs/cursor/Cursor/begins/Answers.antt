@@ -1,8 +1,10 @@
-use Rattle.std.proofs.Common.{◌==◌, sym, ap, ◌∙◌, length}
-use Rattle.rust_cursor.proofs.Begins.{none_begins}
+use Rattle.std.proofs.Common.{sym, ap, ◌∙◌}
+use Rattle.std.specs.Prelude.{slice_index}
+use Rattle.rust_cursor.specs.Extents.{leads_item}
+use Rattle.rust_cursor.proofs.Begins.{none_leads}
 use Rattle.rust_cursor.proofs.cursor.Cursor.begins.Goals as goal
 
 pub returns-then-symbol-ne35 : goal.returns-then-symbol-ne35
 returns-then-symbol-ne35 c =
-    none_begins c.args.nest c.args.self.now (ap (λ w. length w == 0) (sym c.word.ensures) ∙ sym c.is_empty.ensures ∙ c.if-is_empty.true)
+    none_leads c.args.nest c.args.self.now (ap (λ w. leads_item (slice_index w 0)) (sym c.word.ensures) ∙ ap leads_item (sym c.first_byte.ensures) ∙ sym c.leads_item.ensures ∙ c.if-not-leads_item.true)
     (λ e. c.if-symbol-ne35.true (c.symbol.ensures ∙ e))

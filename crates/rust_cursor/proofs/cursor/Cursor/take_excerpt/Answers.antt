@@ -1,8 +1,9 @@
 use Rattle.std.proofs.Common.{sym, ◌∙◌, arith}
 use Rattle.std.specs.Prelude.{string_bytes}
-use Rattle.rust_cursor.specs.Extents.{taken}
+use Rattle.rust_cursor.specs.Extents.{more, taken}
 use Rattle.rust_cursor.proofs.Nesting.{shorter, fewer}
-use Rattle.rust_cursor.proofs.Scans.{taking_some, taking_turn, taking_last}
+use Rattle.rust_cursor.proofs.Scans.{taking_some}
+use Rattle.rust_cursor.proofs.Clipped.{clipped_turn, clipped_last, text_kept}
 use Rattle.rust_cursor.proofs.cursor.Cursor.take_excerpt.Goals as goal
 
 pub nest_behind-requires : goal.nest_behind-requires
@@ -32,25 +33,46 @@ pub tokens-smaller : goal.tokens-smaller
 tokens-smaller c =
     let some = taking_some c.args.extent c.tokens.nest c.tokens.self (sym c.stops.ensures ∙ c.tokens-test.true) in
     let less = fewer c.tokens.nest c.nest_behind.new.nest c.tokens.self c.bump_symbol-last.new.self some c.nest_behind.ensures c.bump_symbol-last.ensures.rest in
+    omega (arith, less.left)
+
+pub tokens-smaller-in-Continue-branch-2 : goal.tokens-smaller-in-Continue-branch-2
+tokens-smaller-in-Continue-branch-2 c =
+    let some = taking_some c.args.extent c.tokens.nest c.tokens.self (sym c.stops.ensures ∙ c.tokens-test.true) in
+    let less = fewer c.tokens.nest c.nest_behind.new.nest c.tokens.self c.bump_symbol-last.new.self some c.nest_behind.ensures c.bump_symbol-last.ensures.rest in
     omega (arith, less.left, c.in_ok-take_inside.ensures.left)
 
 pub tokens-preserved : goal.tokens-preserved
 tokens-preserved c =
     let some = taking_some c.args.extent c.tokens.nest c.tokens.self (sym c.stops.ensures ∙ c.tokens-test.true) in
     let less = fewer c.tokens.nest c.nest_behind.new.nest c.tokens.self c.bump_symbol-last.new.self some c.nest_behind.ensures c.bump_symbol-last.ensures.rest in
-    let more = c.in_ok-take_inside.ensures in
     record {
-      same = more.same c.note_opened.new.opened ∙ taking_turn c.args.extent (string_bytes c.tokens.text) (string_bytes c.push_text.new.text) c.tokens.last c.bump_symbol-last.result c.tokens.opened c.note_opened.new.opened c.tokens.nest c.nest_behind.new.nest c.is_mark-is_call.result c.tokens.self c.bump_symbol-last.new.self (taken c.args.before c.args.extent c.args.self.now)
+      same = clipped_turn c.args.keeps_text c.args.extent (string_bytes c.tokens.text) (string_bytes c.push_text.new.text) c.tokens.last c.bump_symbol-last.result c.tokens.opened c.note_opened.new.opened c.tokens.nest c.nest_behind.new.nest c.is_mark-is_call.result c.tokens.self c.bump_symbol-last.new.self (taken c.args.before c.args.extent c.args.self.now)
           (sym c.stops.ensures ∙ c.tokens-test.true) c.is_mark-is_call.ensures c.nest_behind.ensures (sym c.ends.ensures ∙ c.if-ends.false) c.in_ok-push_text.ensures c.bump_symbol-last.ensures.value c.note_opened.ensures c.bump_symbol-last.ensures.rest c.tokens.invariant.same;
-      braces = omega (arith, less.braces, more.braces, c.tokens.invariant.braces);
-      others = omega (arith, less.others, more.left, more.others, c.tokens.invariant.others);
-      angles = omega (arith, less.angles, more.left, more.angles, c.tokens.invariant.angles);
-      inner = omega (arith, less.inner, more.inner, c.tokens.invariant.inner);
+      text = text_kept c.args.keeps_text (more c.args.extent c.tokens.last (string_bytes c.tokens.text) c.tokens.self) (string_bytes c.tokens.text) (string_bytes c.push_text.new.text) c.in_ok-push_text.ensures c.tokens.invariant.text;
+      braces = omega (arith, less.braces, c.tokens.invariant.braces);
+      others = omega (arith, less.others, c.tokens.invariant.others);
+      angles = omega (arith, less.angles, c.tokens.invariant.angles);
+      inner = omega (arith, less.inner, c.tokens.invariant.inner);
+    }
+
+pub tokens-preserved-in-Continue-branch-2 : goal.tokens-preserved-in-Continue-branch-2
+tokens-preserved-in-Continue-branch-2 c =
+    let some = taking_some c.args.extent c.tokens.nest c.tokens.self (sym c.stops.ensures ∙ c.tokens-test.true) in
+    let less = fewer c.tokens.nest c.nest_behind.new.nest c.tokens.self c.bump_symbol-last.new.self some c.nest_behind.ensures c.bump_symbol-last.ensures.rest in
+    let more_inside = c.in_ok-take_inside.ensures in
+    record {
+      same = more_inside.same c.note_opened.new.opened ∙ clipped_turn c.args.keeps_text c.args.extent (string_bytes c.tokens.text) (string_bytes c.push_text.new.text) c.tokens.last c.bump_symbol-last.result c.tokens.opened c.note_opened.new.opened c.tokens.nest c.nest_behind.new.nest c.is_mark-is_call.result c.tokens.self c.bump_symbol-last.new.self (taken c.args.before c.args.extent c.args.self.now)
+          (sym c.stops.ensures ∙ c.tokens-test.true) c.is_mark-is_call.ensures c.nest_behind.ensures (sym c.ends.ensures ∙ c.if-ends.false) c.in_ok-push_text.ensures c.bump_symbol-last.ensures.value c.note_opened.ensures c.bump_symbol-last.ensures.rest c.tokens.invariant.same;
+      text = more_inside.text (text_kept c.args.keeps_text (more c.args.extent c.tokens.last (string_bytes c.tokens.text) c.tokens.self) (string_bytes c.tokens.text) (string_bytes c.push_text.new.text) c.in_ok-push_text.ensures c.tokens.invariant.text);
+      braces = omega (arith, less.braces, more_inside.braces, c.tokens.invariant.braces);
+      others = omega (arith, less.others, more_inside.left, more_inside.others, c.tokens.invariant.others);
+      angles = omega (arith, less.angles, more_inside.left, more_inside.angles, c.tokens.invariant.angles);
+      inner = omega (arith, less.inner, more_inside.inner, c.tokens.invariant.inner);
     }
 
 pub returns-then-ends : goal.returns-then-ends
 returns-then-ends c =
-    taking_last c.args.extent (string_bytes c.tokens.text) (string_bytes c.push_text.new.text) c.tokens.last c.tokens.opened c.note_opened.new.opened c.block_at-block.result c.tokens.nest c.nest_behind.new.nest c.is_mark-is_call.result c.is_whole-is_ended.result
+    clipped_last c.args.keeps_text c.args.extent (string_bytes c.tokens.text) (string_bytes c.push_text.new.text) c.tokens.last c.tokens.opened c.note_opened.new.opened c.block_at-block.result c.tokens.nest c.nest_behind.new.nest c.is_mark-is_call.result c.is_whole-is_ended.result
     c.tokens.self c.bump.new.self (taken c.args.before c.args.extent c.args.self.now)
-    (sym c.stops.ensures ∙ c.tokens-test.true) c.is_mark-is_call.ensures c.nest_behind.ensures (sym c.ends.ensures ∙ c.if-ends.true) c.in_ok-push_text.ensures c.note_opened.ensures c.block_at-block.ensures c.is_whole-is_ended.ensures c.bump.ensures
+    (sym c.stops.ensures ∙ c.tokens-test.true) c.is_mark-is_call.ensures c.nest_behind.ensures (sym c.ends.ensures ∙ c.if-ends.true) c.in_ok-push_text.ensures c.tokens.invariant.text c.note_opened.ensures c.block_at-block.ensures c.is_whole-is_ended.ensures c.bump.ensures
     c.tokens.invariant.same

@@ -1,11 +1,12 @@
 use Rattle.std.proofs.Common.{◌≡◌, ◌<◌, ◌+◌, ◌^◌, length}
 use Rattle.std.specs.Prelude.{string_bytes}
-use Rattle.rust_cursor.specs.Extents.{taking, taken}
+use Rattle.rust_cursor.specs.Extents.{kept_text, clipped, taking, taken}
 use Rattle.rust_cursor.proofs.cursor.Cursor.take_excerpt.Given as goal
 
 abbrev pub invariant-tokens : goal.invariant-tokens
 invariant-tokens l = record {
-  same : taking l.extent (string_bytes l.text) l.last l.opened l.nest l.self ≡ taken l.fn.before l.extent l.initial.self;
+  same : clipped l.keeps_text (taking l.extent (string_bytes l.text) l.last l.opened l.nest l.self) ≡ clipped l.keeps_text (taken l.fn.before l.extent l.initial.self);
+  text : kept_text l.keeps_text (string_bytes l.text) ≡ string_bytes l.text;
   braces : l.nest.braces + length l.self.left < 2 ^ 64;
   others : l.nest.others + length l.self.left < 2 ^ 64;
   angles : l.nest.angles + length l.self.left < 2 ^ 64;
