@@ -12,9 +12,10 @@ use Rattle.rust_lexer.proofs.Whole.{plain_is}
 use Rattle.rust_cursor.proofs.Leads.{when}
 use Rattle.rust_items.specs.LineEnds.{with_feeds}
 use Rattle.rust_typing.specs.Laws.{first_plain, BeginsPlain}
+use Rattle.rust_typing.specs.Loose.{Loose, none_loose, loose_behind, loose_from, loose_in}
 use Rattle.rust_typing.proofs.Full.{feeds_full, feeds_lead}
 use Rattle.rust_typing.proofs.Returns.{feeds_body}
-use Rattle.rust_edits.specs.Inner.{in_braces, closes_at, begins_plain, is_alone}
+use Rattle.rust_edits.specs.Inner.{in_braces, closes_at, begins_plain, is_alone, loose_inside}
 use Rattle.rust_edits.proofs.Steps.{both_true}
 
 -- a text before a `}` at this place, which closes braces that are open so many deep: its braces match, and none of its tokens takes the `}`
@@ -177,3 +178,26 @@ is_found m h = subst (λ (w : List ℕ). is_alone w ≡ true) (sym (feeds_body [
 
     plain : begins_plain (tokens (123 ∷ z)) ≡ true
     plain = ap begins_plain (brace_tokens z) ∙ plain_behind z ∙ ap (λ n. first_plain (tokens_from n 1 z)) none ∙ plain_outside 0 1 0 x h.0.ends h.1
+
+-- ---- loose brackets
+
+loose_outside : (l : Loose) (left at from : ℕ) (x : List ℕ) → overhang left x (125 ∷ []) ≡ 0 → loose_from l (tokens_from left at (x ++ 125 ∷ [])) ≡ loose_from l (front left from x (125 ∷ []))
+unfolding first_cut is_wide_start
+loose_outside l zero at from [] o = refl
+loose_outside l (suc left) at from [] o = absurd cc
+loose_outside l (suc left) at from (b ∷ x) o = loose_outside l left (suc at) (suc from) x o
+loose_outside l zero at from (b ∷ x) o =
+    let z = x ++ 125 ∷ [] in
+    let t = piece (first_cut b z) at b z in
+    loose_outside (loose_behind l (symbol_of t)) (whole (first_cut b z) z) (suc at) (suc from) x o
+
+loose_behind_brace : (z : List ℕ) → loose_from none_loose (tokens_from 0 0 (123 ∷ z)) ≡ loose_from none_loose (tokens_from (whole (first_cut 123 z) z) 1 z)
+unfolding first_cut is_wide_start
+loose_behind_brace z = refl
+
+-- those of a text that stands alone are those of the text in braces
+pub loose_is : (m : List ℕ) → StandsAlone (with_feeds m) → loose_inside (with_feeds (in_braces m)) ≡ loose_in (with_feeds m)
+loose_is m h =
+    let z = with_feeds m ++ 125 ∷ [] in
+    ap loose_inside (feeds_body [] m []) ∙ ap (loose_from none_loose) (brace_tokens z) ∙ loose_behind_brace z
+    ∙ ap (λ n. loose_from none_loose (tokens_from n 1 z)) (brace_whole (with_feeds m) [] h.begins) ∙ loose_outside none_loose 0 1 0 (with_feeds m) h.ends

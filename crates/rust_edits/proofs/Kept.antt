@@ -10,21 +10,25 @@ use Rattle.rust_cursor.proofs.Ordered.{close_some}
 use Rattle.rust_cursor.proofs.Places.{AreAlike, no_more, one_more, IsAlike, neither, both, unmoved, moves}
 use Rattle.rust_paths.specs.declared.names.TextRange.{TextRange}
 use Rattle.rust_leaves.proofs.Beside.{SameRange}
-use Rattle.rust_items.specs.declared.source_file.SourceFile.{SourceFile}
-use Rattle.rust_items.specs.LineEnds.{with_feeds, place_in, moved_range, moved_span}
-use Rattle.rust_items.specs.SourceFiles.{places, found_in, IsFile}
+use Rattle.rust_items.specs.declared.log.Problem.{Problem}
+use Rattle.rust_items.specs.LineEnds.{with_feeds, place_in, moved_problem, moved_range, moved_span}
+use Rattle.rust_items.specs.SourceFiles.{FileView, places, found_in, IsFile}
 use Rattle.rust_items.proofs.FilePlaces.{text_found}
 use Rattle.rust_items.proofs.LineEnds.{before, place_le, place_rises_in, place_within}
 use Rattle.rust_items.proofs.UntilItems.{SpanAlike}
 use Rattle.rust_items.proofs.Within.{IsIn, IsMaybeIn, AreIn, spans_in}
 use Rattle.rust_typing.specs.Laws.{with_body, IsTyped}
 use Rattle.rust_typing.specs.Moved.{close_at}
+use Rattle.rust_typing.proofs.Loose.{both_told}
 use Rattle.rust_typing.proofs.Moved.{uses_below}
+use Rattle.rust_typing.proofs.ProblemsAlike.{ProblemAlike}
+use Rattle.rust_typing.proofs.ProblemsIn.{problems_in}
+use Rattle.rust_typing.proofs.ProblemsIn as within
 use Rattle.rust_typing.proofs.Returns.{is_le, not_le, feeds_body, body_length, place_high, place_open}
 use Rattle.rust_typing.proofs.Texts.{IsMoved}
 use Rattle.rust_typing.proofs.Typing.{both_read}
 use Rattle.rust_edits.specs.declared.shift.Shift.{Shift}
-use Rattle.rust_edits.specs.Edits.{has_place, has_range, has_some_range, has_item, HasPlaces}
+use Rattle.rust_edits.specs.Edits.{has_place, has_range, has_some_range, has_item, has_problem, HasPlaces}
 use Rattle.rust_edits.proofs.Steps.{both_true}
 
 is_lt : (m n : ℕ) → m < n → nat_lt m n ≡ true
@@ -71,9 +75,10 @@ module _ (q m m' s : List ℕ) (shift : Shift) (opening : shift.opening ≡ leng
       let same : place (length x) ≡ place (length (with_feeds (with_body q m s))) = ap place long in
       omega (arith, below, end, same)
 
-  place_kept : (n k : ℕ) → n ≤ length x → Same n k → has_place shift (place n) ≡ true
-  place_kept n k l (unmoved i e) = let here = low n i in has_low shift (place n) (omega (arith, here, opening))
-  place_kept n k l (moves c some e f) =
+  -- whatever was typed
+  place_kept : (w : List ℕ) (n k : ℕ) → n ≤ length x → IsMoved (with_feeds q) (with_feeds m) w (with_feeds s) n k → has_place shift (place n) ≡ true
+  place_kept w n k l (unmoved i e) = let here = low n i in has_low shift (place n) (omega (arith, here, opening))
+  place_kept w n k l (moves c some e f) =
       let first = close_some (with_feeds s) in
       let all = body_length (with_feeds q) (with_feeds m) (with_feeds s) in
       let old = body_length q m s in
@@ -83,7 +88,7 @@ module _ (q m m' s : List ℕ) (shift : Shift) (opening : shift.opening ≡ leng
       has_high shift (place n) (omega (arith, high, opening)) (omega (arith, high, closing)) (omega (arith, below, high, closing, closing_new, old, new, short))
 
   range_kept : (r t : TextRange) → IsIn (length x) r → SameRange Same r t → has_range shift (moved_range place r) ≡ true
-  range_kept r t l h = both_true (has_place shift (place r.start)) (has_place shift (place r.end)) (place_kept r.start t.start l.0 h.start) (place_kept r.end t.end l.1 h.end)
+  range_kept r t l h = both_true (has_place shift (place r.start)) (has_place shift (place r.end)) (place_kept (with_feeds m') r.start t.start l.0 h.start) (place_kept (with_feeds m') r.end t.end l.1 h.end)
 
   maybe_kept : (o p : Option TextRange) → IsMaybeIn (length x) o → IsAlike (SameRange Same) o p → has_some_range shift (option_map (moved_range place) o) ≡ true
   maybe_kept o p l neither = refl
@@ -105,9 +110,18 @@ module _ (q m m' s : List ℕ) (shift : Shift) (opening : shift.opening ≡ leng
   starts_kept : {ns ts : List ℕ} → All (λ n. n ≤ length x) ns → AreAlike Same ns ts → list_all (has_place shift) (map place ns) ≡ true
   starts_kept l no_more = refl
   starts_kept l (one_more {x = n} {y = k} {xs = ns} {ys = ts} h r) =
-      both_true (has_place shift (place n)) (list_all (has_place shift) (map place ns)) (place_kept n k (All-head (λ i. i ≤ length x) n ns l) h) (starts_kept (All-tail (λ i. i ≤ length x) n ns l) r)
+      both_true (has_place shift (place n)) (list_all (has_place shift) (map place ns)) (place_kept (with_feeds m') n k (All-head (λ i. i ≤ length x) n ns l) h) (starts_kept (All-tail (λ i. i ≤ length x) n ns l) r)
 
-  pub read_kept : (edition : EditionYear) (read : SourceFile) → IsTyped edition (with_feeds q) (with_feeds m) (with_feeds m') (with_feeds s) → IsFile edition (with_feeds (with_body q m s)) (place_in (with_body q m s)) read → HasPlaces shift read
+  problems_kept : {ps rs : List Problem} → within.AreIn (length x) ps → AreAlike (ProblemAlike (IsMoved (with_feeds q) (with_feeds m) (with_feeds m) (with_feeds s))) ps rs → list_all (has_problem shift) (map (moved_problem place) ps) ≡ true
+  problems_kept l no_more = refl
+  problems_kept l (one_more {x = p} {y = r} {xs = ps} {ys = rs} h k) =
+      both_true (has_place shift (place p.at)) (list_all (has_problem shift) (map (moved_problem place) ps)) (place_kept (with_feeds m) p.at r.at l.0 h.place) (problems_kept l.1 k)
+
+  -- the text as it was is one in which the same was typed
+  unedited : (edition : EditionYear) → IsTyped edition (with_feeds q) (with_feeds m) (with_feeds m') (with_feeds s) → IsTyped edition (with_feeds q) (with_feeds m) (with_feeds m) (with_feeds s)
+  unedited edition t = record { opens = t.opens; body = t.body; alone = t.alone; alone_new = t.alone; begins = t.begins; begins_new = t.begins }
+
+  pub read_kept : (edition : EditionYear) (read : FileView) → IsTyped edition (with_feeds q) (with_feeds m) (with_feeds m') (with_feeds s) → IsFile edition (with_feeds (with_body q m s)) (place_in (with_body q m s)) read → HasPlaces shift read
   read_kept edition read t f =
       let f' = subst (λ (z : List ℕ). IsFile edition z place read) (feeds_body q m s) f in
       let r = both_read edition (with_feeds q) (with_feeds m) (with_feeds m') (with_feeds s) t in
@@ -116,4 +130,5 @@ module _ (q m m' s : List ℕ) (shift : Shift) (opening : shift.opening ≡ leng
       record {
         items = ap (list_all (has_item shift)) f'.places ∙ items_kept f'.ids (spans_in edition x) r.found.spans;
         use_trees = ap (list_all (has_place shift)) f'.use_trees ∙ starts_kept below r.found.use_trees;
+        problems = ap (list_all (has_problem shift)) f'.problems ∙ problems_kept (problems_in edition x) (both_told edition (with_feeds q) (with_feeds m) (with_feeds m) (with_feeds s) (unedited edition t) refl);
       }

@@ -1,5 +1,6 @@
 pub mod Closed
 pub mod Bare
+pub mod Moved
 pub mod Moves
 pub mod Steps
 pub mod Order

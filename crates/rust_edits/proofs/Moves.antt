@@ -1,17 +1,19 @@
 -- An edit inside a body moves what is read.
-use Rattle.std.proofs.Common.{◌≡◌, ◌<◌, ◌+◌, ◌^◌, ℕ, suc, true, List, ◌∷◌, ◌++◌, length, take, drop, IsUtf8, ap, sym, subst, ◌∙◌, map, arith, append_assoc, length-append}
+use Rattle.std.proofs.Common.{◌≡◌, ◌<◌, ◌+◌, ◌^◌, ℕ, suc, Bool, true, List, ◌∷◌, ◌++◌, length, take, drop, IsUtf8, ap, sym, subst, ◌∙◌, map, arith, append_assoc, length-append}
 use Rattle.std.proofs.lemmas.List.{take_at, drop_at}
 use Rattle.std.proofs.lemmas.Str.{IsUtf8-append}
 use Rattle.hir_input.specs.declared.edition.EditionYear.{EditionYear}
 use Rattle.rust_paths.specs.declared.names.TextRange.{TextRange}
 use Rattle.rust_items.specs.declared.source_file.ItemPlace.{ItemPlace}
-use Rattle.rust_items.specs.declared.source_file.SourceFile.{SourceFile}
-use Rattle.rust_items.specs.LineEnds.{with_feeds}
-use Rattle.rust_items.specs.SourceFiles.{IsSourceFile}
+use Rattle.rust_items.specs.LineEnds.{with_feeds, moved_problem}
+use Rattle.rust_items.specs.SourceFiles.{FileView, IsFileView}
 use Rattle.rust_items.specs.Typed.{has_body_at}
 use Rattle.rust_typing.specs.Laws.{with_body, IsBody, IsTyped}
+use Rattle.rust_typing.specs.Loose.{loose_in}
 use Rattle.rust_typing.specs.Moved.{shifted, shifted_by, close_at, moved_place}
+use Rattle.rust_typing.proofs.Anew.{is_read_anew}
 use Rattle.rust_typing.proofs.Full.{feeds_full}
+use Rattle.rust_typing.proofs.Loose.{problems_move}
 use Rattle.rust_typing.proofs.Moved.{places_move}
 use Rattle.rust_typing.proofs.Opened.{body_opens}
 use Rattle.rust_typing.proofs.Returns.{feeds_body, body_length, place_open}
@@ -19,11 +21,12 @@ use Rattle.rust_typing.proofs.Told.{body_is_told}
 use Rattle.rust_typing.proofs.Typing.{typing_inside}
 use Rattle.rust_edits.specs.declared.parts.Parts.{Parts}
 use Rattle.rust_edits.specs.declared.shift.Shift.{Shift}
-use Rattle.rust_edits.specs.Edits.{edited, shifted_place, begins_bare, Shifts, PlacesAreKept}
-use Rattle.rust_edits.specs.Inner.{in_braces, is_alone, AreCut, IsShift}
-use Rattle.rust_edits.proofs.Closed.{alone_is}
+use Rattle.rust_edits.specs.Edits.{edited, shifted_place, begins_bare, Shifts, ReadsMoved, PlacesAreKept}
+use Rattle.rust_edits.specs.Inner.{in_braces, is_alone, loose_inside, same_loose, AreCut, IsShift}
+use Rattle.rust_edits.proofs.Closed.{alone_is, loose_is}
 use Rattle.rust_edits.proofs.Bare.{IsBare, bare_is}
 use Rattle.rust_edits.proofs.Kept.{read_kept}
+use Rattle.rust_edits.proofs.Moved.{same_is, same_of}
 
 -- ---- the texts
 
@@ -100,15 +103,15 @@ module _ (old typed : List ℕ) (items : List ItemPlace) (body range : TextRange
   by_shift : shifted_place shift ≡ shifted_by q m m'
   by_shift = shift_is shift (length q) (close_at q m) (close_at q m') opening closing closing_new
 
-  typed_is : (edition : EditionYear) (read : SourceFile) → read.places.items ≡ items → IsSourceFile edition (with_body q m s) read → IsTyped edition (with_feeds q) (with_feeds m) (with_feeds m') (with_feeds s)
+  typed_is : (edition : EditionYear) (read : FileView) → read.places ≡ items → IsFileView edition (with_body q m s) read → IsTyped edition (with_feeds q) (with_feeds m) (with_feeds m') (with_feeds s)
   unfolding q m m'
   typed_is edition read e f =
       let one = alone_is (p.front.now ++ (p.replaced.now ++ p.back.now)) (IsUtf8-append _ _ parts.front_utf8 (IsUtf8-append _ _ parts.replaced_utf8 parts.back_utf8)) alone in
       let two = alone_is (p.front.now ++ (typed ++ p.back.now)) (IsUtf8-append _ _ parts.front_utf8 (IsUtf8-append _ _ utf8 parts.back_utf8)) alone_new in
       let front : IsBare (with_body (with_feeds q) (with_feeds m) (with_feeds s)) = subst IsBare (ap with_feeds old_is ∙ feeds_body q m s) (bare_is old bare) in
-      let here : has_body_at (length q) read.places.items ≡ true = ap (λ (n : ℕ). has_body_at n read.places.items) parts.opens ∙ ap (has_body_at body.start) e ∙ told in
+      let here : has_body_at (length q) read.places ≡ true = ap (λ (n : ℕ). has_body_at n read.places) parts.opens ∙ ap (has_body_at body.start) e ∙ told in
       let is : IsBody edition (with_feeds q) (with_feeds m) (with_feeds s) =
-      sym (body_is_told edition (with_feeds q) (with_feeds m) (with_feeds s) (with_body q m s) read (feeds_body q m s) f) ∙ ap (λ (n : ℕ). has_body_at n read.places.items) (place_open q m s) ∙ here in
+      sym (body_is_told edition (with_feeds q) (with_feeds m) (with_feeds s) (with_body q m s) read (feeds_body q m s) f) ∙ ap (λ (n : ℕ). has_body_at n read.places) (place_open q m s) ∙ here in
       record {
         opens = record { full = feeds_full q parts.before_utf8; one = body_opens edition (with_feeds q) (with_feeds m) (with_feeds s) is front.0 front.1.0 front.1.1; plain = front.0; unfenced = front.1.0; bare = front.1.1 };
         body = is;
@@ -118,17 +121,43 @@ module _ (old typed : List ℕ) (items : List ItemPlace) (body range : TextRange
         begins_new = two.1;
       }
 
-  pub edit_shifts : Shifts items old range typed shift
-  edit_shifts edition read again e f g =
-      let f' : IsSourceFile edition (with_body q m s) read = subst (λ (t : List ℕ). IsSourceFile edition t read) old_is f in
-      let g' : IsSourceFile edition (with_body q m' s) again = subst (λ (t : List ℕ). IsSourceFile edition t again) new_is g in
-      let t = typed_is edition read e f' in
-      let moved = places_move edition q m m' s read again t f' g' in
-      record {
-        syntax = typing_inside edition (with_feeds q) (with_feeds m) (with_feeds m') (with_feeds s) (with_body q m s) (with_body q m' s) read again (feeds_body q m s) (feeds_body q m' s) t f' g';
-        items = moved.places ∙ ap (λ (k : ℕ → ℕ). map (moved_place k) read.places.items) (sym by_shift);
-        use_trees = moved.use_trees ∙ ap (λ (k : ℕ → ℕ). map k read.use_trees.items) (sym by_shift);
-      }
+  -- brackets are counted in braces, and are as many between them
+  module _ (keeps : Bool) (counted : keeps ≡ same_loose (loose_inside (with_feeds (in_braces (p.front.now ++ (p.replaced.now ++ p.back.now))))) (loose_inside (with_feeds (in_braces (p.front.now ++ (typed ++ p.back.now)))))) where
+    stood : loose_inside (with_feeds (in_braces (p.front.now ++ (p.replaced.now ++ p.back.now)))) ≡ loose_in (with_feeds (p.front.now ++ (p.replaced.now ++ p.back.now)))
+    stood = loose_is (p.front.now ++ (p.replaced.now ++ p.back.now)) (alone_is (p.front.now ++ (p.replaced.now ++ p.back.now)) (IsUtf8-append _ _ parts.front_utf8 (IsUtf8-append _ _ parts.replaced_utf8 parts.back_utf8)) alone).0
+
+    stands : loose_inside (with_feeds (in_braces (p.front.now ++ (typed ++ p.back.now)))) ≡ loose_in (with_feeds (p.front.now ++ (typed ++ p.back.now)))
+    stands = loose_is (p.front.now ++ (typed ++ p.back.now)) (alone_is (p.front.now ++ (typed ++ p.back.now)) (IsUtf8-append _ _ parts.front_utf8 (IsUtf8-append _ _ utf8 parts.back_utf8)) alone_new).0
+
+    pub loose_kept : keeps ≡ true → loose_in (with_feeds (p.front.now ++ (typed ++ p.back.now))) ≡ loose_in (with_feeds (p.front.now ++ (p.replaced.now ++ p.back.now)))
+    loose_kept k = sym stands ∙ same_is _ _ (sym counted ∙ k) ∙ stood
+
+    pub kept_loose : loose_in (with_feeds (p.front.now ++ (typed ++ p.back.now))) ≡ loose_in (with_feeds (p.front.now ++ (p.replaced.now ++ p.back.now))) → keeps ≡ true
+    kept_loose e = counted ∙ same_of _ _ (stands ∙ e ∙ sym stood)
+
+    kept_here : keeps ≡ true → loose_in (with_feeds m') ≡ loose_in (with_feeds m)
+    unfolding m m'
+    kept_here = loose_kept
+
+    pub edit_shifts : Shifts items old range typed (record { shift = shift; keeps_problems = keeps })
+    edit_shifts edition read again e f g =
+        let f' : IsFileView edition (with_body q m s) read = subst (λ (t : List ℕ). IsFileView edition t read) old_is f in
+        let g' : IsFileView edition (with_body q m' s) again = subst (λ (t : List ℕ). IsFileView edition t again) new_is g in
+        let t = typed_is edition read e f' in
+        let moved = places_move edition q m m' s read again t f' g' in
+        record {
+          syntax = typing_inside edition (with_feeds q) (with_feeds m) (with_feeds m') (with_feeds s) (with_body q m s) (with_body q m' s) read again (feeds_body q m s) (feeds_body q m' s) t f' g';
+          items = moved.places ∙ ap (λ (k : ℕ → ℕ). map (moved_place k) read.places) (sym by_shift);
+          use_trees = moved.use_trees ∙ ap (λ (k : ℕ → ℕ). map k read.use_trees) (sym by_shift);
+          problems = λ k. problems_move edition q m m' s read again t (kept_here k) f' g' ∙ ap (λ (j : ℕ → ℕ). map (moved_problem j) read.problems) (sym by_shift);
+        }
+
+    pub edit_reads : ReadsMoved items old range typed (record { shift = shift; keeps_problems = keeps })
+    edit_reads edition read e f =
+        let f' : IsFileView edition (with_body q m s) read = subst (λ (t : List ℕ). IsFileView edition t read) old_is f in
+        let made = is_read_anew edition q m m' s read (typed_is edition read e f') f' in
+        let g : IsFileView edition (edited old range typed) made.0 = subst (λ (t : List ℕ). IsFileView edition t made.0) (sym new_is) made.1 in
+        record { again = made.0; is_read = g; moved = edit_shifts edition read made.0 e f g }
 
   short : length old < 2 ^ 63 → length typed < 2 ^ 63 → length (with_body q m' s) < 2 ^ 64
   unfolding q m m' s
@@ -143,5 +172,5 @@ module _ (old typed : List ℕ) (items : List ItemPlace) (body range : TextRange
 
   pub edit_keeps : length old < 2 ^ 63 → length typed < 2 ^ 63 → PlacesAreKept items old range typed shift
   edit_keeps small small_typed edition read e f =
-      let f' : IsSourceFile edition (with_body q m s) read = subst (λ (t : List ℕ). IsSourceFile edition t read) old_is f in
+      let f' : IsFileView edition (with_body q m s) read = subst (λ (t : List ℕ). IsFileView edition t read) old_is f in
       read_kept q m m' s shift opening closing closing_new (short small small_typed) edition read (typed_is edition read e f') f'

@@ -7,7 +7,7 @@ use Rattle.std.proofs.lemmas.Option.{slice_get-get_or}
 use Rattle.hir_input.specs.Syntax.{ItemViews}
 use Rattle.rust_items.specs.declared.source_file.ItemPlace.{ItemPlace}
 use Rattle.rust_items.specs.Places.{Telling, ArePlaces, nothing, placed}
-use Rattle.rust_items.proofs.FilePlaces.{file_placed}
+use Rattle.rust_items.proofs.FilePlaces.{view_placed}
 use Rattle.rust_edits.specs.Edits.{BeginFrom, ItemsAreInOrder, last_begun, body_about}
 
 -- ---- what is read of a text
@@ -21,7 +21,7 @@ rises (placed {p = p} own inside later) low a b k =
     (omega arith, rises inside p.range.start (omega arith) (omega arith) (λ l h. rises later l h (omega (arith, h)) k))
 
 pub items_are_in_order : ItemsAreInOrder
-items_are_in_order edition text read is = rises (file_placed edition text read is) 0 (omega arith) (omega arith) (λ l h. tt)
+items_are_in_order edition text read is = rises (view_placed edition text read is) 0 (omega arith) (omega arith) (λ l h. tt)
 
 -- ---- the last that begins up to a place
 

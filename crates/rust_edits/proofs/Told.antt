@@ -1,5 +1,5 @@
 -- Which edits are told.
-use Rattle.std.proofs.Common.{◌≡◌, ℕ, true, false, Option, Some, None, List, ◌++◌, length, IsUtf8, ap, sym, subst, ◌∙◌, ◌<◌, ◌^◌, ◌∷◌, arith, length-append}
+use Rattle.std.proofs.Common.{◌≡◌, ℕ, Bool, true, false, Option, Some, None, List, ◌++◌, length, IsUtf8, ap, sym, subst, ◌∙◌, ◌<◌, ◌^◌, ◌∷◌, arith, length-append}
 use Rattle.std.specs.Prelude.{◌↔◌, IsSome}
 use Rattle.std.proofs.lemmas.Bool.{false≢true}
 use Rattle.std.proofs.lemmas.Option.{none-some, same_Some}
@@ -7,8 +7,9 @@ use Rattle.std.proofs.lemmas.Str.{IsUtf8-append}
 use Rattle.rust_items.specs.LineEnds.{with_feeds}
 use Rattle.rust_items.specs.declared.source_file.ItemPlace.{ItemPlace}
 use Rattle.rust_paths.specs.declared.names.TextRange.{TextRange}
+use Rattle.rust_typing.specs.Loose.{Loose, loose_in}
 use Rattle.rust_edits.specs.declared.parts.Parts.{Parts}
-use Rattle.rust_edits.specs.Edits.{body_about, begins_bare, ArePartsAbout, MayStandInside, MayEdit}
+use Rattle.rust_edits.specs.Edits.{body_about, begins_bare, ArePartsAbout, MayStandInside, MayEdit, TellsLoose}
 use Rattle.rust_edits.specs.Inner.{in_braces, is_alone, AreCut, IsUncut, EndsFit}
 use Rattle.rust_edits.proofs.Closed.{alone_is, is_found}
 use Rattle.rust_edits.proofs.Cuts.{SameParts, same_parts}
@@ -45,6 +46,13 @@ module _ (items : List ItemPlace) (old typed : List ℕ) (range : TextRange) whe
 
       pub not_stands : is_alone (with_feeds (in_braces (p.front.now ++ (typed ++ p.back.now)))) ≡ false → MayEdit items old range typed → ⊥
       not_stands e m = false≢true (sym e ∙ is_found (p.front.now ++ (typed ++ p.back.now)) (subst MayStandInside (stands_is m) m.stands))
+
+      -- whether as many brackets are loose as before
+      pub loose_told : (keeps : Bool) → (keeps ≡ true → loose_in (with_feeds (p.front.now ++ (typed ++ p.back.now))) ≡ loose_in (with_feeds (p.front.now ++ (p.replaced.now ++ p.back.now))))
+          → (loose_in (with_feeds (p.front.now ++ (typed ++ p.back.now))) ≡ loose_in (with_feeds (p.front.now ++ (p.replaced.now ++ p.back.now))) → keeps ≡ true) → TellsLoose items old range typed keeps
+      loose_told keeps to from m =
+          let loose : List ℕ → Loose = λ l. loose_in (with_feeds l) in
+          (λ k. ap loose (stands_is m) ∙ to k ∙ sym (ap loose (stood_is m)), λ e. from (sym (ap loose (stands_is m)) ∙ e ∙ ap loose (stood_is m)))
 
       -- the places of the `}` fit into memory
       fits : length old < 2 ^ 63 → length typed < 2 ^ 63 → EndsFit range (length typed) (length p.back.now)

@@ -1,18 +1,19 @@
 -- What an edit inside a body leaves.
-use Rattle.std.specs.Prelude.{◌≡◌, ◌==◌, ◌≤◌, ◌+◌, ◌^◌, ◌&&◌, ◌||◌, not, ℕ, suc, Bool, true, nat_le, nat_lt, if◌then◌else◌, Option, Some, None, option_and_then, List, [], ◌∷◌, ◌++◌, map, take, drop, length, slice_index, IsUtf8}
+use Rattle.std.specs.Prelude.{◌≡◌, ◌↔◌, ◌==◌, ◌≤◌, ◌+◌, ◌^◌, ◌&&◌, ◌||◌, not, ℕ, suc, Bool, true, nat_le, nat_lt, if◌then◌else◌, Option, Some, None, option_and_then, List, [], ◌∷◌, ◌++◌, map, take, drop, length, slice_index, IsUtf8}
 use Rattle.std.specs.List.{list_all}
 use Rattle.std.specs.Option.{option_or}
 use Rattle.hir_input.specs.declared.edition.EditionYear.{EditionYear}
 use Rattle.hir_input.specs.Bodies.{without_bodies}
-use Rattle.hir_input.specs.Syntax.{syntax_view}
 use Rattle.rust_lexer.specs.Alone.{StandsAlone}
 use Rattle.rust_paths.specs.declared.names.TextRange.{TextRange}
+use Rattle.rust_items.specs.declared.log.Problem.{Problem}
 use Rattle.rust_items.specs.declared.source_file.ItemPlace.{ItemPlace}
-use Rattle.rust_items.specs.declared.source_file.SourceFile.{SourceFile}
-use Rattle.rust_items.specs.LineEnds.{with_feeds}
-use Rattle.rust_items.specs.SourceFiles.{IsSourceFile}
+use Rattle.rust_items.specs.LineEnds.{with_feeds, moved_problem}
+use Rattle.rust_items.specs.SourceFiles.{FileView, IsFileView}
 use Rattle.rust_typing.specs.Laws.{BeginsPlain}
+use Rattle.rust_typing.specs.Loose.{loose_in}
 use Rattle.rust_typing.specs.Moved.{shifted, moved_place}
+use Rattle.rust_edits.specs.declared.edit.BodyEdit.{BodyEdit}
 use Rattle.rust_edits.specs.declared.shift.Shift.{Shift}
 
 -- a text with this in the place of a range
@@ -27,16 +28,32 @@ shifted_place s = shifted s.opening s.closing s.closing_new
 abbrev pub shifted_item : Shift → ItemPlace → ItemPlace
 shifted_item s = moved_place (shifted_place s)
 
--- what was read of two texts is the same but for body texts, with the same ids, and items and use trees stand where a shift says
-pub record IsMovedBy (shift : Shift) (read again : SourceFile) : Type 0 where
-  pub syntax : without_bodies (syntax_view read.syntax) ≡ without_bodies (syntax_view again.syntax)
-  pub items : again.places.items ≡ map (shifted_item shift) read.places.items
-  pub use_trees : again.use_trees.items ≡ map (shifted_place shift) read.use_trees.items
+-- a problem of the old text, in the new one
+abbrev pub shifted_problem : Shift → Problem → Problem
+shifted_problem s = moved_problem (shifted_place s)
+
+-- what was read of two texts is the same but for body texts, with the same ids, and stands where an edit says
+pub record IsMovedBy (edit : BodyEdit) (read again : FileView) : Type 0 where
+  pub syntax : without_bodies read.syntax ≡ without_bodies again.syntax
+  pub items : again.places ≡ map (shifted_item edit.shift) read.places
+  pub use_trees : again.use_trees ≡ map (shifted_place edit.shift) read.use_trees
+  pub problems : edit.keeps_problems ≡ true → again.problems ≡ map (shifted_problem edit.shift) read.problems
 
 -- Where these are the places of what is read of a text, in some edition, so is what is read of the text with an edit.
-abbrev pub Shifts : List ItemPlace → List ℕ → TextRange → List ℕ → Shift → Type 0
-Shifts items old range typed shift = (edition : EditionYear) (read again : SourceFile) → read.places.items ≡ items
-    → IsSourceFile edition old read → IsSourceFile edition (edited old range typed) again → IsMovedBy shift read again
+abbrev pub Shifts : List ItemPlace → List ℕ → TextRange → List ℕ → BodyEdit → Type 0
+Shifts items old range typed edit = (edition : EditionYear) (read again : FileView) → read.places ≡ items
+    → IsFileView edition old read → IsFileView edition (edited old range typed) again → IsMovedBy edit read again
+
+-- what is read of a text with an edit: what was read before it, moved
+pub record IsReadMoved (edit : BodyEdit) (edition : EditionYear) (text : List ℕ) (read : FileView) : Type 0 where
+  pub again : FileView
+  pub is_read : IsFileView edition text again
+  pub moved : IsMovedBy edit read again
+
+-- Where these are the places of what is read of a text, something is read of the text with an edit, and it is moved.
+abbrev pub ReadsMoved : List ItemPlace → List ℕ → TextRange → List ℕ → BodyEdit → Type 0
+ReadsMoved items old range typed edit =
+    (edition : EditionYear) (read : FileView) → read.places ≡ items → IsFileView edition old read → IsReadMoved edit edition (edited old range typed) read
 
 -- ---- which places are in the new text
 
@@ -57,15 +74,20 @@ has_some_range s (Some r) = has_range s r
 abbrev pub has_item : Shift → ItemPlace → Bool
 has_item s p = has_range s p.range && (has_some_range s p.name && has_some_range s p.body)
 
+-- so does a problem have one
+abbrev pub has_problem : Shift → Problem → Bool
+has_problem s p = has_place s p.at
+
 -- all places of what was read of a text are in the new one
-pub record HasPlaces (shift : Shift) (read : SourceFile) : Type 0 where
-  pub items : list_all (has_item shift) read.places.items ≡ true
-  pub use_trees : list_all (has_place shift) read.use_trees.items ≡ true
+pub record HasPlaces (shift : Shift) (read : FileView) : Type 0 where
+  pub items : list_all (has_item shift) read.places ≡ true
+  pub use_trees : list_all (has_place shift) read.use_trees ≡ true
+  pub problems : list_all (has_problem shift) read.problems ≡ true
 
 -- Where these are the places of what is read of a text, in some edition, all of that has places in the text with the edit.
 abbrev pub PlacesAreKept : List ItemPlace → List ℕ → TextRange → List ℕ → Shift → Type 0
 PlacesAreKept items old range typed shift =
-    (edition : EditionYear) (read : SourceFile) → read.places.items ≡ items → IsSourceFile edition old read → HasPlaces shift read
+    (edition : EditionYear) (read : FileView) → read.places ≡ items → IsFileView edition old read → HasPlaces shift read
 
 -- ---- which edits are told
 
@@ -80,7 +102,7 @@ BeginInOrder items = BeginFrom 0 items
 
 -- So are those of what is read of any text.
 abbrev pub ItemsAreInOrder : Type 0
-ItemsAreInOrder = (edition : EditionYear) (text : List ℕ) (read : SourceFile) → IsSourceFile edition text read → BeginInOrder read.places.items
+ItemsAreInOrder = (edition : EditionYear) (text : List ℕ) (read : FileView) → IsFileView edition text read → BeginInOrder read.places
 
 -- the last of the items that begin up to a place
 abbrev pub last_begun : ℕ → List ItemPlace → Option ItemPlace
@@ -127,3 +149,11 @@ pub record MayEdit (items : List ItemPlace) (old : List ℕ) (range : TextRange)
   pub parts : ArePartsAbout old body range before front replaced back behind
   pub stood : MayStandInside (front ++ (replaced ++ back))
   pub stands : MayStandInside (front ++ (typed ++ back))
+
+-- such an edit leaves as many brackets loose in the body as before
+abbrev pub KeepsLoose : (items : List ItemPlace) (old : List ℕ) (range : TextRange) (typed : List ℕ) → MayEdit items old range typed → Type 0
+KeepsLoose items old range typed m = loose_in (with_feeds (m.front ++ (typed ++ m.back))) ≡ loose_in (with_feeds (m.front ++ (m.replaced ++ m.back)))
+
+-- it is told of such an edit whether it does
+abbrev pub TellsLoose : List ItemPlace → List ℕ → TextRange → List ℕ → Bool → Type 0
+TellsLoose items old range typed keeps = (m : MayEdit items old range typed) → (keeps ≡ true) ↔ KeepsLoose items old range typed m

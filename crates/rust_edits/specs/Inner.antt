@@ -5,6 +5,8 @@ use Rattle.rust_lexer.specs.Symbol.{symbol_of}
 use Rattle.rust_lexer.specs.Tokens.{tokens}
 use Rattle.rust_paths.specs.declared.names.TextRange.{TextRange}
 use Rattle.rust_typing.specs.Laws.{first_plain}
+use Rattle.rust_typing.specs.Loose.{Loose, none_loose, loose_from}
+use Rattle.rust_edits.specs.declared.alone.Brackets.{Brackets}
 use Rattle.rust_edits.specs.declared.parts.Parts.{Parts}
 use Rattle.rust_edits.specs.declared.shift.Shift.{Shift}
 use Rattle.rust_edits.specs.Edits.{ArePartsAbout}
@@ -28,6 +30,21 @@ begins_plain (t ∷ ts) = first_plain ts
 -- the braces of a text with braces around it stand alone, and it begins with no inner attribute
 abbrev pub is_alone : List ℕ → Bool
 is_alone w = closes_at (length w - 1) 0 (tokens w) && begins_plain (tokens w)
+
+abbrev pub brackets_view : Brackets → Loose
+brackets_view b = record { closing = b.closing; opening = b.opening }
+
+-- the brackets that are loose in a text with braces around it
+abbrev pub loose_inside : List ℕ → Loose
+loose_inside w = loose_from none_loose (tokens w)
+
+-- as many are loose in both
+abbrev pub same_loose : Loose → Loose → Bool
+same_loose l m = l.closing == m.closing && l.opening == m.opening
+
+-- what has a place is moved, and the rest stays
+abbrev pub or_kept : {A : Type 0} → (A → Bool) → (A → A) → A → A
+or_kept has move a = if has a then move a else a
 
 -- these are the parts of a text about a range in these braces
 pub record AreCut (text : List ℕ) (body range : TextRange) (p : Parts) : Type 0 where

@@ -3,14 +3,24 @@
 ghost use Rattle.std.specs.Prelude.{◌≡◌, ◌↔◌, true, IsSome, IfOk, IfSome, length, slice_index};
 ghost use Rattle.rust_items.specs.Typed.{has_body_at};
 ghost use Rattle.rust_edits.specs.Edits as spec;
-ghost use Rattle.rust_edits.specs.Edits.{BeginInOrder, MayEdit, PlacesAreKept, Shifts};
+ghost use Rattle.rust_edits.specs.Edits.{BeginInOrder, MayEdit, PlacesAreKept, ReadsMoved, Shifts, TellsLoose};
 ghost use Rattle.rust_edits.specs.Inner as inner;
 
-use crate::alone::may_stand;
+use crate::alone::loose_if_alone;
 use crate::parts::parts_of;
 use crate::shift::Shift;
 use rust_items::{ItemPlace, TextRange};
 use std::alloc::{AllocError, Global};
+
+/// An edit inside a body, by what it leaves of what was read of the text.
+#[derive(Clone, Copy, Debug, PartialEq, Eq)]
+pub struct BodyEdit {
+    /// How places move with it.
+    pub shift: Shift,
+    /// Whether the problems are the same, and move with the text too. They are if, of the brackets `(` and `[` in the body, as many
+    /// close nothing and as many stay open as before; else the new text has to be read for its problems.
+    pub keeps_problems: bool,
+}
 
 /// The braces of the last item that begins up to a place, if it ends with braces.
 fn body_about(items: &[ItemPlace], at: usize) -> Option<TextRange>
@@ -56,12 +66,13 @@ fn shift_of(body: TextRange, range: TextRange, typed: &str, back: &str) -> Optio
     })
 }
 
-/// How the places of a text move when a range of it is replaced, if that is an edit inside a body; `None` says that the new text is
-/// to be read.
+/// What an edit that replaces a range of a text leaves of what was read of the text, if it is one inside a body; `None` says that the
+/// new text is to be read.
 ///
 /// It is told where the items of the old text stand, the old text, the range in bytes, and what was typed in its place. If it
 /// answers, then what is read of the new text is the same but for body texts, with the same ids, and items and use trees stand
-/// where the answer says. It takes as long as the body is long, and a search among the items.
+/// where the answer says; so do the problems, if it says that they are kept. It takes as long as the body is long, and a search among
+/// the items.
 ///
 /// It says `None` if the range is not in the braces of a body, if what stood or stands between these does not stand alone (its braces
 /// match, no token of it takes the `}`, and no inner attribute begins it), and of a text that begins with a byte order mark, `-`, an
@@ -77,13 +88,17 @@ pub fn edit_inside(
     old: &str,
     range: TextRange,
     typed: &str,
-) -> Result<Option<Shift>, AllocError>
+) -> Result<Option<BodyEdit>, AllocError>
     ensures shifts { IfOk result
         (λ found. IfSome found (Shifts items.now old.now range typed.now)) }
-    ensures keeps { IfOk result
-        (λ found. IfSome found (PlacesAreKept items.now old.now range typed.now)) }
+    ensures reads { IfOk result
+        (λ found. IfSome found (ReadsMoved items.now old.now range typed.now)) }
+    ensures keeps { IfOk result (λ found. IfSome found
+        (λ edit. PlacesAreKept items.now old.now range typed.now edit.shift)) }
     ensures told { BeginInOrder items.now
         → IfOk result (λ it. IsSome it ↔ MayEdit items.now old.now range typed.now) }
+    ensures loose { BeginInOrder items.now → IfOk result (λ it. IfSome it
+        (λ edit. TellsLoose items.now old.now range typed.now edit.keeps_problems)) }
 {
     if !begins_bare(old) {
         return Ok(None);
@@ -94,11 +109,17 @@ pub fn edit_inside(
     let Some(parts) = parts_of(old, body, range) else {
         return Ok(None);
     };
-    if !may_stand(alloc, parts.front, parts.replaced, parts.back)? {
+    let Some(stood) = loose_if_alone(alloc, parts.front, parts.replaced, parts.back)? else {
         return Ok(None);
-    }
-    if !may_stand(alloc, parts.front, typed, parts.back)? {
+    };
+    let Some(stands) = loose_if_alone(alloc, parts.front, typed, parts.back)? else {
         return Ok(None);
-    }
-    Ok(shift_of(body, range, typed, parts.back))
+    };
+    let Some(shift) = shift_of(body, range, typed, parts.back) else {
+        return Ok(None);
+    };
+    Ok(Some(BodyEdit {
+        shift,
+        keeps_problems: stood.is_same(stands),
+    }))
 }

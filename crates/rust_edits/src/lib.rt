@@ -7,5 +7,5 @@ mod laws;
 mod parts;
 mod shift;
 
-pub use edit::edit_inside;
+pub use edit::{BodyEdit, edit_inside};
 pub use shift::Shift;

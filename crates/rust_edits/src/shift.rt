@@ -1,12 +1,12 @@
 //! How places move with an edit between braces.
 
-ghost use Rattle.std.specs.Prelude.{◌≡◌, IfOk, IfSome, is_some, map, option_map};
+ghost use Rattle.std.specs.Prelude.{◌≡◌, IfSome, is_some, map, option_map, true};
 ghost use Rattle.std.specs.List.{list_all};
 ghost use Rattle.rust_items.specs.LineEnds.{moved_range};
-ghost use Rattle.rust_edits.specs.Edits.{shifted_place, shifted_item, has_place, has_range, has_some_range, has_item};
+ghost use Rattle.rust_edits.specs.Edits.{shifted_place, shifted_item, shifted_problem, has_place, has_range, has_some_range, has_item, has_problem};
+ghost use Rattle.rust_edits.specs.Inner.{or_kept};
 
-use rust_items::{ItemPlace, TextRange};
-use std::alloc::{AllocError, Global};
+use rust_items::{ItemPlace, Problem, TextRange};
 
 /// How places move with an edit between braces: up to the `{` they stay, and behind the braces they are counted from the `}`.
 #[derive(Clone, Copy, Debug, PartialEq, Eq)]
@@ -63,53 +63,58 @@ impl Shift {
         })
     }
 
-    /// Where the items of the old text stand in the new one; the ids are the same. It answers for the items of the old text.
-    ///
-    /// # Errors
-    ///
-    /// Only if memory runs out.
-    pub fn items(
-        &self,
-        alloc: Global,
-        items: &[ItemPlace],
-    ) -> Result<Option<Vec<ItemPlace>>, AllocError>
-        ensures value { IfOk result
-            (λ moved. IfSome moved (λ v. v.items ≡ map (shifted_item self.now) items.now)) }
-        ensures told { IfOk result
-            (λ moved. is_some moved ≡ list_all (has_item self.now) items.now) }
+    fn move_place(&self, at: &mut usize)
+        ensures { at.new ≡ or_kept (has_place self.now) (shifted_place self.now) at.old }
     {
-        let mut moved = Vec::with_capacity(alloc, items.len())?;
-        for item in items {
-            let Some(item) = self.item(*item) else {
-                return Ok(None);
-            };
-            moved.push(item)?;
+        if let Some(moved) = self.place(*at) {
+            *at = moved;
         }
-        Ok(Some(moved))
     }
 
-    /// Where the use trees of the old text begin in the new one. It answers for those of the old text.
-    ///
-    /// # Errors
-    ///
-    /// Only if memory runs out.
-    pub fn use_trees(
-        &self,
-        alloc: Global,
-        starts: &[usize],
-    ) -> Result<Option<Vec<usize>>, AllocError>
-        ensures value { IfOk result
-            (λ moved. IfSome moved (λ v. v.items ≡ map (shifted_place self.now) starts.now)) }
-        ensures told { IfOk result
-            (λ moved. is_some moved ≡ list_all (has_place self.now) starts.now) }
+    fn move_item(&self, item: &mut ItemPlace)
+        ensures { item.new ≡ or_kept (has_item self.now) (shifted_item self.now) item.old }
     {
-        let mut moved = Vec::with_capacity(alloc, starts.len())?;
-        for start in starts {
-            let Some(start) = self.place(*start) else {
-                return Ok(None);
-            };
-            moved.push(start)?;
+        if let Some(moved) = self.item(*item) {
+            *item = moved;
         }
-        Ok(Some(moved))
+    }
+
+    fn move_problem(&self, problem: &mut Problem)
+        ensures { problem.new
+            ≡ or_kept (has_problem self.now) (shifted_problem self.now) problem.old }
+    {
+        if let Some(at) = self.place(problem.at) {
+            problem.at = at;
+        }
+    }
+
+    /// Moves the items of the old text to where they stand in the new one; the ids stay.
+    pub fn move_items(&self, items: &mut [ItemPlace])
+        ensures { list_all (has_item self.now) items.old ≡ true
+            → items.new ≡ map (shifted_item self.now) items.old }
+    {
+        for item in items.iter_mut() {
+            self.move_item(item);
+        }
+    }
+
+    /// Moves the first bytes of the use trees of the old text to those in the new one.
+    pub fn move_use_trees(&self, starts: &mut [usize])
+        ensures { list_all (has_place self.now) starts.old ≡ true
+            → starts.new ≡ map (shifted_place self.now) starts.old }
+    {
+        for start in starts.iter_mut() {
+            self.move_place(start);
+        }
+    }
+
+    /// Moves the problems of the old text to where they stand in the new one, if the edit keeps them.
+    pub fn move_problems(&self, problems: &mut [Problem])
+        ensures { list_all (has_problem self.now) problems.old ≡ true
+            → problems.new ≡ map (shifted_problem self.now) problems.old }
+    {
+        for problem in problems.iter_mut() {
+            self.move_problem(problem);
+        }
     }
 }

@@ -3,6 +3,7 @@ pub mod ProblemsIn
 pub mod Typing
 pub mod Returns
 pub mod Moved
+pub mod Anew
 pub mod Problems
 pub mod Told
 pub mod Begins

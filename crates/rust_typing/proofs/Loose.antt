@@ -18,10 +18,9 @@ use Rattle.rust_cursor.proofs.Places.{AreAlike, no_more, one_more, IsAlike}
 use Rattle.rust_items.specs.declared.log.Problem.{Problem}
 use Rattle.rust_items.specs.declared.log.ProblemKind.{ProblemKind}
 use Rattle.rust_items.specs.declared.log.ProblemKind.TheVariants as problem
-use Rattle.rust_items.specs.declared.source_file.SourceFile.{SourceFile}
 use Rattle.rust_items.specs.Found.{and_problem_at}
 use Rattle.rust_items.specs.LineEnds.{with_feeds, place_in, moved_problem}
-use Rattle.rust_items.specs.SourceFiles.{found_in, read_of, IsFile}
+use Rattle.rust_items.specs.SourceFiles.{FileView, found_in, read_of, IsFile}
 use Rattle.rust_items.specs.Typed.{has_body}
 use Rattle.rust_items.proofs.UntilItems.{Rows, found_rows}
 use Rattle.rust_typing.specs.Laws.{with_body, IsTyped}
@@ -59,7 +58,7 @@ same_loose edition q m m' s h h' e =
 
 -- ---- problems
 
-both_told : (edition : EditionYear) (q m m' s : List ℕ) → IsTyped edition q m m' s → loose_in m' ≡ loose_in m
+pub both_told : (edition : EditionYear) (q m m' s : List ℕ) → IsTyped edition q m m' s → loose_in m' ≡ loose_in m
     → AreAlike (ProblemAlike (IsMoved q m m' s)) (found_in edition (with_body q m s)).problems (found_in edition (with_body q m' s)).problems
 unfolding found_in
 both_told edition q m m' s t e =
@@ -97,9 +96,9 @@ problems_are q m m' s l (one_more {x = p} {y = r} {xs = ps} {ys = rs} h k) =
     ∙ ap (λ (j : ProblemKind). record { kind = j; at = place_in (with_body q m' s) r.at } ∷ map (moved_problem (shifted_by q m m')) (map (moved_problem (place_in (with_body q m s))) ps)) h.kind
     ∙ ap (λ n. record { kind = p.kind; at = n } ∷ map (moved_problem (shifted_by q m m')) (map (moved_problem (place_in (with_body q m s))) ps)) (place_is q m m' s p.at r.at l.0 h.place)
 
-read_moved : (edition : EditionYear) (q m m' s : List ℕ) (file file' : SourceFile) → IsTyped edition (with_feeds q) (with_feeds m) (with_feeds m') (with_feeds s) → loose_in (with_feeds m') ≡ loose_in (with_feeds m)
+read_moved : (edition : EditionYear) (q m m' s : List ℕ) (file file' : FileView) → IsTyped edition (with_feeds q) (with_feeds m) (with_feeds m') (with_feeds s) → loose_in (with_feeds m') ≡ loose_in (with_feeds m)
     → IsFile edition (with_body (with_feeds q) (with_feeds m) (with_feeds s)) (place_in (with_body q m s)) file → IsFile edition (with_body (with_feeds q) (with_feeds m') (with_feeds s)) (place_in (with_body q m' s)) file'
-    → file'.problems.items ≡ map (moved_problem (shifted_by q m m')) file.problems.items
+    → file'.problems ≡ map (moved_problem (shifted_by q m m')) file.problems
 read_moved edition q m m' s file file' t e f g =
     g.problems ∙ problems_are q m m' s (problems_in edition (with_body (with_feeds q) (with_feeds m) (with_feeds s))) (both_told edition (with_feeds q) (with_feeds m) (with_feeds m') (with_feeds s) t e)
     ∙ ap (map (moved_problem (shifted_by q m m'))) (sym f.problems)

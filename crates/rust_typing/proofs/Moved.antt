@@ -8,9 +8,8 @@ use Rattle.hir_input.specs.UseTreeView.{UseTreeView}
 use Rattle.rust_cursor.proofs.Ordered.{close_some}
 use Rattle.rust_cursor.proofs.Places.{AreAlike, no_more, one_more, unmoved, moves}
 use Rattle.rust_items.specs.declared.source_file.ItemPlace.{ItemPlace}
-use Rattle.rust_items.specs.declared.source_file.SourceFile.{SourceFile}
 use Rattle.rust_items.specs.LineEnds.{with_feeds, place_in}
-use Rattle.rust_items.specs.SourceFiles.{IsFile}
+use Rattle.rust_items.specs.SourceFiles.{FileView, IsFile}
 use Rattle.rust_items.proofs.FilePlaces.{text_found}
 use Rattle.rust_items.proofs.Moving.{files_moved}
 use Rattle.rust_items.proofs.UsesFound.{IsIn, UsesIn, no_uses, leaf_uses, holder_uses}
@@ -51,7 +50,7 @@ starts_are q m m' s l (one_more {x = n} {y = k} {xs = xs} {ys = ys} h r) =
 
 -- ---- the law
 
-read_moved : (edition : EditionYear) (q m m' s : List ℕ) (file file' : SourceFile) → IsTyped edition (with_feeds q) (with_feeds m) (with_feeds m') (with_feeds s)
+read_moved : (edition : EditionYear) (q m m' s : List ℕ) (file file' : FileView) → IsTyped edition (with_feeds q) (with_feeds m) (with_feeds m') (with_feeds s)
     → IsFile edition (with_body (with_feeds q) (with_feeds m) (with_feeds s)) (place_in (with_body q m s)) file
     → IsFile edition (with_body (with_feeds q) (with_feeds m') (with_feeds s)) (place_in (with_body q m' s)) file' → AreMoved q m m' s file file'
 read_moved edition q m m' s file file' t f g =

@@ -9,4 +9,4 @@ use Rattle.rust_typing.specs.Moved.{BodyIsTold}
 pub body_is_told : BodyIsTold
 body_is_told edition q m s old read e f =
     let long : length (with_feeds old) ≡ length q + length (123 ∷ (m ++ 125 ∷ s)) = ap length e ∙ length-append q (123 ∷ (m ++ 125 ∷ s)) in
-    subst (λ (z : List ℕ). has_body_at (place_in old (length q)) read.places.items ≡ has_body (length q) (found_in edition z).spans) e (file_told edition old read f (length q) (omega arith))
+    subst (λ (z : List ℕ). has_body_at (place_in old (length q)) read.places ≡ has_body (length q) (found_in edition z).spans) e (file_told edition old read f (length q) (omega arith))

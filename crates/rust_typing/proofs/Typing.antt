@@ -1,10 +1,10 @@
 -- Typing inside a body changes no syntax but for its body texts.
-use Rattle.std.proofs.Common.{◌≡◌, ℕ, false, List, [], ◌∷◌, length, refl, ap, sym, subst, ◌∙◌, map}
+use Rattle.std.proofs.Common.{◌≡◌, ℕ, false, List, length, refl, ap, sym, subst, ◌∙◌, map}
 use Rattle.hir_input.specs.declared.edition.EditionYear.{EditionYear}
 use Rattle.hir_input.specs.declared.ids.FileAstId.{FileAstId}
 use Rattle.hir_input.specs.Attr.{MetaView}
 use Rattle.hir_input.specs.Bodies.{item_without_bodies, items_without_bodies, without_bodies}
-use Rattle.hir_input.specs.Syntax.{ItemView, ItemViews, item_and, items_from, source_file, syntax_view}
+use Rattle.hir_input.specs.Syntax.{ItemView, ItemViews, items_from, source_file}
 use Rattle.rust_cursor.specs.Tokens.{tokens_of}
 use Rattle.rust_cursor.specs.Beside.{Bodies}
 use Rattle.rust_cursor.proofs.Around.{tokens_sound}
@@ -12,11 +12,11 @@ use Rattle.rust_ids.specs.Row.{Row}
 use Rattle.rust_ids.specs.Ids.{AreIds}
 use Rattle.rust_ids.proofs.Consequences.{determined}
 use Rattle.rust_metas.specs.Attributes.{inner_attributes}
-use Rattle.rust_items.specs.declared.source_file.SourceFile.{SourceFile}
 use Rattle.rust_items.specs.Ids.{with_ids}
 use Rattle.rust_items.specs.LineEnds.{place_in}
 use Rattle.rust_items.specs.Typed.{has_body}
-use Rattle.rust_items.specs.SourceFiles.{found_in, items_in, read_of, IsFile}
+use Rattle.rust_items.specs.SourceFiles.{FileView, found_in, items_in, read_of, IsFile}
+use Rattle.rust_items.proofs.Bare.{from_list}
 use Rattle.rust_items.proofs.Bodiless.{with_bodiless}
 use Rattle.rust_items.proofs.UntilItems.{Rows, rows_of, RowsAlike, by_rows, ListAlike, FileUntil, of_none, alike, file_until, found_rows}
 use Rattle.rust_typing.specs.Laws.{with_body, IsTyped, TypingInside}
@@ -30,10 +30,6 @@ items_are edition x = refl
 
 -- ---- the syntax
 
-from_list : (is : List ItemView) → items_without_bodies (items_from is) ≡ items_from (map item_without_bodies is)
-from_list [] = refl
-from_list (i ∷ is) = ap (item_and (item_without_bodies i)) (from_list is)
-
 -- items without bodies, with ids
 abbrev bare : List ItemView → List FileAstId → ItemViews
 bare is ids = (with_ids (items_from (map item_without_bodies is)) ids).0
@@ -42,8 +38,8 @@ bare_is : (is : List ItemView) (ids : List FileAstId) → items_without_bodies (
 bare_is is ids = sym (ap (λ r. r.0) (with_bodiless (items_from is) ids)) ∙ ap (λ l. (with_ids l ids).0) (from_list is)
 
 -- what is read without bodies
-read_bare : (edition : EditionYear) (x : List ℕ) (place : ℕ → ℕ) (file : SourceFile) (f : IsFile edition x place file)
-    → without_bodies (syntax_view file.syntax) ≡ source_file (inner_attributes (tokens_of edition x)).0 (bare (read_of edition x).0 f.ids)
+read_bare : (edition : EditionYear) (x : List ℕ) (place : ℕ → ℕ) (file : FileView) (f : IsFile edition x place file)
+    → without_bodies file.syntax ≡ source_file (inner_attributes (tokens_of edition x)).0 (bare (read_of edition x).0 f.ids)
 read_bare edition x place file f =
     ap without_bodies f.syntax ∙ ap (λ (l : ItemViews). source_file (inner_attributes (tokens_of edition x)).0 (items_without_bodies (with_ids l f.ids).0)) (items_are edition x)
     ∙ ap (source_file (inner_attributes (tokens_of edition x)).0) (bare_is (read_of edition x).0 f.ids)
@@ -82,15 +78,15 @@ both_read edition q m m' s t =
       found = by_rows (found_rows edition x) (found_rows edition x') (are_moved edition q m m' s t.alone t.alone_new (λ same. RowsAlike same (rows_of (read_of edition x).1.0) (rows_of (read_of edition x').1.0)) r);
     }
 
-pub same_ids : (edition : EditionYear) (x x' : List ℕ) (place place' : ℕ → ℕ) (file file' : SourceFile) (f : IsFile edition x place file) (g : IsFile edition x' place' file')
+pub same_ids : (edition : EditionYear) (x x' : List ℕ) (place place' : ℕ → ℕ) (file file' : FileView) (f : IsFile edition x place file) (g : IsFile edition x' place' file')
     → (found_in edition x').rows ≡ (found_in edition x).rows → g.ids ≡ f.ids
 same_ids edition x x' place place' file file' f g e =
     determined (found_in edition x).rows g.ids f.ids (subst (λ (l : List Row). AreIds l g.ids) e g.are_ids) f.are_ids
 
 -- ---- the law
 
-read_alike : (edition : EditionYear) (q m m' s : List ℕ) (place place' : ℕ → ℕ) (file file' : SourceFile) → IsTyped edition q m m' s → IsFile edition (with_body q m s) place file → IsFile edition (with_body q m' s) place' file'
-    → without_bodies (syntax_view file.syntax) ≡ without_bodies (syntax_view file'.syntax)
+read_alike : (edition : EditionYear) (q m m' s : List ℕ) (place place' : ℕ → ℕ) (file file' : FileView) → IsTyped edition q m m' s → IsFile edition (with_body q m s) place file → IsFile edition (with_body q m' s) place' file'
+    → without_bodies file.syntax ≡ without_bodies file'.syntax
 read_alike edition q m m' s place place' file file' t f g =
     let x = with_body q m s in
     let x' = with_body q m' s in

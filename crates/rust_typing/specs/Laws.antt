@@ -2,7 +2,6 @@
 use Rattle.std.specs.Prelude.{◌≡◌, ℕ, Bool, true, false, not, ◌==◌, ◌&&◌, if◌then◌else◌, Some, List, [], ◌∷◌, ◌++◌, length}
 use Rattle.hir_input.specs.declared.edition.EditionYear.{EditionYear}
 use Rattle.hir_input.specs.Bodies.{without_bodies}
-use Rattle.hir_input.specs.Syntax.{syntax_view}
 use Rattle.rust_lexer.specs.declared.kind.DocStyle.TheVariants.{Inner}
 use Rattle.rust_lexer.specs.Alone.{is_fence, is_full, overhang, front, StandsAlone}
 use Rattle.rust_lexer.specs.Piece.{Piece}
@@ -10,9 +9,8 @@ use Rattle.rust_lexer.specs.Symbol.{symbol_of}
 use Rattle.rust_lexer.specs.Tokens.{has_mark, is_shebang, is_significant, tokens_from}
 use Rattle.rust_metas.specs.Attributes.{is_style}
 use Rattle.rust_metas.specs.Literals.{style_by}
-use Rattle.rust_items.specs.declared.source_file.SourceFile.{SourceFile}
 use Rattle.rust_items.specs.LineEnds.{with_feeds}
-use Rattle.rust_items.specs.SourceFiles.{found_in, IsSourceFile}
+use Rattle.rust_items.specs.SourceFiles.{FileView, found_in, IsFileView}
 use Rattle.rust_items.specs.Typed.{has_body}
 
 -- a text with this between two braces
@@ -56,5 +54,5 @@ pub record IsTyped (edition : EditionYear) (q m m' s : List ℕ) : Type 0 where
 
 -- Whatever is typed inside a body, what is read of the text is the same but for body texts, with the same ids.
 abbrev pub TypingInside : Type 0
-TypingInside = (edition : EditionYear) (q m m' s old new : List ℕ) (read again : SourceFile) → with_feeds old ≡ with_body q m s → with_feeds new ≡ with_body q m' s → IsTyped edition q m m' s
-    → IsSourceFile edition old read → IsSourceFile edition new again → without_bodies (syntax_view read.syntax) ≡ without_bodies (syntax_view again.syntax)
+TypingInside = (edition : EditionYear) (q m m' s old new : List ℕ) (read again : FileView) → with_feeds old ≡ with_body q m s → with_feeds new ≡ with_body q m' s → IsTyped edition q m m' s
+    → IsFileView edition old read → IsFileView edition new again → without_bodies read.syntax ≡ without_bodies again.syntax

@@ -5,9 +5,8 @@ use Rattle.rust_lexer.specs.Alone.{front}
 use Rattle.rust_lexer.specs.Piece.{Piece}
 use Rattle.rust_lexer.specs.Symbol.{symbol_of}
 use Rattle.rust_cursor.specs.Nests.{opens_other, closes_other}
-use Rattle.rust_items.specs.declared.source_file.SourceFile.{SourceFile}
 use Rattle.rust_items.specs.LineEnds.{with_feeds, moved_problem}
-use Rattle.rust_items.specs.SourceFiles.{IsSourceFile}
+use Rattle.rust_items.specs.SourceFiles.{FileView, IsFileView}
 use Rattle.rust_typing.specs.Laws.{with_body, IsTyped}
 use Rattle.rust_typing.specs.Moved.{shifted_by}
 
@@ -37,6 +36,6 @@ loose_in m = loose_from none_loose (front 0 0 m (125 ∷ []))
 -- Whatever is typed inside a body, if as many brackets in it close nothing and as many stay open as before, the same problems are told of the
 -- text, where they stood; those behind the body move with the text.
 abbrev pub ProblemsMove : Type 0
-ProblemsMove = (edition : EditionYear) (q m m' s : List ℕ) (read again : SourceFile) → IsTyped edition (with_feeds q) (with_feeds m) (with_feeds m') (with_feeds s)
-    → loose_in (with_feeds m') ≡ loose_in (with_feeds m) → IsSourceFile edition (with_body q m s) read → IsSourceFile edition (with_body q m' s) again
-    → again.problems.items ≡ map (moved_problem (shifted_by q m m')) read.problems.items
+ProblemsMove = (edition : EditionYear) (q m m' s : List ℕ) (read again : FileView) → IsTyped edition (with_feeds q) (with_feeds m) (with_feeds m') (with_feeds s)
+    → loose_in (with_feeds m') ≡ loose_in (with_feeds m) → IsFileView edition (with_body q m s) read → IsFileView edition (with_body q m' s) again
+    → again.problems ≡ map (moved_problem (shifted_by q m m')) read.problems

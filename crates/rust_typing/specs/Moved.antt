@@ -2,9 +2,8 @@
 use Rattle.std.specs.Prelude.{◌≡◌, ℕ, suc, ◌+◌, ◌-◌, nat_le, if◌then◌else◌, option_map, List, length, map}
 use Rattle.hir_input.specs.declared.edition.EditionYear.{EditionYear}
 use Rattle.rust_items.specs.declared.source_file.ItemPlace.{ItemPlace}
-use Rattle.rust_items.specs.declared.source_file.SourceFile.{SourceFile}
 use Rattle.rust_items.specs.LineEnds.{with_feeds, place_in, moved_range}
-use Rattle.rust_items.specs.SourceFiles.{found_in, IsSourceFile}
+use Rattle.rust_items.specs.SourceFiles.{FileView, found_in, IsFileView}
 use Rattle.rust_items.specs.Typed.{has_body, has_body_at}
 use Rattle.rust_typing.specs.Laws.{with_body, IsTyped}
 
@@ -25,16 +24,21 @@ abbrev pub moved_place : (ℕ → ℕ) → ItemPlace → ItemPlace
 moved_place place p = record { id = p.id; range = moved_range place p.range; name = option_map (moved_range place) p.name; body = option_map (moved_range place) p.body }
 
 -- where items and use trees stand that are read of two texts that differ between the two braces of a body
-pub record AreMoved (q m m' s : List ℕ) (read again : SourceFile) : Type 0 where
-  pub places : again.places.items ≡ map (moved_place (shifted_by q m m')) read.places.items
-  pub use_trees : again.use_trees.items ≡ map (shifted_by q m m') read.use_trees.items
+pub record AreMoved (q m m' s : List ℕ) (read again : FileView) : Type 0 where
+  pub places : again.places ≡ map (moved_place (shifted_by q m m')) read.places
+  pub use_trees : again.use_trees ≡ map (shifted_by q m m') read.use_trees
 
 -- Whatever is typed inside a body, items and use trees stand where they stood, but for those behind the body, which move with the text.
 abbrev pub PlacesMove : Type 0
-PlacesMove = (edition : EditionYear) (q m m' s : List ℕ) (read again : SourceFile) → IsTyped edition (with_feeds q) (with_feeds m) (with_feeds m') (with_feeds s)
-    → IsSourceFile edition (with_body q m s) read → IsSourceFile edition (with_body q m' s) again → AreMoved q m m' s read again
+PlacesMove = (edition : EditionYear) (q m m' s : List ℕ) (read again : FileView) → IsTyped edition (with_feeds q) (with_feeds m) (with_feeds m') (with_feeds s)
+    → IsFileView edition (with_body q m s) read → IsFileView edition (with_body q m' s) again → AreMoved q m m' s read again
+
+-- Whatever is typed inside a body of a text of which something is read, something is read of the text with it: what it is, the laws tell.
+abbrev pub IsReadAnew : Type 0
+IsReadAnew = (edition : EditionYear) (q m m' s : List ℕ) (read : FileView) → IsTyped edition (with_feeds q) (with_feeds m) (with_feeds m') (with_feeds s)
+    → IsFileView edition (with_body q m s) read → (again : FileView) × IsFileView edition (with_body q m' s) again
 
 -- Whether braces are a body (`Laws.IsBody`) is seen in the places of the file that was read.
 abbrev pub BodyIsTold : Type 0
-BodyIsTold = (edition : EditionYear) (q m s old : List ℕ) (read : SourceFile) → with_feeds old ≡ with_body q m s → IsSourceFile edition old read
-    → has_body_at (place_in old (length q)) read.places.items ≡ has_body (length q) (found_in edition (with_body q m s)).spans
+BodyIsTold = (edition : EditionYear) (q m s old : List ℕ) (read : FileView) → with_feeds old ≡ with_body q m s → IsFileView edition old read
+    → has_body_at (place_in old (length q)) read.places ≡ has_body (length q) (found_in edition (with_body q m s)).spans

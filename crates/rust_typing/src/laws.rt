@@ -2,7 +2,7 @@
 
 ghost use Rattle.rust_typing.specs.Laws.{TypingInside};
 ghost use Rattle.rust_typing.specs.Loose.{ProblemsMove};
-ghost use Rattle.rust_typing.specs.Moved.{BodyIsTold, PlacesMove};
+ghost use Rattle.rust_typing.specs.Moved.{BodyIsTold, IsReadAnew, PlacesMove};
 ghost use Rattle.rust_typing.specs.Opened.{BodyOpens};
 ghost use Rattle.rust_typing.specs.Problems.{ProblemsStand};
 
@@ -14,6 +14,11 @@ fn typing_inside()
 // Items and use trees stand where they stood, or are moved with the text.
 fn places_move()
     ensures { PlacesMove }
+{}
+
+// Something is read of the text with what was typed, if something was of the text before.
+fn is_read_anew()
+    ensures { IsReadAnew }
 {}
 
 // The braces of a body are told by the places of what was read.

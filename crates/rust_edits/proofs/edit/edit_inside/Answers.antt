@@ -1,12 +1,14 @@
-use Rattle.std.proofs.Common.{rules, length, ◌<◌, ◌^◌, ◌≡◌, ◌++◌, true, false, Some}
+use Rattle.std.proofs.Common.{rules, length, subst, ◌<◌, ◌^◌, ◌≡◌, ◌++◌, true, false, Option, Some}
+use Rattle.std.specs.Prelude.{◌↔◌, IsSome}
 use Rattle.rust_items.specs.LineEnds.{with_feeds}
 use Rattle.rust_items.specs.Typed.{has_body_at}
 use Rattle.rust_edits.specs.declared.shift.Shift.{Shift}
+use Rattle.rust_edits.specs.declared.edit.BodyEdit.{BodyEdit}
 use Rattle.rust_edits.specs.Edits.{begins_bare, body_about, MayEdit}
-use Rattle.rust_edits.specs.Inner.{in_braces, is_alone, AreCut}
-use Rattle.rust_edits.proofs.Moves.{edit_shifts, edit_keeps}
-use Rattle.rust_edits.proofs.Steps.{some_so}
-use Rattle.rust_edits.proofs.Told.{none_told, not_stood, not_stands, all_told}
+use Rattle.rust_edits.specs.Inner.{in_braces, is_alone, loose_inside, same_loose, AreCut, IsShift}
+use Rattle.rust_edits.proofs.Moves.{edit_shifts, edit_reads, edit_keeps, loose_kept, kept_loose}
+use Rattle.rust_edits.proofs.Steps.{off}
+use Rattle.rust_edits.proofs.Told.{none_told, not_stood, not_stands, all_told, loose_told}
 use Rattle.rust_edits.proofs.edit.edit_inside.Goals as goal
 
 pub returns : goal.returns
@@ -17,6 +19,8 @@ returns c =
     let range = c.args.range in
     let body = c.in-Some.body in
     let p = c.in-Some-parts_of.parts in
+    let shift = c.in-Some-shift_of.shift in
+    let keeps = c.is_same.result in
     let bare : begins_bare old ≡ true = search rules in
     let told : has_body_at body.start items ≡ true = search rules in
     let parts : AreCut old body range p = search rules in
@@ -24,16 +28,24 @@ returns c =
     let alone_new : is_alone (with_feeds (in_braces (p.front.now ++ (typed ++ p.back.now)))) ≡ true = search rules in
     let small : length old < 2 ^ 63 = search rules in
     let small_typed : length typed < 2 ^ 63 = search rules in
+    let moves : IsShift body range (length typed) (length p.back.now) shift = search rules in
+    let counted : keeps ≡ same_loose (loose_inside (with_feeds (in_braces (p.front.now ++ (p.replaced.now ++ p.back.now))))) (loose_inside (with_feeds (in_braces (p.front.now ++ (typed ++ p.back.now))))) = search rules in
     record {
-      shifts = some_so c.shift_of.result (λ shift moves. edit_shifts old typed items body range p shift bare told parts c.utf8.typed alone alone_new moves) c.shift_of.ensures.value;
-      keeps = some_so c.shift_of.result (λ shift moves. edit_keeps old typed items body range p shift bare told parts c.utf8.typed alone alone_new moves small small_typed) c.shift_of.ensures.value;
+      shifts = edit_shifts old typed items body range p shift bare told parts c.utf8.typed alone alone_new moves keeps counted;
+      reads = edit_reads old typed items body range p shift bare told parts c.utf8.typed alone alone_new moves keeps counted;
+      keeps = edit_keeps old typed items body range p shift bare told parts c.utf8.typed alone alone_new moves small small_typed;
       told = λ ordered.
           let about : Some body ≡ body_about range.start items = search (rules, c.body_about.ensures.told ordered) in
-          all_told items old typed range body about p parts c.shift_of.result c.shift_of.ensures.told small small_typed bare c.utf8.typed alone alone_new;
+          subst (λ (o : Option Shift). IsSome o ↔ MayEdit items old range typed) c.in-Some-shift_of.is
+          (all_told items old typed range body about p parts c.shift_of.result c.shift_of.ensures.told small small_typed bare c.utf8.typed alone alone_new);
+      loose = λ ordered.
+          let about : Some body ≡ body_about range.start items = search (rules, c.body_about.ensures.told ordered) in
+          loose_told items old typed range body about p parts keeps (loose_kept old typed items body range p shift bare told parts c.utf8.typed alone alone_new moves keeps counted)
+          (kept_loose old typed items body range p shift bare told parts c.utf8.typed alone alone_new moves keeps counted);
     }
 
-pub returns-then-not-branch-clause-told : goal.returns-then-not-branch-clause-told
-returns-then-not-branch-clause-told c =
+pub returns-in_default-2-clause-told : goal.returns-in_default-2-clause-told
+returns-in_default-2-clause-told c =
     let old = c.args.old.now in
     let typed = c.args.typed.now in
     let items = c.args.items.now in
@@ -44,10 +56,10 @@ returns-then-not-branch-clause-told c =
     let off : is_alone (with_feeds (in_braces (p.front.now ++ (p.replaced.now ++ p.back.now)))) ≡ false = search rules in
     λ ordered.
     let about : Some body ≡ body_about range.start items = search (rules, c.body_about.ensures.told ordered) in
-    none_told Shift (MayEdit items old range typed) (not_stood items old typed range body about p parts off)
+    none_told BodyEdit (MayEdit items old range typed) (not_stood items old typed range body about p parts off)
 
-pub returns-then-not-branch-2-clause-told : goal.returns-then-not-branch-2-clause-told
-returns-then-not-branch-2-clause-told c =
+pub returns-in_default-3-clause-told : goal.returns-in_default-3-clause-told
+returns-in_default-3-clause-told c =
     let old = c.args.old.now in
     let typed = c.args.typed.now in
     let items = c.args.items.now in
@@ -58,4 +70,23 @@ returns-then-not-branch-2-clause-told c =
     let off : is_alone (with_feeds (in_braces (p.front.now ++ (typed ++ p.back.now)))) ≡ false = search rules in
     λ ordered.
     let about : Some body ≡ body_about range.start items = search (rules, c.body_about.ensures.told ordered) in
-    none_told Shift (MayEdit items old range typed) (not_stands items old typed range body about p parts off)
+    none_told BodyEdit (MayEdit items old range typed) (not_stands items old typed range body about p parts off)
+
+pub returns-in_default-shift_of-clause-told : goal.returns-in_default-shift_of-clause-told
+returns-in_default-shift_of-clause-told c =
+    let old = c.args.old.now in
+    let typed = c.args.typed.now in
+    let items = c.args.items.now in
+    let range = c.args.range in
+    let body = c.in-Some.body in
+    let p = c.in-Some-parts_of.parts in
+    let bare : begins_bare old ≡ true = search rules in
+    let parts : AreCut old body range p = search rules in
+    let alone : is_alone (with_feeds (in_braces (p.front.now ++ (p.replaced.now ++ p.back.now)))) ≡ true = search rules in
+    let alone_new : is_alone (with_feeds (in_braces (p.front.now ++ (typed ++ p.back.now)))) ≡ true = search rules in
+    let small : length old < 2 ^ 63 = search rules in
+    let small_typed : length typed < 2 ^ 63 = search rules in
+    λ ordered.
+    let about : Some body ≡ body_about range.start items = search (rules, c.body_about.ensures.told ordered) in
+    let told = all_told items old typed range body about p parts c.shift_of.result c.shift_of.ensures.told small small_typed bare c.utf8.typed alone alone_new in
+    none_told BodyEdit (MayEdit items old range typed) (off c.shift_of.result (MayEdit items old range typed) told c.in_default-shift_of.is)
