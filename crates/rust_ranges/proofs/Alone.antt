@@ -1,5 +1,5 @@
 -- The text of an item, from the end of what stands before it on, read alone is exactly that item.
-use Rattle.std.proofs.Common.{◌≡◌, ◌<◌, ◌+◌, ◌==◌, ℕ, suc, true, false, Option, Some, None, List, [], ◌∷◌, ◌++◌, length, refl, sym, ap, ◌∙◌, subst, arith, map, append-nil}
+use Rattle.std.proofs.Common.{◌≡◌, ◌<◌, ◌+◌, ◌==◌, ◌||◌, ℕ, suc, true, false, Option, Some, None, List, [], ◌∷◌, ◌++◌, length, refl, sym, ap, ◌∙◌, subst, arith, map, append-nil}
 use Rattle.std.specs.Prelude.{option_to_list, is_some}
 use Rattle.std.specs.List.{filter}
 use Rattle.std.proofs.lemmas.List.Elements.{filter-append}
@@ -21,21 +21,23 @@ use Rattle.rust_cursor.specs.Words.{by_first, at, is_empty}
 use Rattle.rust_cursor.proofs.Around.{tokens_sound}
 use Rattle.rust_cursor.proofs.Laid.{IsLaid, behind, at_behind, taken_behind}
 use Rattle.rust_cursor.proofs.Leads.{LeadsTo, here, further, when, bumped_leads}
-use Rattle.rust_cursor.proofs.Near.{Ending, Near, near, is_last, are_ended}
-use Rattle.rust_cursor.proofs.NearUntil.{more_left}
+use Rattle.rust_ranges.proofs.Near.{Ending, Near, near, more_left, is_last, are_ended}
 use Rattle.rust_ranges.proofs.Parts.{ended, IsPart, tokens_behind}
 use Rattle.rust_items.specs.Found.{Found, nothing_found}
 use Rattle.rust_items.specs.SourceFiles.{read_of}
 use Rattle.rust_ranges.proofs.Inner.{no_inner, turn_none}
 use Rattle.rust_items.specs.Items.{finding_from, finding, is_list_end, turn, items}
-use Rattle.rust_ranges.proofs.NearItems.{FoundNear, FoundAlike, flat, is_sound}
+use Rattle.rust_ranges.proofs.NearItems.{FoundNear, FoundAlike, flat, is_sound, turn_whole}
 use Rattle.rust_ranges.proofs.NearLeaves.{Given, Ends, passes, before_end, at_end}
 use Rattle.rust_ranges.proofs.NearTurns.{turn_ends}
 use Rattle.rust_items.proofs.Places.{turn_found}
 
+pub uneven : (left : List Piece) → false ≡ true → left ≡ []
+uneven left e = absurd cc
+
 -- how the tokens of the part stand in the text
 abbrev pub part_in : EditionYear → Option ℕ → List ℕ → List ℕ → Stop → List ℕ → Ending
-part_in edition u q w o y = record { by = length q; behind = filter is_significant (tokens_from 0 (length q + suc (length w)) y); unended = u }
+part_in edition u q w o y = record { by = length q; behind = filter is_significant (tokens_from 0 (length q + suc (length w)) y); unended = u; level = false; none = uneven (filter is_significant (tokens_from 0 (length q + suc (length w)) y)) }
 
 left_is : (edition : EditionYear) (u : Option ℕ) (q w : List ℕ) (o : Stop) (y : List ℕ) → IsPart w o y
     → (tokens_behind edition u q (w ++ stop o ∷ y)).left ≡ map (moved (length q)) (tokens_of edition (ended w o)).left ++ (part_in edition u q w o y).behind
@@ -49,10 +51,10 @@ left_is edition u q w o y p =
     ∙ ap (λ l. l ++ filter is_significant (tokens_from 0 (d + suc (length w)) y))
     (filter_moved d (tokens_from 0 0 x) ∙ ap (λ l. map (moved d) (filter is_significant l)) (sym (plain_is x p.plain.mark p.plain.shebang p.plain.fence)))
 
-near_of : (b : Ending) (us : Tokens) → are_ended us.left ≡ true → Near b (record { past = us.past + b.by; left = map (moved b.by) us.left ++ b.behind; unended = b.unended; edition = us.edition }) us
+near_of : (b : Ending) (us : Tokens) → (b.level || are_ended us.left) ≡ true → Near b (record { past = us.past + b.by; left = map (moved b.by) us.left ++ b.behind; unended = b.unended; edition = us.edition }) us
 near_of b us e = near us.past us.left us.unended us.edition e
 
-part_near : (edition : EditionYear) (u : Option ℕ) (q w : List ℕ) (o : Stop) (y : List ℕ) → IsPart w o y → are_ended (tokens_of edition (ended w o)).left ≡ true
+pub part_near : (edition : EditionYear) (u : Option ℕ) (q w : List ℕ) (o : Stop) (y : List ℕ) → IsPart w o y → are_ended (tokens_of edition (ended w o)).left ≡ true
     → Near (part_in edition u q w o y) (tokens_behind edition u q (w ++ stop o ∷ y)) (tokens_of edition (ended w o))
 unfolding tokens_of
 part_near edition u q w o y p e =
@@ -80,7 +82,7 @@ one_from : (k : ℕ) (f : Found) (us : Tokens) → is_empty us ≡ false → (tu
 unfolding is_list_end beyond is_empty
 one_from k f us some none far = rw (some, far, none) refl
 
-one_item : (f : Found) (us : Tokens) → is_empty us ≡ false → (turn 128 f us).1.1.left ≡ [] → ((turn 128 f us).1.1.past == us.past) ≡ false
+pub one_item : (f : Found) (us : Tokens) → is_empty us ≡ false → (turn 128 f us).1.1.left ≡ [] → ((turn 128 f us).1.1.past == us.past) ≡ false
     → items true 128 f us ≡ (option_to_list (turn 128 f us).0, ((turn 128 f us).1.0, (turn 128 f us).1.1))
 unfolding finding
 one_item f us some none far = ap (λ k. finding_from (is_list_end true) (turn 128) k [] f us) most_is ∙ one_from 18446744073709551613 f us some none far
@@ -105,7 +107,7 @@ ended_append [] t e = e
 ended_append (x ∷ []) t e = e
 ended_append (x ∷ y ∷ xs) t e = ended_append (y ∷ xs) t e
 
-last_counts : (o : Stop) (at : ℕ) → is_significant (stop_at o at) ≡ true
+pub last_counts : (o : Stop) (at : ℕ) → is_significant (stop_at o at) ≡ true
 last_counts opening at = refl
 last_counts closing at = refl
 last_counts semicolon at = refl
@@ -115,7 +117,7 @@ last_symbol opening at = refl
 last_symbol closing at = refl
 last_symbol semicolon at = refl
 
-part_ended : (edition : EditionYear) (q w : List ℕ) (o : Stop) (y : List ℕ) → IsPart w o y → is_last (stop o) ≡ true → are_ended (tokens_of edition (ended w o)).left ≡ true
+pub part_ended : (edition : EditionYear) (q w : List ℕ) (o : Stop) (y : List ℕ) → IsPart w o y → is_last (stop o) ≡ true → are_ended (tokens_of edition (ended w o)).left ≡ true
 unfolding tokens_of
 part_ended edition q w o y p e =
     let x = ended w o in
@@ -129,7 +131,7 @@ part_ended edition q w o y p e =
 
 -- ---- the law
 
-start_near : (b : Ending) (f : Found) → FoundNear b f f nothing_found
+pub start_near : (b : Ending) (f : Found) → FoundNear b f f nothing_found
 start_near b f = record { rows = sym (append-nil f.rows); spans = sym (append-nil f.spans); use_trees = sym (append-nil f.use_trees); problems = sym (append-nil f.problems) }
 
 some_first : (left : List Piece) → are_ended left ≡ true → by_first true (λ _. false) left ≡ false
@@ -148,12 +150,12 @@ sound_some : (start : ℕ) (i : Option ItemView) (f : Found) → is_sound start 
 sound_some start None f e = absurd cc
 sound_some start (Some i) f e = refl
 
-alone : {m : ℕ} (edition : EditionYear) (b : Ending) (text : List ℕ) (f : Found) (ts us : Tokens) → us ≡ tokens_of edition text → is_empty us ≡ false → Near b ts us → IsLaid m us
-    → Ends (FoundAlike b f) (is_sound (at ts)) b (flat (turn 128 f ts)) (flat (turn 128 nothing_found us)) → is_sound (at ts) ((turn 128 f ts).0, (turn 128 f ts).1.0) ≡ true → length (turn 128 f ts).1.1.left ≡ length b.behind
+alone : {m : ℕ} (edition : EditionYear) (b : Ending) (text : List ℕ) (f : Found) (ts us : Tokens) → b.level ≡ false → us ≡ tokens_of edition text → is_empty us ≡ false → Near b ts us → IsLaid m us
+    → Ends (FoundAlike b f) (is_sound (at ts)) turn_whole b (flat (turn 128 f ts)) (flat (turn 128 nothing_found us)) → is_sound (at ts) ((turn 128 f ts).0, (turn 128 f ts).1.0) ≡ true → length (turn 128 f ts).1.1.left ≡ length b.behind
     → StandsAlone edition b text f (turn 128 f ts)
-alone edition b text f ts us is some h laid (passes few strict) sound ends = let less = strict sound in absurd (omega arith)
-alone edition b text f ts us is some h laid (before_end k) sound ends = let more = more_left b _ _ k.rest in absurd (omega arith)
-alone {m = m} edition b text f ts us is some h laid (at_end t a) sound ends =
+alone edition b text f ts us even is some h laid (passes few uneven strict never) sound ends = let less = strict sound in absurd (omega arith)
+alone edition b text f ts us even is some h laid (before_end k) sound ends = let more = more_left b _ _ even k.rest in absurd (omega arith)
+alone {m = m} edition b text f ts us even is some h laid (at_end t a) sound ends =
     let r' = turn 128 nothing_found us in
     let some_here : is_some r'.0 ≡ true = ap is_some t.value ∙ (sound_some (at ts) (turn 128 f ts).0 (turn 128 f ts).1.0 sound) in
     let begins : is_behind Inner us ≡ true =
@@ -184,4 +186,4 @@ item_alone n edition u q w o y f ts p e is own =
     let last = part_ended edition q w o y p e in
     let h : Near b ts us = subst (λ (t : Tokens). Near b t us) is (part_near edition u q w o y p last) in
     let given : Given n m ts us = record { laid = own.laid; short = tokens_sound edition (ended w o) } in
-    alone edition b (ended w o) f ts us refl (ended_some us last) h given.short.laid (turn_ends n m 127 b f f nothing_found ts us given h (start_near b f)) own.sound own.ends
+    alone edition b (ended w o) f ts us refl refl (ended_some us last) h given.short.laid (turn_ends n m 127 b f f nothing_found ts us given h (start_near b f)) own.sound own.ends

@@ -1,6 +1,6 @@
 -- A part of a text, without the carriage returns before line feeds.
 use Rattle.std.proofs.Common.{◌≡◌, ◌<◌, ◌≤◌, ◌+◌, ◌-◌, ◌==◌, ◌&&◌, ℕ, zero, suc, true, false, List, [], ◌∷◌, length, take, drop, refl, sym, ap, ◌∙◌, subst, arith}
-use Rattle.std.specs.Prelude.{if◌then◌else◌, slice_index, slice_range}
+use Rattle.std.specs.Prelude.{if◌then◌else◌, slice_range}
 use Rattle.std.proofs.lemmas.List.{length-take, length-drop}
 use Rattle.rust_items.specs.LineEnds.{is_return, with_feeds, place_in}
 use Rattle.rust_items.proofs.LineEnds.{before, below_none, before_return, before_other, place_held}
@@ -12,10 +12,10 @@ place_of z zero = zero
 place_of [] (suc m) = suc m
 place_of (b ∷ z) (suc m) = if is_return b z then suc (place_of z (suc m)) else suc (place_of z m)
 
-by_return : (b m : ℕ) (z : List ℕ) → is_return b z ≡ true → place_of (b ∷ z) (suc m) ≡ suc (place_of z (suc m))
+pub by_return : (b m : ℕ) (z : List ℕ) → is_return b z ≡ true → place_of (b ∷ z) (suc m) ≡ suc (place_of z (suc m))
 by_return b m z e = rw e refl
 
-by_other : (b m : ℕ) (z : List ℕ) → is_return b z ≡ false → place_of (b ∷ z) (suc m) ≡ suc (place_of z m)
+pub by_other : (b m : ℕ) (z : List ℕ) → is_return b z ≡ false → place_of (b ∷ z) (suc m) ≡ suc (place_of z m)
 by_other b m z e = rw e refl
 
 counted : (at m : ℕ) (z : List ℕ) → m + before (at + m) at z ≡ place_of z m
@@ -42,7 +42,7 @@ place_some : (z : List ℕ) (m : ℕ) → 0 < place_of z (suc m)
 place_some [] m = omega arith
 place_some (b ∷ z) m = when (is_return b z) (λ e. rw e (omega arith)) (λ e. rw e (omega arith))
 
-none_feed : (b : ℕ) → (b == 13 && false) ≡ false
+pub none_feed : (b : ℕ) → (b == 13 && false) ≡ false
 none_feed b = when (b == 13) (λ e. rw e refl) (λ e. rw e refl)
 
 return_taken : (k b : ℕ) (z : List ℕ) → 0 < k → is_return b z ≡ true → is_return b (take k z) ≡ true
@@ -71,7 +71,7 @@ feeds_drop (suc m) (b ∷ z) l =
     (λ e. let short : suc m ≤ suc (length (with_feeds z)) = subst (λ x. suc m ≤ length x) (feeds_other b z e) l in
     ap (λ k. with_feeds (drop k (b ∷ z))) (by_other b m z e) ∙ feeds_drop m z (omega arith) ∙ ap (drop (suc m)) (sym (feeds_other b z e)))
 
-feeds_take : (m : ℕ) (z : List ℕ) → with_feeds (take (place_of z m) z) ≡ take m (with_feeds z)
+pub feeds_take : (m : ℕ) (z : List ℕ) → with_feeds (take (place_of z m) z) ≡ take m (with_feeds z)
 feeds_take zero z = refl
 feeds_take (suc m) [] = refl
 feeds_take (suc m) (b ∷ z) =
@@ -88,7 +88,7 @@ place_none (suc m) = refl
 more : (j k : ℕ) → suc (j + k) ≡ suc j + k
 more j k = omega arith
 
-place_add : (m n : ℕ) (z : List ℕ) → place_of z (m + n) ≡ place_of z m + place_of (drop (place_of z m) z) n
+pub place_add : (m n : ℕ) (z : List ℕ) → place_of z (m + n) ≡ place_of z m + place_of (drop (place_of z m) z) n
 place_add zero n z = (let e : 0 + n ≡ n = omega arith in ap (place_of z) e) ∙ (let e : place_of z n ≡ 0 + place_of z n = omega arith in e)
 place_add (suc m) n [] =
     let all : suc m + n ≡ suc (m + n) = omega arith in
@@ -103,7 +103,7 @@ place_add (suc m) n (b ∷ z) =
     (λ e. ap (place_of (b ∷ z)) all ∙ by_other b (m + n) z e ∙ ap suc (place_add m n z) ∙ more (place_of z m) (place_of (drop (place_of z m) z) n)
     ∙ ap (λ k. k + place_of (drop k (b ∷ z)) n) (sym (by_other b m z e)))
 
-place_taken : (k n : ℕ) (z : List ℕ) → n ≤ k → place_of (take (place_of z k) z) n ≡ place_of z n
+pub place_taken : (k n : ℕ) (z : List ℕ) → n ≤ k → place_of (take (place_of z k) z) n ≡ place_of z n
 place_taken k zero z l = refl
 place_taken zero (suc n) z l = absurd (omega arith)
 place_taken (suc k) (suc n) [] l = refl

@@ -1,5 +1,5 @@
 -- What is read from a token on does not tell where the token before it ends.
-use Rattle.std.proofs.Common.{◌≡◌, ◌<◌, ◌≤◌, ◌==◌, ◌&&◌, ℕ, zero, suc, Bool, true, false, Option, Some, None, List, [], ◌∷◌, ◌++◌, length, refl, sym, ap, ◌∙◌, subst, arith, codes}
+use Rattle.std.proofs.Common.{◌≡◌, ◌<◌, ◌≤◌, ◌==◌, ◌&&◌, ℕ, suc, Bool, true, false, Option, Some, None, List, [], ◌∷◌, length, refl, sym, ap, ◌∙◌, subst, arith, codes}
 use Rattle.std.specs.Prelude.{is_some, option_map, if◌then◌else◌}
 use Rattle.std.specs.Str.{bytes_eq}
 use Rattle.std.proofs.lemmas.Bool.Decides.{nat_tests}
@@ -7,21 +7,19 @@ use Rattle.hir_input.specs.declared.ast.PathNode.{PathNode}
 use Rattle.hir_input.specs.declared.ast.Visibility.{Visibility}
 use Rattle.hir_input.specs.declared.edition.EditionYear.{EditionYear}
 use Rattle.hir_input.specs.Attr.{MetaView}
-use Rattle.hir_input.specs.Syntax.{ItemView}
 use Rattle.hir_input.specs.Words.{Word, name_word}
 use Rattle.rust_lexer.specs.declared.kind.DocStyle.TheVariants.{Outer}
 use Rattle.rust_lexer.specs.Piece.{Piece}
 use Rattle.rust_cursor.specs.declared.cursor.generics.Reach.TheVariants as reaches
-use Rattle.rust_cursor.specs.Angles.{is_reached, is_closed, reaching_from, reaching, reached, behind_angles}
-use Rattle.rust_cursor.specs.Brackets.{behind_tree}
+use Rattle.rust_cursor.specs.Angles.{is_reached, is_closed, reaching, reached, behind_angles}
 use Rattle.rust_cursor.specs.Elements.{most, beyond, turns_from, turns, one}
 use Rattle.rust_cursor.specs.Extents.{begins_item, begins_impl_or_const, begins_within}
 use Rattle.rust_cursor.specs.Nests.{begun, nest_behind, leads_on}
 use Rattle.rust_cursor.specs.Reader.{Reader}
 use Rattle.rust_cursor.specs.Tokens.{Tokens, end_of}
 use Rattle.rust_cursor.specs.Words.{symbol, word, kind, text, at, is_empty, is_at_open, is_at_end, is_at_identifier, is_at_doc, bumped, is_glued, is_pair, eat_pair, eat_colons}
-use Rattle.rust_cursor.proofs.Laid.{IsLaid, behind, past_within}
-use Rattle.rust_cursor.proofs.Leads.{LeadsTo, here, further, Forwards, through, when, bumped_leads, reaching_leads, turns_from_leads}
+use Rattle.rust_cursor.proofs.Laid.{IsLaid, behind}
+use Rattle.rust_cursor.proofs.Leads.{LeadsTo, here, Forwards, through, when, bumped_leads, reaching_leads, turns_from_leads}
 use Rattle.rust_paths.specs.Names.{as_name, next_name, name_text, has_name, taken_with, name}
 use Rattle.rust_paths.specs.Meaning.{path_node}
 use Rattle.rust_paths.specs.Paths as paths
@@ -36,12 +34,12 @@ use Rattle.rust_leaves.specs.declared.head.Head.{Head}
 use Rattle.rust_leaves.specs.declared.head.Head.TheVariants as heads
 use Rattle.rust_leaves.specs.Fronts.{FrontRead, front_behind, front}
 use Rattle.rust_leaves.specs.Heads.{behind_abi, is_modifier, behind_modifier, behind_modifiers_from, behind_modifiers, behind_head, head_by, head}
-use Rattle.rust_leaves.specs.Kinds.{is_called, some_read, call_behind, invocation, leaf_by, leaf}
+use Rattle.rust_leaves.specs.Kinds.{is_called, some_read, call_behind, invocation, leaf}
 use Rattle.rust_leaves.specs.Leaves.{LeafRead}
 use Rattle.rust_leaves.specs.Texts.{bare, last_text_from, last_text}
 use Rattle.rust_items.specs.Found.{Found, Finder}
 use Rattle.rust_items.specs.Items.{BlockRead, unmatched, leaf_found, leaf_turn, by_head, turn_with, inside, depth_of, turn}
-use Rattle.rust_items.proofs.Leads.{behind_abi_leads, behind_modifier_leads, modifiers_leads, behind_modifiers_leads, head_takes}
+use Rattle.rust_items.proofs.Leads.{behind_abi_leads, modifiers_leads, behind_modifiers_leads, head_takes}
 
 -- What is read from the first tokens and from the second: the same, behind their first token, or the same and nothing was taken.
 data Alike {X : Type 0} (Still : X → Type 0) (a a' b : Tokens) : X × Tokens → X × Tokens → Type 0 where

@@ -1,3 +1,7 @@
+pub mod Near
+pub mod NearPassing
+pub mod NearUntil
+pub mod NearTexts
 pub mod NearPaths
 pub mod NearTrees
 pub mod NearFronts
@@ -13,5 +17,18 @@ pub mod Seats
 pub mod Fresh
 pub mod Plain
 pub mod Tops
+pub mod Turning
+pub mod Onward
+pub mod Behind
 pub mod Ranges
+pub mod Joins
+pub mod Typed
+pub mod Inside
+pub mod Modules
+pub mod Files
+pub mod Fronts
+pub mod Holds
+pub mod TopIds
+pub mod SameIds
 pub mod Examples
+pub mod ExampleModule

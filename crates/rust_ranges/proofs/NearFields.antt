@@ -13,13 +13,12 @@ use Rattle.rust_cursor.specs.Elements.{most, beyond, turns_from, turns, one}
 use Rattle.rust_cursor.proofs.Nesting.{shorter}
 use Rattle.rust_cursor.proofs.Laid.{IsLaid, behind}
 use Rattle.rust_cursor.proofs.Leads.{LeadsTo, here, further, through, when, bumped_leads, eat_leads, behind_angles_leads, beyond_leads}
-use Rattle.rust_cursor.proofs.Near.{Ending, Near, Gone, fewer, past_same, near_twins}
-use Rattle.rust_cursor.proofs.NearPassing.{behind_angles_near, reached_near, beyond_near, near_parting}
-use Rattle.rust_cursor.proofs.NearTexts.{near_enters, near_levels}
-use Rattle.rust_cursor.proofs.NearUntil.{more_left}
+use Rattle.rust_ranges.proofs.Near.{Ending, Near, Gone, fewer, enough_left, past_same, near_twins}
+use Rattle.rust_ranges.proofs.NearPassing.{behind_angles_near, reached_near, beyond_near, near_parting}
+use Rattle.rust_ranges.proofs.NearTexts.{near_enters, near_levels}
 use Rattle.rust_cursor.proofs.Parting.{Onward, into, on, onward_leads, by_kept, eat_until}
 use Rattle.rust_cursor.proofs.Twins.{symbol_same, end_same, after_symbol}
-use Rattle.rust_cursor.proofs.NearTexts.{BlockNear, no_block, block}
+use Rattle.rust_ranges.proofs.NearTexts.{BlockNear, no_block, block}
 use Rattle.rust_paths.specs.Visibilities.{visibility}
 use Rattle.rust_paths.proofs.Alike.{visibility_until}
 use Rattle.rust_paths.proofs.Leads.{visibility_leads}
@@ -192,5 +191,5 @@ unfolding struct_fields
 struct_fields_near b ts us es fs _ _ l l' h no_block before before' p q e le =
     header_same b ts us es fs (record { laid = l; laid_short = l'; ends = p; ends_short = q; past = e; long = le }) false h
 struct_fields_near b ts us es fs _ _ l l' h (block {ts = t} {us = u} k) before before' p q e le =
-    let more = more_left b t u k in
+    let more = enough_left b t u k in
     header_same b ts us t u (record { laid = l; laid_short = l'; ends = before t refl; ends_short = before' u refl; past = past_same b t u k; long = omega arith }) true h

@@ -12,27 +12,26 @@ use Rattle.hir_input.specs.Attr.{MetaView}
 use Rattle.hir_input.specs.Syntax.{PlainKind, ItemView, FieldsView, fn_kind, union_kind, enum_kind, trait_kind, macro_def_kind, type_alias_kind, static_kind, ast_kind, plain_item, const_item, struct_item, impl_item, extern_crate, use_item, macro_rules}
 use Rattle.rust_cursor.specs.declared.cursor.generics.Reach.TheVariants as reaches
 use Rattle.rust_cursor.specs.Angles.{behind_angles, behind_header, is_trait_impl}
-use Rattle.rust_cursor.specs.Elements.{most, one}
-use Rattle.rust_cursor.specs.Extents.{ExcerptRead, tree_body}
+use Rattle.rust_cursor.specs.Elements.{most}
+use Rattle.rust_cursor.specs.Extents.{ExcerptRead, ends, tree_body}
 use Rattle.rust_cursor.specs.Reader.{Reader}
 use Rattle.rust_cursor.specs.Tokens.{Tokens}
-use Rattle.rust_cursor.specs.Words.{rest, symbol, word, text, bumped, eat, eat_word, is_at_open}
+use Rattle.rust_cursor.specs.Words.{symbol, word, text, bumped, eat, eat_word, is_at_open}
 use Rattle.rust_cursor.proofs.Enclosed.{item_enclosed}
 use Rattle.rust_cursor.proofs.Around.{IsSound, sound_on}
 use Rattle.rust_cursor.proofs.Enclosed.{item_enclosed, impl_enclosed}
 use Rattle.rust_cursor.proofs.Laid.{IsLaid, behind}
 use Rattle.rust_cursor.proofs.Leads.{LeadsTo, here, further, through, Forwards, when, bumped_leads, eat_leads, eat_word_leads, reached_leads, behind_angles_leads, taken_leads_on}
-use Rattle.rust_cursor.proofs.Near.{Ending, Near, Gone, gone_on, nothing, bumped_onward, fewer, at_same, past_same, taken_same, near_twins}
-use Rattle.rust_cursor.proofs.NearPassing.{behind_angles_near, reached_near, near_parting}
-use Rattle.rust_cursor.proofs.NearUntil.{UntilBy, Kept, AtEnd, Outcome, lost, stays, comes, more_left, map_outcome, then_outcome, eat_outcome, eat_fewer}
+use Rattle.rust_ranges.proofs.Near.{Ending, Near, Gone, gone_on, nothing, bumped_onward, fewer, enough_left, more_left, at_same, past_same, taken_same, near_twins}
+use Rattle.rust_ranges.proofs.NearPassing.{behind_angles_near, reached_near, near_parting}
+use Rattle.rust_ranges.proofs.NearUntil.{UntilBy, Kept, AtEnd, is_still, Outcome, lost, stays, comes, untaken, map_outcome, then_outcome, eat_outcome, eat_fewer}
 use Rattle.rust_cursor.proofs.Parting.{gone, kept, by_next, onward_leads, by_kept, cond_until, then_until, eat_word_until}
 use Rattle.rust_cursor.proofs.Twins.{symbol_same, word_same, text_same, open_same, word_test, after_word, after_symbol}
-use Rattle.rust_cursor.proofs.NearTexts.{BlockNear, no_block, block, SameText, taken_outcome, taken_until, taken_fewer, next_past, near_enters, near_levels}
+use Rattle.rust_ranges.proofs.NearTexts.{BlockNear, no_block, block, SameText, item_so, macro_so, value_so, tree_so, taken_outcome, taken_until, taken_fewer, next_past, near_enters, near_levels}
 use Rattle.rust_paths.specs.declared.names.TextRange.{TextRange}
 use Rattle.rust_paths.specs.Names.{Placed, as_name}
 use Rattle.rust_paths.specs.Paths.{path}
 use Rattle.rust_paths.specs.UseTrees.{use_tree}
-use Rattle.rust_paths.specs.Visibilities.{visibility}
 use Rattle.rust_paths.proofs.Alike.{path_until}
 use Rattle.rust_paths.proofs.AlikeTrees.{use_tree_until}
 use Rattle.rust_paths.proofs.Leads.{path_leads}
@@ -148,25 +147,25 @@ abbrev RestOutcome : Ending → RestRead × Tokens → RestRead × Tokens → Ty
 RestOutcome b p q = Outcome (RestNear b) (λ r. r.is_ended) b p q
 
 rest_outcome : (b : Ending) {p q : ExcerptRead × Tokens} → Outcome (SameText b) (λ r. r.is_ended) b p q → RestOutcome b (rest_read p.0 p.1.past, p.1) (rest_read q.0 q.1.past, q.1)
-rest_outcome b (lost g f) = lost g f
+rest_outcome b (lost g f n) = lost g f n
 rest_outcome b {p = p} {q = q} (stays k) = stays (record { value = rest_near b p.0 q.0 p.1.past q.1.past (past_same b p.1 q.1 k.rest) k.value; rest = k.rest })
 rest_outcome b {p = p} {q = q} (comes t a) = comes (rest_near b p.0 q.0 p.1.past q.1.past a.past t) a
 
 item_end_outcome : (b : Ending) (ts us : Tokens) → Near b ts us → RestOutcome b (item_end ts) (item_end us)
-unfolding item_end
-item_end_outcome b ts us h = rest_outcome b (taken_outcome b _ _ ts us h)
+unfolding item_end ends
+item_end_outcome b ts us h = rest_outcome b (taken_outcome b _ _ (item_so b) ts us h)
 
 impl_end_outcome : (b : Ending) (ts us : Tokens) → Near b ts us → RestOutcome b (impl_end ts) (impl_end us)
-unfolding impl_end
-impl_end_outcome b ts us h = rest_outcome b (taken_outcome b _ _ ts us h)
+unfolding impl_end ends
+impl_end_outcome b ts us h = rest_outcome b (taken_outcome b _ _ (item_so b) ts us h)
 
 macro_end_outcome : (b : Ending) (ts us : Tokens) → Near b ts us → RestOutcome b (macro_end ts) (macro_end us)
-unfolding macro_end
-macro_end_outcome b ts us h = rest_outcome b (taken_outcome b _ _ ts us h)
+unfolding macro_end ends
+macro_end_outcome b ts us h = rest_outcome b (taken_outcome b _ _ (macro_so b) ts us h)
 
 value_end_outcome : (b : Ending) (ts us : Tokens) → Near b ts us → RestOutcome b (value_end ts) (value_end us)
-unfolding value_end
-value_end_outcome b ts us h = rest_outcome b (taken_outcome b _ _ ts us h)
+unfolding value_end ends
+value_end_outcome b ts us h = rest_outcome b (taken_outcome b _ _ (value_so b) ts us h)
 
 -- what is ended takes a token
 abbrev pub TakesEnded : Reader RestRead → Type 0
@@ -194,19 +193,23 @@ semicolon_leads read ts = eat_leads 59 ts
 semicolon_fewer : (read : ExcerptRead) → TakesEnded (semicolon_end read)
 semicolon_fewer read ts e = eat_fewer 59 ts (omega arith) (and_parts read.is_ended (eat 59 ts).0 e).1
 
+pub and_no : (t : Bool) → (t && false) ≡ false
+and_no true = refl
+and_no false = refl
+
 semicolon_outcome : (b : Ending) (r s : ExcerptRead) → SameText b r s → (ts us : Tokens) → Near b ts us → RestOutcome b (semicolon_end r ts) (semicolon_end s us)
 semicolon_outcome b r s k ts us h =
     map_outcome (λ c. record { body = r.text; is_ended = r.is_ended && c; block = None; braces = None }) (λ c. record { body = s.text; is_ended = s.is_ended && c; block = None; braces = None })
-    (λ e. rw (k.text, k.ended) (record { body = refl; ended = ap (λ c. r.is_ended && c) e; block = no_block; braces = refl })) (λ e. (and_parts r.is_ended (eat 59 ts).0 e).1) (eat_outcome b 59 ts us h)
+    (λ e. rw (k.text, k.ended) (record { body = refl; ended = ap (λ c. r.is_ended && c) e; block = no_block; braces = refl })) (λ e. (and_parts r.is_ended (eat 59 ts).0 e).1) (λ e. ap (λ c. s.is_ended && c) e ∙ and_no s.is_ended) (eat_outcome b 59 ts us h)
 
 call_end_outcome : (b : Ending) (ts us : Tokens) → Near b ts us → RestOutcome b (call_end ts) (call_end us)
-unfolding call_end
+unfolding call_end ends
 call_end_outcome b ts us h =
     when (is_at_open ts)
     (λ e. when (symbol ts == 123)
-    (λ f. rw (open_same (near_twins b) ts us h, symbol_same (near_twins b) ts us h, e, f) (rest_outcome b (taken_outcome b _ _ ts us h)))
+    (λ f. rw (open_same (near_twins b) ts us h, symbol_same (near_twins b) ts us h, e, f) (rest_outcome b (taken_outcome b _ _ (tree_so b) ts us h)))
     (λ f. rw (open_same (near_twins b) ts us h, symbol_same (near_twins b) ts us h, e, f)
-    (then_outcome semicolon_end semicolon_end semicolon_leads semicolon_leads semicolon_fewer (semicolon_outcome b) (taken_until b _ _ ts us h))))
+    (then_outcome semicolon_end semicolon_end semicolon_leads semicolon_leads semicolon_fewer semicolon_fewer (semicolon_outcome b) (taken_until b _ _ (tree_so b) ts us h))))
     (λ e. rw (open_same (near_twins b) ts us h, e) (stays (record { value = record { body = refl; ended = refl; block = no_block; braces = refl }; rest = h })))
 
 pub call_end_fewer : TakesEnded call_end
@@ -244,8 +247,8 @@ LeafOutcome b p q = Outcome (LeafNear b) (λ l. l.is_ended) b p q
 
 -- where the last reader but one went past the end
 lost_by : {A : Type 0} {alike : A → A → Type 0} {ended : A → Bool} {b : Ending} {ts us : Tokens} {p q : A × Tokens} → Gone b ts us → LeadsTo ts p.1 → LeadsTo us q.1 → (ended p.0 ≡ true → length p.1.left < length ts.left)
-    → Outcome alike ended b p q
-lost_by g p q strict = lost (gone_on g p q) (λ e. let less = strict e in let few = g.few in omega arith)
+    → (ended q.0 ≡ true → length q.1.left < length us.left) → Outcome alike ended b p q
+lost_by {us = us} g p q strict strict' = lost (gone_on g p q) (λ e. let less = strict e in let few = g.few in omega arith) (λ s. untaken us g.none strict')
 
 read_near : (b : Ending) (i i' : ItemView) (k : AstIdKind) (n n' : NameRead) (r r' : RestRead) → i' ≡ i → NameNear b n n' → RestNear b r r' → LeafNear b (leaf_read i k n r) (leaf_read i' k n' r')
 read_near b i i' k n n' r r' e nn rr = record { item = e; kind = refl; name = nn.hashed; named = nn.range; body = rr.braces; ended = rr.ended; too_deep = refl; use_trees = refl }
@@ -271,14 +274,14 @@ module _ (b : Ending) (attrs : List MetaView) (v : Option Visibility) where
   function_outcome : {n m : ℕ} (ts us : Tokens) → Given n m ts us → Near b ts us → LeafOutcome b (function attrs v ts) (function attrs v us)
   unfolding function
   function_outcome ts us g h =
-      by_kept (named_until b ts us h) (λ o. lost_by o (item_end_leads _) (item_end_leads _) (item_end_fewer _))
+      by_kept (named_until b ts us h) (λ o. lost_by o (item_end_leads _) (item_end_leads _) (item_end_fewer _) (item_end_fewer _))
       (λ k. map_outcome (λ r. plain_read fn_kind (attrs ++ block_attributes r.block) v (named ts).0 r) (λ r. plain_read fn_kind (attrs ++ block_attributes r.block) v (named us).0 r)
-      (λ r. plain_near b fn_kind _ _ v _ _ _ _ (ap (λ l. attrs ++ l) (item_attributes b _ _ (given_on g (named_leads ts) (named_leads us)) r)) k.value r) (λ e. e) (item_end_outcome b _ _ k.rest))
+      (λ r. plain_near b fn_kind _ _ v _ _ _ _ (ap (λ l. attrs ++ l) (item_attributes b _ _ (given_on g (named_leads ts) (named_leads us)) r)) k.value r) (λ e. e) (λ e. e) (item_end_outcome b _ _ k.rest))
 
   block_item_outcome : (k : PlainKind) (ts us : Tokens) → Near b ts us → LeafOutcome b (block_item k attrs v ts) (block_item k attrs v us)
   block_item_outcome k ts us h =
-      by_kept (named_until b ts us h) (λ o. lost_by o (item_end_leads _) (item_end_leads _) (item_end_fewer _))
-      (λ l. map_outcome (plain_read k attrs v (named ts).0) (plain_read k attrs v (named us).0) (λ r. plain_near b k _ _ v _ _ _ _ refl l.value r) (λ e. e) (item_end_outcome b _ _ l.rest))
+      by_kept (named_until b ts us h) (λ o. lost_by o (item_end_leads _) (item_end_leads _) (item_end_fewer _) (item_end_fewer _))
+      (λ l. map_outcome (plain_read k attrs v (named ts).0) (plain_read k attrs v (named us).0) (λ r. plain_near b k _ _ v _ _ _ _ refl l.value r) (λ e. e) (λ e. e) (item_end_outcome b _ _ l.rest))
 
   union_outcome : (ts us : Tokens) → Near b ts us → LeafOutcome b (union_item attrs v ts) (union_item attrs v us)
   unfolding union_item
@@ -295,34 +298,36 @@ module _ (b : Ending) (attrs : List MetaView) (v : Option Visibility) where
   macro_def_outcome : (ts us : Tokens) → Near b ts us → LeafOutcome b (macro_def attrs v ts) (macro_def attrs v us)
   unfolding macro_def
   macro_def_outcome ts us h =
-      by_kept (named_until b ts us h) (λ o. lost_by o (macro_end_leads _) (macro_end_leads _) (macro_end_fewer _))
-      (λ l. map_outcome (plain_read macro_def_kind attrs v (named ts).0) (plain_read macro_def_kind attrs v (named us).0) (λ r. plain_near b macro_def_kind _ _ v _ _ _ _ refl l.value r) (λ e. e) (macro_end_outcome b _ _ l.rest))
+      by_kept (named_until b ts us h) (λ o. lost_by o (macro_end_leads _) (macro_end_leads _) (macro_end_fewer _) (macro_end_fewer _))
+      (λ l. map_outcome (plain_read macro_def_kind attrs v (named ts).0) (plain_read macro_def_kind attrs v (named us).0) (λ r. plain_near b macro_def_kind _ _ v _ _ _ _ refl l.value r) (λ e. e) (λ e. e) (macro_end_outcome b _ _ l.rest))
 
   type_alias_outcome : (ts us : Tokens) → Near b ts us → LeafOutcome b (type_alias attrs v ts) (type_alias attrs v us)
   unfolding type_alias
   type_alias_outcome ts us h =
-      by_kept (named_until b ts us h) (λ o. lost_by o (value_end_leads _) (value_end_leads _) (value_end_fewer _))
-      (λ l. map_outcome (plain_read type_alias_kind attrs v (named ts).0) (plain_read type_alias_kind attrs v (named us).0) (λ r. plain_near b type_alias_kind _ _ v _ _ _ _ refl l.value r) (λ e. e) (value_end_outcome b _ _ l.rest))
+      by_kept (named_until b ts us h) (λ o. lost_by o (value_end_leads _) (value_end_leads _) (value_end_fewer _) (value_end_fewer _))
+      (λ l. map_outcome (plain_read type_alias_kind attrs v (named ts).0) (plain_read type_alias_kind attrs v (named us).0) (λ r. plain_near b type_alias_kind _ _ v _ _ _ _ refl l.value r) (λ e. e) (λ e. e) (value_end_outcome b _ _ l.rest))
 
   static_outcome : (ts us : Tokens) → Near b ts us → LeafOutcome b (static_value attrs v ts) (static_value attrs v us)
   unfolding static_value
   static_outcome ts us h =
       let ts' = (eat_word (codes "mut") ts).1 in
       let us' = (eat_word (codes "mut") us).1 in
-      by_kept (eat_word_until (near_parting b) (codes "mut") refl ts us h) (λ o. lost_by o (through (named_leads ts') (value_end_leads _)) (through (named_leads us') (value_end_leads _)) (λ e. let less = fewer (named_leads ts') in let strict = value_end_fewer (named ts').1 e in omega arith))
-      (λ k. by_kept (named_until b ts' us' k.rest) (λ o. lost_by o (value_end_leads _) (value_end_leads _) (value_end_fewer _))
-      (λ l. map_outcome (plain_read static_kind attrs v (named ts').0) (plain_read static_kind attrs v (named us').0) (λ r. plain_near b static_kind _ _ v _ _ _ _ refl l.value r) (λ e. e) (value_end_outcome b _ _ l.rest)))
+      by_kept (eat_word_until (near_parting b) (codes "mut") refl ts us h) (λ o. lost_by o (through (named_leads ts') (value_end_leads _)) (through (named_leads us') (value_end_leads _)) (λ e. let less = fewer (named_leads ts') in let strict = value_end_fewer (named ts').1 e in omega arith)
+      (λ e. let less = fewer (named_leads us') in let strict = value_end_fewer (named us').1 e in omega arith))
+      (λ k. by_kept (named_until b ts' us' k.rest) (λ o. lost_by o (value_end_leads _) (value_end_leads _) (value_end_fewer _) (value_end_fewer _))
+      (λ l. map_outcome (plain_read static_kind attrs v (named ts').0) (plain_read static_kind attrs v (named us').0) (λ r. plain_near b static_kind _ _ v _ _ _ _ refl l.value r) (λ e. e) (λ e. e) (value_end_outcome b _ _ l.rest)))
 
   constant_outcome : (ts us : Tokens) → Near b ts us → LeafOutcome b (constant attrs v ts) (constant attrs v us)
   unfolding constant
   constant_outcome ts us h =
       let w = codes "_" in
       by_kept (named_until b ts us h)
-      (λ o. lost_by o (through (eat_word_leads w _) (value_end_leads _)) (through (eat_word_leads w _) (value_end_leads _)) (λ e. let less = fewer (eat_word_leads w (named ts).1) in let strict = value_end_fewer (eat_word w (named ts).1).1 e in omega arith))
-      (λ l. by_kept (eat_word_until (near_parting b) w refl (named ts).1 (named us).1 l.rest) (λ o. lost_by o (value_end_leads _) (value_end_leads _) (value_end_fewer _))
+      (λ o. lost_by o (through (eat_word_leads w _) (value_end_leads _)) (through (eat_word_leads w _) (value_end_leads _)) (λ e. let less = fewer (eat_word_leads w (named ts).1) in let strict = value_end_fewer (eat_word w (named ts).1).1 e in omega arith)
+      (λ e. let less = fewer (eat_word_leads w (named us).1) in let strict = value_end_fewer (eat_word w (named us).1).1 e in omega arith))
+      (λ l. by_kept (eat_word_until (near_parting b) w refl (named ts).1 (named us).1 l.rest) (λ o. lost_by o (value_end_leads _) (value_end_leads _) (value_end_fewer _) (value_end_fewer _))
       (λ k. map_outcome (λ r. leaf_read (const_item (named_node attrs (named ts).0.name v r.body)) kind.Const (named ts).0 r) (λ r. leaf_read (const_item (named_node attrs (named us).0.name v r.body)) kind.Const (named us).0 r)
       (λ r. read_near b _ _ kind.Const _ _ _ _ (ap (λ z. const_item (named_node attrs z v (value_end (eat_word w (named us).1).1).0.body)) l.value.name ∙ ap (λ z. const_item (named_node attrs (named ts).0.name v z)) r.body) l.value r)
-      (λ e. e) (value_end_outcome b _ _ k.rest)))
+      (λ e. e) (λ e. e) (value_end_outcome b _ _ k.rest)))
 
   crate_item_outcome : (ts us : Tokens) → Near b ts us → LeafOutcome b (crate_item attrs v ts) (crate_item attrs v us)
   unfolding crate_item
@@ -331,8 +336,9 @@ module _ (b : Ending) (attrs : List MetaView) (v : Option Visibility) where
       let p = (named_or c ts).1 in
       let q = (named_or c us).1 in
       by_kept (named_or_until b c refl ts us h)
-      (λ o. lost_by o (through (renamed_leads p) (eat_leads 59 _)) (through (renamed_leads q) (eat_leads 59 _)) (λ e. let less = fewer (renamed_leads p) in let strict = eat_fewer 59 (renamed p).1 (omega arith) e in omega arith))
-      (λ k. by_kept (renamed_until b p q k.rest) (λ o. lost_by o (eat_leads 59 _) (eat_leads 59 _) (eat_fewer 59 _ (omega arith)))
+      (λ o. lost_by o (through (renamed_leads p) (eat_leads 59 _)) (through (renamed_leads q) (eat_leads 59 _)) (λ e. let less = fewer (renamed_leads p) in let strict = eat_fewer 59 (renamed p).1 (omega arith) e in omega arith)
+      (λ e. let less = fewer (renamed_leads q) in let strict = eat_fewer 59 (renamed q).1 (omega arith) e in omega arith))
+      (λ k. by_kept (renamed_until b p q k.rest) (λ o. lost_by o (eat_leads 59 _) (eat_leads 59 _) (eat_fewer 59 _ (omega arith)) (eat_fewer 59 _ (omega arith)))
       (λ l. map_outcome
       (λ t. leaf_read (extern_crate (named_node attrs (named_or c ts).0.name v []) (rename_of (renamed p).0)) kind.ExternCrate (record { name = (named_or c ts).0.name; hashed = (named_or c ts).0.hashed; range = told_at (named_or c ts).0.range (renamed p).0 }) (bare_end t))
       (λ t. leaf_read (extern_crate (named_node attrs (named_or c us).0.name v []) (rename_of (renamed q).0)) kind.ExternCrate (record { name = (named_or c us).0.name; hashed = (named_or c us).0.hashed; range = told_at (named_or c us).0.range (renamed q).0 }) (bare_end t))
@@ -340,24 +346,24 @@ module _ (b : Ending) (attrs : List MetaView) (v : Option Visibility) where
       (ap (λ z. extern_crate (named_node attrs z v []) (rename_of (renamed q).0)) k.value.name ∙ ap (λ z. extern_crate (named_node attrs (named_or c ts).0.name v []) z) (rename_same b _ _ l.value))
       (record { name = k.value.name; hashed = k.value.hashed; range = told_near b _ _ _ _ k.value.range l.value })
       (bare_near b _ _ e))
-      (λ e. e) (eat_outcome b 59 _ _ l.rest)))
+      (λ e. e) (λ e. e) (eat_outcome b 59 _ _ l.rest)))
 
   use_outcome : (ts us : Tokens) → Near b ts us → LeafOutcome b (use_declaration attrs v ts) (use_declaration attrs v us)
   unfolding use_declaration
   use_outcome ts us h =
-      by_kept (use_tree_until (near_parting b) (near_enters b) ts us h) (λ o. lost_by o (eat_leads 59 _) (eat_leads 59 _) (eat_fewer 59 _ (omega arith)))
+      by_kept (use_tree_until (near_parting b) (near_enters b) ts us h) (λ o. lost_by o (eat_leads 59 _) (eat_leads 59 _) (eat_fewer 59 _ (omega arith)) (eat_fewer 59 _ (omega arith)))
       (λ k. map_outcome (use_read attrs v (use_tree ts).0) (use_read attrs v (use_tree us).0)
       (λ e. record { item = ap (λ z. use_item (record { node = node attrs []; visibility = v; use_tree = z })) k.value.value; kind = refl; name = refl; named = refl; body = refl; ended = e; too_deep = is_further b _ _ k.value.too_deep; use_trees = are_further b _ _ k.value.starts })
-      (λ e. e) (eat_outcome b 59 _ _ k.rest))
+      (λ e. e) (λ e. e) (eat_outcome b 59 _ _ k.rest))
 
   macro_definition_outcome : (ts us : Tokens) → Near b ts us → LeafOutcome b (macro_definition attrs ts) (macro_definition attrs us)
   unfolding macro_definition
   macro_definition_outcome ts us h =
       let c = codes "try" in
-      by_kept (named_or_until b c refl ts us h) (λ o. lost_by o (call_end_leads _) (call_end_leads _) (call_end_fewer _))
+      by_kept (named_or_until b c refl ts us h) (λ o. lost_by o (call_end_leads _) (call_end_leads _) (call_end_fewer _) (call_end_fewer _))
       (λ k. map_outcome (λ r. leaf_read (macro_rules (node attrs r.body) (named_or c ts).0.name) kind.MacroRules (named_or c ts).0 r) (λ r. leaf_read (macro_rules (node attrs r.body) (named_or c us).0.name) kind.MacroRules (named_or c us).0 r)
       (λ r. read_near b _ _ kind.MacroRules _ _ _ _ (ap (λ z. macro_rules (node attrs (call_end (named_or c us).1).0.body) z) k.value.name ∙ ap (λ z. macro_rules (node attrs z) (named_or c ts).0.name) r.body) k.value r)
-      (λ e. e) (call_end_outcome b _ _ k.rest))
+      (λ e. e) (λ e. e) (call_end_outcome b _ _ k.rest))
 
 -- ---- impls
 
@@ -402,8 +408,8 @@ unfolding implementation
 implementation_outcome b attrs ts us g h = by (impl_end_outcome b ts us h)
   where
     by : RestOutcome b (impl_end ts) (impl_end us) → LeafOutcome b (implementation attrs ts) (implementation attrs us)
-    by (lost o f) = lost o f
-    by (stays k) = stays (record { value = impl_near b attrs ts us g h k.value (past_same b _ _ k.rest) (let more = more_left b _ _ k.rest in omega arith); rest = k.rest })
+    by (lost o f n) = lost o f n
+    by (stays k) = stays (record { value = impl_near b attrs ts us g h k.value (past_same b _ _ k.rest) (enough_left b _ _ k.rest); rest = k.rest })
     by (comes r a) = comes (impl_near b attrs ts us g h r a.past (let same = ap length a.behind in omega arith)) a
 
 -- ---- structs
@@ -429,26 +435,20 @@ struct_near b attrs v ts us g nn h r e le =
 structure_outcome : {n m : ℕ} (b : Ending) (attrs : List MetaView) (v : Option Visibility) (ts us : Tokens) → Given n m ts us → Near b ts us → LeafOutcome b (structure attrs v ts) (structure attrs v us)
 unfolding structure
 structure_outcome b attrs v ts us g h =
-    by_kept (named_until b ts us h) (λ o. lost_by o (item_end_leads _) (item_end_leads _) (item_end_fewer _)) (λ l. by l.value l.rest (item_end_outcome b _ _ l.rest))
+    by_kept (named_until b ts us h) (λ o. lost_by o (item_end_leads _) (item_end_leads _) (item_end_fewer _) (item_end_fewer _)) (λ l. by l.value l.rest (item_end_outcome b _ _ l.rest))
   where
     by : NameNear b (named ts).0 (named us).0 → Near b (named ts).1 (named us).1 → RestOutcome b (item_end (named ts).1) (item_end (named us).1) → LeafOutcome b (structure attrs v ts) (structure attrs v us)
-    by nn l (lost o f) = lost o f
-    by nn l (stays k) = stays (record { value = struct_near b attrs v ts us g nn l k.value (past_same b _ _ k.rest) (let more = more_left b _ _ k.rest in omega arith); rest = k.rest })
+    by nn l (lost o f n) = lost o f n
+    by nn l (stays k) = stays (record { value = struct_near b attrs v ts us g nn l k.value (past_same b _ _ k.rest) (enough_left b _ _ k.rest); rest = k.rest })
     by nn l (comes r a) = comes (struct_near b attrs v ts us g nn l r a.past (let same = ap length a.behind in omega arith)) a
 
 -- ---- macro calls
 
--- the longer text went past the end, further where what it read is ended; or as above
-pub data Ends {A : Type 0} (alike : A → A → Type 0) (ended : A → Bool) (b : Ending) : A × Tokens → A × Tokens → Type 0 where
-  passes : {p q : A × Tokens} → length p.1.left ≤ length b.behind → (ended p.0 ≡ true → length p.1.left < length b.behind) → Ends alike ended b p q
-  before_end : {p q : A × Tokens} → Kept alike b p q → Ends alike ended b p q
-  at_end : {p q : A × Tokens} → alike p.0 q.0 → AtEnd b p.1 q.1 → Ends alike ended b p q
-
-pub outcome_ends : {A C : Type 0} {alike : A → A → Type 0} {alike' : C → C → Type 0} {ended : A → Bool} {ended' : C → Bool} {b : Ending} {p q : A × Tokens} (f : A → C)
-    → (alike p.0 q.0 → alike' (f p.0) (f q.0)) → (ended' (f p.0) ≡ true → ended p.0 ≡ true) → Outcome alike ended b p q → Ends alike' ended' b (f p.0, p.1) (f q.0, q.1)
-outcome_ends f same tells (lost g strict) = passes g.few (λ e. strict (tells e))
-outcome_ends f same tells (stays k) = before_end (record { value = same k.value; rest = k.rest })
-outcome_ends f same tells (comes t a) = at_end (same t) a
+-- The longer text went past the end, further where what it read is ended, and what is read of the shorter one is not whole; or as above.
+pub data Ends {A : Type 0} (alike : A → A → Type 0) (ended whole : A → Bool) (b : Ending) : A × Tokens → A × Tokens → Type 0 where
+  passes : {p q : A × Tokens} → length p.1.left ≤ length b.behind → b.level ≡ false → (ended p.0 ≡ true → length p.1.left < length b.behind) → (is_still b ≡ true → whole q.0 ≡ false) → Ends alike ended whole b p q
+  before_end : {p q : A × Tokens} → Kept alike b p q → Ends alike ended whole b p q
+  at_end : {p q : A × Tokens} → alike p.0 q.0 → AtEnd b p.1 q.1 → Ends alike ended whole b p q
 
 pub data SomeLeaf (b : Ending) : Option LeafRead → Option LeafRead → Type 0 where
   no_leaf : SomeLeaf b None None
@@ -459,17 +459,17 @@ leaf_ended None = false
 leaf_ended (Some l) = l.is_ended
 
 abbrev pub LeafEnds : Ending → Option LeafRead × Tokens → Option LeafRead × Tokens → Type 0
-LeafEnds b p q = Ends (SomeLeaf b) leaf_ended b p q
+LeafEnds b p q = Ends (SomeLeaf b) leaf_ended leaf_ended b p q
 
--- by two functions
-outcome_ends2 : {A C : Type 0} {alike : A → A → Type 0} {ended : A → Bool} {b : Ending} {p q : A × Tokens} {ended' : Option C → Bool} {some : Option C → Option C → Type 0} (f f' : A → C)
-    → (alike p.0 q.0 → some (Some (f p.0)) (Some (f' q.0))) → (ended' (Some (f p.0)) ≡ true → ended p.0 ≡ true) → Outcome alike ended b p q → Ends some ended' b (Some (f p.0), p.1) (Some (f' q.0), q.1)
-outcome_ends2 f f' same tells (lost g strict) = passes g.few (λ e. strict (tells e))
-outcome_ends2 f f' same tells (stays k) = before_end (record { value = same k.value; rest = k.rest })
-outcome_ends2 f f' same tells (comes t a) = at_end (same t) a
+leaf_by_outcome : {A : Type 0} {alike : A → A → Type 0} {ended : A → Bool} {b : Ending} {p q : A × Tokens} (f f' : A → LeafRead)
+    → (alike p.0 q.0 → LeafNear b (f p.0) (f' q.0)) → ((f p.0).is_ended ≡ true → ended p.0 ≡ true) → (ended q.0 ≡ false → (f' q.0).is_ended ≡ false) → Outcome alike ended b p q
+    → LeafEnds b (Some (f p.0), p.1) (Some (f' q.0), q.1)
+leaf_by_outcome f f' same tells untold (lost g strict never) = passes g.few g.uneven (λ e. strict (tells e)) (λ s. untold (never s))
+leaf_by_outcome f f' same tells untold (stays k) = before_end (record { value = one_leaf (same k.value); rest = k.rest })
+leaf_by_outcome f f' same tells untold (comes t a) = at_end (one_leaf (same t)) a
 
 some_ends : {b : Ending} {p q : LeafRead × Tokens} → LeafOutcome b p q → LeafEnds b (some_read p) (some_read q)
-some_ends o = outcome_ends Some (λ k. one_leaf k) (λ e. e) o
+some_ends o = leaf_by_outcome (λ l. l) (λ l. l) (λ k. k) (λ e. e) (λ e. e) o
 
 -- what leads to tokens before the end is before it
 before_near : (b : Ending) (ts us vs ws : Tokens) → Near b ts us → Near b vs ws → (ts.past == vs.past) ≡ false → LeadsTo ts vs → Near b (bumped ts) (bumped us) × LeadsTo (bumped ts) vs
@@ -478,7 +478,7 @@ before_near b ts us vs ws h k e here = absurd (let same : (ts.past == ts.past) �
     eqb_self : (n : ℕ) → (n == n) ≡ true
     eqb_self n = grind (arith, nat_tests)
 before_near b ts us vs ws h k e (further p) =
-    (by_next (bumped_onward b ts us h) (λ o. let few = o.few in let less = fewer p in let more = more_left b vs ws k in absurd (omega arith)) (λ n. n), p)
+    (by_next (bumped_onward b ts us h) (λ o. let few = o.few in let less = fewer p in let more = more_left b vs ws o.uneven k in absurd (omega arith)) (λ n. n), p)
 
 last_text_near : (b : Ending) (vs ws : Tokens) → Near b vs ws → (k : ℕ) (last : List ℕ) (ts us : Tokens) → Near b ts us → LeadsTo ts vs → last_text_from k ws.past last us ≡ last_text_from k vs.past last ts
 last_text_near b vs ws n zero last ts us h p = refl
@@ -515,10 +515,6 @@ call_near b attrs p p' z z' r s e f k =
       use_trees = refl;
     }
 
-and_no : (t : Bool) → (t && false) ≡ false
-and_no true = refl
-and_no false = refl
-
 invocation_ends : (b : Ending) (attrs : List MetaView) (ts us : Tokens) → Near b ts us → LeafEnds b (invocation attrs ts) (invocation attrs us)
 unfolding invocation last_text
 invocation_ends b attrs ts us h =
@@ -530,15 +526,15 @@ invocation_ends b attrs ts us h =
     (let behind_it : LeadsTo (path ts).1 (call_end (bumped (path ts).1)).1 = further (call_end_leads (bumped (path ts).1)) in
     let less = fewer behind_it in
     let one = fewer (bumped_leads (path ts).1) in
-    passes {p = some_read (call_behind attrs (path ts).0 (bare (last_text_from most (path ts).1.past [] ts)) (bumped (path ts).1))} {q = (None, us)} (omega arith) (λ f. let strict = call_end_fewer (bumped (path ts).1) f in omega arith)))
+    passes {p = some_read (call_behind attrs (path ts).0 (bare (last_text_from most (path ts).1.past [] ts)) (bumped (path ts).1))} {q = (None, us)} (omega arith) o.uneven (λ f. let strict = call_end_fewer (bumped (path ts).1) f in omega arith) (λ s. refl)))
     (λ e. rw (e, none) (before_end (record { value = no_leaf; rest = h }))))
     (λ k. let test : (is_some (path us).0 && is_called (path us).1) ≡ (is_some (path ts).0 && is_called (path ts).1) =
     ap (λ q. is_some q && is_called (path us).1) k.value ∙ ap (λ t. is_some (path ts).0 && t) (called_same b (path ts).1 (path us).1 k.rest) in
     when (is_some (path ts).0 && is_called (path ts).1)
     (λ e. let next = called_next b (path ts).1 (path us).1 k.rest (and_parts (is_some (path ts).0) (is_called (path ts).1) e).1 in
     rw (test, e)
-    (outcome_ends2 (called attrs (path ts).0 (bare (last_text_from most (path ts).1.past [] ts))) (called attrs (path us).0 (bare (last_text_from most (path us).1.past [] us)))
-    (λ r. one_leaf (call_near b attrs _ _ _ _ _ _ k.value (ap bare (last_text_near b (path ts).1 (path us).1 k.rest _ [] ts us h (path_leads ts))) r)) (λ e. e) (call_end_outcome b _ _ next)))
+    (leaf_by_outcome (called attrs (path ts).0 (bare (last_text_from most (path ts).1.past [] ts))) (called attrs (path us).0 (bare (last_text_from most (path us).1.past [] us)))
+    (λ r. call_near b attrs _ _ _ _ _ _ k.value (ap bare (last_text_near b (path ts).1 (path us).1 k.rest _ [] ts us h (path_leads ts))) r) (λ e. e) (λ e. e) (call_end_outcome b _ _ next)))
     (λ e. rw (test, e) (before_end (record { value = no_leaf; rest = h }))))
 
 -- ---- by the word

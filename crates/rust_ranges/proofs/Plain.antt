@@ -1,5 +1,6 @@
 -- The text of an item begins with no shebang line and no frontmatter: no item begins so.
-use Rattle.std.proofs.Common.{◌≡◌, ◌+◌, ◌==◌, ◌&&◌, ℕ, zero, suc, Bool, true, false, Option, List, [], ◌∷◌, ◌++◌, length, refl, sym, ap, ◌∙◌, arith, map}
+use Rattle.rust_ranges.specs.Joined.{IsBare}
+use Rattle.std.proofs.Common.{◌≡◌, ◌+◌, ◌==◌, ◌&&◌, ℕ, suc, Bool, true, false, Option, List, [], ◌∷◌, ◌++◌, length, refl, sym, ap, ◌∙◌, arith, map}
 use Rattle.std.specs.Prelude.{not, slice_index}
 use Rattle.std.specs.List.{filter}
 use Rattle.std.proofs.lemmas.Bool.{eqb-true}
@@ -15,10 +16,10 @@ use Rattle.rust_lexer.specs.Symbol.{symbol_from, symbol_of}
 use Rattle.rust_lexer.specs.Tokens.{has_mark, is_bracket_next, is_shebang, is_significant, is_significant_kind, piece, tokens_from}
 use Rattle.rust_lexer.proofs.Apart.{tokens_first, tokens_moved}
 use Rattle.rust_cursor.specs.Tokens.{Tokens}
-use Rattle.rust_cursor.specs.Words.{by_first, symbol, kind, bumped}
+use Rattle.rust_cursor.specs.Words.{by_first, symbol, bumped}
 use Rattle.rust_cursor.proofs.Leads.{when}
 use Rattle.rust_metas.specs.Attributes.{is_attribute}
-use Rattle.rust_ranges.proofs.Parts.{ended, IsPlain}
+use Rattle.rust_ranges.proofs.Parts.{ended}
 use Rattle.rust_ranges.proofs.Inner.{IsMute, symbol_mute}
 use Rattle.std.proofs.lemmas.Bool.{and_parts}
 
@@ -97,7 +98,7 @@ module _ (past s : ℕ) (t : Piece) (l : List Piece) (u : Option ℕ) (y : Editi
 
 -- where the tokens of a longer text from a place on begin with this one
 pub plain_text : (past s : ℕ) (t : Piece) (l : List Piece) (u : Option ℕ) (y : EditionYear) (w : List ℕ) (o : Stop) (behind : List ℕ) (rest : List Piece) → is_significant t ≡ true → (IsMute (starting past t l u y) → ⊥) → EndsAlone w o → is_continuation (slice_index behind 0) ≡ false → has_mark (ended w o) ≡ false
-    → t ∷ rest ≡ tokens_from 0 s (w ++ stop o ∷ behind) → l ≡ filter is_significant rest → IsPlain (ended w o)
+    → t ∷ rest ≡ tokens_from 0 s (w ++ stop o ∷ behind) → l ≡ filter is_significant rest → IsBare (ended w o)
 plain_text past s t l u y w o behind rest counts not_mute ends clean unmarked e f =
     record {
       mark = unmarked;

@@ -1,5 +1,5 @@
 -- The text of the range of an item, read alone, is exactly that item.
-use Rattle.std.proofs.Common.{◌≡◌, ◌<◌, ◌≤◌, ◌+◌, ◌-◌, ◌==◌, ◌&&◌, ◌||◌, ℕ, zero, suc, Bool, true, false, Option, Some, None, List, [], ◌∷◌, ◌++◌, map, length, take, drop, refl, sym, ap, ◌∙◌, subst, arith, append_assoc, length-append}
+use Rattle.std.proofs.Common.{◌≡◌, ◌<◌, ◌≤◌, ◌+◌, ◌-◌, ◌==◌, ◌&&◌, ◌||◌, ℕ, suc, Bool, true, false, Option, Some, None, List, [], ◌∷◌, ◌++◌, map, length, take, drop, refl, sym, ap, ◌∙◌, subst, arith, append_assoc, length-append}
 use Rattle.std.specs.Prelude.{option_map, option_to_list, is_some}
 use Rattle.std.specs.List.{filter}
 use Rattle.std.proofs.lemmas.Bool.{eqb-true}
@@ -25,7 +25,7 @@ use Rattle.rust_items.specs.Ids.{with_ids, item_with_ids}
 use Rattle.rust_items.specs.Items.{turn}
 use Rattle.rust_items.specs.LineEnds.{with_feeds, place_in, moved_range, moved_span, moved_problem}
 use Rattle.rust_items.specs.Places.{Telling, IsNameIn, IsBodyIn, ArePlaces, nothing, placed}
-use Rattle.rust_items.specs.SourceFiles.{places, behind_attributes, found_in, items_in, read_of, IsFile}
+use Rattle.rust_items.specs.SourceFiles.{places, behind_attributes, file_view, found_in, items_in, read_of, IsFile}
 use Rattle.rust_items.proofs.Places.{Span, place_span, items_found, turn_found}
 use Rattle.rust_ranges.specs.Laws.{ends_items, is_unfinished, is_unfinished_at, text_at, Bytes, bytes_of, further_on, RangeAlone}
 use Rattle.rust_ranges.proofs.Parts.{ended, IsPart, tokens_behind}
@@ -34,15 +34,15 @@ use Rattle.rust_ranges.proofs.Feeds.{part, part_feeds, part_place}
 use Rattle.rust_ranges.proofs.Fresh.{none_there, turn_anywhere}
 use Rattle.rust_ranges.proofs.Inner.{IsMute, item_none}
 use Rattle.std.proofs.lemmas.Bool.{and_parts}
-use Rattle.rust_cursor.proofs.Near.{Ending, is_last}
+use Rattle.rust_ranges.proofs.Near.{Ending, is_last}
 use Rattle.rust_ranges.proofs.NearItems.{is_sound}
 use Rattle.rust_ranges.proofs.Plain.{plain_text}
-use Rattle.rust_ranges.proofs.Seats.{from, HasPlace, IsLeft, all_left, left_on, year_is}
+use Rattle.rust_ranges.proofs.Seats.{HasPlace, IsLeft, all_left, left_on, year_is}
 use Rattle.rust_ranges.proofs.Tops.{turn_is, turn_strict, places_spans, without_again, same_first, found_keeps, file_turned, rows_spans, same_rows, same_spans}
 
 -- ---- one turn of a text
 
-last_is : (o : Stop) → ends_items o ≡ true → is_last (stop o) ≡ true
+pub last_is : (o : Stop) → ends_items o ≡ true → is_last (stop o) ≡ true
 last_is opening e = absurd cc
 last_is closing e = refl
 last_is semicolon e = refl
@@ -144,19 +144,19 @@ any_moved place at (p ∷ ps) e =
     rest false t e = e
 
 -- an item whose end was found
-sound_at : (start : ℕ) (o : Option ItemView) (i : ItemView) (f : Found) → o ≡ Some i → is_unfinished_at start f.problems ≡ false → is_sound start (o, f) ≡ true
+pub sound_at : (start : ℕ) (o : Option ItemView) (i : ItemView) (f : Found) → o ≡ Some i → is_unfinished_at start f.problems ≡ false → is_sound start (o, f) ≡ true
 sound_at start o i f e none = rw (e, none) refl
 
 -- ---- bounds
 
-abbrev IsIn : ℕ → TextRange → Type 0
+abbrev pub IsIn : ℕ → TextRange → Type 0
 IsIn end r = (r.start ≤ end) × (r.end ≤ end)
 
-abbrev IsInIf : ℕ → Option TextRange → Type 0
+abbrev pub IsInIf : ℕ → Option TextRange → Type 0
 IsInIf end None = Unit {0}
 IsInIf end (Some r) = IsIn end r
 
-abbrev AreIn : ℕ → List Span → Type 0
+abbrev pub AreIn : ℕ → List Span → Type 0
 AreIn end [] = Unit {0}
 AreIn end (s ∷ spans) = (IsIn end s.range × (IsInIf end s.name × IsInIf end s.body)) × AreIn end spans
 
@@ -176,7 +176,7 @@ places_in end (placed {p = p} place inside behind) l h =
     let here : p.range.end ≤ end = omega arith in
     (((omega arith, here), (name_in end p.range p.name here place.name, body_in end p.range p.body here place.body)), places_in end inside here (places_in end behind l h))
 
-text_in : (edition : EditionYear) (x : List ℕ) → AreIn (length x) (read_of edition x).1.0.spans
+pub text_in : (edition : EditionYear) (x : List ℕ) → AreIn (length x) (read_of edition x).1.0.spans
 text_in edition x =
     let laid = (behind (length x) (inner_attributes_leads (tokens_of edition x)) (tokens_laid edition x)).laid in
     let found = items_found (length x) true 128 nothing_found (behind_attributes edition x) laid in
@@ -185,13 +185,13 @@ text_in edition x =
 
 -- ---- places further on
 
-abbrev made : TextRange → Option TextRange → Option TextRange → Span
+abbrev pub made : TextRange → Option TextRange → Option TextRange → Span
 made r n b = record { range = r; name = n; body = b }
 
-made_same : (r r' : TextRange) (n n' b b' : Option TextRange) → r ≡ r' → n ≡ n' → b ≡ b' → made r n b ≡ made r' n' b'
+pub made_same : (r r' : TextRange) (n n' b b' : Option TextRange) → r ≡ r' → n ≡ n' → b ≡ b' → made r n b ≡ made r' n' b'
 made_same r r' n n' b b' e d c = rw (e, d, c) refl
 
-cons_same : {A : Type 0} (a b : A) (xs ys : List A) → a ≡ b → xs ≡ ys → a ∷ xs ≡ b ∷ ys
+pub cons_same : {A : Type 0} (a b : A) (xs ys : List A) → a ≡ b → xs ≡ ys → a ∷ xs ≡ b ∷ ys
 cons_same a b xs ys e d = rw (e, d) refl
 
 module _ (place place' : ℕ → ℕ) (s start end : ℕ) (shift : (n : ℕ) → n ≤ end → place (n + s) ≡ place' n + start) where
@@ -207,21 +207,21 @@ module _ (place place' : ℕ → ℕ) (s start end : ℕ) (shift : (n : ℕ) →
   spans_on (p ∷ spans) h = cons_same _ _ _ _ (made_same _ _ _ _ _ _ (range_on p.range h.0.0) (range_if_on p.name h.0.1.0) (range_if_on p.body h.0.1.1)) (spans_on spans h.1)
 
 -- what the law tells of a place
-abbrev bytes : Span → Bytes
+abbrev pub bytes : Span → Bytes
 bytes s = record { range = s.range; name = s.name; body = s.body }
 
-bytes_on : (start : ℕ) (qs : List ItemPlace) → map (further_on start) qs ≡ map bytes (map (moved_span (λ n. n + start)) (map place_span qs))
+pub bytes_on : (start : ℕ) (qs : List ItemPlace) → map (further_on start) qs ≡ map bytes (map (moved_span (λ n. n + start)) (map place_span qs))
 bytes_on start [] = refl
 bytes_on start (q ∷ qs) = ap (λ l. further_on start q ∷ l) (bytes_on start qs)
 
-bytes_same : (qs : List ItemPlace) → map bytes_of qs ≡ map bytes (map place_span qs)
+pub bytes_same : (qs : List ItemPlace) → map bytes_of qs ≡ map bytes (map place_span qs)
 bytes_same [] = refl
 bytes_same (q ∷ qs) = ap (λ l. bytes_of q ∷ l) (bytes_same qs)
 
 -- ---- what is read of the part
 
 -- what is read of a text that stands alone
-module _ (edition : EditionYear) (by : Ending) (v : List ℕ) (f : Found) (r : Option ItemView × (Found × Tokens)) (i : ItemView) (stands : StandsAlone edition by v f r) (one : r.0 ≡ Some i) (alone : SourceFile) (place : ℕ → ℕ) (is : IsFile edition v place alone) where
+module _ (edition : EditionYear) (by : Ending) (v : List ℕ) (f : Found) (r : Option ItemView × (Found × Tokens)) (i : ItemView) (stands : StandsAlone edition by v f r) (one : r.0 ≡ Some i) (alone : SourceFile) (place : ℕ → ℕ) (is : IsFile edition v place (file_view alone)) where
   read_items : items_in edition v ≡ item_and i no_items
   unfolding items_in
   read_items = ap (λ (q : List ItemView × (Found × Tokens)). items_from q.0) stands.read ∙ ap (λ (o : Option ItemView). items_from (option_to_list o)) one
@@ -247,7 +247,7 @@ module _ (edition : EditionYear) (by : Ending) (v : List ℕ) (f : Found) (r : O
 
 -- ---- the law
 
-range_of : (place : ℕ → ℕ) (p : ItemPlace) (s : Span) (r : TextRange) → place_span p ≡ moved_span place s → s.range ≡ r → p.range ≡ moved_range place r
+pub range_of : (place : ℕ → ℕ) (p : ItemPlace) (s : Span) (r : TextRange) → place_span p ≡ moved_span place s → s.range ≡ r → p.range ≡ moved_range place r
 range_of place p s r e f = ap (λ (t : Span). t.range) e ∙ ap (moved_range place) f
 
 pub range_alone : RangeAlone
@@ -283,7 +283,8 @@ range_alone edition text read alone i p ps is top own is' =
     let taken : IsTaken x edition t.f ts t.item w o = record { leads = t.leads; read = t.read; last = own.ends.ends; unmarked = sym (ap has_mark own.ends.bytes) ∙ own.unmarked; alone = own.ends.alone; text = part_is; sound = sound_at s r.0 t.item r.1.0 t.read unfinished } in
     let by = part_in edition ts.unended (take s x) w o (drop r.1.1.past x) in
     let stands : StandsAlone edition by v t.f r = taken_alone x edition t.f t.item w o ts.past ts.left ts.unended ts.edition taken in
-    let is'' : IsFile edition v (place_in cut) alone = subst (λ (z : List ℕ). IsFile edition z (place_in cut) alone) feeds (subst (λ (z : List ℕ). IsFile edition (with_feeds z) (place_in z) alone) there is') in
+    let is'' : IsFile edition v (place_in cut) (file_view alone) =
+    subst (λ (z : List ℕ). IsFile edition z (place_in cut) (file_view alone)) feeds (subst (λ (z : List ℕ). IsFile edition (with_feeds z) (place_in z) (file_view alone)) there is') in
     let far : length (take s x) ≡ s = length-take-le s x (omega arith) in
     let same_spans : t.segment ≡ map (moved_span (λ n. n + s)) stands.found.spans =
     append_cancel_left t.f.spans t.segment (map (moved_span (λ n. n + s)) stands.found.spans) (sym t.spans ∙ stands.same.spans ∙ ap (λ d. t.f.spans ++ map (moved_span (λ n. n + d)) stands.found.spans) far) in

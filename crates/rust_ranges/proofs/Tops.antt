@@ -1,5 +1,5 @@
 -- The items at the top of a text: each is what a turn finds.
-use Rattle.std.proofs.Common.{◌≡◌, ◌<◌, ◌≤◌, ◌+◌, ◌-◌, ◌==◌, ◌&&◌, ℕ, zero, suc, Bool, true, false, Option, Some, None, List, [], ◌∷◌, ◌++◌, map, length, take, drop, refl, sym, ap, ◌∙◌, subst, arith, append_assoc, append-nil, length-append, get_or}
+use Rattle.std.proofs.Common.{◌≡◌, ◌<◌, ◌≤◌, ◌+◌, ◌&&◌, ℕ, zero, suc, Bool, true, false, Option, Some, None, List, [], ◌∷◌, ◌++◌, map, length, take, drop, refl, sym, ap, ◌∙◌, subst, arith, append_assoc, append-nil, length-append, get_or}
 use Rattle.std.specs.Prelude.{option_to_list, is_none}
 use Rattle.std.specs.List.{list_any}
 use Rattle.std.proofs.lemmas.List.{length-map, map-append, append_cancel_left, take_at, drop_at, drop-drop, length-drop}
@@ -7,13 +7,12 @@ use Rattle.hir_input.specs.declared.edition.EditionYear.{EditionYear}
 use Rattle.hir_input.specs.declared.ids.FileAstId.{FileAstId}
 use Rattle.hir_input.specs.declared.ids.AstIdKind.{AstIdKind}
 use Rattle.hir_input.specs.declared.ids.AstIdKind.TheVariants as kind
-use Rattle.hir_input.specs.Attr.{MetaView}
 use Rattle.hir_input.specs.Syntax.{ItemView, ItemViews, plain_item, const_item, struct_item, bare_module, listed_module, use_item, extern_crate, bare_extern_block, listed_extern_block, impl_item, macro_call, macro_rules, asm_item, no_items, item_and, items_from, items_of, SyntaxView, syntax_view}
 use Rattle.rust_cursor.specs.Elements.{most, beyond}
 use Rattle.rust_cursor.specs.Tokens.{Tokens, tokens_of}
-use Rattle.rust_cursor.specs.Words.{symbol, at, eat, is_at_end}
+use Rattle.rust_cursor.specs.Words.{at, is_at_end}
 use Rattle.rust_cursor.proofs.Laid.{IsLaid, behind, tokens_laid}
-use Rattle.rust_cursor.proofs.Leads.{LeadsTo, here, through, when, beyond_leads}
+use Rattle.rust_cursor.proofs.Leads.{LeadsTo, through, when, beyond_leads}
 use Rattle.rust_paths.specs.declared.names.TextRange.{TextRange}
 use Rattle.rust_leaves.specs.declared.head.Head.{Head}
 use Rattle.rust_leaves.specs.declared.head.Head.TheVariants as heads
@@ -26,14 +25,14 @@ use Rattle.rust_items.specs.declared.log.ProblemKind.TheVariants as problem
 use Rattle.rust_items.specs.declared.source_file.ItemPlace.{ItemPlace}
 use Rattle.rust_items.specs.declared.source_file.SourceFile.{SourceFile}
 use Rattle.rust_metas.proofs.Leads.{inner_attributes_leads}
-use Rattle.rust_items.specs.Found.{Found, Finder, nothing_found, and_problem, and_problem_if, and_problem_at, and_use_trees, and_row, and_all}
+use Rattle.rust_items.specs.Found.{Found, Finder, nothing_found, and_problem, and_problem_if, and_problem_at, and_row}
 use Rattle.rust_items.specs.Ids.{first, numbered_named, numbered_node, held_with_ids, with_ids, item_with_ids}
-use Rattle.rust_items.specs.Items.{BlockRead, span_of, needs_name, and_flaw, and_item, and_leaf, and_parent, leaf_found, leaf_turn, finding_from, finding, is_list_end, items, extern_inside, extern_block, one_more, inside_unless, module_with, by_head, turn_with, inside, depth_of, turn}
+use Rattle.rust_items.specs.Items.{BlockRead, span_of, needs_name, and_flaw, and_item, and_parent, leaf_found, leaf_turn, finding_from, finding, is_list_end, items, as_extern, extern_kept, extern_found, extern_turn, extern_block, by_head, turn_with, inside, depth_of, turn}
 use Rattle.rust_items.specs.LineEnds.{moved_span}
 use Rattle.rust_items.specs.Places.{Telling, held, ArePlaces, nothing, placed}
-use Rattle.rust_items.specs.SourceFiles.{places, behind_attributes, found_in, items_in, read_of, IsFile}
+use Rattle.rust_items.specs.SourceFiles.{places, behind_attributes, file_view, found_in, items_in, read_of, IsFile}
 use Rattle.rust_items.proofs.Leads.{front_start}
-use Rattle.rust_items.proofs.Places.{Span, row_kind, place_kind, place_span, unnumbered, adds_use_trees, adds_problem_at, adds_item, AreFound, turn_found, items_found}
+use Rattle.rust_items.proofs.Places.{Span, row_kind, place_kind, place_span, adds_use_trees, adds_problem_at, adds_item, AreFound, turn_found, items_found}
 use Rattle.rust_items.proofs.UntilItems.{Rows, found_rows}
 use Rattle.rust_ranges.specs.Laws.{item_count, items_count, at_top, without_ids, IsAtTop}
 
@@ -120,7 +119,7 @@ drop_none : {A : Type 0} (k : ℕ) → drop {A = A} k [] ≡ []
 drop_none zero = refl
 drop_none (suc k) = refl
 
-none_held : (own : List FileAstId) (i : ItemView) → (held_with_ids (first own).0 i []).1 ≡ []
+pub none_held : (own : List FileAstId) (i : ItemView) → (held_with_ids (first own).0 i []).1 ≡ []
 none_held own i = held_left own i [] ∙ drop_none (items_count (held i))
 
 mutual
@@ -139,7 +138,7 @@ mutual
   held_again own other (macro_rules v name) ids = refl
   held_again own other (asm_item v) ids = refl
 
-  ids_again : (is : ItemViews) (ids : List FileAstId) → (with_ids (with_ids is ids).0 []).0 ≡ (with_ids is []).0
+  pub ids_again : (is : ItemViews) (ids : List FileAstId) → (with_ids (with_ids is ids).0 []).0 ≡ (with_ids is []).0
   ids_again no_items ids = refl
   ids_again (item_and i is) ids =
       let head = item_with_ids i ids in
@@ -225,10 +224,26 @@ keeps_head inside depth heads.Module h f ts = keeps_parent depth h.start _ kind.
 keeps_head inside depth heads.ExternBlock h f ts = keeps_parent depth h.start _ kind.ExternBlock no_name _ _ f
 keeps_head inside depth _ h f ts = keeps_found depth h.start (leaf h ts).0 f (leaf h ts).1
 
+pub turn_with_keeps : (inside : Finder BlockRead) (depth : ℕ) (f : Found) (ts : Tokens) → Keeps f (turn_with inside depth f ts).1.0
+turn_with_keeps inside depth f ts =
+    when (is_at_end ts) (λ e. rw e (keeps_problem problem.Unmatched (at ts) f f (keeps_same f))) (λ e. rw e (keeps_head inside depth (front ts).0.head (front ts).0 f (front ts).1))
+
 pub turn_keeps : (left : ℕ) (f : Found) (ts : Tokens) → Keeps f (turn left f ts).1.0
 unfolding turn
-turn_keeps left f ts =
-    when (is_at_end ts) (λ e. rw e (keeps_problem problem.Unmatched (at ts) f f (keeps_same f))) (λ e. rw e (keeps_head (inside left) (depth_of left) (front ts).0.head (front ts).0 f (front ts).1))
+turn_keeps left f ts = turn_with_keeps (inside left) (depth_of left) f ts
+
+keeps_extern : (depth start : ℕ) (o : Option LeafRead) (f : Found) (ts : Tokens) → Keeps f (extern_found depth start o f ts).1.0
+keeps_extern depth start None f ts = keeps_problem problem.NoItem start f f (keeps_same f)
+keeps_extern depth start (Some l) f ts = by (as_extern l.item)
+  where
+    by : (o : Option ItemView) → Keeps f (extern_kept depth start ts.past l o f).1
+    by None = keeps_problem problem.NoItem start f f (keeps_same f)
+    by (Some i) = keeps_found depth start (Some l) f ts
+
+pub extern_turn_keeps : (depth : ℕ) (f : Found) (ts : Tokens) → Keeps f (extern_turn depth f ts).1.0
+unfolding extern_turn
+extern_turn_keeps depth f ts =
+    when (is_at_end ts) (λ e. rw e (keeps_problem problem.Unmatched (at ts) f f (keeps_same f))) (λ e. rw e (keeps_extern depth (front ts).0.start (leaf (front ts).0 (front ts).1).0 f (leaf (front ts).0 (front ts).1).1))
 
 -- ---- the range of an item
 
@@ -294,7 +309,12 @@ turn_strict end left f ts i laid e =
 
 data Turns : Found → Tokens → List ItemView → Found → Type 0 where
   no_turn : {f : Found} {ts : Tokens} → Turns f ts [] f
-  one_turn : {f : Found} {ts : Tokens} {is : List ItemView} {g : Found} → Turns (turn 128 f ts).1.0 (beyond ts.past (turn 128 f ts).1.1) is g → Turns f ts (option_to_list (turn 128 f ts).0 ++ is) g
+  one_turn : {f : Found} {ts : Tokens} {is : List ItemView} {g : Found} → is_list_end true ts ≡ false → Turns (turn 128 f ts).1.0 (beyond ts.past (turn 128 f ts).1.1) is g → Turns f ts (option_to_list (turn 128 f ts).0 ++ is) g
+
+-- from the first to the second by turns
+pub data Chain : Found → Tokens → Found → Tokens → Type 0 where
+  at_start : {f : Found} {ts : Tokens} → Chain f ts f ts
+  then_turn : {f g : Found} {ts us : Tokens} → Chain f ts g us → is_list_end true us ≡ false → Chain f ts (turn 128 g us).1.0 (beyond us.past (turn 128 g us).1.1)
 
 record IsListed (f : Found) (ts : Tokens) (done : List ItemView) (r : List ItemView × (Found × Tokens)) : Type 0 where
   new : List ItemView
@@ -309,7 +329,7 @@ turned_from (suc n) done f ts =
     (λ e. rw e
     (let o = option_to_list (turn 128 f ts).0 in
     let rest = turned_from n (done ++ o) (turn 128 f ts).1.0 (beyond ts.past (turn 128 f ts).1.1) in
-    record { new = o ++ rest.new; list = rest.list ∙ append_assoc done o rest.new; turns = one_turn rest.turns }))
+    record { new = o ++ rest.new; list = rest.list ∙ append_assoc done o rest.new; turns = one_turn e rest.turns }))
 
 all_turned : (f : Found) (ts : Tokens) → IsListed f ts [] (items true 128 f ts)
 unfolding finding
@@ -318,11 +338,13 @@ all_turned f ts = turned_from most [] f ts
 -- ---- which turn finds an item
 
 -- the item with these places was found by this turn
-pub record IsTurned (top : Tokens) (place : ℕ → ℕ) (g : Found) (i : ItemView) (ps : List ItemPlace) : Type 0 where
+pub record IsTurned (top start : Tokens) (place : ℕ → ℕ) (g : Found) (i : ItemView) (ps : List ItemPlace) : Type 0 where
   pub f : Found
   pub ts : Tokens
   pub item : ItemView
   pub leads : LeadsTo top ts
+  pub chain : Chain nothing_found start f ts
+  pub some : is_list_end true ts ≡ false
   pub read : (turn 128 f ts).0 ≡ Some item
   pub same : without_ids i ≡ without_ids item
   pub segment : List Span
@@ -339,7 +361,7 @@ pair_second a c b d e = ap (λ p. p.1) e
 none_placed : {N : Telling} {from to : ℕ} {ps : List ItemPlace} → ArePlaces N from to no_items ps [] → ps ≡ []
 none_placed nothing = refl
 
-module _ (end : ℕ) (top : Tokens) (place : ℕ → ℕ) where
+module _ (end : ℕ) (top start : Tokens) (place : ℕ → ℕ) where
   abbrev Tops : List ItemView → List FileAstId → List Span → List (ItemView × List ItemPlace)
   Tops is ids spans = at_top (with_ids (items_from is) ids).0 (places ids (map (moved_span place) spans))
 
@@ -348,7 +370,7 @@ module _ (end : ℕ) (top : Tokens) (place : ℕ → ℕ) where
     are : g.spans ≡ f.spans ++ spans
     rows : length g.rows ≡ length f.rows + length spans
     keeps : Keeps f g
-    turned : (ids : List FileAstId) → length spans ≤ length ids → (k : ℕ) (i : ItemView) (ps : List ItemPlace) → k < length (Tops is ids spans) → get_or (Tops is ids spans) k (i, ps) ≡ (i, ps) → IsTurned top place g i ps
+    turned : (ids : List FileAstId) → length spans ≤ length ids → (k : ℕ) (i : ItemView) (ps : List ItemPlace) → k < length (Tops is ids spans) → get_or (Tops is ids spans) k (i, ps) ≡ (i, ps) → IsTurned top start place g i ps
 
   row_count : (f g : Found) (ps : List ItemPlace) → map row_kind g.rows ≡ map row_kind f.rows ++ map place_kind ps → length g.rows ≡ length f.rows + length (map place_span ps)
   row_count f g ps e =
@@ -360,9 +382,9 @@ module _ (end : ℕ) (top : Tokens) (place : ℕ → ℕ) where
       let third = length-map ps place_span in
       omega arith
 
-  one_tops : (f : Found) (ts : Tokens) (is : List ItemView) (g : Found) → IsLaid end ts → LeadsTo top ts → AreFound ts (turn 128 f ts).1.1 f (turn 128 f ts).1.0 (items_from (option_to_list (turn 128 f ts).0)) → AreTops (turn 128 f ts).1.0 is g
+  one_tops : (f : Found) (ts : Tokens) (is : List ItemView) (g : Found) → IsLaid end ts → LeadsTo top ts → Chain nothing_found start f ts → is_list_end true ts ≡ false → AreFound ts (turn 128 f ts).1.1 f (turn 128 f ts).1.0 (items_from (option_to_list (turn 128 f ts).0)) → AreTops (turn 128 f ts).1.0 is g
       → AreTops f (option_to_list (turn 128 f ts).0 ++ is) g
-  one_tops f ts is g laid leads a tail = by (turn 128 f ts).0 refl a.places a.adds.spans a.adds.rows a.are
+  one_tops f ts is g laid leads chain some a tail = by (turn 128 f ts).0 refl a.places a.adds.spans a.adds.rows a.are
     where
       kept : Keeps f g
       kept = record { all = λ test e. (turn_keeps 128 f ts).all test (tail.keeps.all test e) }
@@ -395,7 +417,7 @@ module _ (end : ℕ) (top : Tokens) (place : ℕ → ℕ) where
           }
         where
           pick : (j : ItemView) → (turn 128 f ts).0 ≡ Some j → (ps : List ItemPlace) → (turn 128 f ts).1.0.spans ≡ f.spans ++ map place_span ps → length ps ≡ (item_count j + 0) + 0 → (ids : List FileAstId) → length (map place_span ps ++ tail.spans) ≤ length ids
-              → (k : ℕ) (i : ItemView) (qs : List ItemPlace) → k < length (Tops (j ∷ is) ids (map place_span ps ++ tail.spans)) → get_or (Tops (j ∷ is) ids (map place_span ps ++ tail.spans)) k (i, qs) ≡ (i, qs) → IsTurned top place g i qs
+              → (k : ℕ) (i : ItemView) (qs : List ItemPlace) → k < length (Tops (j ∷ is) ids (map place_span ps ++ tail.spans)) → get_or (Tops (j ∷ is) ids (map place_span ps ++ tail.spans)) k (i, qs) ≡ (i, qs) → IsTurned top start place g i qs
           pick j e ps spans size ids enough zero i qs low at =
               let segment = map place_span ps in
               let all = map (moved_span place) (segment ++ tail.spans) in
@@ -412,6 +434,8 @@ module _ (end : ℕ) (top : Tokens) (place : ℕ → ℕ) where
                 ts = ts;
                 item = j;
                 leads = leads;
+                chain = chain;
+                some = some;
                 read = e;
                 same = ap without_ids (sym (pair_first head.0 i (take c (places ids all)) qs at)) ∙ without_again j ids;
                 segment = segment;
@@ -440,12 +464,12 @@ module _ (end : ℕ) (top : Tokens) (place : ℕ → ℕ) where
               ∙ ap (at_top (with_ids (items_from is) (drop c ids)).0) (places_drop c ids all ∙ ap (places (drop c ids)) rest) in
               tail.turned (drop c ids) enough' k i qs (subst (λ (l : List (ItemView × List ItemPlace)). k < length l) tops (let here : suc k < suc (length (at_top (with_ids (items_from is) head.1).0 (drop c (places ids all)))) = low in omega arith)) (ap (λ (l : List (ItemView × List ItemPlace)). get_or l k (i, qs)) (sym tops) ∙ at)
 
-  tops_of : {f : Found} {ts : Tokens} {is : List ItemView} {g : Found} → Turns f ts is g → IsLaid end ts → LeadsTo top ts → AreTops f is g
-  tops_of {f = f} no_turn laid leads = record { spans = []; are = sym (append-nil f.spans); rows = omega arith; keeps = keeps_same f; turned = λ ids enough k i ps low e. absurd (omega arith) }
-  tops_of {f = f} {ts = ts} (one_turn {is = is} {g = g} rest) laid leads =
+  tops_of : {f : Found} {ts : Tokens} {is : List ItemView} {g : Found} → Turns f ts is g → IsLaid end ts → LeadsTo top ts → Chain nothing_found start f ts → AreTops f is g
+  tops_of {f = f} no_turn laid leads chain = record { spans = []; are = sym (append-nil f.spans); rows = omega arith; keeps = keeps_same f; turned = λ ids enough k i ps low e. absurd (omega arith) }
+  tops_of {f = f} {ts = ts} (one_turn {is = is} {g = g} some rest) laid leads chain =
       let a = turn_found end 128 f ts laid in
       let onward : LeadsTo ts (beyond ts.past (turn 128 f ts).1.1) = through a.leads (beyond_leads ts.past (turn 128 f ts).1.1) in
-      one_tops f ts is g laid leads a (tops_of rest (behind end onward laid).laid (through leads onward))
+      one_tops f ts is g laid leads chain some a (tops_of rest (behind end onward laid).laid (through leads onward) (then_turn chain some))
 
 -- ---- of a whole text
 
@@ -465,7 +489,7 @@ pub found_keeps : (edition : EditionYear) (x : List ℕ) → Keeps (read_of edit
 unfolding found_in
 found_keeps edition x = keeps_at problem.Unterminated (read_of edition x).1.1.unended (read_of edition x).1.0 (read_of edition x).1.0 (keeps_same (read_of edition x).1.0)
 
-items_are : (edition : EditionYear) (x : List ℕ) → items_in edition x ≡ items_from (read_of edition x).0
+pub items_are : (edition : EditionYear) (x : List ℕ) → items_in edition x ≡ items_from (read_of edition x).0
 unfolding items_in
 items_are edition x = refl
 
@@ -476,17 +500,17 @@ same_rows edition x = ap (λ (r : Rows). r.0) (found_rows edition x)
 pub same_spans : (edition : EditionYear) (x : List ℕ) → (found_in edition x).spans ≡ (read_of edition x).1.0.spans
 same_spans edition x = ap (λ (r : Rows). r.1.0) (found_rows edition x)
 
-pub file_turned : (edition : EditionYear) (x : List ℕ) (place : ℕ → ℕ) (file : SourceFile) (i : ItemView) (ps : List ItemPlace) → IsFile edition x place file → IsAtTop file i ps → IsTurned (tokens_of edition x) place (read_of edition x).1.0 i ps
+pub file_turned : (edition : EditionYear) (x : List ℕ) (place : ℕ → ℕ) (file : SourceFile) (i : ItemView) (ps : List ItemPlace) → IsFile edition x place (file_view file) → IsAtTop file i ps → IsTurned (tokens_of edition x) (behind_attributes edition x) place (read_of edition x).1.0 i ps
 file_turned edition x place file i ps is (k, low, at) =
     let start = behind_attributes edition x in
     let leads = inner_attributes_leads (tokens_of edition x) in
     let laid = (behind (length x) leads (tokens_laid edition x)).laid in
     let listed = all_turned nothing_found start in
-    let tops = tops_of (length x) (tokens_of edition x) place listed.turns laid leads in
+    let tops = tops_of (length x) (tokens_of edition x) start place listed.turns laid leads at_start in
     let spans : (found_in edition x).spans ≡ tops.spans = same_spans edition x ∙ tops.are in
     let many : length is.ids ≡ length (read_of edition x).1.0.rows = is.are_ids.as_many ∙ ap length (same_rows edition x) in
     let count = tops.rows in
-    let all : at_top (items_of (syntax_view file.syntax)) file.places.items ≡ Tops (length x) (tokens_of edition x) place listed.new is.ids tops.spans =
+    let all : at_top (items_of (syntax_view file.syntax)) file.places.items ≡ Tops (length x) (tokens_of edition x) start place listed.new is.ids tops.spans =
     ap (λ (v : SyntaxView). at_top (items_of v) file.places.items) is.syntax
     ∙ ap (λ (l : ItemViews). at_top (with_ids l is.ids).0 file.places.items) (items_are edition x ∙ ap items_from listed.list)
     ∙ ap (at_top (with_ids (items_from listed.new) is.ids).0) (is.places ∙ ap (λ (l : List Span). places is.ids (map (moved_span place) l)) spans) in

@@ -1,4 +1,4 @@
-//! A law above the reader: the text of an item's range, read alone, is exactly that item.
+//! Laws above the reader: what the text of an item is alone, and that it changes no other item.
 #![tactic(auto)]
 
 mod laws;
