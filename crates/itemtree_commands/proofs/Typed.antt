@@ -2,7 +2,7 @@
 use Rattle.std.proofs.Common.{◌≡◌, ℕ, Bool, List, IsTrue, ap, ◌∙◌, sym}
 use Rattle.std.specs.Prelude.{◌↔◌, false}
 use Rattle.hir_input.specs.declared.edition.EditionYear.{EditionYear}
-use Rattle.hir_input.specs.Syntax.{SyntaxView, syntax_view}
+use Rattle.hir_input.specs.Syntax.{SyntaxView}
 use Rattle.hir_input.specs.Bodies.{without_bodies}
 use Rattle.item_tree.specs.CrateView.{crate_view}
 use Rattle.item_tree.specs.Kept.{kept_syntax}
@@ -22,9 +22,9 @@ kept_alike krate skipped s t e =
 pub same_tree : (krate : CrateData) (skipped : List (List ℕ)) (edition : EditionYear) (old new : List ℕ) (t u : SourceTree) (same : Bool) → IsTreeOf krate skipped edition old t → IsTreeOf krate skipped edition new u → (IsTrue same ↔ (t.tree ≡ u.tree))
     → IsSameWhereTyped old new same
 same_tree krate skipped edition old new t u same l r d before after w x e =
-    d.1 (l.tree ∙ kept_alike krate skipped (syntax_view l.file.syntax) (syntax_view r.file.syntax) (typing_inside edition before after old new l.file r.file w x e l.is_read r.is_read) ∙ sym r.tree)
+    d.1 (l.tree ∙ kept_alike krate skipped l.file.syntax r.file.syntax (typing_inside edition before after old new l.file r.file w x e l.is_read r.is_read) ∙ sym r.tree)
 
 pub same_in_body : (krate : CrateData) (skipped : List (List ℕ)) (edition : EditionYear) (old new : List ℕ) (t u : SourceTree) (same : Bool) → IsTreeOf krate skipped edition old t → IsTreeOf krate skipped edition new u → (IsTrue same ↔ (t.tree ≡ u.tree))
     → IsSameInBody edition old new same
 same_in_body krate skipped edition old new t u same l r d q m m' s e e' h =
-    d.1 (l.tree ∙ kept_alike krate skipped (syntax_view l.file.syntax) (syntax_view r.file.syntax) (bodies.typing_inside edition q m m' s old new l.file r.file e e' h l.is_read r.is_read) ∙ sym r.tree)
+    d.1 (l.tree ∙ kept_alike krate skipped l.file.syntax r.file.syntax (bodies.typing_inside edition q m m' s old new l.file r.file e e' h l.is_read r.is_read) ∙ sym r.tree)

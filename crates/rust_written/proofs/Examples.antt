@@ -23,9 +23,7 @@ use Rattle.rust_leaves.specs.Heads.{follows_unsafe}
 use Rattle.rust_paths.specs.Names.{plain_name, is_keyword, is_path_keyword}
 use Rattle.rust_leaves.specs.Texts.{bare}
 use Rattle.hir_input.specs.Bodies.{without_bodies}
-use Rattle.hir_input.specs.Syntax.{syntax_view}
-use Rattle.rust_items.specs.declared.source_file.SourceFile.{SourceFile}
-use Rattle.rust_items.specs.SourceFiles.{IsSourceFile}
+use Rattle.rust_items.specs.SourceFiles.{FileView, IsFileView}
 use Rattle.rust_written.specs.Laws.{Writes}
 use Rattle.rust_written.proofs.Outlines.{typing_inside}
 use Rattle.rust_written.proofs.Spelled.{writable}
@@ -108,8 +106,8 @@ pub long_writes : Writes (function long_body) (text_of (function long_body))
 unfolding most
 long_writes = writable (function long_body) (function_well long_body (plain, (plain, (plain, ((plain, (plain, (plain, tt))), (plain, (plain, tt)))))) refl) refl (omega arith)
 
-pub body_typed : (edition : EditionYear) (read again : SourceFile) → IsSourceFile edition (text_of (function short_body)) read → IsSourceFile edition (text_of (function long_body)) again
-    → without_bodies (syntax_view read.syntax) ≡ without_bodies (syntax_view again.syntax)
+pub body_typed : (edition : EditionYear) (read again : FileView) → IsFileView edition (text_of (function short_body)) read → IsFileView edition (text_of (function long_body)) again
+    → without_bodies read.syntax ≡ without_bodies again.syntax
 body_typed edition read again s t = typing_inside edition (function short_body) (function long_body) _ _ read again function_writes long_writes refl s t
 
 -- ---- modules

@@ -2,13 +2,12 @@
 use Rattle.std.specs.Prelude.{true, ◌≡◌, ◌≤◌, ℕ, List, [], length}
 use Rattle.hir_input.specs.declared.edition.EditionYear.{EditionYear}
 use Rattle.hir_input.specs.Bodies.{without_bodies}
-use Rattle.hir_input.specs.Syntax.{source_file, items_from, syntax_view}
+use Rattle.hir_input.specs.Syntax.{source_file, items_from}
 use Rattle.rust_ids.specs.Ids.{AreIds}
 use Rattle.rust_cursor.specs.Elements.{most}
-use Rattle.rust_items.specs.declared.source_file.SourceFile.{SourceFile}
 use Rattle.rust_items.specs.Ids.{with_ids}
 use Rattle.rust_items.specs.LineEnds.{with_feeds}
-use Rattle.rust_items.specs.SourceFiles.{IsSourceFile}
+use Rattle.rust_items.specs.SourceFiles.{FileView, IsFileView}
 use Rattle.rust_round.specs.Words.{Spells}
 use Rattle.rust_round.specs.Laws.{IsPlain}
 use Rattle.rust_written.specs.Spelled.{are_standing, text_of}
@@ -23,19 +22,19 @@ pub record Writes (is : Items) (text : List ℕ) : Type 0 where
   pub short : length (with_feeds text) ≤ most
 
 -- a text that spells items is read as exactly these, with the ids that they are to have, and no problem is told
-pub record IsRead (is : Items) (file : SourceFile) : Type 0 where
+pub record IsRead (is : Items) (file : FileView) : Type 0 where
   pub ids : List FileAstId
   pub are_ids : AreIds (rows 0 is) ids
-  pub syntax : syntax_view file.syntax ≡ source_file [] (with_ids (items_from (views is)) ids).0
-  pub problems : file.problems.items ≡ []
+  pub syntax : file.syntax ≡ source_file [] (with_ids (items_from (views is)) ids).0
+  pub problems : file.problems ≡ []
 
 abbrev pub ReadAgain : Type 0
-ReadAgain = (edition : EditionYear) (is : Items) (text : List ℕ) (file : SourceFile) → Writes is text → IsSourceFile edition text file → IsRead is file
+ReadAgain = (edition : EditionYear) (is : Items) (text : List ℕ) (file : FileView) → Writes is text → IsFileView edition text file → IsRead is file
 
 -- Typing between names and ends changes no syntax but for its body texts, and no id.
 abbrev pub TypingInside : Type 0
-TypingInside = (edition : EditionYear) (before after : Items) (old new : List ℕ) (read again : SourceFile) → Writes before old → Writes after new → outline before ≡ outline after
-    → IsSourceFile edition old read → IsSourceFile edition new again → without_bodies (syntax_view read.syntax) ≡ without_bodies (syntax_view again.syntax)
+TypingInside = (edition : EditionYear) (before after : Items) (old new : List ℕ) (read again : FileView) → Writes before old → Writes after new → outline before ≡ outline after
+    → IsFileView edition old read → IsFileView edition new again → without_bodies read.syntax ≡ without_bodies again.syntax
 
 -- Well formed items of words of ASCII are spelled by a text, and so are read again.
 abbrev pub Writable : Type 0

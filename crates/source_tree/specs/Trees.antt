@@ -1,24 +1,22 @@
 -- What a Rust text's tree is.
 use Rattle.std.specs.Prelude.{◌≡◌, ◌≢◌, ◌<◌, ◌≤◌, ◌^◌, ◌⊎◌, ℕ, false, List, length, AllPairs}
 use Rattle.hir_input.specs.declared.edition.EditionYear.{EditionYear}
-use Rattle.hir_input.specs.Syntax.{syntax_view}
 use Rattle.item_tree.specs.declared.crate_data.CrateData.{CrateData}
 use Rattle.item_tree.specs.declared.fault.LowerError.TheVariants.{OutOfMemory}
 use Rattle.item_tree.specs.Lowered.{IsTooLargeIn, kept_in}
-use Rattle.rust_items.specs.declared.source_file.SourceFile.{SourceFile}
-use Rattle.rust_items.specs.SourceFiles.{IsSourceFile}
+use Rattle.rust_items.specs.SourceFiles.{FileView, IsFileView}
 use Rattle.source_tree.specs.declared.SourceTree.{SourceTree}
 use Rattle.source_tree.specs.declared.SourceError.{SourceError}
 use Rattle.source_tree.specs.declared.SourceError.TheVariants.{TooLong, Lower}
 
 -- what is kept of what is read of a text of an edition, beside the places of items and use trees and the problems that were read
 pub record IsTreeOf (krate : CrateData) (skipped : List (List ℕ)) (edition : EditionYear) (text : List ℕ) (t : SourceTree) : Type 0 where
-  pub file : SourceFile
-  pub is_read : IsSourceFile edition text file
-  pub tree : t.tree ≡ kept_in krate false skipped (syntax_view file.syntax)
-  pub places : t.places.items ≡ file.places.items
-  pub use_trees : t.use_trees.items ≡ file.use_trees.items
-  pub problems : t.problems.items ≡ file.problems.items
+  pub file : FileView
+  pub is_read : IsFileView edition text file
+  pub tree : t.tree ≡ kept_in krate false skipped file.syntax
+  pub places : t.places.items ≡ file.places
+  pub use_trees : t.use_trees.items ≡ file.use_trees
+  pub problems : t.problems.items ≡ file.problems
 
 -- no two items have one id
 abbrev pub HasOwnIds : SourceTree → Type 0
@@ -33,4 +31,4 @@ IsUnread text (Lower e) = (length text ≤ 2 ^ 32) × (e ≡ OutOfMemory)
 abbrev pub IsRefused : CrateData → List (List ℕ) → EditionYear → List ℕ → SourceError → Type 0
 IsRefused krate skipped edition text TooLong = 2 ^ 32 < length text
 IsRefused krate skipped edition text (Lower e) =
-    (length text ≤ 2 ^ 32) × ((e ≡ OutOfMemory) ⊎ ((file : SourceFile) × IsSourceFile edition text file × IsTooLargeIn krate false skipped (syntax_view file.syntax) e))
+    (length text ≤ 2 ^ 32) × ((e ≡ OutOfMemory) ⊎ ((file : FileView) × IsFileView edition text file × IsTooLargeIn krate false skipped file.syntax e))

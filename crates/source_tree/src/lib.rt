@@ -6,12 +6,12 @@ mod laws;
 ghost use Rattle.std.specs.Prelude.{◌≡◌, ◌≢◌, ◌≤◌, ◌^◌, false, length, AllPairs, IfOk, IfErr, OnOk};
 ghost use Rattle.hir_input.specs.Syntax.{syntax_view};
 ghost use Rattle.item_tree.specs.Lowered.{IsTooLargeIn, kept_in};
-ghost use Rattle.rust_items.specs.SourceFiles.{IsSourceFile};
+ghost use Rattle.rust_items.specs.SourceFiles.{IsBareFile, IsSourceFile, file_view};
 ghost use Rattle.source_tree.specs.Trees.{HasOwnIds, IsRefused, IsTreeOf, IsUnread};
 
 use hir_input::{EditionYear, Name};
 use item_tree::{CrateData, ItemTree, LowerError, lower_syntax};
-use rust_items::{ItemPlace, Problem, SourceFile, read_source_file};
+use rust_items::{ItemPlace, Problem, SourceFile, read_source_file, read_without_bodies};
 use std::alloc::{AllocError, Global};
 use thiserror::Error;
 
@@ -107,12 +107,27 @@ pub fn source_file(
     Ok(file)
 }
 
+/// Reads a text of an edition, but no body texts.
+fn bare_source(alloc: Global, text: &str, edition: EditionYear) -> Result<SourceFile, SourceError>
+    ensures file { IfOk result (λ file. IsBareFile edition text.now (file_view file)) }
+    ensures ids { IfOk result (λ file. AllPairs (λ p q. p.id ≢ q.id) file.places.items) }
+    ensures short { OnOk result (length text.now ≤ 2 ^ 32) }
+    ensures refused { IfErr result (IsUnread text.now) }
+{
+    if text.len() > MOST_BYTES {
+        return Err(SourceError::TooLong);
+    }
+    let file = read_without_bodies(alloc, text, edition)?;
+    Ok(file)
+}
+
 /// Reads a text of an edition and makes its tree in a crate: the items that are kept, with the attributes that their metas
 /// collect under the crate's options, without those of the skipped names.
 ///
 /// # Errors
 ///
 /// `TooLong` exactly where the text has more than 2^32 bytes, and those of `lower_syntax`.
+#[tactic(auto, using(crate::proofs::BareTrees::bare_tree))]
 pub fn source_tree(
     alloc: Global,
     text: &str,
@@ -125,7 +140,7 @@ pub fn source_tree(
     ensures short { OnOk result (length text.now ≤ 2 ^ 32) }
     ensures refused { IfErr result (IsRefused krate.now skipped.now edition text.now) }
 {
-    let file = source_file(alloc, text, edition)?;
+    let file = bare_source(alloc, text, edition)?;
     let tree = tree_of(alloc, file, krate, skipped)?;
     Ok(tree)
 }

@@ -1,5 +1,5 @@
 use Rattle.std.proofs.Common.{rules}
-use Rattle.source_tree.proofs.Refused.{too_large}
+use Rattle.source_tree.proofs.BareTrees.{too_large}
 use Rattle.source_tree.proofs.source_tree.Goals as goal
 
 pub returns-in_err-tree-clause-refused : goal.returns-in_err-tree-clause-refused
