@@ -1,6 +1,7 @@
 //! Changes of items.
 ghost use Rattle.std.specs.Prelude.{◌≡◌, ◌++◌, ◌∷◌, [], map, option_map, IfOk, OnOk};
 ghost use Rattle.std.specs.List.{flat_map};
+ghost use Rattle.item_rows.specs.Rows as all_rows;
 ghost use Rattle.item_rows.specs.Views.{row_view};
 ghost use Rattle.item_changes.specs.Changes as spec;
 ghost use Rattle.item_changes.specs.Inner.{Finds, item_view};
@@ -24,11 +25,18 @@ pub enum ChangeKind {
 }
 
 /// A change of an item.
-#[derive(Debug, Drop)]
+#[derive(Debug)]
 pub struct Change<'tree> {
     pub kind: ChangeKind,
     /// The item in the new tree, or the one that was removed in the old tree.
     pub row: Row<'tree>,
+}
+
+// (Written out: what is derived is proved anew, field by field, in each crate that drops one.)
+impl Drop for Change<'_> {
+    fn drop(self) {
+        let Change { kind: _, row: _ } = self;
+    }
 }
 
 fn left_as(new: Option<&Item<'_, '_>>) -> Option<ChangeKind>
@@ -113,6 +121,67 @@ fn push_came<'r, 'tree>(
     Ok(())
 }
 
+/// Adds what is removed.
+fn push_all_left<'r, 'tree>(
+    alloc: Global,
+    olds: &[Item<'r, 'tree>],
+    news: &[Item<'r, 'tree>],
+    changes: &mut Vec<Change<'tree>>,
+) -> Result<(), AllocError>
+    ensures { let left = flat_map (spec.left_change (map item_view news.now))
+        (map item_view olds.now) in
+        OnOk result (map change_view changes.new.items ≡ map change_view changes.old.items ++ left) }
+{
+    let finder = Finder::new(alloc, news)?;
+    push_left(alloc, olds, &finder, changes)
+}
+
+/// Adds what is added or changed.
+fn push_all_came<'r, 'tree>(
+    alloc: Global,
+    olds: &[Item<'r, 'tree>],
+    news: &[Item<'r, 'tree>],
+    changes: &mut Vec<Change<'tree>>,
+) -> Result<(), AllocError>
+    ensures { let came = flat_map (spec.came_change (map item_view olds.now))
+        (map item_view news.now) in
+        OnOk result (map change_view changes.new.items ≡ map change_view changes.old.items ++ came) }
+{
+    let finder = Finder::new(alloc, olds)?;
+    push_came(alloc, &finder, news, changes)
+}
+
+fn changes_between<'r, 'tree>(
+    alloc: Global,
+    olds: &[Item<'r, 'tree>],
+    news: &[Item<'r, 'tree>],
+) -> Result<Vec<Change<'tree>>, AllocError>
+    ensures { IfOk result (λ v. map change_view v.items
+        ≡ spec.changes_between (map item_view olds.now) (map item_view news.now)) }
+{
+    let mut changes = Vec::new(alloc);
+    push_all_left(alloc, olds, news, &mut changes)?;
+    push_all_came(alloc, olds, news, &mut changes)?;
+    Ok(changes)
+}
+
+/// What became of the items of a tree in another, which have these rows.
+fn changes_in<'tree>(
+    alloc: Global,
+    old: &'tree ItemTree,
+    new: &'tree ItemTree,
+    old_rows: &[Row<'tree>],
+    new_rows: &[Row<'tree>],
+) -> Result<Vec<Change<'tree>>, AllocError>
+    requires old { map row_view old_rows.now ≡ all_rows.rows old.now }
+    requires new { map row_view new_rows.now ≡ all_rows.rows new.now }
+    ensures { IfOk result (λ v. map change_view v.items ≡ spec.changes old.now new.now) }
+{
+    let olds = items(alloc, old, old_rows)?;
+    let news = items(alloc, new, new_rows)?;
+    changes_between(alloc, &olds, &news)
+}
+
 /// What became of the items of a tree in another: first those that were removed, in the order of the old tree, and then
 /// those that were added or changed, in the order of the new tree.
 ///
@@ -132,11 +201,8 @@ pub fn changes<'tree>(
     ensures exact { IfOk result (λ v. map change_view v.items ≡ spec.changes old.now new.now) }
     ensures none { old.now.forest ≡ new.now.forest → IfOk result (λ v. v.items ≡ []) }
 {
-    let (old_rows, new_rows) = (item_rows(alloc, old)?, item_rows(alloc, new)?);
-    let olds = items(alloc, old, &old_rows)?;
-    let news = items(alloc, new, &new_rows)?;
-    let mut changes = Vec::new(alloc);
-    push_left(alloc, &olds, &Finder::new(alloc, &news)?, &mut changes)?;
-    push_came(alloc, &Finder::new(alloc, &olds)?, &news, &mut changes)?;
+    let old_rows = item_rows(alloc, old)?;
+    let new_rows = item_rows(alloc, new)?;
+    let changes = changes_in(alloc, old, new, &old_rows, &new_rows)?;
     Ok(changes)
 }

@@ -1,6 +1,6 @@
 -- The objects of imports.
 use Rattle.std.specs.Prelude.{ℕ, List, [], ◌∷◌, codes, Option, Some, None}
-use Rattle.serde_json.specs.Data.{Data, null, string, object, no_members, member}
+use Rattle.serde_json.specs.Data.{Data, Members, null, string, object, no_members, member}
 use Rattle.hir_input.specs.Path.{shown_path}
 use Rattle.item_tree.specs.declared.use_tree.ImportAlias.{ImportAlias}
 use Rattle.item_tree.specs.declared.use_tree.ImportKind.{ImportKind}
@@ -24,15 +24,18 @@ abbrev pub alias_form : List (List ℕ) → Option ImportAlias → Data
 alias_form reserved None = null
 alias_form reserved (Some alias) = string (shown_alias reserved alias)
 
--- the object of an import whose use tree stands there; its members are in the order of their keys
-abbrev pub import_form : List (List ℕ) → Option Spot → Import → Data
-import_form reserved spot x =
-    object
-    (member (codes "alias") (alias_form reserved x.alias)
+-- the members of the object of an import whose use tree stands there, in the order of their keys
+abbrev pub import_members : List (List ℕ) → Option Spot → Import → Members
+import_members reserved spot x =
+    member (codes "alias") (alias_form reserved x.alias)
     (member (codes "column") (column_form spot)
     (member (codes "kind") (string (import_word x.kind))
     (member (codes "line") (line_form spot)
-    (member (codes "path") (string (shown_path reserved x.path)) no_members)))))
+    (member (codes "path") (string (shown_path reserved x.path)) no_members))))
+
+-- the object of an import whose use tree stands there
+abbrev pub import_form : List (List ℕ) → Option Spot → Import → Data
+import_form reserved spot x = object (import_members reserved spot x)
 
 -- the same by the number of its use tree, alone in a list
 abbrev pub import_object : List (List ℕ) → (ℕ → Option Spot) → Import → List Data

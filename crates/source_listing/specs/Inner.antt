@@ -79,11 +79,15 @@ abbrev pub entry_members : Entry → Members
 entry_members e =
     member (codes "id") e.id (member (codes "kind") (string e.kind) (member (codes "name") e.name (member (codes "path") e.path (member (codes "visibility") e.visibility no_members))))
 
--- and those that tell where it stands, whether a cfg disables it, and what is in it
+-- those that tell where it stands
+abbrev pub stand_members : Option Spot → Members → Members
+stand_members spot ms =
+    put (codes "column") (column_form spot) (put (codes "line") (line_form spot) (put (codes "range") (range_form spot) ms))
+
+-- and those that tell whether a cfg disables it, and what is in it
 abbrev pub placed_members : Bool → Option Spot → Items → Members → Members
 placed_members is_active spot inner ms =
-    put (codes "active") (boolean is_active) (put (codes "children") (array inner)
-    (put (codes "column") (column_form spot) (put (codes "line") (line_form spot) (put (codes "range") (range_form spot) ms))))
+    put (codes "active") (boolean is_active) (put (codes "children") (array inner) (stand_members spot ms))
 
 -- ---- imports by the ids of items
 

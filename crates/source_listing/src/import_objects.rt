@@ -1,7 +1,8 @@
 //! Imports as JSON values.
 ghost use Rattle.std.specs.Prelude.{◌≡◌, ◌++◌, IfOk, OnOk, map, option_map};
 ghost use Rattle.std.specs.List.{flat_map};
-ghost use Rattle.serde_json.specs.View.{view};
+ghost use Rattle.serde_json.specs.Data.{no_members};
+ghost use Rattle.serde_json.specs.View.{members_view, view};
 ghost use Rattle.def_collector.specs.DeclarationView.{declaration_view};
 ghost use Rattle.import_lister.specs.Listed.{listed_import};
 ghost use Rattle.item_tree.specs.Shown.{IsContained};
@@ -11,15 +12,15 @@ ghost use Rattle.source_listing.specs.Places.{AreDistinct};
 ghost use Rattle.source_listing.specs.Uses.{placed, tree_spots};
 
 use crate::finder::Spot;
-use crate::json::{column_value, line_value};
+use crate::json::{column_value, line_value, put_text};
 use crate::uses::{TreeFinder, UseTrees};
 use def_collector::{Declaration, Declares, collect};
 use hir_input::Edition;
 use import_lister::Listed;
 use item_tree::{ImportAlias, ImportKind, ItemTree};
-use json_object::{with, with_text};
+use json_object::Members;
 use rust_items::ItemPlace;
-use serde_json::{Map, Value};
+use serde_json::{Map, Value, put};
 use std::alloc::{AllocError, Global};
 
 /// The word of a kind of import.
@@ -51,6 +52,29 @@ fn alias_value(
     }
 }
 
+/// Gives an object the members of an import whose use tree stands there.
+fn put_import(
+    alloc: Global,
+    edition: &Edition,
+    spot: Option<Spot>,
+    import: &Listed,
+    members: &mut Members,
+) -> Result<(), AllocError>
+    requires { members_view members.old.entries ≡ no_members }
+    ensures { let form = spec.import_members edition.now.reserved.items spot
+        (listed_import import.now) in
+        OnOk result (members_view members.new.entries ≡ form) }
+{
+    let path = import.path.display(edition);
+    let path = path.to_string(alloc)?;
+    put(members, alloc, "path", Value::String(path))?;
+    put(members, alloc, "line", line_value(spot))?;
+    put_text(alloc, "kind", import_word(import.kind), members)?;
+    put(members, alloc, "column", column_value(spot))?;
+    let alias = alias_value(alloc, edition, &import.alias)?;
+    put(members, alloc, "alias", alias)
+}
+
 /// The object of an import whose use tree stands there.
 fn import_value(
     alloc: Global,
@@ -62,14 +86,9 @@ fn import_value(
         (listed_import import.now) in
         IfOk result (λ value. view value ≡ form) }
 {
-    let alias = alias_value(alloc, edition, &import.alias)?;
-    let path = import.path.display(edition);
-    let path = path.to_string(alloc)?;
-    let members = with(alloc, Map::new(alloc), "path", Value::String(path))?;
-    let members = with(alloc, members, "line", line_value(spot))?;
-    let members = with_text(alloc, members, "kind", import_word(import.kind))?;
-    let members = with(alloc, members, "column", column_value(spot))?;
-    Ok(Value::Object(with(alloc, members, "alias", alias)?))
+    let mut members = Map::new(alloc);
+    put_import(alloc, edition, spot, import, &mut members)?;
+    Ok(Value::Object(members))
 }
 
 /// Adds the object of an import, whose use tree is one of these.

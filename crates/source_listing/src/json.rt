@@ -1,7 +1,7 @@
 //! Outlines as JSON.
 ghost use Rattle.std.specs.Prelude.{◌≡◌, ◌+◌, ◌<◌, ◌^◌, ◌++◌, ◌∷◌, [], false, codes, map, IfOk, OnOk, option_copied, option_map, string_bytes};
 ghost use Rattle.std.specs.List.{flat_map, sum_by};
-ghost use Rattle.serde_json.specs.Data.{object as object_of};
+ghost use Rattle.serde_json.specs.Data.{no_members, object as object_of, put as put_member, string};
 ghost use Rattle.serde_json.specs.View.{items_view, members_view, view};
 ghost use Rattle.serde_json.specs.Written.{compact_text, has_float};
 ghost use Rattle.item_rows.specs.Views.{subject_view};
@@ -9,7 +9,7 @@ ghost use Rattle.item_tree.specs.Shown.{IsContained};
 ghost use Rattle.item_tree.specs.Walk.{AreContained, count_at};
 ghost use Rattle.listed_members.specs.Listed.{header_of, members_of};
 ghost use Rattle.listed_members.specs.Views.{listed_view, reading_view};
-ghost use Rattle.source_listing.specs.Inner.{IsSameFile, entry_members, file_of, item_at, item_view, objects_at, placed_members, places_of, reserved_of};
+ghost use Rattle.source_listing.specs.Inner.{IsSameFile, entry_members, file_of, item_at, item_view, objects_at, placed_members, places_of, reserved_of, stand_members};
 ghost use Rattle.source_listing.specs.Objects as spec;
 ghost use Rattle.source_listing.specs.Outlines.{reading};
 ghost use Rattle.source_listing.specs.Places.{AreDistinct, place_of, spot_at};
@@ -22,10 +22,10 @@ use def_collector::{name_at, visibility_at};
 use hir_input::{CfgOptions, Edition, FileAstId, Name};
 use item_rows::{Subject, is_enabled, is_file_enabled, subject_at};
 use item_tree::{ItemTree, ModItemId, RawVisibility, VisibilityExplicitness};
-use json_object::{Members, of_text, with, with_text};
+use json_object::{Members, of_text, with};
 use listed_members::{ListedMember, Reading};
 use rust_items::ItemPlace;
-use serde_json::{Map, Value, json};
+use serde_json::{Map, Value, put};
 use source_rows::member_word;
 use std::alloc::{AllocError, Global};
 use tree_walk::children;
@@ -170,61 +170,88 @@ fn range_value(alloc: Global, spot: Option<Spot>) -> Result<Value, AllocError>
     match spot {
         None => Ok(Value::Null),
         Some(spot) => {
-            let (start, end) = (spot.range.start, spot.range.end);
-            json!(in alloc; [start, end])
+            let mut range = Vec::new(alloc);
+            range.push(Value::from(spot.range.start))?;
+            range.push(Value::from(spot.range.end))?;
+            Ok(Value::Array(range))
         }
     }
 }
 
 // ---- objects
 
-/// The members of an item's object that tell what it is.
-fn item_members(
+/// Adds a text to the members of an object.
+pub(crate) fn put_text(
+    alloc: Global,
+    key: &str,
+    text: &str,
+    members: &mut Members,
+) -> Result<(), AllocError>
+    ensures { let old = members_view members.old.entries in
+        OnOk result (members_view members.new.entries ≡ put_member key.now (string text.now) old) }
+{
+    let text = Value::try_from_str(alloc, text)?;
+    put(members, alloc, key, text)
+}
+
+/// Gives an object the members that tell what an item is.
+fn put_item(
     alloc: Global,
     edition: &Edition,
     item: &Item<'_>,
     header: &str,
-) -> Result<Members, AllocError>
+    members: &mut Members,
+) -> Result<(), AllocError>
+    requires { members_view members.old.entries ≡ no_members }
     ensures { let entry = spec.item_entry edition.now.reserved.items header.now
         (item_view item.now) in
-        IfOk result (λ ms. members_view ms.entries ≡ entry_members entry) }
+        OnOk result (members_view members.new.entries ≡ entry_members entry) }
 {
     let visibility = visibility_value(alloc, edition, item.visibility)?;
-    let members = with(alloc, Map::new(alloc), "visibility", visibility)?;
+    put(members, alloc, "visibility", visibility)?;
     let path = subject_value(alloc, edition, header, item.subject)?;
-    let members = with(alloc, members, "path", path)?;
+    put(members, alloc, "path", path)?;
     let name = name_value(alloc, item.name)?;
-    let members = with(alloc, members, "name", name)?;
-    let members = with_text(alloc, members, "kind", word(item.id.kind))?;
-    with(
-        alloc,
-        members,
-        "id",
-        Value::String(item.id.to_string(alloc)?),
-    )
+    put(members, alloc, "name", name)?;
+    put_text(alloc, "kind", word(item.id.kind), members)?;
+    let id = item.id.to_string(alloc)?;
+    put(members, alloc, "id", Value::String(id))
 }
 
 /// The same of a member, for which a tree has no id.
-fn member_members(
+fn put_listed(
     alloc: Global,
     edition: &Edition,
     member: &ListedMember,
-) -> Result<Members, AllocError>
+    members: &mut Members,
+) -> Result<(), AllocError>
+    requires { members_view members.old.entries ≡ no_members }
     ensures { let entry = spec.member_entry edition.now.reserved.items (listed_view member.now) in
-        IfOk result (λ ms. members_view ms.entries ≡ entry_members entry) }
+        OnOk result (members_view members.new.entries ≡ entry_members entry) }
 {
     let visibility = visibility_value(alloc, edition, Some(&member.visibility))?;
-    let members = with(alloc, Map::new(alloc), "visibility", visibility)?;
-    let members = with(alloc, members, "path", Value::Null)?;
-    let members = with_text(alloc, members, "name", member.name.text())?;
-    let members = with_text(alloc, members, "kind", member_word(member.kind))?;
-    with(alloc, members, "id", Value::Null)
+    put(members, alloc, "visibility", visibility)?;
+    put(members, alloc, "path", Value::Null)?;
+    put_text(alloc, "name", member.name.text(), members)?;
+    put_text(alloc, "kind", member_word(member.kind), members)?;
+    put(members, alloc, "id", Value::Null)
+}
+
+/// Adds the members that tell where something stands.
+fn put_stand(alloc: Global, spot: Option<Spot>, members: &mut Members) -> Result<(), AllocError>
+    ensures { let old = members_view members.old.entries in
+        OnOk result (members_view members.new.entries ≡ stand_members spot old) }
+{
+    let range = range_value(alloc, spot)?;
+    put(members, alloc, "range", range)?;
+    put(members, alloc, "line", line_value(spot))?;
+    put(members, alloc, "column", column_value(spot))
 }
 
 /// The object of what stands there, with these members and around these objects.
 fn object(
     alloc: Global,
-    members: Members,
+    mut members: Members,
     spot: Option<Spot>,
     is_active: bool,
     inner: Vec<Value>,
@@ -233,11 +260,9 @@ fn object(
         (members_view members.entries) in
         IfOk result (λ object. view object ≡ object_of members) }
 {
-    let members = with(alloc, members, "range", range_value(alloc, spot)?)?;
-    let members = with(alloc, members, "line", line_value(spot))?;
-    let members = with(alloc, members, "column", column_value(spot))?;
-    let members = with(alloc, members, "children", Value::Array(inner))?;
-    let members = with(alloc, members, "active", Value::Bool(is_active))?;
+    put_stand(alloc, spot, &mut members)?;
+    put(&mut members, alloc, "children", Value::Array(inner))?;
+    put(&mut members, alloc, "active", Value::Bool(is_active))?;
     Ok(Value::Object(members))
 }
 
@@ -256,7 +281,8 @@ fn member_object(
         position: printer.finder.lines.position(member.at),
         range: member.range,
     };
-    let members = member_members(alloc, printer.edition, member)?;
+    let mut members = Map::new(alloc);
+    put_listed(alloc, printer.edition, member, &mut members)?;
     object(
         alloc,
         members,
@@ -338,7 +364,8 @@ fn item_object(
         IfOk result (λ object. view object ≡ spec.object_form item.now.is_active stand.spot entry (items_view inner.items)) }
 {
     let header = reading.header(alloc, item.id.kind, stand.place)?;
-    let members = item_members(alloc, edition, item, &header)?;
+    let mut members = Map::new(alloc);
+    put_item(alloc, edition, item, &header, &mut members)?;
     object(alloc, members, stand.spot, item.is_active, inner)
 }
 

@@ -26,14 +26,14 @@ abbrev pub is_begun : ℕ → List Hole → Bool
 is_begun place [] = false
 is_begun place (h ∷ hs) = nat_le h.start place
 
-abbrev pub text_if : Bool → List ℕ → List (List ℕ)
-text_if test text = if test then text ∷ [] else []
+-- the text of a token that counts, unless it stands in the first of some parts that do not end before it
+abbrev pub text_if_kept : Bool → List Hole → Piece → List (List ℕ)
+text_if_kept has_docs holes t = if counts has_docs t && not (is_begun t.at holes) then t.text ∷ [] else []
 
 -- the texts of the tokens that count and stand in none of these parts, which come in order
 abbrev pub kept : Bool → List Hole → List Piece → List (List ℕ)
 kept has_docs holes [] = []
-kept has_docs holes (t ∷ ts) =
-    text_if (counts has_docs t && not (is_begun t.at (not_over t.at holes))) t.text ++ kept has_docs (not_over t.at holes) ts
+kept has_docs holes (t ∷ ts) = text_if_kept has_docs (not_over t.at holes) t ++ kept has_docs (not_over t.at holes) ts
 
 -- the same of a text
 abbrev pub skeleton : Bool → List Hole → List ℕ → List (List ℕ)

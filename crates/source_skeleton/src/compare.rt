@@ -11,7 +11,7 @@ use crate::kept::same_texts;
 use std::alloc::{AllocError, Global};
 
 /// A part of a text that is told by itself.
-#[derive(Debug, Drop)]
+#[derive(Debug)]
 pub struct Row<'t> {
     /// What it is called, as in `fn area`.
     pub label: String,
@@ -19,6 +19,17 @@ pub struct Row<'t> {
     pub at: usize,
     /// The texts of its own tokens.
     pub own: Vec<&'t str>,
+}
+
+// (Written out: what is derived is proved anew, field by field, in each crate that drops one.)
+impl Drop for Row<'_> {
+    fn drop(self) {
+        let Row {
+            label: _,
+            at: _,
+            own: _,
+        } = self;
+    }
 }
 
 /// What became of a row.
@@ -115,6 +126,50 @@ fn push_came<'r>(
     Ok(())
 }
 
+/// Adds what is removed, of those that are found in no new row.
+fn push_all_left<'r>(
+    alloc: Global,
+    olds: &[Item<'r, '_>],
+    news: &[Item<'r, '_>],
+    changes: &mut Vec<Change<'r>>,
+) -> Result<(), AllocError>
+    ensures { let left = flat_map (spec.left_change (map item_view news.now))
+        (map item_view olds.now) in
+        OnOk result (map change_view changes.new.items ≡ map change_view changes.old.items ++ left) }
+{
+    let finder = Finder::new(alloc, news)?;
+    push_left(olds, &finder, changes)
+}
+
+/// Adds what is added or changed.
+fn push_all_came<'r>(
+    alloc: Global,
+    olds: &[Item<'r, '_>],
+    news: &[Item<'r, '_>],
+    changes: &mut Vec<Change<'r>>,
+) -> Result<(), AllocError>
+    ensures { let came = flat_map (spec.came_change (map item_view olds.now))
+        (map item_view news.now) in
+        OnOk result (map change_view changes.new.items ≡ map change_view changes.old.items ++ came) }
+{
+    let finder = Finder::new(alloc, olds)?;
+    push_came(&finder, news, changes)
+}
+
+fn changes_between<'r>(
+    alloc: Global,
+    olds: &[Item<'r, '_>],
+    news: &[Item<'r, '_>],
+) -> Result<Vec<Change<'r>>, AllocError>
+    ensures { IfOk result (λ v. map change_view v.items
+        ≡ spec.changes_between (map item_view olds.now) (map item_view news.now)) }
+{
+    let mut changes = Vec::new(alloc);
+    push_all_left(alloc, olds, news, &mut changes)?;
+    push_all_came(alloc, olds, news, &mut changes)?;
+    Ok(changes)
+}
+
 /// What became of the rows of a text in another: first those that were removed, in the order of the old text, and then those
 /// that were added or changed, in the order of the new one.
 ///
@@ -134,8 +189,5 @@ pub fn changes<'r>(
 {
     let olds = items(alloc, old)?;
     let news = items(alloc, new)?;
-    let mut changes = Vec::new(alloc);
-    push_left(&olds, &Finder::new(alloc, &news)?, &mut changes)?;
-    push_came(&Finder::new(alloc, &olds)?, &news, &mut changes)?;
-    Ok(changes)
+    changes_between(alloc, &olds, &news)
 }

@@ -53,14 +53,23 @@ fn is_begun(place: usize, holes: &[Hole]) -> bool
     }
 }
 
-fn push_if<'t>(texts: &mut Vec<&'t str>, test: bool, text: &'t str) -> Result<(), AllocError>
+/// Adds the text of a token that counts, unless it stands in the first of some parts that do not end before it.
+fn push_kept<'t>(
+    token: &Token<'t>,
+    holes: &[Hole],
+    has_docs: bool,
+    texts: &mut Vec<&'t str>,
+) -> Result<(), AllocError>
     ensures { OnOk result (map (λ t. t.now) texts.new.items ≡ map (λ t. t.now) texts.old.items
-        ++ spec.text_if test text.now) }
+        ++ spec.text_if_kept has_docs holes.now token.now) }
 {
-    if test {
-        texts.push(text)?;
+    if !counts(token, has_docs) {
         return Ok(());
     }
+    if is_begun(token.at(), holes) {
+        return Ok(());
+    }
+    texts.push(token.text())?;
     Ok(())
 }
 
@@ -82,8 +91,7 @@ pub fn skeleton<'t>(
     let mut lexer = Lexer::new(text);
     'tokens: while let Some(token) = lexer.next() {
         left = not_over(token.at(), left);
-        let is_kept = counts(&token, has_docs) && !is_begun(token.at(), left);
-        push_if(&mut texts, is_kept, token.text())?;
+        push_kept(&token, left, has_docs, &mut texts)?;
     }
     Ok(texts)
 }
