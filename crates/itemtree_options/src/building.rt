@@ -30,24 +30,34 @@ fn arg<'a>(alloc: Global, argument: &Argument) -> Result<Arg<'a>, AllocError> {
     }
 }
 
-fn subcommand<'a>(alloc: Global, description: &Description) -> Result<Command<'a>, AllocError> {
-    let mut command = Command::new(alloc, description.name)
+/// A command without its arguments.
+fn bare<'a>(alloc: Global, description: &Description) -> Command<'a> {
+    Command::new(alloc, description.name)
         .about(description.about)
-        .after_help(description.after);
+        .after_help(description.after)
+}
+
+fn subcommand<'a>(alloc: Global, description: &Description) -> Result<Command<'a>, AllocError> {
+    let mut command = bare(alloc, description);
     for argument in description.arguments {
         command = command.arg(arg(alloc, argument)?)?;
     }
     Ok(command)
 }
 
-/// The whole command line.
-pub(crate) fn command<'a>(alloc: Global) -> Result<Command<'a>, AllocError> {
-    let mut command = Command::new(alloc, "itemtree")
+/// The command line without its commands.
+fn top<'a>(alloc: Global) -> Command<'a> {
+    Command::new(alloc, "itemtree")
         .version("0.2.0")
         .about("Lists the items, imports and declarations of Rust files, and what changed in them")
         .after_help(STATUSES)
         .subcommand_required(true)
-        .arg_required_else_help(true);
+        .arg_required_else_help(true)
+}
+
+/// The whole command line.
+pub(crate) fn command<'a>(alloc: Global) -> Result<Command<'a>, AllocError> {
+    let mut command = top(alloc);
     for description in descriptions() {
         command = command.subcommand(subcommand(alloc, description)?)?;
     }

@@ -1,12 +1,16 @@
 //! What of folders is taken.
+ghost use Rattle.std.specs.Prelude.{◌≡◌, IfOk, map};
+ghost use Rattle.std.specs.List.{list_any};
+ghost use Rattle.itemtree_options.specs.Filters as spec;
+
 use path_glob::is_match;
 use std::alloc::{AllocError, Global};
+use std::marker::Model;
 
 /// The folders that cargo builds in.
 const BUILT: &str = "target";
 
 /// What of folders is taken. Files that are named are.
-#[derive(Drop)]
 pub struct Filter<'a> {
     /// Whether hidden entries are, and folders called `target`.
     pub(crate) has_hidden: bool,
@@ -14,35 +18,107 @@ pub struct Filter<'a> {
     pub(crate) excluded: Vec<&'a str>,
 }
 
-impl Filter<'_> {
+// (Written out: what is derived is proved anew, field by field, in each crate that drops one.)
+impl Drop for Filter<'_> {
+    fn drop(self) {
+        let Filter {
+            has_hidden: _,
+            excluded: _,
+        } = self;
+    }
+}
+
+impl<'a> Model for Filter<'a> {
+    ghost use Rattle.std.specs.Prelude.{map};
+    ghost use Rattle.itemtree_options.specs.Filters.{Filtering};
+
+    ghost Value = { Filtering };
+
+    ghost view = { λ f. record { has_hidden = f.has_hidden; excluded = map (λ g. g.now) f.excluded.items } };
+}
+
+impl<'a> Filter<'a> {
+    /// What takes all that is not hidden, or hidden entries too.
+    pub(crate) fn new(alloc: Global, has_hidden: bool) -> Self
+        ensures { result ≡ spec.filtering has_hidden }
+    {
+        Filter {
+            has_hidden,
+            excluded: Vec::new(alloc),
+        }
+    }
+
     /// Whether an entry is left out, by its name and its path, which begins with a slash for the folder that was named.
     ///
     /// # Errors
     ///
     /// If there is no memory.
-    pub fn excludes(&self, alloc: Global, name: &str, path: &str) -> Result<bool, AllocError> {
-        if !self.has_hidden && name.starts_with('.') {
+    pub fn excludes(&self, alloc: Global, name: &str, path: &str) -> Result<bool, AllocError>
+        ensures { IfOk result (λ is. is ≡ spec.excludes self.now name.now path.now) }
+    {
+        if !self.has_hidden && is_hidden(name) {
             return Ok(true);
         }
-        for glob in &self.excluded {
-            if stands_for(alloc, glob, name, path)? {
-                return Ok(true);
-            }
-        }
-        Ok(false)
+        is_excluded(alloc, &self.excluded, name, path)
     }
 
     /// Whether a folder of this name is entered, if it is not left out.
-    pub fn enters(&self, name: &str) -> bool {
+    pub fn enters(&self, name: &str) -> bool
+        ensures { result ≡ spec.enters self.now name.now }
+    {
         self.has_hidden || name != BUILT
     }
 }
 
+fn is_hidden(name: &str) -> bool
+    ensures { result ≡ spec.is_hidden name.now }
+{
+    name.starts_with(".")
+}
+
+/// Whether one of some globs is one of an entry.
+fn is_excluded(alloc: Global, globs: &[&str], name: &str, path: &str) -> Result<bool, AllocError>
+    ensures { IfOk result (λ is. is
+        ≡ list_any (spec.is_glob_of name.now path.now) (map (λ g. g.now) globs.now)) }
+{
+    for glob in globs {
+        if is_glob_of(alloc, glob, name, path)? {
+            return Ok(true);
+        }
+    }
+    Ok(false)
+}
+
+/// A glob without the slash that it may end with.
+fn without_last_slash(glob: &str) -> &str
+    ensures { result.now ≡ spec.without_last_slash glob.now }
+{
+    match glob.strip_suffix("/") {
+        Some(front) => front,
+        None => glob,
+    }
+}
+
+/// A path without the slash that it may begin with.
+fn without_first_slash(path: &str) -> &str
+    ensures { result.now ≡ spec.without_first_slash path.now }
+{
+    match path.strip_prefix("/") {
+        Some(below) => below,
+        None => path,
+    }
+}
+
 /// Whether a glob is one of an entry: of its name, or of its path with or without the slash.
-fn stands_for(alloc: Global, glob: &str, name: &str, path: &str) -> Result<bool, AllocError> {
-    let glob = glob.strip_suffix('/').unwrap_or(glob);
-    let below = path.strip_prefix('/').unwrap_or(path);
-    if is_match(alloc, glob, name)? || is_match(alloc, glob, below)? {
+#[tactic(auto, unfolding(crate::specs::Filters::is_glob_of))]
+fn is_glob_of(alloc: Global, glob: &str, name: &str, path: &str) -> Result<bool, AllocError>
+    ensures { IfOk result (λ is. is ≡ spec.is_glob_of name.now path.now glob.now) }
+{
+    let glob = without_last_slash(glob);
+    if is_match(alloc, glob, name)? {
+        return Ok(true);
+    }
+    if is_match(alloc, glob, without_first_slash(path))? {
         return Ok(true);
     }
     is_match(alloc, glob, path)

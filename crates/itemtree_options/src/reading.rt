@@ -45,7 +45,6 @@ pub enum Command<'a> {
 }
 
 /// What a command is told. An option that it does not know is as one that is not given.
-#[derive(Drop)]
 pub struct Asked<'a> {
     pub command: Command<'a>,
     /// The files and folders.
@@ -68,6 +67,24 @@ pub struct Asked<'a> {
     pub shows: Vec<&'a str>,
 }
 
+// (Written out: what is derived is proved anew, field by field, in each crate that drops one.)
+impl Drop for Asked<'_> {
+    fn drop(self) {
+        let Asked {
+            command: _,
+            files: _,
+            filter: _,
+            edition: _,
+            cfgs: _,
+            only_active: _,
+            has_members: _,
+            skipped: _,
+            has_docs: _,
+            shows: _,
+        } = self;
+    }
+}
+
 /// What a command line is.
 #[derive(Drop)]
 pub enum CommandLine<'a> {
@@ -79,12 +96,13 @@ pub enum CommandLine<'a> {
     Wrong(String),
 }
 
-fn words<'a>(
-    alloc: Global,
+/// Adds the words of an option.
+fn push_words<'a>(
     matches: &ArgMatches<'a>,
     id: &str,
-) -> Result<Vec<&'a str>, AllocError> {
-    matches.get_strs(id).unwrap_or(&[]).to_vec(alloc)
+    words: &mut Vec<&'a str>,
+) -> Result<(), AllocError> {
+    words.extend_from_slice(matches.get_strs(id).unwrap_or(&[]))
 }
 
 fn word<'a>(matches: &ArgMatches<'a>, id: &str) -> &'a str {
@@ -100,35 +118,82 @@ fn is_colored(matches: &ArgMatches<'_>) -> Option<bool> {
     }
 }
 
+fn outline<'a>(matches: &ArgMatches<'_>) -> Command<'a> {
+    Command::Outline {
+        depth: matches.get_one::<usize>("depth"),
+        is_json: matches.get_flag("json"),
+        is_colored: is_colored(matches),
+    }
+}
+
+fn page<'a>(matches: &ArgMatches<'_>) -> Command<'a> {
+    Command::Page {
+        has_ids: word(matches, "ids") != "off",
+    }
+}
+
+fn imports<'a>(matches: &ArgMatches<'_>) -> Command<'a> {
+    if matches.get_flag("duplicates") {
+        Command::Duplicates
+    } else {
+        Command::Imports
+    }
+}
+
+fn changed<'a>(matches: &ArgMatches<'a>) -> Command<'a> {
+    Command::Changed {
+        old: word(matches, "old"),
+        new: word(matches, "new"),
+        is_of_trees: matches.get_flag("tree"),
+    }
+}
+
+fn request<'a>(matches: &ArgMatches<'_>) -> Command<'a> {
+    Command::Request {
+        has_bodies: !matches.get_flag("no-bodies"),
+    }
+}
+
 fn command_of<'a>(name: &str, matches: &ArgMatches<'a>) -> Command<'a> {
     match name {
-        "outline" => Command::Outline {
-            depth: matches.get_one::<usize>("depth"),
-            is_json: matches.get_flag("json"),
-            is_colored: is_colored(matches),
-        },
-        "page" => Command::Page {
-            has_ids: word(matches, "ids") != "off",
-        },
-        "imports" if matches.get_flag("duplicates") => Command::Duplicates,
-        "imports" => Command::Imports,
+        "outline" => outline(matches),
+        "page" => page(matches),
+        "imports" => imports(matches),
         "find" => Command::Find {
             name: word(matches, "name"),
         },
         "tags" => Command::Tags {
             output: word(matches, "output"),
         },
-        "changed" => Command::Changed {
-            old: word(matches, "old"),
-            new: word(matches, "new"),
-            is_of_trees: matches.get_flag("tree"),
-        },
-        "request" => Command::Request {
-            has_bodies: !matches.get_flag("no-bodies"),
-        },
+        "changed" => changed(matches),
+        "request" => request(matches),
         "serve" => Command::Serve,
         _ => Command::Check,
     }
+}
+
+/// What a command is told but for the words of options that may be given several times.
+fn begun<'a>(alloc: Global, name: &str, matches: &ArgMatches<'a>) -> Asked<'a> {
+    Asked {
+        command: command_of(name, matches),
+        files: Vec::new(alloc),
+        filter: Filter::new(alloc, matches.get_flag("hidden")),
+        edition: matches.get_one::<u16>("edition").unwrap_or(2024),
+        cfgs: Vec::new(alloc),
+        only_active: matches.get_flag("active"),
+        has_members: !matches.get_flag("no-members"),
+        skipped: Vec::new(alloc),
+        has_docs: matches.get_flag("docs"),
+        shows: Vec::new(alloc),
+    }
+}
+
+fn push_lists<'a>(matches: &ArgMatches<'a>, asked: &mut Asked<'a>) -> Result<(), AllocError> {
+    push_words(matches, "files", &mut asked.files)?;
+    push_words(matches, "exclude", &mut asked.filter.excluded)?;
+    push_words(matches, "cfg", &mut asked.cfgs)?;
+    push_words(matches, "skip", &mut asked.skipped)?;
+    push_words(matches, "show", &mut asked.shows)
 }
 
 fn asked_of<'a>(
@@ -136,22 +201,16 @@ fn asked_of<'a>(
     name: &str,
     matches: &ArgMatches<'a>,
 ) -> Result<Asked<'a>, AllocError> {
-    let filter = Filter {
-        has_hidden: matches.get_flag("hidden"),
-        excluded: words(alloc, matches, "exclude")?,
-    };
-    Ok(Asked {
-        command: command_of(name, matches),
-        files: words(alloc, matches, "files")?,
-        filter,
-        edition: matches.get_one::<u16>("edition").unwrap_or(2024),
-        cfgs: words(alloc, matches, "cfg")?,
-        only_active: matches.get_flag("active"),
-        has_members: !matches.get_flag("no-members"),
-        skipped: words(alloc, matches, "skip")?,
-        has_docs: matches.get_flag("docs"),
-        shows: words(alloc, matches, "show")?,
-    })
+    let mut asked = begun(alloc, name, matches);
+    push_lists(matches, &mut asked)?;
+    Ok(asked)
+}
+
+fn line_of<'a>(alloc: Global, matches: &ArgMatches<'a>) -> Result<CommandLine<'a>, AllocError> {
+    match matches.subcommand() {
+        Some((name, inner)) => Ok(CommandLine::Asked(asked_of(alloc, name, inner)?)),
+        None => Ok(CommandLine::Wrong(String::new(alloc))),
+    }
 }
 
 /// What is printed where no command is asked for.
@@ -177,10 +236,7 @@ pub fn read_command_line<'a>(
     words: &'a [String],
 ) -> Result<CommandLine<'a>, AllocError> {
     match command(alloc)?.try_get_matches_from(words) {
-        Ok(matches) => match matches.subcommand() {
-            Some((name, inner)) => Ok(CommandLine::Asked(asked_of(alloc, name, inner)?)),
-            None => Ok(CommandLine::Wrong(String::new(alloc))),
-        },
+        Ok(matches) => line_of(alloc, &matches),
         Err(error) => printed(alloc, &error),
     }
 }
