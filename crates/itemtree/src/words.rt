@@ -1,24 +1,8 @@
 //! The reserved words of the editions, and the attributes that are left out where nothing else is asked.
 use hir_input::{Edition, EditionYear, Name};
 use rust_paths::{KEYWORDS, KEYWORDS_SINCE_2018, KEYWORDS_SINCE_2024};
+use source_session::USUAL_SKIPPED;
 use std::alloc::{AllocError, Global};
-
-/// The attributes that rust-analyzer leaves out of an item tree.
-const SKIPPED: [&str; 13] = [
-    "doc",
-    "stable",
-    "unstable",
-    "target_feature",
-    "allow",
-    "expect",
-    "warn",
-    "deny",
-    "forbid",
-    "repr",
-    "inline",
-    "track_caller",
-    "must_use",
-];
 
 fn push_name(alloc: Global, word: &str, names: &mut Vec<Name>) -> Result<(), AllocError> {
     let text = String::from_str(alloc, word)?;
@@ -44,9 +28,9 @@ pub(crate) fn push_names(
 pub(crate) fn skipped(alloc: Global, keeps_docs: bool) -> Result<Vec<Name>, AllocError> {
     let mut names = Vec::new(alloc);
     let words = if keeps_docs {
-        &SKIPPED[1..]
+        &USUAL_SKIPPED[1..]
     } else {
-        &SKIPPED[..]
+        &USUAL_SKIPPED[..]
     };
     push_names(alloc, words, &mut names)?;
     Ok(names)

@@ -7,6 +7,9 @@ pub mod Kept
 pub mod Ranges
 pub mod Spliced
 pub mod Meant
+pub mod Read
+pub mod Touching
 pub mod Made
+pub mod Alone
 pub mod Named
 pub mod Histories

@@ -18,7 +18,6 @@ use Rattle.item_tree_db.proofs.Histories.{after_none}
 use Rattle.item_tree_request.specs.Inner.Made.{IsUnmade, refusal_of}
 use Rattle.item_tree_request.proofs.Made.{is_made, is_unmade, found_in_map}
 use Rattle.decl_index.specs.Entries.{IndexView}
-use Rattle.decl_index.proofs.Laws.{behind_after}
 use Rattle.source_session.specs.Edits.{LineEdit}
 use Rattle.source_session.specs.Files.{CrateFiles}
 use Rattle.source_session.specs.declared.error.LineError.{LineError}
@@ -28,6 +27,9 @@ use Rattle.source_session.specs.Inner.{IsPlaced, LeavesPlaced, AreTogether, Tell
 use Rattle.source_session.specs.Refusals.{line_refusal, made_count, outcome_of}
 use Rattle.source_session.specs.Sessions.{Session, AreMade, IsEdited, IsStopped, IsUnedited}
 use Rattle.source_session.proofs.Kept.{text_over}
+use Rattle.source_session.proofs.Read.{AreLeft, left_first, set_after}
+use Rattle.source_session.proofs.Touching.{behind_by_after, touched_first}
+use Rattle.source_session.specs.Touched.{AreTouched, IsBehindBy, Touched}
 use Rattle.source_session.specs.Texts.{Texts, FileTexts, Change, text_in, text_after, leaves, AreMeant, FailsAt}
 
 -- ---- the places of texts
@@ -54,12 +56,13 @@ placed_after texts cs old new file = some_else IsPlaced (last_some (leaves file)
 -- ---- what belongs together
 
 -- after edits of the table and changes of the texts
-pub together_after : (count : ℕ) (s u : State) (edits : List EditView) (old new : Texts) (changes : List Change) (index : IndexView) → AreTogether count s old index → IsAfter s edits u → IsFooting s u → All LeavesPlaced changes
-    → ((file : ℕ) → text_in new file ≡ text_after (text_in old) changes file) → AreTogether count u new index
-together_after count s u edits old new changes index t after footing placed texts = record {
+pub together_after : (count : ℕ) (edition : EditionYear) (s u : State) (edits : List EditView) (old new : Texts) (changes : List Change) (index : IndexView) (were are : Touched) → AreTogether count edition s old index were → IsBehindBy index are u → IsAfter s edits u
+    → All LeavesPlaced changes → ((file : ℕ) → text_in new file ≡ text_after (text_in old) changes file) → ((file : ℕ) → AreLeft edition file edits changes) → AreTogether count edition u new index are
+together_after count edition s u edits old new changes index were are t behind after placed texts left = record {
   known = λ n own small. rw after.count (t.known n own small);
-  behind = behind_after s u edits index after footing t.behind;
+  behind = behind;
   placed = λ file. subst IsPlaced (sym (texts file)) (placed_after old changes t.placed placed file);
+  read = set_after edition s u edits old new changes t.read after texts left;
 }
 
 -- ---- outcomes
@@ -156,7 +159,11 @@ module _ (s u : State) (old room new : Texts) (edits : List Edit) (changes : Lis
       → AreMade (session_of count files edition s old) (take (made_count (length edits) made) (map edit_view edits)) (take (made_count (length edits) made) changes) (session_of count files edition u new)
   files_made count files edition = record { count = refl; files = refl; edition = refl; table = after_first s u edits made ok refused; texts = texts_after }
 
-  pub files_together : (count : ℕ) (index : IndexView) → AreTogether count s old index → IsFooting s u → All LeavesPlaced changes → AreTogether count u new index
-  files_together count index t footing placed =
+  pub files_together : (count : ℕ) (edition : EditionYear) (asked : List LineEdit) (were are : Touched) → AreMeant edition (text_in old) asked (map edit_view edits) changes → AreTouched (map edit_view edits) were are → (index : IndexView) → AreTogether count edition s old index were
+      → IsFooting s u → All LeavesPlaced changes → AreTogether count edition u new index are
+  files_together count edition asked were are meant touched index t footing placed =
       let k = made_count (length edits) made in
-      together_after count s u (take k (map edit_view edits)) old new (take k changes) index t (after_first s u edits made ok refused) footing (All-take LeavesPlaced k changes placed) texts_after
+      let es = take k (map edit_view edits) in
+      let after = after_first s u edits made ok refused in
+      let behind = behind_by_after s u es index were are after footing (touched_first k (map edit_view edits) were are touched) t.behind in
+      together_after count edition s u es old new (take k changes) index were are t behind after (All-take LeavesPlaced k changes placed) texts_after (λ file. left_first k edition (text_in old) asked (map edit_view edits) changes file meant)

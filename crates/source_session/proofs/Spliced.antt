@@ -1,9 +1,10 @@
 -- A text with what stands in a range of it replaced.
-use Rattle.std.proofs.Common.{◌≡◌, ℕ, ◌≤◌, ◌+◌, ◌-◌, ◌^◌, ◌&&◌, ◌++◌, Bool, true, false, if◌then◌else◌, List, Option, Some, None, Ok, length, take, drop, refl, sym, ap, subst, arith}
+use Rattle.std.proofs.Common.{◌≡◌, ℕ, ◌≤◌, ◌+◌, ◌-◌, ◌^◌, ◌&&◌, ◌++◌, Bool, true, false, if◌then◌else◌, List, Option, Some, None, Ok, length, take, drop, refl, sym, ap, subst, ◌∙◌, append_assoc, arith}
 use Rattle.std.specs.Prelude.{IsCharBoundary, is_some, nat_le, nat_lt, option_map}
 use Rattle.std.proofs.lemmas.Bool.{and_parts}
 use Rattle.std.proofs.lemmas.Bool.Decides.{nat_tests}
 use Rattle.std.proofs.lemmas.List.{length-append, length-drop, length-take-le}
+use Rattle.std.proofs.Math.Seq.{drop-drop}
 use Rattle.rust_members.specs.Lists.{is_boundary, is_cut}
 use Rattle.rust_members.proofs.Moving.{boundary_is}
 use Rattle.rust_paths.specs.declared.names.TextRange.{TextRange}
@@ -29,6 +30,14 @@ cut_tells None f true part e = absurd cc
 cut_tells None f false part e = refl
 cut_tells (Some a) f true part e = refl
 cut_tells (Some a) f false part e = absurd cc
+
+-- ---- from another text
+
+-- a text that begins and ends as another does is that one with a range of it replaced
+pub spliced_by : (old new rest left typed : List ℕ) (range : TextRange) (len : ℕ) → rest ≡ drop range.start old → new ≡ take range.start old ++ left → left ≡ typed ++ drop len rest → range.end ≡ range.start + len → new ≡ spliced old range typed
+spliced_by old new rest left typed range len rest_is new_is left_is end_is =
+    let back : drop len rest ≡ drop range.end old = ap (drop len) rest_is ∙ drop-drop len range.start old ∙ ap (λ k. drop k old) (sym end_is) in
+    new_is ∙ ap (λ xs. take range.start old ++ xs) (left_is ∙ ap (λ xs. typed ++ xs) back) ∙ sym (append_assoc (take range.start old) typed (drop range.end old))
 
 -- ---- lengths
 

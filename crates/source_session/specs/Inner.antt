@@ -1,16 +1,20 @@
 -- Words that private contracts alone cite.
-use Rattle.std.specs.Prelude.{◌≡◌, ℕ, ◌<◌, ◌^◌, ◌&&◌, false, if◌then◌else◌, List, [], ◌∷◌, length, map, Option, Some, None, IsSome, IfSome, Result, Ok, Err, IfOk}
+use Rattle.std.specs.Prelude.{◌≡◌, ℕ, ◌<◌, ◌^◌, ◌&&◌, false, if◌then◌else◌, List, [], ◌∷◌, length, map, Option, Some, None, IsSome, IfSome, Result, Ok, Err, MatchResult, IfOk, string_bytes}
 use Rattle.std.specs.declared.alloc.Global.{Global}
 use Rattle.std.specs.declared.vec.Vec.{Vec}
 use Rattle.serde_json.specs.declared.value.Value.{Value}
 use Rattle.serde_json.specs.Data.{Data}
 use Rattle.serde_json.specs.View.{items_of, view}
 use Rattle.serde_json.specs.Written.{items_have_float}
+use Rattle.hir_input.specs.declared.edition.EditionYear.{EditionYear}
+use Rattle.hir_input.specs.Syntax.{SyntaxView}
 use Rattle.hir_input_json.specs.Editions.{EditionView}
-use Rattle.item_tree_db.specs.State.{State}
+use Rattle.item_tree_db.specs.declared.place.Place.TheVariants.{File}
+use Rattle.item_tree_db.specs.State.{State, present}
+use Rattle.rust_items.specs.SourceFiles.{FileView, IsBareFile}
 use Rattle.source_listing.specs.Places.{AreDistinct}
 use Rattle.decl_index.specs.declared.entry.Entry.{Entry}
-use Rattle.decl_index.specs.Entries.{IndexView, IsBehind}
+use Rattle.decl_index.specs.Entries.{IndexView}
 use Rattle.source_session.specs.declared.error.LineError.{LineError}
 use Rattle.source_session.specs.declared.error.LineError.TheVariants.{NotJson, NotRequest, NotChanged, Refused, TooLong, OutOfMemory}
 use Rattle.source_session.specs.declared.splice.ChangeFault.{ChangeFault}
@@ -23,8 +27,9 @@ use Rattle.source_session.specs.Sought.{SoughtItem, is_at, path_of}
 use Rattle.source_session.specs.declared.texts.SourceText.{SourceText}
 use Rattle.source_session.specs.declared.reply.Reply as reply
 use Rattle.source_session.specs.Replies.{Outcome, Reply}
-use Rattle.source_session.specs.Sessions.{Session}
-use Rattle.source_session.specs.Texts.{Texts, Change, FileTexts, slot_in, text_in, Fails}
+use Rattle.source_session.specs.Sessions.{Session, IsEdited, IsUnedited}
+use Rattle.source_session.specs.Touched.{Touched, IsBehindBy}
+use Rattle.source_session.specs.Texts.{Texts, Change, FileTexts, IsKeptWith, slot_in, text_in, Fails}
 
 -- something is kept for a file
 abbrev pub HasSlot : Texts → ℕ → Type 0
@@ -69,11 +74,29 @@ Knowing count table = (n : ℕ) → n < count → n < 2 ^ 32 → n < length tabl
 abbrev pub session_of : ℕ → CrateFiles → EditionView → State → Texts → Session
 session_of count files edition table texts = record { count = count; files = files; edition = edition; table = table; texts = texts }
 
+-- in each session of these the edits of a line are all made, and lead to this table and these texts, or it is told why not
+abbrev pub LeadsBy : ℕ → EditionYear → State → Texts → List LineEdit → State → Texts → Result (Unit {0}) LineError → Type 0
+LeadsBy count edition s old asked u new result =
+    (files : CrateFiles) (reserved : List (List ℕ)) → let over = session_of count files (edition, reserved) in
+    MatchResult result (λ _. IsEdited (over s old) asked (over u new)) (IsUnedited (over s old) asked (over u new))
+
+-- the syntax of a file with this text is that which is read of it in an edition, without the texts of bodies
+pub record IsSetTo (edition : EditionYear) (syntax : Option SyntaxView) (text : SourceText) : Type 0 where
+  pub read : FileView
+  pub is_read : IsBareFile edition (string_bytes text.text) read
+  pub rest : IsKeptWith read text
+  pub syntax_is : syntax ≡ Some read.syntax
+
+-- so is that of each file that has a text
+abbrev pub AreSetTo : EditionYear → State → Texts → Type 0
+AreSetTo edition table texts = (file : ℕ) → IfSome (text_in texts file) (IsSetTo edition (present table (File (record { 0 = file }))))
+
 -- how the parts of a session belong together
-pub record AreTogether (count : ℕ) (table : State) (texts : Texts) (index : IndexView) : Type 0 where
+pub record AreTogether (count : ℕ) (edition : EditionYear) (table : State) (texts : Texts) (index : IndexView) (touched : Touched) : Type 0 where
   pub known : Knowing count table
-  pub behind : IsBehind index table
+  pub behind : IsBehindBy index touched table
   pub placed : (file : ℕ) → IsPlaced (text_in texts file)
+  pub read : AreSetTo edition table texts
 
 -- the object of an entry, if it is in its crate and its item has the path that is looked for
 abbrev pub found_one : CrateFiles → State → Texts → SoughtItem → Entry → List Data

@@ -16,5 +16,7 @@ pub mod Replies
 pub mod Histories
 pub mod LineViews
 pub mod Refusals
+pub mod Touched
 pub mod Finders
 pub mod Inner
+pub mod Inside

@@ -5,13 +5,11 @@ use Rattle.std.specs.Map.{lookup}
 use Rattle.std.specs.Option.{option_and_then, unwrap_or}
 use Rattle.std.specs.Ordering.{nat_cmp}
 use Rattle.hir_input.specs.declared.edition.EditionYear.{EditionYear}
-use Rattle.hir_input.specs.Syntax.{syntax_view}
 use Rattle.item_tree_db.specs.declared.place.Place.{Place}
 use Rattle.item_tree_db.specs.declared.place.Place.TheVariants.{File, Block}
 use Rattle.item_tree_db.specs.Edits.{EditView, set, remove, set_cfg}
 use Rattle.item_tree_db.specs.History.{last_some}
-use Rattle.rust_items.specs.declared.source_file.SourceFile.{SourceFile}
-use Rattle.rust_items.specs.SourceFiles.{IsSourceFile}
+use Rattle.rust_items.specs.SourceFiles.{FileView, IsBareFile}
 use Rattle.rust_members.specs.Lists.{is_cut}
 use Rattle.rust_paths.specs.declared.names.TextRange.{TextRange}
 use Rattle.source_session.specs.declared.splice.ChangeFault.{ChangeFault}
@@ -97,17 +95,21 @@ bytes_kept text = option_map (λ t. string_bytes t.text) text
 
 -- ---- what edits of a line mean
 
--- the file is set to what is read of the text in an edition, which is kept with its places, those of its use trees, and its problems
+-- a text is kept with what was read of it beside its syntax: its places, those of its use trees, and its problems
+pub record IsKeptWith (read : FileView) (kept : SourceText) : Type 0 where
+  pub places : kept.places.items ≡ read.places
+  pub use_trees : kept.use_trees.items ≡ read.use_trees
+  pub problems : kept.problems.items ≡ read.problems
+
+-- the file is set to what is read of the text in an edition, without the texts of bodies, and the text is kept
 pub record IsReading (edition : EditionYear) (file : ℕ) (text : List ℕ) (edit : EditView) (change : Change) : Type 0 where
-  pub read : SourceFile
-  pub is_read : IsSourceFile edition text read
-  pub edit_is : edit ≡ set (File (record { 0 = file })) (syntax_view read.syntax)
+  pub read : FileView
+  pub is_read : IsBareFile edition text read
+  pub edit_is : edit ≡ set (File (record { 0 = file })) read.syntax
   pub kept : SourceText
   pub change_is : change ≡ Some (file, Some kept)
   pub text_is : string_bytes kept.text ≡ text
-  pub places : kept.places.items ≡ read.places.items
-  pub use_trees : kept.use_trees.items ≡ read.use_trees.items
-  pub problems : kept.problems.items ≡ read.problems.items
+  pub rest : IsKeptWith read kept
 
 -- an edit of a line over these texts means this edit of the table, and leaves this of a text; a change is the setting of the changed text
 abbrev pub Means : EditionYear → FileTexts → LineEdit → EditView → Change → Type 0

@@ -3,28 +3,33 @@
 #![tactic(auto)]
 
 mod conversation;
+mod difference;
 mod edit;
 mod error;
 mod expected;
 mod files;
 mod finder;
 mod found;
+mod inside;
 mod keys;
 mod laws;
 mod line;
 mod meaning;
 mod parts;
 mod reply;
+mod retyped;
 mod session;
 mod show;
 mod shown;
 mod sought;
 mod splice;
 mod texts;
+mod touched;
 
 pub use conversation::Conversation;
 pub use edit::LineEdit;
 pub use error::LineError;
+pub use line::USUAL_SKIPPED;
 pub use show::LineShow;
 pub use sought::SoughtItem;
 pub use splice::ChangeFault;

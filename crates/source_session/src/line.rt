@@ -51,8 +51,8 @@ pub(crate) struct First {
 
 // ---- what opens a session
 
-// The attributes that are left out of trees where a line names none.
-const USUAL_SKIPPED: [&str; 13] = [
+/// The attributes that are left out of trees where none are named: `doc` first, and what else rust-analyzer leaves out.
+pub const USUAL_SKIPPED: [&str; 13] = [
     "doc",
     "stable",
     "unstable",

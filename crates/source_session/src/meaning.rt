@@ -12,7 +12,7 @@ use crate::splice::changed;
 use crate::texts::{Change, SourceText, Texts, text_after};
 use hir_input::{EditionYear, HirFileId};
 use item_tree_db::Edit;
-use rust_items::read_source_file;
+use rust_items::read_without_bodies;
 use rust_members::TextRange;
 use std::alloc::{AllocError, Global};
 
@@ -52,7 +52,7 @@ fn reading(
     ensures known { (count : ℕ) → IfOk result (λ m. EditNamesCrate count m.edit) }
     ensures placed { IfOk result (λ m. LeavesPlaced m.change) }
 {
-    let read = read_source_file(alloc, &text, edition)?;
+    let read = read_without_bodies(alloc, &text, edition)?;
     let kept = SourceText {
         text,
         places: read.places,

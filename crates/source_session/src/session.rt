@@ -1,19 +1,22 @@
 //! A session: a table of trees, the texts of its files, and an index of its names.
-ghost use Rattle.std.specs.Prelude.{ℕ, List, ◌≡◌, All, MatchResult, map};
+ghost use Rattle.std.specs.Prelude.{ℕ, ◌≡◌, All, MatchResult, map};
 ghost use Rattle.decl_index.specs.Entries.{IndexView};
 ghost use Rattle.source_session.specs.Edits.{IsUsable, edit_view};
-ghost use Rattle.source_session.specs.Files.{CrateFiles};
 ghost use Rattle.source_session.specs.LineViews.{settings_view};
-ghost use Rattle.source_session.specs.Inner.{AreTogether, Knowing, session_of};
+ghost use Rattle.source_session.specs.Inner.{AreSetTo, AreTogether, IsPlaced, Knowing, LeadsBy};
 ghost use Rattle.source_session.specs.Refusals.{made_count, outcome_of};
 ghost use Rattle.source_session.specs.Sessions.{IsEdited, IsUnedited, new_session};
+ghost use Rattle.source_session.specs.Texts.{text_in};
+ghost use Rattle.source_session.specs.Touched.{touched_keys};
 
 use crate::edit::LineEdit;
 use crate::error::LineError;
 use crate::files::Files;
+use crate::inside::edit_inside_body;
 use crate::line::Settings;
 use crate::meaning::meanings_of;
 use crate::texts::{Texts, make_room, put_first};
+use crate::touched::{Touched, touch_all};
 use decl_index::DeclIndex;
 use hir_input::{Edition, EditionYear};
 use item_tree::{EditFault, LowerError};
@@ -31,6 +34,7 @@ pub(crate) struct Session {
     pub(crate) sources: Sources,
     pub(crate) texts: Texts,
     pub(crate) index: DeclIndex,
+    pub(crate) touched: Touched,
 }
 
 impl Model for Session {
@@ -40,6 +44,7 @@ impl Model for Session {
     ghost use Rattle.source_session.specs.Files.{files_code};
     ghost use Rattle.source_session.specs.Inner.{AreTogether};
     ghost use Rattle.source_session.specs.Sessions as spec;
+    ghost use Rattle.source_session.specs.Touched.{touched_keys};
 
     ghost Value = { spec.Session };
 
@@ -47,7 +52,7 @@ impl Model for Session {
 
     ghost view = { λ x. record { count = x.count; files = x.files.items; edition = edition_view x.edition; table = x.sources; texts = x.texts.entries } };
 
-    ghost invariant = { λ x. AreTogether x.count x.sources x.texts.entries x.index };
+    ghost invariant = { λ x. AreTogether x.count x.edition.year x.sources x.texts.entries x.index (touched_keys x.touched) };
 }
 
 // How many edits of the table were made, of so many.
@@ -73,31 +78,59 @@ fn outcome(made: Result<u64, AllRefused>) -> Result<(), LineError>
     }
 }
 
-// Makes the edits of a line in a table and in the texts of its files, up to the first that is refused.
+// Makes the edits of a line in a table and in the texts of its files, up to the first that is refused. Each text that one of them sets or
+// changes is read.
 fn edit_files(
     alloc: Global,
     sources: &mut Sources,
     texts: &mut Texts,
+    touched: &mut Touched,
     edits: Vec<LineEdit>,
     count: usize,
     edition: EditionYear,
 ) -> Result<(), LineError>
     requires usable { All (IsUsable count) edits.items }
     requires known { Knowing count sources.old }
-    ensures edited { (files : CrateFiles) (reserved : List (List ℕ))
-        → let over = session_of count files (edition, reserved) in
-        MatchResult result
-        (λ _. IsEdited (over sources.old texts.old.entries) (map edit_view edits.items) (over sources.new texts.new.entries))
-        (IsUnedited (over sources.old texts.old.entries) (map edit_view edits.items) (over sources.new texts.new.entries)) }
-    ensures together { (index : IndexView) → AreTogether count sources.old texts.old.entries index
-        → AreTogether count sources.new texts.new.entries index }
+    ensures edited { LeadsBy count edition sources.old texts.old.entries (map edit_view edits.items)
+        sources.new texts.new.entries result }
+    ensures together { (index : IndexView)
+        → AreTogether count edition sources.old texts.old.entries index (touched_keys touched.old)
+        → AreTogether count edition sources.new texts.new.entries index (touched_keys touched.new) }
 {
     let meanings = meanings_of(alloc, edits, texts, count, edition)?;
     make_room(texts, &meanings.changes)?;
+    touch_all(touched, &meanings.edits);
     let most = meanings.edits.len();
     let made = sources.edit_all(meanings.edits);
     put_first(texts, meanings.changes, made_count(&made, most));
     outcome(made)
+}
+
+// Makes the edits of a line in a table and in the texts of its files, up to the first that is refused. No text is read where there is one
+// edit, and it lies inside a body.
+fn edit_texts(
+    alloc: Global,
+    sources: &mut Sources,
+    texts: &mut Texts,
+    touched: &mut Touched,
+    edits: Vec<LineEdit>,
+    count: usize,
+    edition: EditionYear,
+) -> Result<(), LineError>
+    requires usable { All (IsUsable count) edits.items }
+    requires known { Knowing count sources.old }
+    requires read { AreSetTo edition sources.old texts.old.entries }
+    requires placed { (file : ℕ) → IsPlaced (text_in texts.old.entries file) }
+    ensures edited { LeadsBy count edition sources.old texts.old.entries (map edit_view edits.items)
+        sources.new texts.new.entries result }
+    ensures together { (index : IndexView)
+        → AreTogether count edition sources.old texts.old.entries index (touched_keys touched.old)
+        → AreTogether count edition sources.new texts.new.entries index (touched_keys touched.new) }
+{
+    if edit_inside_body(alloc, sources, texts, &edits)? {
+        return Ok(());
+    }
+    edit_files(alloc, sources, texts, touched, edits, count, edition)
 }
 
 impl Session {
@@ -111,6 +144,7 @@ impl Session {
             sources: Sources::new(alloc, settings.crates, settings.skipped, settings.start),
             texts: BTreeMap::new(alloc),
             index: DeclIndex::new(alloc),
+            touched: None,
         }
     }
 
@@ -128,10 +162,11 @@ impl Session {
             (λ _. IsEdited self.old (map edit_view edits.items) self.new)
             (IsUnedited self.old (map edit_view edits.items) self.new) }
     {
-        edit_files(
+        edit_texts(
             alloc,
             &mut self.sources,
             &mut self.texts,
+            &mut self.touched,
             edits,
             self.count,
             self.edition.year,

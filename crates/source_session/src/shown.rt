@@ -18,6 +18,7 @@ use crate::session::Session;
 use crate::show::LineShow;
 use crate::sought::SoughtItem;
 use crate::texts::{text_at, text_of};
+use crate::touched::refresh;
 use hir_input::{Crate, Edition, HirFileId};
 use item_tree_db::{ChangedSince, Place, Sources};
 use item_tree_request::request::show::{Show, TreeShow};
@@ -279,7 +280,7 @@ impl Session {
             (view value)) }
         ensures same { self.new ≡ self.old }
     {
-        self.index.refresh(alloc, &self.sources)?;
+        refresh(alloc, &mut self.index, &self.sources, &mut self.touched)?;
         let entries = self.index.lookup(sought.name());
         let values = found_values(
             alloc,

@@ -58,8 +58,9 @@ fn is_long(text: &str, range: TextRange, new: &str) -> bool
     are_many(text.len() - (range.end - range.start), new.len())
 }
 
+/// Why a range of a text cannot be replaced by this, if it cannot.
 #[tactic(auto, using(std::proofs::lemmas::Bool::Decides::nat_tests))]
-fn fault(text: &str, range: TextRange, new: &str) -> Option<ChangeFault>
+pub(crate) fn fault(text: &str, range: TextRange, new: &str) -> Option<ChangeFault>
     ensures { result ≡ change_fault text.now range new.now }
 {
     if is_outside(text, range) {
@@ -74,12 +75,20 @@ fn fault(text: &str, range: TextRange, new: &str) -> Option<ChangeFault>
     None
 }
 
+/// A text with what stands in a range of it replaced, in memory for more.
 #[tactic(auto, using(crate::proofs::Spliced::begins, crate::proofs::Spliced::ends))]
-fn spliced(alloc: Global, text: &str, range: TextRange, new: &str) -> Result<String, AllocError>
+pub(crate) fn spliced(
+    alloc: Global,
+    text: &str,
+    range: TextRange,
+    new: &str,
+) -> Result<String, AllocError>
     requires { is_cut text.now range ≡ true }
     ensures { IfOk result (λ made. string_bytes made ≡ spec.spliced text.now range new.now) }
 {
-    let mut made = String::from_str(alloc, &text[..range.start])?;
+    let more = (text.len() / 8).saturating_add(new.len());
+    let mut made = String::with_capacity(alloc, text.len().saturating_add(more))?;
+    made.push_str(&text[..range.start])?;
     made.push_str(new)?;
     made.push_str(&text[range.end..])?;
     Ok(made)

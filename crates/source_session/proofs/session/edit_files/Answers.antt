@@ -1,11 +1,13 @@
 use Rattle.std.proofs.Common.{◌≡◌, ◌≤◌, Err, IfOk, MatchResult, length, map, refl, rules, sym, ap, ◌∙◌, subst}
 use Rattle.hir_input_json.specs.Editions.{EditionView}
+use Rattle.item_tree_db.specs.Edits.{edit_view as table_view}
 use Rattle.item_tree_db.specs.Refusal.{last_number}
 use Rattle.source_session.specs.declared.error.LineError.TheVariants.{OutOfMemory}
 use Rattle.source_session.specs.Edits.{edit_view}
 use Rattle.source_session.specs.Inner.{session_of}
 use Rattle.source_session.specs.Refusals.{made_count}
 use Rattle.source_session.specs.Sessions.{IsEdited, IsUnedited}
+use Rattle.source_session.specs.Touched.{AreTouched, touched_keys}
 use Rattle.source_session.proofs.Made.{files_made, files_together, outcome_by, stopped_none, unmeant}
 use Rattle.source_session.proofs.Named.{edits_known}
 use Rattle.source_session.proofs.session.edit_files.Goals as goal
@@ -58,5 +60,6 @@ returns-clause-together c = λ index t.
     let e = c.edit_all-made.ensures in
     let most : c.len-most.result ≡ length edits = search rules in
     let n : c.made_count.result ≡ made_count (length edits) made = c.made_count.ensures ∙ ap (λ k. made_count k made) most in
+    let touched = subst (λ es. AreTouched (map table_view es) (touched_keys c.args.touched.now) (touched_keys c.touch_all.new.touched)) c.deref-2.ensures.value c.touch_all.ensures in
     files_together c.args.sources.now c.edit_all-made.new.self c.args.texts.now.entries c.make_room.new.texts.entries c.put_first.new.texts.entries edits changes made c.made_count.result e.ok e.refused n
-    c.make_room.ensures.texts c.put_first.ensures c.args.count index t e.footing c.in_ok-meanings.ensures.placed
+    c.make_room.ensures.texts c.put_first.ensures c.args.count c.args.edition (map edit_view c.args.edits.items) (touched_keys c.args.touched.now) (touched_keys c.touch_all.new.touched) c.in_ok-meanings.ensures.meant touched index t e.footing c.in_ok-meanings.ensures.placed

@@ -17,7 +17,7 @@ use Rattle.source_session.proofs.session.Session.find.Goals as goal
 pub found_values-requires-clause-declared : goal.found_values-requires-clause-declared
 found_values-requires-clause-declared c =
     let known = IsDeclared c.self.inside.sources in
-    subst (All known) (sym c.lookup-entries.ensures) (All-filter (has_name c.name.result.now) known c.refresh.new.self.1 c.in_ok-refresh.ensures.index.listing.declared)
+    subst (All known) (sym c.lookup-entries.ensures) (All-filter (has_name c.name.result.now) known c.refresh.new.index.1 c.in_ok-refresh.ensures.index.listing.declared)
 
 pub found_values-requires-clause-placed : goal.found_values-requires-clause-placed
 found_values-requires-clause-placed c = all_placed c.self.inside.texts.entries c.self.invariant.placed
@@ -28,7 +28,7 @@ returns-clause-found c =
     let s = c.self.inside.sources in
     let texts = c.self.inside.texts.entries in
     let q = c.args.sought.now in
-    let all = c.refresh.new.self.1 in
+    let all = c.refresh.new.index.1 in
     let looked = c.lookup-entries.ensures ∙ ap (λ name. filter (has_name name) all) c.name.ensures in
     let own = ap (λ fs. flat_map (found_one fs s texts q) c.lookup-entries.result.now) c.deref.ensures.value in
     let values = c.in_ok-values.ensures ∙ own ∙ ap (flat_map (found_one files s texts q)) looked ∙ found_all (has_name q.name) (λ e. is_in_crate files e.krate e.place && is_at q.path (path_of s e)) (found_form s texts) all in

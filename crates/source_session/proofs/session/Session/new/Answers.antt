@@ -3,7 +3,7 @@ use Rattle.std.proofs.lemmas.List.{length-map, length-take}
 use Rattle.item_tree.specs.CrateView.{crate_view}
 use Rattle.item_tree_db.specs.State.{crate_limit}
 use Rattle.decl_index.specs.Entries.{IsBehind}
-use Rattle.source_session.specs.Inner.{IsPlaced, Knowing}
+use Rattle.source_session.specs.Inner.{AreSetTo, IsPlaced, Knowing}
 use Rattle.source_session.specs.Texts.{Texts, text_in}
 use Rattle.source_session.proofs.session.Session.new.Goals as goal
 
@@ -15,4 +15,5 @@ invariant_of-result c =
       known = subst (Knowing c.len.result) (sym c.new.ensures) (λ n own small. omega (arith, own, small, here, length-take crate_limit (map crate_view crates), length-map crates crate_view));
       behind = subst (λ index. IsBehind index c.new.result) (sym c.new-3.ensures) refl;
       placed = subst (λ (texts : Texts). (file : _) → IsPlaced (text_in texts file)) (sym c.new-2.ensures.empty) (λ file. tt);
+      read = subst (AreSetTo c.args.settings.edition.year c.new.result) (sym c.new-2.ensures.empty) (λ file. tt);
     }

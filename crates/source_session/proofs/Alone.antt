@@ -1,0 +1,294 @@
+-- Edits inside bodies.
+use Rattle.std.proofs.Common.{◌≡◌, ◌≢◌, ℕ, zero, suc, ◌+◌, ◌<◌, ◌≤◌, ◌==◌, Bool, true, false, if◌then◌else◌, List, [], ◌∷◌, Option, Some, None, IfSome, IfNone, OnSome, is_some, Result, Ok, Err, All, slice_get, length, map, take, drop, refl, sym, ap, subst, ◌∙◌, append_assoc, arith}
+use Rattle.std.specs.Prelude.{IsCharBoundary, nat_le, string_bytes}
+use Rattle.std.specs.List.{list_all}
+use Rattle.std.specs.String.{string_capacity, string_len}
+use Rattle.std.specs.String.Boundary.{IsSplitPoint}
+use Rattle.std.specs.declared.alloc.AllocError.{AllocError}
+use Rattle.std.specs.declared.alloc.Global.{Global}
+use Rattle.std.specs.declared.string.String.{String}
+use Rattle.std.proofs.lemmas.Bool.{and_parts}
+use Rattle.std.proofs.lemmas.Bool.Decides.{nat_tests}
+use Rattle.std.proofs.lemmas.List.{get_or-map, length-map}
+use Rattle.hir_input.specs.declared.edition.EditionYear.{EditionYear}
+use Rattle.item_tree_db.specs.declared.place.Place.{Place}
+use Rattle.item_tree_db.specs.declared.place.Place.TheVariants.{File}
+use Rattle.item_tree_db.specs.Again.{IsSetAgain}
+use Rattle.item_tree_db.specs.Edits.{EditView, set}
+use Rattle.item_tree_db.specs.History.{IsFooting}
+use Rattle.item_tree_db.specs.Refusal.{FitsAfter, last_number}
+use Rattle.item_tree_db.specs.State.{State, present}
+use Rattle.rust_items.specs.declared.source_file.ItemPlace.{ItemPlace}
+use Rattle.rust_items.specs.SourceFiles.{FileView, IsBareFile, IsFileView, bare_file}
+use Rattle.rust_edits.specs.declared.shift.Shift.{Shift}
+use Rattle.rust_edits.specs.Edits.{HasPlaces, IsReadMoved, edited, has_item, has_place, has_problem, shifted_item, shifted_place, shifted_problem}
+use Rattle.rust_members.specs.Lists.{is_cut}
+use Rattle.rust_paths.specs.declared.names.TextRange.{TextRange}
+use Rattle.source_listing.specs.Places.{AreDistinct}
+use Rattle.decl_index.specs.Entries.{IndexView}
+use Rattle.source_session.specs.declared.inside.Inside.{Inside}
+use Rattle.source_session.specs.declared.splice.ChangeFault.{ChangeFault}
+use Rattle.source_session.specs.declared.texts.SourceText.{SourceText}
+use Rattle.source_session.specs.Edits.{LineEdit, set_text, change_text}
+use Rattle.source_session.specs.Files.{CrateFiles}
+use Rattle.source_session.specs.Inner.{AreSetTo, AreTogether, IsPlaced, IsSetTo, LeavesPlaced, session_of}
+use Rattle.source_session.specs.Inside.{CanReplace, HasRoom, IsInside, IsMadeAlone, IsMadeOrNot, IsRetyped, IsRetypedIf, MakesAlone}
+use Rattle.source_session.specs.Sessions.{IsEdited}
+use Rattle.source_session.specs.Texts.{Change, IsKeptWith, IsReading, Texts, bytes_kept, change_fault, changed_text, spliced, text_after, text_in, unless_fault}
+use Rattle.source_session.proofs.Kept.{text_step}
+use Rattle.source_session.proofs.Made.{together_after}
+use Rattle.source_session.proofs.Read.{left_first}
+use Rattle.source_session.proofs.Touching.{behind_by_again}
+use Rattle.source_session.specs.Touched.{Touched}
+use Rattle.source_session.proofs.Spliced.{begins, ends}
+
+-- ---- a text in place
+
+pub split_point : (bs : List ℕ) (n : ℕ) → IsCharBoundary bs n → IsSplitPoint bs n
+split_point bs n h = (h.0, λ _ within high. h.1 within high)
+
+module _ (text : String Global) (range : TextRange) (typed : List ℕ) (cut : is_cut (string_bytes text) range ≡ true) where
+  in_order : range.start ≤ range.end
+  in_order = grind (arith, nat_tests, (and_parts (nat_le range.start range.end) _ cut).0)
+
+  can_replace : (made : Option (String Global)) → HasRoom text range typed made → CanReplace text range typed made
+  can_replace made room = record { order = in_order; start = begins (string_bytes text) range cut; end = ends (string_bytes text) range cut; room = room }
+
+  pub room_left : string_len text + length typed ≤ string_capacity text → CanReplace text range typed None
+  room_left h = can_replace None h
+
+  pub room_made : (made : String Global) → string_bytes made ≡ spliced (string_bytes text) range typed → CanReplace text range typed (Some made)
+  room_made made h = can_replace (Some made) h
+
+-- ---- places
+
+distinct_moved : (shift : Shift) (ps : List ItemPlace) → AreDistinct ps → AreDistinct (map (shifted_item shift) ps)
+distinct_moved shift ps distinct i j d less within =
+    let inside : j < length ps = omega (arith, within, length-map ps (shifted_item shift)) in
+    λ same. distinct i j d less inside (ap (λ (p : ItemPlace). p.id) (sym (get_or-map (shifted_item shift) ps i d d (omega (arith, less, inside)))) ∙ same ∙ ap (λ (p : ItemPlace). p.id) (get_or-map (shifted_item shift) ps j d d inside))
+
+some_same : {A : Type 0} (a b : A) → Some a ≡ Some b → a ≡ b
+some_same a b e = cc
+
+-- ---- the text of a file that is changed inside a body
+
+module _ (edition : EditionYear) (s u : State) (old new : Texts) (file : ℕ) (range : TextRange) (typed : List ℕ) (text after : SourceText) (inside : Inside)
+    (had : text_in old file ≡ Some text) (has : text_in new file ≡ Some after) (others : (f : ℕ) → f ≢ file → text_in new f ≡ text_in old f)
+    (is : IsInside text range typed inside) (retyped : IsRetyped range typed inside.edit.shift text after) (again : IsSetAgain s (File (record { 0 = file })) u)
+    (read : IsSetTo edition (present s (File (record { 0 = file }))) text) where
+  abbrev bytes : List ℕ
+  bytes = string_bytes text.text
+
+  abbrev shift : Shift
+  shift = inside.edit.shift
+
+  abbrev full : FileView
+  full = read.is_read.read
+
+  bare_is : read.read ≡ bare_file full
+  bare_is = read.is_read.bare
+
+  places_are : full.places ≡ text.places.items
+  places_are = ap (λ (f : FileView). f.places) (sym bare_is) ∙ sym read.rest.places
+
+  uses_are : full.use_trees ≡ text.use_trees.items
+  uses_are = ap (λ (f : FileView). f.use_trees) (sym bare_is) ∙ sym read.rest.use_trees
+
+  problems_are : full.problems ≡ text.problems.items
+  problems_are = ap (λ (f : FileView). f.problems) (sym bare_is) ∙ sym read.rest.problems
+
+  moved : IsReadMoved inside.edit edition (edited bytes range typed) full
+  moved = is.reads edition full places_are read.is_read.is_read
+
+  all : HasPlaces shift full
+  all = is.places edition full places_are read.is_read.is_read
+
+  abbrev now : FileView
+  now = bare_file moved.again
+
+  rest : IsKeptWith now after
+  rest = record {
+    places = retyped.places (ap (list_all (has_item shift)) (sym places_are) ∙ all.items) ∙ ap (map (shifted_item shift)) (sym places_are) ∙ sym moved.moved.items;
+    use_trees = retyped.use_trees (ap (list_all (has_place shift)) (sym uses_are) ∙ all.use_trees) ∙ ap (map (shifted_place shift)) (sym uses_are) ∙ sym moved.moved.use_trees;
+    problems = retyped.problems (ap (list_all (has_problem shift)) (sym problems_are) ∙ all.problems) ∙ ap (map (shifted_problem shift)) (sym problems_are) ∙ sym (moved.moved.problems is.keeps);
+  }
+
+  abbrev edit : EditView
+  edit = set (File (record { 0 = file })) again.syntax
+
+  abbrev change : Change
+  change = Some (file, Some after)
+
+  syntax_is : again.syntax ≡ now.syntax
+  syntax_is = some_same again.syntax read.read.syntax (sym again.had ∙ read.syntax_is) ∙ ap (λ (f : FileView). f.syntax) bare_is ∙ moved.moved.syntax
+
+  reading : IsReading edition file (spliced bytes range typed) edit change
+  reading = record {
+    read = now;
+    is_read = record { read = moved.again; is_read = subst (λ x. IsFileView edition x moved.again) (sym (append_assoc (take range.start bytes) typed (drop range.end bytes))) moved.is_read; bare = refl };
+    edit_is = ap (set (File (record { 0 = file }))) syntax_is;
+    kept = after;
+    change_is = refl;
+    text_is = retyped.text;
+    rest = rest;
+  }
+
+  changed : changed_text (bytes_kept (text_in old file)) range typed ≡ Ok (spliced bytes range typed)
+  changed = ap (λ t. changed_text (bytes_kept t) range typed) had ∙ ap (λ f. unless_fault f (spliced bytes range typed)) is.fits
+
+  texts : (f : ℕ) → text_in new f ≡ text_after (text_in old) (change ∷ []) f
+  texts = text_step old new file (Some after) [] (λ f. elim (file == f) as (λ b. (file == f) ≡ b → text_in new f ≡ (if b then Some after else text_in old f)) [
+    | true ↦ λ e. let same : f ≡ file = grind (arith, nat_tests, e) in ap (text_in new) same ∙ has
+    | false ↦ λ e. others f (λ same. let wrong : (file == f) ≡ true = grind (arith, nat_tests, same) in absurd cc)
+  ] refl)
+
+  -- is a change of it
+  pub made_alone : AreDistinct text.places.items → IsFooting s u → u.number ≤ last_number → IsMadeAlone edition s old (change_text file range typed ∷ []) u new
+  made_alone distinct footing number = record {
+    edit = edit;
+    change = change;
+    meant = ((spliced bytes range typed, changed, reading), tt);
+    after = again.after;
+    place = File (record { 0 = file });
+    again = again;
+    footing = footing;
+    fits = again.fits;
+    number = number;
+    placed = subst AreDistinct (sym (retyped.places (ap (list_all (has_item shift)) (sym places_are) ∙ all.items))) (distinct_moved shift text.places.items distinct);
+    texts = texts;
+  }
+
+retyped_to : (range : TextRange) (typed : List ℕ) (move : Shift) (text : SourceText) (new : Option SourceText) → IsRetypedIf range typed move (Some text) new → (after : SourceText) × (new ≡ Some after) × IsRetyped range typed move text after
+retyped_to range typed move text None h = absurd h
+retyped_to range typed move text (Some after) h = (after, refl, h)
+
+module _ (s u : State) (old : Texts) (file : ℕ) (text : SourceText) (had : text_in old file ≡ Some text) (footing : IsFooting s u) where
+  abbrev place : Place
+  place = File (record { 0 = file })
+
+  is_read : (edition : EditionYear) → AreSetTo edition s old → IsSetTo edition (present s place) text
+  is_read edition are = subst (λ t. IfSome t (IsSetTo edition (present s place))) had (are file)
+
+  is_placed : ((f : ℕ) → IsPlaced (text_in old f)) → AreDistinct text.places.items
+  is_placed placed = subst IsPlaced had (placed file)
+
+  -- its text is changed in place
+  pub change_alone : (new : Texts) (range : TextRange) (typed : List ℕ) (inside : Inside) → IsInside text range typed inside → IsRetypedIf range typed inside.edit.shift (text_in old file) (text_in new file)
+      → ((f : ℕ) → f ≢ file → text_in new f ≡ text_in old f) → IsSetAgain s place u → u.number ≤ last_number
+      → (edition : EditionYear) → AreSetTo edition s old → ((f : ℕ) → IsPlaced (text_in old f)) → IsMadeAlone edition s old (change_text file range typed ∷ []) u new
+  change_alone new range typed inside is retyped others again number edition are placed =
+      let at = retyped_to range typed inside.edit.shift text (text_in new file) (subst (λ t. IsRetypedIf range typed inside.edit.shift t (text_in new file)) had retyped) in
+      made_alone edition s u old new file range typed text at.0 inside had at.1 others is at.2 again (is_read edition are) (is_placed placed) footing number
+
+-- ---- a file that is set to the text that it has
+
+-- the text of a file, put in its place, is a change to itself
+still : (old : Texts) (file : ℕ) (text : SourceText) → text_in old file ≡ Some text → (f : ℕ) → text_in old f ≡ text_after (text_in old) (Some (file, Some text) ∷ []) f
+still old file text had = text_step old old file (Some text) [] (λ f. elim (file == f) as (λ b. (file == f) ≡ b → text_in old f ≡ (if b then Some text else text_in old f)) [
+  | true ↦ λ e. let same : f ≡ file = grind (arith, nat_tests, e) in ap (text_in old) same ∙ had
+  | false ↦ λ e. refl
+] refl)
+
+pub same_alone : (edition : EditionYear) (s u : State) (old : Texts) (file : ℕ) (text : SourceText) (made : List ℕ) → text_in old file ≡ Some text → made ≡ string_bytes text.text → IsSetAgain s (File (record { 0 = file })) u → IsFooting s u → u.number ≤ last_number
+    → IsSetTo edition (present s (File (record { 0 = file }))) text → AreDistinct text.places.items → IsMadeAlone edition s old (set_text file made ∷ []) u old
+same_alone edition s u old file text made had is again footing number read distinct = record {
+  edit = set (File (record { 0 = file })) again.syntax;
+  change = Some (file, Some text);
+  meant = (
+    record {
+      read = read.read;
+      is_read = subst (λ x. IsBareFile edition x read.read) (sym is) read.is_read;
+      edit_is = ap (set (File (record { 0 = file }))) (some_same again.syntax read.read.syntax (sym again.had ∙ read.syntax_is));
+      kept = text;
+      change_is = refl;
+      text_is = sym is;
+      rest = read.rest;
+    },
+    tt,
+  );
+  after = again.after;
+  place = File (record { 0 = file });
+  again = again;
+  footing = footing;
+  fits = again.fits;
+  number = number;
+  placed = distinct;
+  texts = still old file text had;
+}
+
+-- ---- a file that is set to another text
+
+only_text : (fault : Option ChangeFault) (made text : List ℕ) → unless_fault fault made ≡ Ok text → text ≡ made
+only_text None made text e = cc
+only_text (Some cause) made text e = absurd cc
+
+-- changing its text by the difference is setting it
+pub set_alone : (edition : EditionYear) (s u : State) (old new : Texts) (file : ℕ) (range : TextRange) (typed made : List ℕ) (text : SourceText) → text_in old file ≡ Some text → made ≡ spliced (string_bytes text.text) range typed
+    → IsMadeAlone edition s old (change_text file range typed ∷ []) u new → IsMadeAlone edition s old (set_text file made ∷ []) u new
+set_alone edition s u old new file range typed made text had is m = record {
+  edit = m.edit;
+  change = m.change;
+  meant = (subst (λ x. IsReading edition file x m.edit m.change) (only_text (change_fault (string_bytes text.text) range typed) (spliced (string_bytes text.text) range typed) m.meant.0.0 (ap (λ t. changed_text (bytes_kept t) range typed) (sym had) ∙ m.meant.0.1) ∙ sym is) m.meant.0.2, tt);
+  after = m.after;
+  place = m.place;
+  again = m.again;
+  footing = m.footing;
+  fits = m.fits;
+  number = m.number;
+  placed = m.placed;
+  texts = m.texts;
+}
+
+-- the same, made or not
+pub set_by_change : (s u : State) (old new : Texts) (file : ℕ) (range : TextRange) (typed made : List ℕ) (text : SourceText) (r : Result Bool AllocError) → text_in old file ≡ Some text → made ≡ spliced (string_bytes text.text) range typed
+    → MakesAlone s old (change_text file range typed ∷ []) u new r → MakesAlone s old (set_text file made ∷ []) u new r
+set_by_change s u old new file range typed made text (Ok true) had is h = λ edition are placed. set_alone edition s u old new file range typed made text had is (h edition are placed)
+set_by_change s u old new file range typed made text (Ok false) had is h = h
+set_by_change s u old new file range typed made text (Err e) had is h = h
+
+-- and where the text is the same
+pub set_by_itself : (s u : State) (old : Texts) (file : ℕ) (text : SourceText) (made : List ℕ) (found : Option ℕ) → text_in old file ≡ Some text → made ≡ string_bytes text.text → IsFooting s u → OnSome found (IsSetAgain s (File (record { 0 = file })) u)
+    → IfSome found (λ n. n ≡ u.number) → IfSome found (λ n. n ≤ last_number) → IfNone found (u ≡ s) → MakesAlone s old (set_text file made ∷ []) u old (Ok (is_some found))
+set_by_itself s u old file text made None had is footing again number small none = λ edition are placed. (none, refl)
+set_by_itself s u old file text made (Some n) had is footing again number small none = λ edition are placed.
+    same_alone edition s u old file text made had is again footing (omega (arith, number, small)) (is_read s u old file text had footing edition are) (is_placed s u old file text had footing placed)
+
+-- ---- the only edit of a line
+
+module _ (edition : EditionYear) (s u : State) (old new : Texts) (asked : List LineEdit) (r : Result Bool AllocError) (are : AreSetTo edition s old) (placed : (file : ℕ) → IsPlaced (text_in old file)) (makes : MakesAlone s old asked u new r) where
+  by_result : (b : Result Bool AllocError) → r ≡ b → IsMadeOrNot (IsMadeAlone edition s old asked u new) ((u ≡ s) × (new ≡ old)) b
+  by_result b is = subst (IsMadeOrNot (IsMadeAlone edition s old asked u new) ((u ≡ s) × (new ≡ old))) is (makes edition are placed)
+
+  -- it is made
+  pub made_by : (b : Bool) → r ≡ Ok b → b ≡ true → IsMadeAlone edition s old asked u new
+  made_by b is holds = by_result (Ok true) (is ∙ ap Ok holds)
+
+  -- or nothing is
+  pub none_by : (b : Bool) → r ≡ Ok b → b ≡ false → (u ≡ s) × (new ≡ old)
+  none_by b is fails = by_result (Ok false) (is ∙ ap Ok fails)
+
+  pub none_if : (e : AllocError) → r ≡ Err e → (u ≡ s) × (new ≡ old)
+  none_if e is = by_result (Err e) is
+
+module _ (edition : EditionYear) (s u : State) (old new : Texts) (asked : List LineEdit) (m : IsMadeAlone edition s old asked u new) where
+  fits_alone : (n : ℕ) → n < 1 → IfSome (slice_get (m.edit ∷ []) n) (FitsAfter s (take n (m.edit ∷ [])))
+  fits_alone zero less = m.fits
+  fits_alone (suc n) less = absurd (omega (arith, less))
+
+  pub edited_alone : (count : ℕ) (files : CrateFiles) (reserved : List (List ℕ)) → IsEdited (session_of count files (edition, reserved) s old) asked (session_of count files (edition, reserved) u new)
+  edited_alone count files reserved = record {
+    edits = m.edit ∷ [];
+    changes = m.change ∷ [];
+    meant = m.meant;
+    made = record { count = refl; files = refl; edition = refl; table = m.after; texts = m.texts };
+    none_passes = record { numbers = omega (arith, m.after.number, m.number); trees = fits_alone };
+  }
+
+  placed_alone : All LeavesPlaced (m.change ∷ [])
+  placed_alone zero d within = m.placed
+  placed_alone (suc n) d within = absurd (omega (arith, within))
+
+  pub together_alone : (count : ℕ) (touched : Touched) (index : IndexView) → AreTogether count edition s old index touched → AreTogether count edition u new index touched
+  together_alone count touched index t =
+      let behind = behind_by_again s u m.place index touched m.again m.footing t.behind in
+      together_after count edition s u (m.edit ∷ []) old new (m.change ∷ []) index touched touched t behind m.after placed_alone m.texts (λ file. left_first 1 edition (text_in old) asked (m.edit ∷ []) (m.change ∷ []) file m.meant)

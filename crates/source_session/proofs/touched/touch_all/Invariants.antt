@@ -1,0 +1,8 @@
+-- the places are the old ones and those that the edits so far touch
+use Rattle.std.proofs.Common.{map, take}
+use Rattle.item_tree_db.specs.Edits.{edit_view}
+use Rattle.source_session.specs.Touched.{AreTouched, touched_keys}
+use Rattle.source_session.proofs.touched.touch_all.Given as goal
+
+abbrev pub invariant-loop-edit : goal.invariant-loop-edit
+invariant-loop-edit l = AreTouched (map edit_view (take l.edit-index l.edits)) (touched_keys l.fn.touched) (touched_keys l.touched)
