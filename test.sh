@@ -12,10 +12,7 @@ cd "$(dirname "$(realpath "${BASH_SOURCE[0]}")")" || exit 1
 program=crates/item_tree_tool/out/item_tree_tool
 outlines=crates/outline_tool/out/outline_tool
 itemtree=crates/itemtree/out/itemtree
-tests=()
-for name in hir_input_tests item_tree_tests rust_items_tests; do
-    tests+=("crates/$name/out/${name}_tests")
-done
+tests=(crates/item_tree_tests/out/item_tree_tests_tests)
 log=$(mktemp)
 planned=1 is_missing=
 

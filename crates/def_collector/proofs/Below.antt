@@ -17,7 +17,7 @@ use Rattle.item_tree.proofs.Walking.{of_id_is, leaf_of_id, parent_of_id, each_wa
 use Rattle.def_collector.specs.declared.collector.Declaration as code
 use Rattle.def_collector.specs.Declarations.{Declared, node_declares, Declaration, declaration_of, path_below, node_declarations, declarations_in, declarations, with_id, node_declared, declared_in, declared_at}
 use Rattle.def_collector.specs.DeclarationView.{DeclarationView, view_of, declaration_view, id_of, defined, collected, is_declaring}
-use Rattle.def_collector.specs.Inner.{own_from, declared_from, own_defined, defined_from}
+use Rattle.def_collector.specs.Inner.Declared.{own_from, declared_from, own_defined, defined_from}
 
 -- ---- the declarations of ids are those of the nodes that they stand for
 

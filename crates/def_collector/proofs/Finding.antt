@@ -16,7 +16,7 @@ use Rattle.item_tree.specs.Shown.{Lent, lent_leaf, lent_parent, IsLent, IsLeaf, 
 use Rattle.item_tree.proofs.Walking.{of_id_is}
 use Rattle.def_collector.specs.Declarations.{Declared, declared_name, declared_imports, leaf_name, trunk_name, node_name, leaf_declares, node_declares, Declaration, declaration_of, path_below, with_id, node_declared, declared_in, declared_at}
 use Rattle.def_collector.specs.Found.{is_path_of, first_named}
-use Rattle.def_collector.specs.Inner.{lent_name, own_from, declared_from, found_from, found_among, is_named}
+use Rattle.def_collector.specs.Inner.Declared.{lent_name, own_from, declared_from, found_from, found_among, is_named}
 use Rattle.def_collector.proofs.Lents.{names_at}
 use Rattle.def_collector.proofs.Below.{forest_from, leaf_from, parent_from, inline_path, block_path, declared_ids, declaring_contained}
 

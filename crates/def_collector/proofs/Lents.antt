@@ -12,7 +12,7 @@ use Rattle.item_tree.specs.Walk.{of_id}
 use Rattle.item_tree.proofs.Walking.{leaf_of_id, parent_of_id}
 use Rattle.def_collector.specs.Declarations.{Declared, declared_name, leaf_name, trunk_name, node_name, leaf_declares, node_declares, node_visibility, declaration_of, with_id}
 use Rattle.def_collector.specs.DeclarationView.{defined}
-use Rattle.def_collector.specs.Inner.{own_defined, lent_name, lent_declares, lent_visibility}
+use Rattle.def_collector.specs.Inner.Declared.{own_defined, lent_name, lent_declares, lent_visibility}
 
 -- ---- modules, whose items stand in them or not
 

@@ -1,7 +1,7 @@
 -- What is collected, as plain data.
 use Rattle.std.specs.Prelude.{ℕ, Bool, false, List, map, Option, Some, is_some, option_copied}
 use Rattle.hir_input.specs.declared.ids.AstIdKind.{AstIdKind}
-use Rattle.import_lister.specs.Listed.{listed_import}
+use Rattle.def_collector.specs.Listed.{listed_import}
 use Rattle.item_tree.specs.declared.visibility.RawVisibility.{RawVisibility}
 use Rattle.item_tree.specs.Layout.{node_at}
 use Rattle.item_tree.specs.Node.{Node, node_kind, Unfolding}

@@ -6,7 +6,7 @@ ghost use Rattle.item_tree.specs.Shown.{IsContained, IsShown};
 ghost use Rattle.item_tree.specs.Walk.{AreContained};
 ghost use Rattle.def_collector.specs.Declarations.{declarations, declared_at};
 ghost use Rattle.def_collector.specs.DeclarationView.{collected, declaration_view, defined, id_of, is_declaring, view_of};
-ghost use Rattle.def_collector.specs.Inner.{own_defined, defined_from};
+ghost use Rattle.def_collector.specs.Inner.Declared.{own_defined, defined_from};
 
 use crate::names::{Declares, declares_of, visibility_of};
 use hir_input::{AstIdKind, Name};

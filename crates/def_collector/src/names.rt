@@ -4,10 +4,10 @@ ghost use Rattle.item_tree.specs.Shown.{IsContained, IsShown, lent};
 ghost use Rattle.item_tree.specs.Walk.{of_id};
 ghost use Rattle.def_collector.specs.Declarations.{crate_name, node_name, node_visibility};
 ghost use Rattle.def_collector.specs.DeclarationView.{declared_by};
-ghost use Rattle.def_collector.specs.Inner.{lent_declares, lent_name, lent_visibility};
+ghost use Rattle.def_collector.specs.Inner.Declared.{lent_declares, lent_name, lent_visibility};
 
+use crate::imports::{Listed, list_imports};
 use hir_input::Name;
-use import_lister::{Listed, list_imports};
 use item_tree::{
     ExternCrate, ImportAlias, ItemTree, ModItemId, ModItemKind, RawVisibility, RawVisibilityId,
 };

@@ -4,7 +4,7 @@ ghost use Rattle.item_tree.specs.Shown.{IsContained, lent};
 ghost use Rattle.item_tree.specs.Walk.{AreContained};
 ghost use Rattle.def_collector.specs.Declarations.{declared_at};
 ghost use Rattle.def_collector.specs.Found.{first_named};
-ghost use Rattle.def_collector.specs.Inner.{found_among, found_from, is_named, lent_name};
+ghost use Rattle.def_collector.specs.Inner.Declared.{found_among, found_from, is_named, lent_name};
 
 use crate::names::name_of;
 use hir_input::Name;

@@ -5,7 +5,7 @@ use Rattle.std.proofs.lemmas.List.{map-append, take_all}
 use Rattle.item_tree.specs.Node.{Node, Unfolding}
 use Rattle.item_tree.specs.Shown.{IsContained}
 use Rattle.item_tree.specs.Walk.{AreContained}
-use Rattle.item_rows.specs.Rows.{RowView}
+use Rattle.tree_walk.specs.Rows.{RowView}
 use Rattle.item_changes.specs.Changes.{Item, is_like, items_behind}
 
 abbrev pub row_of : Item → RowView

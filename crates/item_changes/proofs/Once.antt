@@ -12,7 +12,7 @@ use Rattle.item_tree.specs.Node.{Node, leaf, parent, Forest, empty, more, Unfold
 use Rattle.item_tree.specs.Same.{same_itself}
 use Rattle.rust_ids.specs.Ids.{kind_place}
 use Rattle.tree_walk.specs.Preorder.{preorder}
-use Rattle.item_rows.specs.Rows.{Around, RowView, scope_below, is_enabled, is_file_enabled, row, node_rows, forest_rows}
+use Rattle.tree_walk.specs.Rows.{Around, RowView, scope_below, is_enabled, is_file_enabled, row, node_rows, forest_rows}
 use Rattle.item_changes.specs.Changes.{is_name, Key, key, has_key, is_like, Item, items_behind, is_same, ChangeView, change_of, left_as, came_as, left_change, came_change, changes_between, items, changes}
 use Rattle.item_changes.specs.Own.{own, node_code}
 

@@ -5,7 +5,7 @@ use Rattle.std.proofs.lemmas.List.{length-map, map-append}
 use Rattle.hir_input.specs.declared.ids.FileAstId.{FileAstId}
 use Rattle.item_tree.specs.Node.{Node, leaf, parent, Forest, empty, more, node_ast, Unfolding}
 use Rattle.tree_walk.specs.Preorder.{node_preorder, preorder}
-use Rattle.item_rows.specs.Rows.{Around, RowView, row, below, node_rows, forest_rows, rows, top}
+use Rattle.tree_walk.specs.Rows.{Around, RowView, row, below, node_rows, forest_rows, rows, top}
 use Rattle.item_changes.specs.Changes.{Item, items_behind, items}
 use Rattle.item_changes.specs.Own.{own}
 

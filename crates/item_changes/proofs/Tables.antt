@@ -12,7 +12,7 @@ use Rattle.std.proofs.lemmas.List.{length-map, map-append, take_more}
 use Rattle.std.proofs.lemmas.List.Folds.{find-append}
 use Rattle.std.proofs.lemmas.List.Sums.{count_by-le-length}
 use Rattle.hir_input.specs.Equality.{DecidesEqOf}
-use Rattle.item_rows.specs.Rows.{RowView}
+use Rattle.tree_walk.specs.Rows.{RowView}
 use Rattle.item_changes.specs.declared.keys.Key as code_key
 use Rattle.item_changes.specs.declared.items.Item as code_item
 use Rattle.item_changes.specs.Changes.{key, has_key, is_like, is_same, Item}

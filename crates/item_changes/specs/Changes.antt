@@ -5,7 +5,7 @@ use Rattle.std.specs.List.{count_by, find, flat_map, zip}
 use Rattle.rust_ids.specs.Ids.{kind_place}
 use Rattle.item_tree.specs.Node.{Node, Unfolding}
 use Rattle.tree_walk.specs.Preorder.{preorder}
-use Rattle.item_rows.specs.Rows.{RowView, rows}
+use Rattle.tree_walk.specs.Rows.{RowView, rows}
 use Rattle.item_changes.specs.declared.compare.ChangeKind.{ChangeKind}
 use Rattle.item_changes.specs.declared.compare.ChangeKind.TheVariants.{Removed, Added, Changed}
 use Rattle.item_changes.specs.Own.{own, same_node}

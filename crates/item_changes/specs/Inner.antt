@@ -21,14 +21,14 @@ use Rattle.item_tree.specs.Node as node
 use Rattle.item_tree.specs.Node.{Node, leaf, parent, Leaf, Trunk, Ctor, Unfolding}
 use Rattle.item_tree.specs.Shown.{Lent, lent_leaf, lent_parent}
 use Rattle.item_tree.specs.Walk.{of_id}
-use Rattle.item_rows.specs.Views.{row_view}
+use Rattle.tree_walk.specs.Views.{row_view}
 use Rattle.item_changes.specs.declared.own.Rest as code_rest
 use Rattle.item_changes.specs.declared.own.Rest.TheVariants as code
 use Rattle.item_changes.specs.declared.items.Item as code_item
 use Rattle.item_changes.specs.declared.keys.Key as code_key
 use Rattle.item_changes.specs.declared.finder.Finder as code_finder
 use Rattle.item_changes.specs.contracts.keys.KeyPartialEq.TheImpl as keys
-use Rattle.item_rows.specs.Rows.{RowView}
+use Rattle.tree_walk.specs.Rows.{RowView}
 use Rattle.item_changes.specs.Changes.{Item, Key, has_key}
 
 abbrev pub item_view : code_item.Item → Item

@@ -1,5 +1,5 @@
 -- Changes as plain data.
-use Rattle.item_rows.specs.Views.{row_view}
+use Rattle.tree_walk.specs.Views.{row_view}
 use Rattle.item_changes.specs.declared.compare.Change as code_change
 use Rattle.item_changes.specs.Changes.{ChangeView}
 

@@ -1,17 +1,17 @@
 //! Changes of items.
 ghost use Rattle.std.specs.Prelude.{◌≡◌, ◌++◌, ◌∷◌, [], map, option_map, IfOk, OnOk};
 ghost use Rattle.std.specs.List.{flat_map};
-ghost use Rattle.item_rows.specs.Rows as all_rows;
-ghost use Rattle.item_rows.specs.Views.{row_view};
+ghost use Rattle.tree_walk.specs.Rows as all_rows;
+ghost use Rattle.tree_walk.specs.Views.{row_view};
 ghost use Rattle.item_changes.specs.Changes as spec;
 ghost use Rattle.item_changes.specs.Inner.{Finds, item_view};
 ghost use Rattle.item_changes.specs.Views.{change_view};
 
 use crate::finder::Finder;
 use crate::items::{Item, items};
-use item_rows::{Row, item_rows};
 use item_tree::ItemTree;
 use std::alloc::{AllocError, Global};
+use tree_walk::{Row, item_rows};
 
 /// What became of an item.
 #[derive(Clone, Copy, Debug, PartialEq, Eq)]

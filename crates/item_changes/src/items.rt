@@ -2,19 +2,18 @@
 ghost use Rattle.std.specs.Prelude.{◌≡◌, [], map, IfOk};
 ghost use Rattle.std.specs.List.{zip};
 ghost use Rattle.item_tree.specs.Walk.{AreContained};
-ghost use Rattle.item_rows.specs.Rows as all_rows;
-ghost use Rattle.item_rows.specs.Views.{row_view};
+ghost use Rattle.tree_walk.specs.Rows as all_rows;
+ghost use Rattle.tree_walk.specs.Views.{row_view};
 ghost use Rattle.item_changes.specs.Changes as spec;
 ghost use Rattle.item_changes.specs.Inner.{item_view};
 ghost use Rattle.item_changes.specs.Own.{own_at};
 
 use crate::keys::{count_one, key_of};
 use crate::own_item::OwnItem;
-use item_rows::Row;
 use item_tree::{ItemTree, ModItemId};
 use std::alloc::{AllocError, Global};
 use std::collections::HashMap;
-use tree_walk::preorder;
+use tree_walk::{Row, preorder};
 
 /// An item of a tree.
 #[derive(Drop)]

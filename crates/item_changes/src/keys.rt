@@ -1,13 +1,13 @@
 //! What makes items alike, as a key of tables.
 ghost use Rattle.std.specs.Prelude.{◌≡◌, ◌<◌, ◌^◌, IfOk, OnOk};
-ghost use Rattle.item_rows.specs.Views.{row_view};
+ghost use Rattle.tree_walk.specs.Views.{row_view};
 ghost use Rattle.item_changes.specs.Changes.{key};
 ghost use Rattle.item_changes.specs.Inner.{CountsOne, count_of, key_view};
 
 use hir_input::Name;
-use item_rows::Row;
 use std::alloc::AllocError;
 use std::collections::HashMap;
+use tree_walk::Row;
 
 /// What items that are alike have in common.
 #[derive(Clone, Copy, PartialEq, Eq, Hash)]

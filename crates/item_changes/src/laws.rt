@@ -3,7 +3,7 @@ ghost use Rattle.std.specs.Prelude.{◌≡◌, [], map};
 ghost use Rattle.item_tree.specs.Items.{IsByValue};
 ghost use Rattle.item_tree.specs.Node.{Unfolding, node_ast};
 ghost use Rattle.tree_walk.specs.Preorder.{preorder};
-ghost use Rattle.item_rows.specs.Rows.{rows};
+ghost use Rattle.tree_walk.specs.Rows.{rows};
 ghost use Rattle.item_changes.specs.Changes.{changes, items};
 ghost use Rattle.item_changes.specs.Own.{own};
 

@@ -1,11 +1,11 @@
 //! Copies and readings, whole or refused, and of two requests never both refused.
 use crate::lowered::{first_use, is_right, tree_of_all_kinds};
+use crate::samples::words::{name, path, within};
 use hir_input::PathKind;
 use hir_input::ast::Visibility;
 use item_tree::{
     ImportAlias, LowerError, RawVisibility, VisibilityExplicitness, visibility_from_ast,
 };
-use item_tree_samples::words::{name, path, within};
 use std::alloc::{AllocError, Global};
 
 // Whether a copy is made, of two requests at least once, and equal to its source.

@@ -1,9 +1,9 @@
 //! What the file with an item of each kind declares, and an item found by its path.
 use crate::lowered::{is_right, tree_of_all_kinds};
+use crate::samples::words::name;
 use def_collector::{Declaration, Declares, collect, find};
 use hir_input::Name;
 use item_tree::{ItemTree, LowerError};
-use item_tree_samples::words::name;
 use std::alloc::{AllocError, Global};
 
 const DECLARED: &str = "\

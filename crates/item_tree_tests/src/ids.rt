@@ -1,9 +1,9 @@
 //! Ids of one tree that are asked of another.
 use crate::lowered::tree_of;
+use crate::samples::attributes::words;
+use crate::samples::items::{function, one_function, tuple_struct};
 use hir_input::ast::Syntax;
 use item_tree::{ItemTree, LowerError};
-use item_tree_samples::attributes::words;
-use item_tree_samples::items::{function, one_function, tuple_struct};
 use std::alloc::{AllocError, Global};
 
 // `#[a] fn f() {}`

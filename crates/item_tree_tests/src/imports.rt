@@ -1,10 +1,10 @@
 //! The imports of `use a::{*, self as b, {c, {d::*}}};`, called for and listed, and those of as many supers as fit.
 use crate::lowered::{first_use, is_right, tree_of_all_kinds, tree_of_use};
+use crate::samples::use_trees::{below, leaf};
+use def_collector::{Listed, count_imports, list_imports};
 use hir_input::ast::UseTree;
 use hir_input::{ModPath, PathKind};
-use import_lister::{Listed, count_imports, list_imports};
 use item_tree::{ImportAlias, ImportKind, ItemTree, LowerError, Use, UseTreeIdx};
-use item_tree_samples::use_trees::{below, leaf};
 use std::alloc::{AllocError, Global};
 
 const CALLS: &str = "\

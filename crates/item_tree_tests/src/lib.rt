@@ -1,6 +1,7 @@
-//! Tests of what only a call can show, of `item_tree` and of what stands on it, and of `rust_items`: pages, copies, uses, the table of
-//! trees, blocks of Rust texts, what stands where a request for memory is refused, ids of other trees, and tables as `Debug` shows
-//! them. They are one crate, since each crate that drops a tree proves anew how each of its parts is dropped.
+//! Tests of what only a call can show, of all libraries: names, metas and copies (`values`), trees and what stands on them, the table
+//! (`db`), the reader of Rust texts (`reader`), runs of a request over readers and writers that fail (`runs`), and conversations line by
+//! line (`conversations`). What a program shows of texts is in `tests/reader`. They are one crate, since each crate that drops a tree or
+//! a syntax proves anew how each of its parts is dropped; `samples` has the syntaxes that they share.
 //!
 //! A test asserts what a function of its own answers: a test that holds a tree, fails by `Fail` or compares texts itself is proved
 //! slowly.
@@ -12,6 +13,8 @@
 //! `where_no_memory_is_left` with all refused from a mark on.
 #![tactic(auto)]
 
+#[cfg(test)]
+mod conversations;
 #[cfg(test)]
 mod copies;
 #[cfg(test)]
@@ -35,10 +38,18 @@ mod read_blocks;
 #[cfg(test)]
 mod read_texts;
 #[cfg(test)]
+mod reader;
+#[cfg(test)]
 mod refusals;
+#[cfg(test)]
+mod runs;
+#[cfg(test)]
+mod samples;
 #[cfg(test)]
 mod trees;
 #[cfg(test)]
 mod use_trees;
+#[cfg(test)]
+mod values;
 #[cfg(test)]
 mod written_imports;

@@ -1,9 +1,9 @@
 //! Trees that the tests read, of a crate without options and attributes.
+use crate::samples::file::file;
+use crate::samples::items::{file_of, use_of};
 use hir_input::ast::{Syntax, UseTree};
 use hir_input::{CfgOptions, Edition, EditionYear, HirFileId};
 use item_tree::{CrateData, ItemTree, LowerError, ModItemKind, Use, lower_syntax};
-use item_tree_samples::file::file;
-use item_tree_samples::items::{file_of, use_of};
 use std::alloc::Global;
 
 pub fn bare_crate(alloc: Global) -> CrateData {

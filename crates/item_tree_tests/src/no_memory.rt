@@ -1,10 +1,10 @@
 //! A tree of items of all kinds, read where no memory is left.
 use crate::lowered::tree_of_all_kinds;
+use crate::samples::memory::{leave_again, leave_none};
 use item_tree::{
     ItemTree, ItemTreeDataStats, LowerError, ModItemId, ModItemKind, RawVisibility, Struct, Use,
     UseTreeKind,
 };
-use item_tree_samples::memory::{leave_again, leave_none};
 use std::alloc::Global;
 use tree_walk::{children, count_items};
 

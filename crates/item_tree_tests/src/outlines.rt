@@ -1,9 +1,9 @@
 //! Outlines: as text of the file with an item of each kind, and as JSON of a function.
 use crate::lowered::{is_right, tree_of, tree_of_all_kinds};
+use crate::samples::items::one_function;
 use item_tree::LowerError;
-use item_tree_samples::items::one_function;
-use outline::{outline_json, outline_text};
 use std::alloc::Global;
+use tree_walk::{outline_json, outline_text};
 
 const TEXT: &str = "\
 Module[0001, 0] m

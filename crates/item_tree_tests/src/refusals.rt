@@ -1,8 +1,8 @@
 //! Lowering where a request for memory is refused: a whole tree or a refusal, where of two requests never both are refused.
 use crate::lowered::{is_right, tree_of, tree_of_all_kinds};
+use crate::samples::file::file;
 use hir_input::ast::Syntax;
 use item_tree::{ItemTree, LowerError};
-use item_tree_samples::file::file;
 use std::alloc::Global;
 
 // Whether a syntax has this tree, of two requests at least once.

@@ -1,8 +1,8 @@
 //! The file with an item of each kind: its page, its tables and a walk over it.
 use crate::lowered::{bare_crate, is_right, tree_of, tree_of_all_kinds, tree_of_use};
+use crate::samples::{file, items, use_trees, words};
 use hir_input::{Edition, EditionYear};
 use item_tree::{ItemTree, LowerError};
-use item_tree_samples::{file, items, use_trees, words};
 use std::alloc::{AllocError, Global};
 use tree_walk::{is_same_tree, outline};
 

@@ -1,8 +1,8 @@
 //! What is kept of a use tree, and where it is written.
 use crate::lowered::is_right;
+use crate::samples::use_trees::{partly_kept, two_names};
 use hir_input::ast::UseTree;
 use item_tree::{LowerError, lower_use_tree};
-use item_tree_samples::use_trees::{partly_kept, two_names};
 use std::alloc::Global;
 
 // Whether a use tree is kept as another, at these places, of two requests at least once.

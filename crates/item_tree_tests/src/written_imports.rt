@@ -1,10 +1,10 @@
 //! Imports with the use trees that they are written as, and those that repeat an earlier one.
 use crate::lowered::{first_use, is_right, tree_of_use};
+use crate::samples::use_trees::{below, leaf, nested, two_names};
+use def_collector::{duplicates, list_imports, written_imports};
 use hir_input::PathKind;
 use hir_input::ast::UseTree;
-use import_lister::{duplicates, list_imports, written_imports};
 use item_tree::{LowerError, Use};
-use item_tree_samples::use_trees::{below, leaf, nested, two_names};
 use std::alloc::{AllocError, Global};
 
 // Which of the leaves have a star, as text.

@@ -7,11 +7,10 @@ use crate::request::write_request;
 use crate::serve::answer_lines;
 use crate::tags::write_tags;
 use itemtree_commands::{
-    Options, check, duplicates, find, imports, outline, outline_json, page, push_tags,
+    Options, SourceError, check, duplicates, find, imports, outline, outline_json, page, push_tags,
 };
 use itemtree_options::{Asked, Command};
 use source_listing::{Query, SoughtPath, Source, sought_path};
-use source_tree::SourceError;
 use std::alloc::{AllocError, Global};
 use std::fmt::Display;
 use std::io;

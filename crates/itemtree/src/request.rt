@@ -8,8 +8,7 @@ use item_tree_db::Place;
 use item_tree_request::request::show::{Show, ShowKind, TreeShow};
 use itemtree_commands::Options;
 use itemtree_options::Asked;
-use request_writer::RequestOptions;
-use source_request::source_request;
+use request_writer::{RequestOptions, source_request};
 use std::alloc::{AllocError, Global};
 
 fn show_kind(word: &str) -> ShowKind {

@@ -1,1 +1,3 @@
 pub mod Typed
+pub mod Refused
+pub mod BareTrees

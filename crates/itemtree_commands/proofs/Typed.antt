@@ -10,9 +10,9 @@ use Rattle.item_tree.specs.Lowered.{kept_in}
 use Rattle.item_tree.specs.declared.crate_data.CrateData.{CrateData}
 use Rattle.item_tree.proofs.BodyTexts.{kept_without_bodies}
 use Rattle.rust_written.proofs.Outlines.{typing_inside}
-use Rattle.source_tree.specs.declared.SourceTree.{SourceTree}
-use Rattle.source_tree.specs.Trees.{IsTreeOf}
-use Rattle.rust_typing.proofs.Typing as bodies
+use Rattle.itemtree_commands.specs.declared.trees.SourceTree.{SourceTree}
+use Rattle.itemtree_commands.specs.Trees.{IsTreeOf}
+use Rattle.rust_edits.proofs.Typing.Typing as bodies
 use Rattle.itemtree_commands.specs.Typing.{IsSameWhereTyped, IsSameInBody}
 
 kept_alike : (krate : CrateData) (skipped : List (List ℕ)) (s t : SyntaxView) → without_bodies s ≡ without_bodies t → kept_in krate false skipped s ≡ kept_in krate false skipped t

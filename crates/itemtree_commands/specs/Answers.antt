@@ -2,9 +2,9 @@
 use Rattle.std.specs.Prelude.{◌≡◌, ◌↔◌, ℕ, Bool, IsTrue, if◌then◌else◌, Option, Some, None, List, ◌++◌, length, string_bytes}
 use Rattle.hir_input.specs.Cfg.{AtomView}
 use Rattle.item_tree.specs.Page.{page}
-use Rattle.item_rows.specs.Rows.{rows}
+use Rattle.tree_walk.specs.Rows.{rows}
 use Rattle.item_changes.specs.Changes.{changes}
-use Rattle.listed_members.specs.Listed.{Reading}
+use Rattle.source_rows.specs.Listed.{Reading}
 use Rattle.source_listing.specs.Changed.{Side, change_lines}
 use Rattle.source_listing.specs.Imports.{import_lines}
 use Rattle.source_listing.specs.Lines.{Choice, Source, problem_lines}
@@ -18,9 +18,9 @@ use Rattle.source_listing.specs.Tags.{tags}
 use Rattle.source_problems.specs.Texts.{source_problems}
 use Rattle.rust_items.specs.declared.source_file.SourceFile.{SourceFile}
 use Rattle.rust_items.specs.SourceFiles.{IsSourceFile}
-use Rattle.source_tree.specs.declared.SourceTree.{SourceTree}
-use Rattle.source_tree.specs.declared.SourceError.{SourceError}
-use Rattle.source_tree.specs.Trees.{IsRefused, IsTreeOf}
+use Rattle.itemtree_commands.specs.declared.trees.SourceTree.{SourceTree}
+use Rattle.itemtree_commands.specs.declared.trees.SourceError.{SourceError}
+use Rattle.itemtree_commands.specs.Trees.{IsRefused, IsTreeOf}
 use Rattle.itemtree_commands.specs.declared.Options.{Options}
 use Rattle.itemtree_commands.specs.declared.Checked.{Checked}
 use Rattle.itemtree_commands.specs.declared.Compared.{Compared}

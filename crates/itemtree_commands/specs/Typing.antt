@@ -2,7 +2,7 @@
 use Rattle.std.specs.Prelude.{◌≡◌, ℕ, Bool, List, IsTrue}
 use Rattle.hir_input.specs.declared.edition.EditionYear.{EditionYear}
 use Rattle.rust_items.specs.LineEnds.{with_feeds}
-use Rattle.rust_typing.specs.Laws.{with_body, IsTyped}
+use Rattle.rust_edits.specs.Typing.Laws.{with_body, IsTyped}
 use Rattle.rust_written.specs.Written.{Items, outline}
 use Rattle.rust_written.specs.Laws.{Writes}
 

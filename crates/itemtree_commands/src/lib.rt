@@ -1,20 +1,23 @@
 //! What the commands of `itemtree` answer for one file, from its text on.
 #![tactic(auto)]
 
+mod laws;
+mod trees;
+
 ghost use Rattle.std.specs.Prelude.{◌≡◌, ◌≤◌, ◌^◌, length, map, IfOk, IfErr, OnOk, option_copied, string_bytes};
 ghost use Rattle.itemtree_commands.specs.Answers as spec;
 ghost use Rattle.itemtree_commands.specs.Typing.{IsSameInBody, IsSameWhereTyped};
 ghost use Rattle.source_listing.specs.Ends.{IsBeginOf};
 ghost use Rattle.source_listing.specs.Views.{choice_view, look_view, query_view, source_view};
-ghost use Rattle.source_tree.specs.Trees.{HasOwnIds, IsUnread};
+ghost use Rattle.itemtree_commands.specs.Trees.{HasOwnIds, IsUnread};
 
 use hir_input::{CfgOptions, Edition, Name};
 use item_tree::CrateData;
-use listed_members::Reading;
 use source_listing::{Choice, Look, Query, Side, Source, without_ids};
 use source_problems::source_problems;
-use source_tree::{SourceError, SourceTree, source_file, source_tree};
+use source_rows::Reading;
 use std::alloc::{AllocError, Global};
+pub use trees::{SourceError, SourceTree, source_file, source_tree};
 
 /// What trees are made and written under.
 #[derive(Debug, Drop)]
@@ -109,7 +112,7 @@ fn read(alloc: Global, text: &str, options: &Options) -> Result<SourceTree, Sour
 /// # Errors
 ///
 /// Those of `source_tree`.
-#[tactic(auto, using(source_tree::proofs::Refused::no_memory))]
+#[tactic(auto, using(crate::proofs::Refused::no_memory))]
 pub fn outline(
     alloc: Global,
     source: Source<'_>,
@@ -138,7 +141,7 @@ pub fn outline(
 /// # Errors
 ///
 /// Those of `source_tree`.
-#[tactic(auto, using(source_tree::proofs::Refused::no_memory))]
+#[tactic(auto, using(crate::proofs::Refused::no_memory))]
 pub fn outline_json(
     alloc: Global,
     source: Source<'_>,
@@ -175,7 +178,7 @@ fn shown_page(alloc: Global, page: String, has_ids: bool) -> Result<String, Allo
 /// # Errors
 ///
 /// Those of `source_tree`.
-#[tactic(auto, using(source_tree::proofs::Refused::no_memory))]
+#[tactic(auto, using(crate::proofs::Refused::no_memory))]
 pub fn page(
     alloc: Global,
     text: &str,
@@ -198,7 +201,7 @@ pub fn page(
 /// # Errors
 ///
 /// Those of `source_tree`.
-#[tactic(auto, using(source_tree::proofs::Refused::no_memory))]
+#[tactic(auto, using(crate::proofs::Refused::no_memory))]
 pub fn find(
     alloc: Global,
     source: Source<'_>,
@@ -224,7 +227,7 @@ pub fn find(
 /// # Errors
 ///
 /// Those of `source_tree`.
-#[tactic(auto, using(source_tree::proofs::Refused::no_memory))]
+#[tactic(auto, using(crate::proofs::Refused::no_memory))]
 pub fn imports(alloc: Global, source: Source<'_>, options: &Options) -> Result<String, SourceError>
     ensures text { IfOk result
         (λ out. spec.AreImports options.now (source_view source.entry) (string_bytes out)) }
@@ -248,7 +251,7 @@ pub fn imports(alloc: Global, source: Source<'_>, options: &Options) -> Result<S
 /// # Errors
 ///
 /// Those of `source_tree`.
-#[tactic(auto, using(source_tree::proofs::Refused::no_memory))]
+#[tactic(auto, using(crate::proofs::Refused::no_memory))]
 pub fn duplicates(
     alloc: Global,
     source: Source<'_>,
@@ -277,7 +280,7 @@ pub fn duplicates(
 /// # Errors
 ///
 /// Those of `source_tree`.
-#[tactic(auto, using(source_tree::proofs::Refused::no_memory, source_listing::proofs::Begins::begin_itself))]
+#[tactic(auto, using(crate::proofs::Refused::no_memory, source_listing::proofs::Begins::begin_itself))]
 pub fn push_tags(
     alloc: Global,
     source: Source<'_>,
@@ -355,7 +358,7 @@ pub fn changed(
 /// # Errors
 ///
 /// Those of `source_file`: it needs no tree.
-#[tactic(auto, using(source_tree::proofs::Refused::no_memory_to_read))]
+#[tactic(auto, using(crate::proofs::Refused::no_memory_to_read))]
 pub fn check(alloc: Global, source: Source<'_>, options: &Options) -> Result<Checked, SourceError>
     ensures checked { IfOk result (spec.IsCheck options.now (source_view source.entry)) }
     ensures refused { IfErr result (IsUnread source.entry.text.now) }

@@ -3,7 +3,7 @@ ghost use Rattle.std.specs.Prelude.{◌≡◌, IfOk, map};
 ghost use Rattle.std.specs.List.{list_any};
 ghost use Rattle.itemtree_options.specs.Filters as spec;
 
-use path_glob::is_match;
+use crate::globs::is_match;
 use std::alloc::{AllocError, Global};
 use std::marker::Model;
 

@@ -9,7 +9,7 @@ use Rattle.item_tree_request.specs.declared.request.show.ShowKind.{ShowKind}
 use Rattle.item_tree_request.specs.declared.request.show.ShowKind.TheVariants.{Page, Tree, Imports}
 use Rattle.item_tree_request.specs.Outputs.{heading, AreFixed}
 use Rattle.item_tree_request.proofs.Outputs.{trees-same, heading-same, changes-same}
-use Rattle.outline.specs.Lines.{forest_lines}
+use Rattle.tree_walk.specs.Lines.{forest_lines}
 use Rattle.outline_tool.specs.Outlines.{outline_of, outlined_as, IsOutlined}
 
 module _ (s u v : State) (edits : List EditView) (a : IsAfter s edits u) (b : IsAfter s edits v) where

@@ -6,7 +6,7 @@ use Rattle.item_tree_request.specs.declared.request.show.TreeShow.{TreeShow}
 use Rattle.item_tree_request.specs.declared.request.show.ShowKind.{ShowKind}
 use Rattle.item_tree_request.specs.declared.request.show.ShowKind.TheVariants.{Page, Tree, Imports}
 use Rattle.item_tree_request.specs.Outputs.{ShowText, heading, AreChanges}
-use Rattle.outline.specs.Lines.{forest_lines}
+use Rattle.tree_walk.specs.Lines.{forest_lines}
 
 -- the outline of a crate's tree of a place
 unfoldable pub outline_of : State → TreeShow → List ℕ

@@ -8,8 +8,8 @@ use item_tree_db::Sources;
 use item_tree_request::request::show::{Show, ShowKind, TreeShow};
 use item_tree_request::show::{push_change, push_changes};
 use item_tree_request::show_writer::ShowWriter;
-use outline::push_outline;
 use std::alloc::{AllocError, Global};
+use tree_walk::push_outline;
 
 #[tactic(auto, unfolding(crate::specs::Outlines::outline_of))]
 fn push_tree_outline(

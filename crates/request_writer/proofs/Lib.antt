@@ -2,3 +2,4 @@ pub mod Depths
 pub mod Requests
 pub mod EditLists
 pub mod Texts
+pub mod More

@@ -2,3 +2,4 @@ pub mod Written
 pub mod Meant
 pub mod Inner
 pub mod Unwritten
+pub mod RustTexts

@@ -11,10 +11,10 @@ use Rattle.rust_lexer.specs.Tokens.{is_significant, piece, tokens, tokens_from, 
 use Rattle.rust_lexer.proofs.Whole.{plain_is}
 use Rattle.rust_cursor.proofs.Leads.{when}
 use Rattle.rust_items.specs.LineEnds.{with_feeds}
-use Rattle.rust_typing.specs.Laws.{first_plain, BeginsPlain}
-use Rattle.rust_typing.specs.Loose.{Loose, none_loose, loose_behind, loose_from, loose_in}
-use Rattle.rust_typing.proofs.Full.{feeds_full, feeds_lead}
-use Rattle.rust_typing.proofs.Returns.{feeds_body}
+use Rattle.rust_edits.specs.Typing.Laws.{first_plain, BeginsPlain}
+use Rattle.rust_edits.specs.Typing.Loose.{Loose, none_loose, loose_behind, loose_from, loose_in}
+use Rattle.rust_edits.proofs.Typing.Full.{feeds_full, feeds_lead}
+use Rattle.rust_edits.proofs.Typing.Returns.{feeds_body}
 use Rattle.rust_edits.specs.Inner.{in_braces, closes_at, begins_plain, is_alone, loose_inside}
 use Rattle.rust_edits.proofs.Steps.{both_true}
 

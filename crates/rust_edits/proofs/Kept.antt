@@ -17,16 +17,16 @@ use Rattle.rust_items.proofs.FilePlaces.{text_found}
 use Rattle.rust_items.proofs.LineEnds.{before, place_le, place_rises_in, place_within}
 use Rattle.rust_items.proofs.UntilItems.{SpanAlike}
 use Rattle.rust_items.proofs.Within.{IsIn, IsMaybeIn, AreIn, spans_in}
-use Rattle.rust_typing.specs.Laws.{with_body, IsTyped}
-use Rattle.rust_typing.specs.Moved.{close_at}
-use Rattle.rust_typing.proofs.Loose.{both_told}
-use Rattle.rust_typing.proofs.Moved.{uses_below}
-use Rattle.rust_typing.proofs.ProblemsAlike.{ProblemAlike}
-use Rattle.rust_typing.proofs.ProblemsIn.{problems_in}
-use Rattle.rust_typing.proofs.ProblemsIn as within
-use Rattle.rust_typing.proofs.Returns.{is_le, not_le, feeds_body, body_length, place_high, place_open}
-use Rattle.rust_typing.proofs.Texts.{IsMoved}
-use Rattle.rust_typing.proofs.Typing.{both_read}
+use Rattle.rust_edits.specs.Typing.Laws.{with_body, IsTyped}
+use Rattle.rust_edits.specs.Typing.Moved.{close_at}
+use Rattle.rust_edits.proofs.Typing.Loose.{both_told}
+use Rattle.rust_edits.proofs.Typing.Moved.{uses_below}
+use Rattle.rust_edits.proofs.Typing.ProblemsAlike.{ProblemAlike}
+use Rattle.rust_edits.proofs.Typing.ProblemsIn.{problems_in}
+use Rattle.rust_edits.proofs.Typing.ProblemsIn as within
+use Rattle.rust_edits.proofs.Typing.Returns.{is_le, not_le, feeds_body, body_length, place_high, place_open}
+use Rattle.rust_edits.proofs.Typing.Texts.{IsMoved}
+use Rattle.rust_edits.proofs.Typing.Typing.{both_read}
 use Rattle.rust_edits.specs.declared.shift.Shift.{Shift}
 use Rattle.rust_edits.specs.Edits.{has_place, has_range, has_some_range, has_item, has_problem, HasPlaces}
 use Rattle.rust_edits.proofs.Steps.{both_true}

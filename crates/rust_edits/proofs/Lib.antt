@@ -7,3 +7,5 @@ pub mod Order
 pub mod Kept
 pub mod Cuts
 pub mod Told
+pub mod Typing
+pub mod Ranges

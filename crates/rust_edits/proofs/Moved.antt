@@ -4,7 +4,7 @@ use Rattle.std.proofs.lemmas.List.{drop_all, take_all}
 use Rattle.std.specs.List.{list_all}
 use Rattle.std.proofs.lemmas.Bool.{and_parts, eqb-true}
 use Rattle.std.proofs.lemmas.Bool.Decides.{nat_tests}
-use Rattle.rust_typing.specs.Loose.{Loose}
+use Rattle.rust_edits.specs.Typing.Loose.{Loose}
 use Rattle.rust_edits.specs.Inner.{or_kept, same_loose}
 use Rattle.rust_edits.proofs.Steps.{both_true}
 

@@ -8,17 +8,17 @@ use Rattle.rust_items.specs.declared.source_file.ItemPlace.{ItemPlace}
 use Rattle.rust_items.specs.LineEnds.{with_feeds, moved_problem}
 use Rattle.rust_items.specs.SourceFiles.{FileView, IsFileView}
 use Rattle.rust_items.specs.Typed.{has_body_at}
-use Rattle.rust_typing.specs.Laws.{with_body, IsBody, IsTyped}
-use Rattle.rust_typing.specs.Loose.{loose_in}
-use Rattle.rust_typing.specs.Moved.{shifted, shifted_by, close_at, moved_place}
-use Rattle.rust_typing.proofs.Anew.{is_read_anew}
-use Rattle.rust_typing.proofs.Full.{feeds_full}
-use Rattle.rust_typing.proofs.Loose.{problems_move}
-use Rattle.rust_typing.proofs.Moved.{places_move}
-use Rattle.rust_typing.proofs.Opened.{body_opens}
-use Rattle.rust_typing.proofs.Returns.{feeds_body, body_length, place_open}
-use Rattle.rust_typing.proofs.Told.{body_is_told}
-use Rattle.rust_typing.proofs.Typing.{typing_inside}
+use Rattle.rust_edits.specs.Typing.Laws.{with_body, IsBody, IsTyped}
+use Rattle.rust_edits.specs.Typing.Loose.{loose_in}
+use Rattle.rust_edits.specs.Typing.Moved.{shifted, shifted_by, close_at, moved_place}
+use Rattle.rust_edits.proofs.Typing.Anew.{is_read_anew}
+use Rattle.rust_edits.proofs.Typing.Full.{feeds_full}
+use Rattle.rust_edits.proofs.Typing.Loose.{problems_move}
+use Rattle.rust_edits.proofs.Typing.Moved.{places_move}
+use Rattle.rust_edits.proofs.Typing.Opened.{body_opens}
+use Rattle.rust_edits.proofs.Typing.Returns.{feeds_body, body_length, place_open}
+use Rattle.rust_edits.proofs.Typing.Told.{body_is_told}
+use Rattle.rust_edits.proofs.Typing.Typing.{typing_inside}
 use Rattle.rust_edits.specs.declared.parts.Parts.{Parts}
 use Rattle.rust_edits.specs.declared.shift.Shift.{Shift}
 use Rattle.rust_edits.specs.Edits.{edited, shifted_place, begins_bare, Shifts, ReadsMoved, PlacesAreKept}

@@ -7,7 +7,7 @@ use Rattle.std.proofs.lemmas.Str.{IsUtf8-append}
 use Rattle.rust_items.specs.LineEnds.{with_feeds}
 use Rattle.rust_items.specs.declared.source_file.ItemPlace.{ItemPlace}
 use Rattle.rust_paths.specs.declared.names.TextRange.{TextRange}
-use Rattle.rust_typing.specs.Loose.{Loose, loose_in}
+use Rattle.rust_edits.specs.Typing.Loose.{Loose, loose_in}
 use Rattle.rust_edits.specs.declared.parts.Parts.{Parts}
 use Rattle.rust_edits.specs.Edits.{body_about, begins_bare, ArePartsAbout, MayStandInside, MayEdit, TellsLoose}
 use Rattle.rust_edits.specs.Inner.{in_braces, is_alone, AreCut, IsUncut, EndsFit}

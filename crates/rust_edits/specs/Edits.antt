@@ -10,9 +10,9 @@ use Rattle.rust_items.specs.declared.log.Problem.{Problem}
 use Rattle.rust_items.specs.declared.source_file.ItemPlace.{ItemPlace}
 use Rattle.rust_items.specs.LineEnds.{with_feeds, moved_problem}
 use Rattle.rust_items.specs.SourceFiles.{FileView, IsFileView}
-use Rattle.rust_typing.specs.Laws.{BeginsPlain}
-use Rattle.rust_typing.specs.Loose.{loose_in}
-use Rattle.rust_typing.specs.Moved.{shifted, moved_place}
+use Rattle.rust_edits.specs.Typing.Laws.{BeginsPlain}
+use Rattle.rust_edits.specs.Typing.Loose.{loose_in}
+use Rattle.rust_edits.specs.Typing.Moved.{shifted, moved_place}
 use Rattle.rust_edits.specs.declared.edit.BodyEdit.{BodyEdit}
 use Rattle.rust_edits.specs.declared.shift.Shift.{Shift}
 

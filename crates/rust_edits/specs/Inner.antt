@@ -4,8 +4,8 @@ use Rattle.rust_lexer.specs.Piece.{Piece}
 use Rattle.rust_lexer.specs.Symbol.{symbol_of}
 use Rattle.rust_lexer.specs.Tokens.{tokens}
 use Rattle.rust_paths.specs.declared.names.TextRange.{TextRange}
-use Rattle.rust_typing.specs.Laws.{first_plain}
-use Rattle.rust_typing.specs.Loose.{Loose, none_loose, loose_from}
+use Rattle.rust_edits.specs.Typing.Laws.{first_plain}
+use Rattle.rust_edits.specs.Typing.Loose.{Loose, none_loose, loose_from}
 use Rattle.rust_edits.specs.declared.alone.Brackets.{Brackets}
 use Rattle.rust_edits.specs.declared.parts.Parts.{Parts}
 use Rattle.rust_edits.specs.declared.shift.Shift.{Shift}

@@ -3,7 +3,7 @@
 ghost use Rattle.std.specs.Prelude.{◌≡◌, ◌++◌, ◌∷◌, [], ◌-◌, IfOk, IfSome, is_some, length, string_bytes};
 ghost use Rattle.rust_lexer.specs.Tokens.{tokens};
 ghost use Rattle.rust_items.specs.LineEnds.{with_feeds};
-ghost use Rattle.rust_typing.specs.Laws.{is_plain};
+ghost use Rattle.rust_edits.specs.Typing.Laws.{is_plain};
 ghost use Rattle.rust_edits.specs.Inner as spec;
 
 use rust_items::line_ends::with_feeds;

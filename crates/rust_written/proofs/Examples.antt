@@ -6,8 +6,8 @@ use Rattle.hir_input.specs.declared.ast.Visibility.TheVariants.{Pub, PubCrate}
 use Rattle.hir_input.specs.declared.ids.AstIdKind.TheVariants as kind
 use Rattle.hir_input.specs.Syntax.{NamedView, fn_kind, enum_kind, no_fields, no_items, item_and, plain_item, const_item, struct_item, bare_module, listed_module, items_from}
 use Rattle.rust_cursor.specs.Elements.{most}
-use Rattle.rust_round.specs.Trees.{word, mark, joined_mark, Tree, single, group, Trees, no_trees, tree_and, round, curly, AreTrees, GoesOn, GoesOnType}
-use Rattle.rust_round.specs.Impls.{ImplHeader}
+use Rattle.rust_written.specs.Trees.{word, mark, joined_mark, Tree, single, group, Trees, no_trees, tree_and, round, curly, AreTrees, GoesOn, GoesOnType}
+use Rattle.rust_written.specs.Impls.{ImplHeader}
 use Rattle.rust_written.specs.Written.{Scope, Front, unwritten, everywhere, in_crate, functions, enums, constants, Items, blocked, valued, structure, unit_shape, tuple_shape, implemented, file_module, module_of, used, no_more, also, views, row, rows, IsNamed, IsPlainBlock, AreItems}
 use Rattle.hir_input.specs.declared.ast.PathNode.{PathNode}
 use Rattle.hir_input.specs.declared.ast.PathNode.TheVariants.{Readable}

@@ -25,9 +25,9 @@ use Rattle.rust_leaves.specs.Heads.{follows_const, follows_async, follows_unsafe
 use Rattle.rust_leaves.specs.Fronts.{FrontRead, front, front_behind}
 use Rattle.rust_leaves.specs.Leaves.{NameRead, named}
 use Rattle.rust_leaves.proofs.Steps.{modifiers_stop}
-use Rattle.rust_round.specs.Words.{Word}
-use Rattle.rust_round.specs.Trees as trees
-use Rattle.rust_round.proofs.Begins.{Shows, Begins, behind, behind_append, begins_left, begins_right}
+use Rattle.rust_written.specs.Words.{Word}
+use Rattle.rust_written.specs.Trees as trees
+use Rattle.rust_written.proofs.Begins.{Shows, Begins, behind, behind_append, begins_left, begins_right}
 use Rattle.rust_cursor.proofs.Nesting.{shorter}
 use Rattle.rust_written.proofs.Uses.{fewer_left}
 use Rattle.rust_written.specs.Written.{Front, front_words, front_view, modifies, first_modifier, AreModifiers, Scope, unwritten, everywhere, in_crate, in_super, in_self, scope_words, scope_view, BlockKind, functions, unions, enums, traits, block_word, ValueKind, statics, aliases, constants, value_word, IsNamed}

@@ -22,12 +22,12 @@ use Rattle.rust_leaves.specs.Kinds.{named_node, leaf}
 use Rattle.rust_items.specs.Found.{Found, Finder, nothing_found, and_row}
 use Rattle.rust_items.specs.Items.{span_of, needs_name, and_flaw, and_leaf, and_item, leaf_turn, finding_from, finding, is_list_end, BlockRead, no_block, and_parent, block_of, depth_of, inside_unless, by_head, inside, turn}
 use Rattle.rust_items.proofs.Steps.{finding_stop}
-use Rattle.rust_round.specs.Words.{Word}
-use Rattle.rust_round.specs.Trees.{Trees, no_trees, mark, open_mark, close_mark, curly, trees_words}
-use Rattle.rust_round.specs.Trees as trees
-use Rattle.rust_round.specs.Impls.{ImplHeader, header_trees}
-use Rattle.rust_round.proofs.Begins.{Shows, Begins, behind, behind_append, begins_left, begins_right, past_behind}
-use Rattle.rust_round.proofs.Same.{shows_first}
+use Rattle.rust_written.specs.Words.{Word}
+use Rattle.rust_written.specs.Trees.{Trees, no_trees, mark, open_mark, close_mark, curly, trees_words}
+use Rattle.rust_written.specs.Trees as trees
+use Rattle.rust_written.specs.Impls.{ImplHeader, header_trees}
+use Rattle.rust_written.proofs.Begins.{Shows, Begins, behind, behind_append, begins_left, begins_right, past_behind}
+use Rattle.rust_written.proofs.Same.{shows_first}
 use Rattle.rust_written.specs.Written.{Front, front_words, front_view, impl_front, AreModifiers, BlockKind, functions, unions, enums, traits, block_word, block_kind, ValueKind, statics, aliases, constants, value_word, value_id, Item, Items, blocked, valued, structure, Shape, struct_words, implemented, file_module, module_of, used, no_more, also, braced, ended, item_words, words, item_view, views, row, item_rows, rows, IsNamed, IsItem, AreItems}
 use Rattle.rust_written.specs.UseTrees.{UseTree, use_words}
 use Rattle.rust_written.proofs.Uses.{fewer_left}

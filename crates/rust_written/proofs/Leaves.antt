@@ -26,14 +26,14 @@ use Rattle.rust_leaves.specs.Kinds.{node, use_read, use_declaration}
 use Rattle.rust_items.specs.Items.{needs_name}
 use Rattle.rust_written.specs.UseTrees.{UseTree, use_words, use_view, IsUse}
 use Rattle.rust_written.proofs.Uses.{IsUseEnd, found_at, use_reads}
-use Rattle.rust_round.specs.Words.{Word}
-use Rattle.rust_round.specs.Trees.{Trees, no_trees, mark, curly, open_of, close_of, first_of, trees_words, AreTrees, GoesOn, GoesOnType, spaced}
-use Rattle.rust_round.specs.Impls.{ImplHeader, header_trees, IsImplHeader}
-use Rattle.rust_round.specs.Trees as trees
-use Rattle.rust_round.proofs.Begins.{Shows, Begins, behind, behind_append, begins_left, begins_right, past_behind}
-use Rattle.rust_round.proofs.Same.{shows_first}
-use Rattle.rust_round.proofs.Ends.{whole, item_semicolon, value_semicolon, item_block, impl_block}
-use Rattle.rust_round.proofs.Impls.{impl_header_read}
+use Rattle.rust_written.specs.Words.{Word}
+use Rattle.rust_written.specs.Trees.{Trees, no_trees, mark, curly, open_of, close_of, first_of, trees_words, AreTrees, GoesOn, GoesOnType, spaced}
+use Rattle.rust_written.specs.Impls.{ImplHeader, header_trees, IsImplHeader}
+use Rattle.rust_written.specs.Trees as trees
+use Rattle.rust_written.proofs.Begins.{Shows, Begins, behind, behind_append, begins_left, begins_right, past_behind}
+use Rattle.rust_written.proofs.Same.{shows_first}
+use Rattle.rust_written.proofs.Ends.{whole, item_semicolon, value_semicolon, item_block, impl_block}
+use Rattle.rust_written.proofs.Impls.{impl_header_read}
 use Rattle.rust_written.specs.Written.{Front, impl_front, front_view, BlockKind, functions, unions, enums, traits, block_kind, ValueKind, statics, aliases, constants, value_item, value_id, braced, ended, Shape, unit_shape, tuple_shape, record_shape, struct_trees, struct_words, shape_view, IsStruct, named_by, IsNamed, IsPlainBlock, IsOfKind, IsValue}
 use Rattle.rust_written.proofs.Structs.{struct_read}
 use Rattle.rust_written.proofs.Fronts.{inner_none, no_keyword, named_at, named_reads, front_at, block_head, value_head}

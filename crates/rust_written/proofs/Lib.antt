@@ -7,3 +7,13 @@ pub mod Texts
 pub mod Outlines
 pub mod Spelled
 pub mod Examples
+pub mod Again
+pub mod Begins
+pub mod Same
+pub mod Nested
+pub mod Stays
+pub mod Flat
+pub mod Passed
+pub mod Ends
+pub mod Reaching
+pub mod Impls

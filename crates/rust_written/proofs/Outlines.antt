@@ -5,7 +5,7 @@ use Rattle.hir_input.specs.Bodies.{item_without_bodies, items_without_bodies, na
 use Rattle.hir_input.specs.Syntax.{ItemView, ItemViews, plain_item, const_item, struct_item, tuple_fields, bare_module, listed_module, use_item, extern_crate, bare_extern_block, listed_extern_block, impl_item, macro_call, macro_rules, asm_item, no_items, item_and, items_from, source_file}
 use Rattle.std.specs.Prelude.{false, Option, Some, None, is_some, option_map, map}
 use Rattle.rust_leaves.specs.Kinds.{node}
-use Rattle.rust_round.specs.Trees.{Trees, no_trees}
+use Rattle.rust_written.specs.Trees.{Trees, no_trees}
 use Rattle.hir_input.specs.declared.ids.AstIdKind.TheVariants as kind
 use Rattle.rust_ids.specs.Ids.{AreIds}
 use Rattle.rust_ids.proofs.Consequences.{determined}

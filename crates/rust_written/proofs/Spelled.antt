@@ -11,13 +11,13 @@ use Rattle.rust_lexer.specs.Cut.{symbol_kind, is_punctuation, first_cut}
 use Rattle.rust_cursor.specs.Elements.{most}
 use Rattle.rust_items.specs.LineEnds.{with_feeds}
 use Rattle.rust_items.proofs.LineEnds.{feeds_behind}
-use Rattle.rust_round.specs.Gaps.{white}
-use Rattle.rust_round.specs.Laws.{IsPlain}
-use Rattle.rust_round.specs.Standing.{is_letter, is_word_byte, ends_word, is_mark, IsAsciiWord}
-use Rattle.rust_round.specs.Words.{Link, joined, apart, free, Word, Stands, Spells}
-use Rattle.rust_round.specs.Trees as trees
-use Rattle.rust_round.specs.Impls.{header_trees}
-use Rattle.rust_round.proofs.Again.{words_stand, marks_stand}
+use Rattle.rust_written.specs.Gaps.{white}
+use Rattle.rust_written.specs.Round.{IsPlain}
+use Rattle.rust_written.specs.Standing.{is_letter, is_word_byte, ends_word, is_mark, IsAsciiWord}
+use Rattle.rust_written.specs.Words.{Link, joined, apart, free, Word, Stands, Spells}
+use Rattle.rust_written.specs.Trees as trees
+use Rattle.rust_written.specs.Impls.{header_trees}
+use Rattle.rust_written.proofs.Again.{words_stand, marks_stand}
 use Rattle.rust_written.specs.UseTrees.{use_words}
 use Rattle.rust_written.specs.Written.{Scope, unwritten, everywhere, in_crate, in_super, in_self, scope_words, Item, Items, blocked, valued, structure, struct_words, implemented, file_module, module_of, used, no_more, also, words, item_words, block_word, value_word, braced, ended}
 use Rattle.rust_written.specs.Spelled.{lead, spell, text_of, is_ascii_word, is_opening, is_closing, is_mark_before, stands_by, are_standing}

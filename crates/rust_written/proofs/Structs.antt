@@ -14,13 +14,13 @@ use Rattle.rust_cursor.proofs.Turns.{turns_stop}
 use Rattle.rust_paths.specs.Visibilities.{visibility, scoped, is_in, scope, scope_of}
 use Rattle.rust_metas.specs.Attributes.{outer_attributes}
 use Rattle.rust_leaves.specs.Leaves.{is_before, field, are_over, fields, fields_at}
-use Rattle.rust_round.specs.Words.{Word}
-use Rattle.rust_round.specs.Trees.{mark, Bracket, round, curly, open_of, close_of, close_mark, Tree, single, group, Trees, no_trees, tree_and, tree_words, trees_words, AreTrees, first_of, GoesOn, AreClosed}
-use Rattle.rust_round.specs.Trees as trees
-use Rattle.rust_round.specs.Impls.{trees_append, where_part, generics}
-use Rattle.rust_round.proofs.Begins.{Shows, Begins, behind, behind_append, begins_left, begins_right, past_behind}
-use Rattle.rust_round.proofs.Same.{shows_first}
-use Rattle.rust_round.proofs.Impls.{append_words, append_trees, generics_words, enclosed, generics_passed, no_generics, field_type_passed}
+use Rattle.rust_written.specs.Words.{Word}
+use Rattle.rust_written.specs.Trees.{mark, Bracket, round, curly, open_of, close_of, close_mark, Tree, single, group, Trees, no_trees, tree_and, tree_words, trees_words, AreTrees, first_of, GoesOn, AreClosed}
+use Rattle.rust_written.specs.Trees as trees
+use Rattle.rust_written.specs.Impls.{trees_append, where_part, generics}
+use Rattle.rust_written.proofs.Begins.{Shows, Begins, behind, behind_append, begins_left, begins_right, past_behind}
+use Rattle.rust_written.proofs.Same.{shows_first}
+use Rattle.rust_written.proofs.Impls.{append_words, append_trees, generics_words, enclosed, generics_passed, no_generics, field_type_passed}
 use Rattle.rust_written.specs.Written.{Scope, unwritten, everywhere, in_crate, in_super, in_self, scope_words, scope_view, Field, Shape, unit_shape, tuple_shape, record_shape, scope_trees, fields_trees, shape_trees, struct_trees, shape_end, field_view, shape_view, BeginsType, IsField, AreFields, IsShape, IsStruct}
 use Rattle.rust_written.proofs.Uses.{fewer_left, beyond_none, one_element, past_more}
 use Rattle.rust_written.proofs.Fronts.{outer_none}

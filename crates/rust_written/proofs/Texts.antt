@@ -23,12 +23,12 @@ use Rattle.rust_items.specs.Ids.{with_ids}
 use Rattle.rust_items.specs.Items.{finding, finding_from, is_list_end, turn}
 use Rattle.rust_items.specs.LineEnds.{with_feeds, place_in, moved_problem}
 use Rattle.rust_items.specs.SourceFiles.{read_of, found_in, items_in}
-use Rattle.rust_round.specs.Words.{Word, Spells, IsCutOff, AreTokens}
-use Rattle.rust_round.specs.Trees.{Trees, mark, open_mark, close_mark, curly, open_of, close_of, trees_words}
-use Rattle.rust_round.specs.Trees as trees
-use Rattle.rust_round.specs.Impls.{header_trees}
-use Rattle.rust_round.proofs.Again.{tokens_again, ends_closed, last_ended}
-use Rattle.rust_round.proofs.Begins.{Begins, behind, begins, over, AreSome}
+use Rattle.rust_written.specs.Words.{Word, Spells, IsCutOff, AreTokens}
+use Rattle.rust_written.specs.Trees.{Trees, mark, open_mark, close_mark, curly, open_of, close_of, trees_words}
+use Rattle.rust_written.specs.Trees as trees
+use Rattle.rust_written.specs.Impls.{header_trees}
+use Rattle.rust_written.proofs.Again.{tokens_again, ends_closed, last_ended}
+use Rattle.rust_written.proofs.Begins.{Begins, behind, begins, over, AreSome}
 use Rattle.rust_written.specs.Written.{Front, front_words, impl_front, block_word, value_word, Shape, unit_shape, tuple_shape, record_shape, struct_trees, struct_words, Item, Items, blocked, valued, structure, implemented, file_module, module_of, used, no_more, also, braced, ended, item_words, words, views, rows}
 use Rattle.rust_written.specs.UseTrees.{use_words}
 use Rattle.rust_written.specs.Laws.{Writes, ReadAgain}

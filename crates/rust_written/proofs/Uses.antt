@@ -25,9 +25,9 @@ use Rattle.rust_paths.specs.Paths.{is_raw, is_dollar_crate, is_segment, other_se
 use Rattle.rust_paths.specs.UseTrees.{Found, begun, with_bare, listed, begun_list, with_list, some_list, all_found, star_or_list, tree_behind, rename, alias, tree_with, comma_from, behind_comma, element_with, values, all_starts, first_too_deep, list, use_tree, tree_at}
 use Rattle.rust_paths.proofs.Steps.{more_stop}
 use Rattle.rust_paths.proofs.Trees.{comma_end}
-use Rattle.rust_round.specs.Words.{Word}
-use Rattle.rust_round.specs.Trees as trees
-use Rattle.rust_round.proofs.Begins.{Shows, Begins, behind, behind_append, begins_left, begins_right, past_behind}
+use Rattle.rust_written.specs.Words.{Word}
+use Rattle.rust_written.specs.Trees as trees
+use Rattle.rust_written.proofs.Begins.{Shows, Begins, behind, behind_append, begins_left, begins_right, past_behind}
 use Rattle.rust_written.specs.UseTrees.{Segment, named, self_segment, super_segment, crate_segment, Path, segment_word, segment_meaning, colons, more_words, front_words, path_words, path_view, Alias, no_alias, as_name, as_nothing, alias_words, alias_view, UseTree, UseTrees, path_tree, star_tree, list_tree, no_uses, use_and, prefix_words, use_words, list_words, comma_words, use_view, use_views, IsPlainName, IsSegment, AreSegments, IsPath, IsPrefix, IsAlias, IsUse, AreUses}
 
 -- ---- how many tokens are left

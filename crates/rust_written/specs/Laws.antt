@@ -8,8 +8,8 @@ use Rattle.rust_cursor.specs.Elements.{most}
 use Rattle.rust_items.specs.Ids.{with_ids}
 use Rattle.rust_items.specs.LineEnds.{with_feeds}
 use Rattle.rust_items.specs.SourceFiles.{FileView, IsFileView}
-use Rattle.rust_round.specs.Words.{Spells}
-use Rattle.rust_round.specs.Laws.{IsPlain}
+use Rattle.rust_written.specs.Words.{Spells}
+use Rattle.rust_written.specs.Round.{IsPlain}
 use Rattle.rust_written.specs.Spelled.{are_standing, text_of}
 use Rattle.rust_written.specs.Written.{Items, words, views, rows, AreItems, outline}
 use Rattle.hir_input.specs.declared.ids.FileAstId.{FileAstId}

@@ -2,3 +2,9 @@ pub mod UseTrees
 pub mod Written
 pub mod Spelled
 pub mod Laws
+pub mod Gaps
+pub mod Words
+pub mod Standing
+pub mod Trees
+pub mod Impls
+pub mod Round

@@ -5,8 +5,8 @@ use Rattle.rust_lexer.specs.declared.kind.TokenKind.{TokenKind}
 use Rattle.rust_lexer.specs.declared.kind.TokenKind.TheVariants as kinds
 use Rattle.rust_lexer.specs.Bytes.{is_continuation}
 use Rattle.rust_lexer.specs.Cut.{is_punctuation}
-use Rattle.rust_round.specs.Standing.{is_letter, is_word_byte, ends_word, is_mark}
-use Rattle.rust_round.specs.Words.{Link, joined, Word}
+use Rattle.rust_written.specs.Standing.{is_letter, is_word_byte, ends_word, is_mark}
+use Rattle.rust_written.specs.Words.{Link, joined, Word}
 use Rattle.rust_written.specs.Written.{Items, words}
 
 -- a blank, but before a word that is joined to the one before it

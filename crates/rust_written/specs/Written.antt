@@ -13,10 +13,10 @@ use Rattle.rust_ids.specs.Row.{Row}
 use Rattle.rust_leaves.specs.Heads.{follows_const, follows_async, follows_unsafe, follows_safe, follows_default, follows_extern}
 use Rattle.rust_leaves.specs.Kinds.{node, named_node}
 use Rattle.rust_leaves.specs.Texts.{bare}
-use Rattle.rust_round.specs.Words.{Word}
-use Rattle.rust_round.specs.Impls.{trees_append, where_part, generics, HasGenerics, IsFieldType, ImplHeader, header_trees, IsImplHeader}
+use Rattle.rust_written.specs.Words.{Word}
+use Rattle.rust_written.specs.Impls.{trees_append, where_part, generics, HasGenerics, IsFieldType, ImplHeader, header_trees, IsImplHeader}
 use Rattle.rust_written.specs.UseTrees.{UseTree, use_words, use_view, IsUse}
-use Rattle.rust_round.specs.Trees.{word, mark, open_mark, close_mark, symbol_of, text_of, round, curly, open_of, close_of, single, group, Trees, no_trees, tree_and, tree_words, trees_words, AreTrees, first_of, GoesOn, spaced}
+use Rattle.rust_written.specs.Trees.{word, mark, open_mark, close_mark, symbol_of, text_of, round, curly, open_of, close_of, single, group, Trees, no_trees, tree_and, tree_words, trees_words, AreTrees, first_of, GoesOn, spaced}
 
 -- ---- visibilities
 

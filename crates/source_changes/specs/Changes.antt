@@ -6,10 +6,10 @@ use Rattle.line_index.specs.declared.Position.{Position}
 use Rattle.line_index.specs.Positions.{position_of}
 use Rattle.rust_items.specs.declared.source_file.SourceFile.{SourceFile}
 use Rattle.rust_items.specs.SourceFiles.{IsSourceFile}
-use Rattle.source_skeleton.specs.declared.compare.ChangeKind.{ChangeKind}
-use Rattle.source_skeleton.specs.declared.compare.ChangeKind.TheVariants.{Removed, Added, Changed}
-use Rattle.source_skeleton.specs.Changes.{ChangeView, changes}
-use Rattle.source_skeleton.specs.Skeletons.{skeleton}
+use Rattle.source_rows.specs.declared.compare.ChangeKind.{ChangeKind}
+use Rattle.source_rows.specs.declared.compare.ChangeKind.TheVariants.{Removed, Added, Changed}
+use Rattle.source_rows.specs.Changes.{ChangeView, changes}
+use Rattle.source_rows.specs.Skeletons.{skeleton}
 use Rattle.source_rows.specs.Parts.{Part, parts}
 use Rattle.source_rows.specs.Rows.{bodies, rows}
 use Rattle.source_changes.specs.declared.Compared.{Compared}

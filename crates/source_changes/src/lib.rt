@@ -5,15 +5,14 @@ mod laws;
 
 ghost use Rattle.std.specs.Prelude.{◌≡◌, ◌++◌, ◌↔◌, IfOk, IsTrue, OnOk, map, string_bytes};
 ghost use Rattle.source_rows.specs.Views.{part_view};
-ghost use Rattle.source_skeleton.specs.Views.{change_view};
+ghost use Rattle.source_rows.specs.ChangeViews.{change_view};
 ghost use Rattle.source_changes.specs.Changes as spec;
 ghost use Rattle.source_changes.specs.Views.{side_view, source_view};
 
 use hir_input::EditionYear;
 use line_index::{LineIndex, Position};
 use rust_items::read_source_file;
-use source_rows::{Part, bodies, parts, rows};
-use source_skeleton::{Change, ChangeKind, changes, same_texts, skeleton};
+use source_rows::{Change, ChangeKind, Part, bodies, changes, parts, rows, same_texts, skeleton};
 use std::alloc::{AllocError, Global};
 
 /// A file: its path as it is to be written, and its text.

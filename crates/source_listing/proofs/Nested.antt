@@ -8,11 +8,11 @@ use Rattle.std.specs.Prelude.{option_map}
 use Rattle.item_tree.specs.Layout.{node_at}
 use Rattle.item_tree.specs.Node.{Node, leaf, parent, Forest, empty, more, nodes, Unfolding}
 use Rattle.item_tree.specs.Shown.{StandFor}
-use Rattle.item_rows.specs.Rows.{is_file_enabled}
+use Rattle.tree_walk.specs.Rows.{is_file_enabled}
 use Rattle.item_tree.specs.Walk.{children, children_at}
 use Rattle.item_tree.proofs.Walking.{flat_map_of_id}
 use Rattle.rust_items.specs.declared.source_file.ItemPlace.{ItemPlace}
-use Rattle.listed_members.specs.Listed.{Reading, header_of, members_of}
+use Rattle.source_rows.specs.Listed.{Reading, header_of, members_of}
 use Rattle.source_listing.specs.Lines.{Choice, Source, is_chosen}
 use Rattle.source_listing.specs.Places.{place_of, spot_at}
 use Rattle.source_listing.specs.Objects.{ItemView, item_in, item_entry, member_objects, object_form, whole_object, own_objects, node_objects, forest_objects, tree_objects}

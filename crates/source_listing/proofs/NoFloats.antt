@@ -13,10 +13,10 @@ use Rattle.item_tree.specs.declared.visibility.RawVisibility.TheVariants.{Module
 use Rattle.item_tree.specs.declared.visibility.VisibilityExplicitness.TheVariants.{Explicit, Implicit}
 use Rattle.item_tree.specs.Imports.{Import}
 use Rattle.item_tree.specs.Node.{Node, leaf, parent, Forest, empty, more, node_ast, Unfolding}
-use Rattle.item_rows.specs.Rows.{Subject, no_subject, used, called, is_file_enabled}
+use Rattle.tree_walk.specs.Rows.{Subject, no_subject, used, called, is_file_enabled}
 use Rattle.rust_items.specs.declared.log.Problem.{Problem}
 use Rattle.rust_items.specs.declared.source_file.ItemPlace.{ItemPlace}
-use Rattle.listed_members.specs.Listed.{Listed, Reading, header_of, members_of}
+use Rattle.source_rows.specs.Listed.{Listed, Reading, header_of, members_of}
 use Rattle.source_listing.specs.declared.finder.Spot.{Spot}
 use Rattle.source_listing.specs.ImportObjects.{alias_form, import_form, import_object, seen_objects, import_objects}
 use Rattle.source_listing.specs.Uses.{FilePlaces}

@@ -5,9 +5,9 @@ use Rattle.std.specs.List.{flat_map}
 use Rattle.std.proofs.lemmas.Grind.{flat_map-append}
 use Rattle.std.proofs.lemmas.List.{map-append}
 use Rattle.std.proofs.lemmas.List.Elements.{filter-append}
-use Rattle.item_rows.specs.Rows.{RowView}
+use Rattle.tree_walk.specs.Rows.{RowView}
 use Rattle.rust_items.specs.declared.source_file.ItemPlace.{ItemPlace}
-use Rattle.listed_members.specs.Listed.{Listed, Reading}
+use Rattle.source_rows.specs.Listed.{Listed, Reading}
 use Rattle.source_listing.specs.Lines.{Source, Choice, is_chosen, is_listed}
 use Rattle.source_listing.specs.Objects.{member_object, member_objects}
 use Rattle.source_listing.specs.Outlines.{Look, member_line, member_lines, outline_text, whole_lines}

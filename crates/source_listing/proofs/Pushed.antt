@@ -4,11 +4,11 @@ use Rattle.std.specs.Prelude.{filter}
 use Rattle.std.specs.List.{flat_map}
 use Rattle.std.proofs.lemmas.Grind.{flat_map-append}
 use Rattle.std.proofs.lemmas.List.Elements.{filter-append}
-use Rattle.item_rows.specs.Rows.{RowView}
+use Rattle.tree_walk.specs.Rows.{RowView}
 use Rattle.rust_items.specs.declared.source_file.ItemPlace.{ItemPlace}
 use Rattle.source_listing.specs.Lines.{Source}
 use Rattle.std.proofs.lemmas.List.Folds.{flat_map-map}
-use Rattle.listed_members.specs.Listed.{Listed, Reading}
+use Rattle.source_rows.specs.Listed.{Listed, Reading}
 use Rattle.source_listing.specs.Tags.{scope_field}
 use Rattle.source_listing.specs.Search.{Query, segment, is_member_found, whole_found, found_lines, found_member, found_members}
 

@@ -13,10 +13,10 @@ use Rattle.hir_input.specs.declared.ids.FileAstId.{FileAstId}
 use Rattle.item_tree.specs.Node.{Node, leaf, parent, node_ast, Unfolding}
 use Rattle.item_tree.specs.Shown.{Lent, lent_leaf, lent_parent}
 use Rattle.item_tree.specs.Walk.{of_id}
-use Rattle.item_rows.specs.Views.{subject_view}
+use Rattle.tree_walk.specs.Views.{subject_view}
 use Rattle.rust_ids.specs.Ids.{kind_place}
 use Rattle.rust_items.specs.declared.source_file.ItemPlace.{ItemPlace}
-use Rattle.listed_members.specs.Listed.{Reading}
+use Rattle.source_rows.specs.Listed.{Reading}
 use Rattle.source_listing.specs.declared.json.Item as code_item
 use Rattle.source_listing.specs.declared.lines.Printer.{Printer}
 use Rattle.source_listing.specs.declared.finder.Finder.{Finder}

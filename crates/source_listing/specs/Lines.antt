@@ -13,7 +13,7 @@ use Rattle.item_tree.specs.declared.visibility.VisibilityExplicitness.TheVariant
 use Rattle.item_tree.specs.Page.{shown_visibility}
 use Rattle.item_tree.specs.Tree.{Tree, single, glob, prefixed}
 use Rattle.item_tree.specs.UseText.{shown_prefix, shown_rename}
-use Rattle.item_rows.specs.Rows.{RowView, Subject, no_subject, used, called}
+use Rattle.tree_walk.specs.Rows.{RowView, Subject, no_subject, used, called}
 use Rattle.line_index.specs.Positions.{position_of}
 use Rattle.rust_items.specs.declared.source_file.ItemPlace.{ItemPlace}
 use Rattle.source_problems.specs.declared.problem.SourceProblem.{SourceProblem}

@@ -11,13 +11,13 @@ use Rattle.item_tree.specs.declared.visibility.RawVisibility.TheVariants.{Module
 use Rattle.item_tree.specs.declared.visibility.VisibilityExplicitness.TheVariants.{Explicit, Implicit}
 use Rattle.item_tree.specs.Node.{Node, leaf, parent, Forest, empty, more, node_ast, Unfolding}
 use Rattle.def_collector.specs.Declarations.{node_name, node_visibility}
-use Rattle.item_rows.specs.Rows.{Subject, no_subject, used, called, node_subject, is_enabled, is_file_enabled}
+use Rattle.tree_walk.specs.Rows.{Subject, no_subject, used, called, node_subject, is_enabled, is_file_enabled}
 use Rattle.line_index.specs.declared.Position.{Position}
 use Rattle.line_index.specs.Positions.{position_of}
 use Rattle.rust_items.specs.declared.log.Problem.{Problem}
 use Rattle.rust_items.specs.declared.source_file.ItemPlace.{ItemPlace}
 use Rattle.source_rows.specs.Labels.{member_word}
-use Rattle.listed_members.specs.Listed.{Listed, Reading, header_of, members_of}
+use Rattle.source_rows.specs.Listed.{Listed, Reading, header_of, members_of}
 use Rattle.source_problems.specs.declared.problem.SourceProblemKind.{SourceProblemKind}
 use Rattle.source_problems.specs.Problems.{told_kind}
 use Rattle.source_listing.specs.declared.finder.Spot.{Spot}

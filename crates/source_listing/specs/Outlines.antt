@@ -3,10 +3,10 @@ use Rattle.std.specs.Prelude.{ℕ, Bool, ◌+◌, List, [], ◌∷◌, ◌++◌,
 use Rattle.std.specs.List.{flat_map}
 use Rattle.hir_input.specs.declared.edition.EditionYear.{EditionYear}
 use Rattle.hir_input.specs.Cfg.{AtomView}
-use Rattle.item_rows.specs.Rows.{RowView, Subject, no_subject}
+use Rattle.tree_walk.specs.Rows.{RowView, Subject, no_subject}
 use Rattle.rust_items.specs.declared.source_file.ItemPlace.{ItemPlace}
 use Rattle.source_rows.specs.Labels.{member_word}
-use Rattle.listed_members.specs.Listed.{Listed, Reading, header_of, members_of}
+use Rattle.source_rows.specs.Listed.{Listed, Reading, header_of, members_of}
 use Rattle.source_listing.specs.Colors.{bold, colored, cyan, faint}
 use Rattle.source_listing.specs.Lines.{Choice, Source, indent, is_chosen, is_listed, line_end, name_text, place_at, stand_text, subject_text, visibility_text, word}
 use Rattle.source_listing.specs.Places.{place_of}

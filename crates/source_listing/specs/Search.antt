@@ -3,8 +3,8 @@ use Rattle.std.specs.Prelude.{ℕ, Bool, not, ◌&&◌, ◌||◌, if◌then◌el
 use Rattle.std.specs.List.{flat_map, ends_with}
 use Rattle.std.specs.Option.{option_or}
 use Rattle.std.specs.Str.{bytes_eq}
-use Rattle.item_rows.specs.Rows.{RowView}
-use Rattle.listed_members.specs.Listed.{Listed, Reading, members_of, type_name_of}
+use Rattle.tree_walk.specs.Rows.{RowView}
+use Rattle.source_rows.specs.Listed.{Listed, Reading, members_of, type_name_of}
 use Rattle.rust_items.specs.declared.source_file.ItemPlace.{ItemPlace}
 use Rattle.source_rows.specs.Labels.{member_word}
 use Rattle.source_listing.specs.Lines.{Source, at_text, name_text, word}

@@ -2,7 +2,7 @@
 ghost use Rattle.std.specs.Prelude.{◌≡◌, ◌++◌, ◌∷◌, [], Some, IfOk, OnOk, map, option_map, string_bytes};
 ghost use Rattle.std.specs.List.{flat_map};
 ghost use Rattle.def_collector.specs.DeclarationView.{declaration_view};
-ghost use Rattle.import_lister.specs.Listed.{listed_import};
+ghost use Rattle.def_collector.specs.Listed.{listed_import};
 ghost use Rattle.item_tree.specs.Shown.{IsContained};
 ghost use Rattle.item_tree.specs.UseText.{shown_rename};
 ghost use Rattle.source_listing.specs.Imports as spec;
@@ -13,9 +13,8 @@ ghost use Rattle.source_listing.specs.Views.{source_view};
 
 use crate::lines::{Source, push_spot};
 use crate::uses::{TreeFinder, UseTrees};
-use def_collector::{Declaration, Declares, collect};
+use def_collector::{Declaration, Declares, Listed, collect};
 use hir_input::Edition;
-use import_lister::Listed;
 use item_tree::{ImportAlias, ImportKind, ItemTree};
 use rust_items::ItemPlace;
 use std::alloc::{AllocError, Global};

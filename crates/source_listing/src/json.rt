@@ -4,11 +4,11 @@ ghost use Rattle.std.specs.List.{flat_map, sum_by};
 ghost use Rattle.serde_json.specs.Data.{no_members, object as object_of, put as put_member, string};
 ghost use Rattle.serde_json.specs.View.{items_view, members_view, view};
 ghost use Rattle.serde_json.specs.Written.{compact_text, has_float};
-ghost use Rattle.item_rows.specs.Views.{subject_view};
+ghost use Rattle.tree_walk.specs.Views.{subject_view};
 ghost use Rattle.item_tree.specs.Shown.{IsContained};
 ghost use Rattle.item_tree.specs.Walk.{AreContained, count_at};
-ghost use Rattle.listed_members.specs.Listed.{header_of, members_of};
-ghost use Rattle.listed_members.specs.Views.{listed_view, reading_view};
+ghost use Rattle.source_rows.specs.Listed.{header_of, members_of};
+ghost use Rattle.source_rows.specs.ListedViews.{listed_view, reading_view};
 ghost use Rattle.source_listing.specs.Inner.{IsSameFile, entry_members, file_of, item_at, item_view, objects_at, placed_members, places_of, reserved_of, stand_members};
 ghost use Rattle.source_listing.specs.Objects as spec;
 ghost use Rattle.source_listing.specs.Outlines.{reading};
@@ -20,15 +20,13 @@ use crate::lines::{Choice, Printer, Source, push_visible_in, word};
 use crate::subjects::push_short_tree;
 use def_collector::{name_at, visibility_at};
 use hir_input::{CfgOptions, Edition, FileAstId, Name};
-use item_rows::{Subject, is_enabled, is_file_enabled, subject_at};
 use item_tree::{ItemTree, ModItemId, RawVisibility, VisibilityExplicitness};
 use json_object::{Members, of_text, with};
-use listed_members::{ListedMember, Reading};
 use rust_items::ItemPlace;
 use serde_json::{Map, Value, put};
-use source_rows::member_word;
+use source_rows::{ListedMember, Reading, member_word};
 use std::alloc::{AllocError, Global};
-use tree_walk::children;
+use tree_walk::{Subject, children, is_enabled, is_file_enabled, subject_at};
 
 /// An item, and whether no cfg disables it, nor an item that it stands in, nor the file.
 #[derive(Drop)]

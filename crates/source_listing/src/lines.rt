@@ -1,6 +1,6 @@
 //! What lines of text are made of.
 ghost use Rattle.std.specs.Prelude.{◌≡◌, ◌+◌, ◌++◌, OnOk, option_copied, string_bytes};
-ghost use Rattle.item_rows.specs.Views.{row_view};
+ghost use Rattle.tree_walk.specs.Views.{row_view};
 ghost use Rattle.source_listing.specs.Inner.{IsPrinterOf, IsSameFile, file_of, places_of, reserved_of};
 ghost use Rattle.source_listing.specs.Lines as spec;
 ghost use Rattle.source_listing.specs.Places.{AreDistinct, item_place, place_of, place_text};
@@ -9,11 +9,11 @@ ghost use Rattle.source_listing.specs.Views.{choice_view, source_view};
 use crate::finder::{Finder, Spot, stand_of};
 use crate::subjects::push_subject;
 use hir_input::{AstIdKind, Edition, FileAstId, ModPath, Name, PathKind};
-use item_rows::Row;
 use item_tree::{RawVisibility, VisibilityExplicitness};
 use line_index::Position;
 use rust_items::ItemPlace;
 use std::alloc::AllocError;
+use tree_walk::Row;
 
 /// A file: its path as it is to be written, and its text.
 #[derive(Clone, Copy)]

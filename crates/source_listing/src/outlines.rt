@@ -1,8 +1,8 @@
 //! Outlines as lines of text.
 ghost use Rattle.std.specs.Prelude.{◌≡◌, ◌++◌, ◌∷◌, [], IfOk, OnOk, Some, option_copied, string_bytes, map};
-ghost use Rattle.item_rows.specs.Rows as rows;
-ghost use Rattle.item_rows.specs.Views.{row_view, subject_view};
-ghost use Rattle.listed_members.specs.Views.{listed_view, reading_view};
+ghost use Rattle.tree_walk.specs.Rows as rows;
+ghost use Rattle.tree_walk.specs.Views.{row_view, subject_view};
+ghost use Rattle.source_rows.specs.ListedViews.{listed_view, reading_view};
 ghost use Rattle.source_listing.specs.Colors.{bold, colored, faint};
 ghost use Rattle.source_listing.specs.Inner.{IsSameFile, file_of, places_of, reserved_of};
 ghost use Rattle.source_listing.specs.Lines.{at_text, indent};
@@ -17,12 +17,11 @@ use crate::lines::{
 };
 use crate::subjects::push_subject;
 use hir_input::{CfgOptions, Edition, Name};
-use item_rows::{Row, Subject, item_rows};
 use item_tree::ItemTree;
-use listed_members::{ListedMember, Reading};
 use rust_items::ItemPlace;
-use source_rows::member_word;
+use source_rows::{ListedMember, Reading, member_word};
 use std::alloc::{AllocError, Global};
+use tree_walk::{Row, Subject, item_rows};
 
 /// Which items and members have lines, and how these are written.
 #[derive(Clone, Copy, Debug)]

@@ -1,7 +1,7 @@
 //! Imports that repeat an earlier one of their module.
 ghost use Rattle.std.specs.Prelude.{◌≡◌, ◌++◌, [], map, IfOk, OnOk, option_map, string_bytes};
 ghost use Rattle.std.specs.List.{flat_map};
-ghost use Rattle.import_lister.specs.Listed.{listed_import};
+ghost use Rattle.def_collector.specs.Listed.{listed_import};
 ghost use Rattle.item_tree.specs.Shown.{IsContained};
 ghost use Rattle.item_tree.specs.Walk.{AreContained};
 ghost use Rattle.source_listing.specs.Imports.{import_text};
@@ -15,8 +15,8 @@ use crate::finder::Spot;
 use crate::imports::push_import_text;
 use crate::lines::{Source, push_spot};
 use crate::uses::{TreeFinder, UseTrees};
+use def_collector::{Listed, list_imports};
 use hir_input::{Edition, FileAstId};
-use import_lister::{Listed, list_imports};
 use item_tree::{ItemTree, ModItemId, ModItemKind};
 use rust_items::ItemPlace;
 use std::alloc::{AllocError, Global};

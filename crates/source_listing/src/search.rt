@@ -2,9 +2,9 @@
 ghost use Rattle.std.specs.Prelude.{◌≡◌, ◌++◌, ◌∷◌, [], IfOk, OnOk, map, option_copied, string_bytes};
 ghost use Rattle.std.specs.List.{flat_map};
 ghost use Rattle.std.specs.Option.{option_or};
-ghost use Rattle.item_rows.specs.Views.{row_view};
-ghost use Rattle.item_rows.specs.Rows as rows;
-ghost use Rattle.listed_members.specs.Views.{listed_view, reading_view};
+ghost use Rattle.tree_walk.specs.Views.{row_view};
+ghost use Rattle.tree_walk.specs.Rows as rows;
+ghost use Rattle.source_rows.specs.ListedViews.{listed_view, reading_view};
 ghost use Rattle.source_listing.specs.Inner.{IsSameFile, file_of, places_of, reserved_of};
 ghost use Rattle.source_listing.specs.Outlines.{reading};
 ghost use Rattle.source_listing.specs.Search as spec;
@@ -14,12 +14,11 @@ ghost use Rattle.source_listing.specs.Views.{query_view, source_view};
 use crate::finder::stand_of;
 use crate::lines::{Printer, Source, push_name, word};
 use hir_input::{CfgOptions, Edition, Name};
-use item_rows::{Row, item_rows};
 use item_tree::ItemTree;
-use listed_members::{ListedMember, Reading};
 use rust_items::ItemPlace;
-use source_rows::member_word;
+use source_rows::{ListedMember, Reading, member_word};
 use std::alloc::{AllocError, Global};
+use tree_walk::{Row, item_rows};
 
 /// What is looked for.
 #[derive(Clone, Copy, Debug)]

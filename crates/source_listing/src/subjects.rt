@@ -1,15 +1,15 @@
 //! Items without names as text.
 ghost use Rattle.std.specs.Prelude.{◌≡◌, ◌++◌, OnOk, string_bytes};
-ghost use Rattle.item_rows.specs.Views.{subject_view};
+ghost use Rattle.tree_walk.specs.Views.{subject_view};
 ghost use Rattle.item_tree.specs.Tree.{tree_of};
 ghost use Rattle.item_tree.specs.UseText.{shown_prefix};
 ghost use Rattle.source_listing.specs.Lines as spec;
 
 use crate::imports::push_rename;
 use hir_input::{Edition, ModPath};
-use item_rows::Subject;
 use item_tree::{UseTree, UseTreeKind};
 use std::alloc::AllocError;
+use tree_walk::Subject;
 
 /// What stands in front of a star or of a list.
 fn push_prefix(

@@ -1,9 +1,9 @@
 //! Lines of a tags file, by which editors jump to names.
 ghost use Rattle.std.specs.Prelude.{◌≡◌, ◌<◌, ◌++◌, ◌∷◌, [], IfOk, OnOk, map, option_copied, option_map, option_to_list, string_bytes};
 ghost use Rattle.hir_input.specs.Id.{hex_digit as hex_digit_of};
-ghost use Rattle.item_rows.specs.Rows as rows;
-ghost use Rattle.item_rows.specs.Views.{row_view};
-ghost use Rattle.listed_members.specs.Views.{listed_view, reading_view};
+ghost use Rattle.tree_walk.specs.Rows as rows;
+ghost use Rattle.tree_walk.specs.Views.{row_view};
+ghost use Rattle.source_rows.specs.ListedViews.{listed_view, reading_view};
 ghost use Rattle.source_listing.specs.Ends.{IsBeginOf};
 ghost use Rattle.source_listing.specs.Inner.{IsSameFinder};
 ghost use Rattle.source_listing.specs.Places.{AreDistinct};
@@ -14,12 +14,12 @@ use crate::finder::{Finder, stands_at};
 use crate::lines::Choice;
 use crate::search::{holder, push_scope};
 use hir_input::{AstIdKind, Name};
-use item_rows::{Row, item_rows};
 use item_tree::ItemTree;
-use listed_members::{ListedMember, Reading};
 use rust_items::ItemPlace;
 use rust_members::MemberKind;
+use source_rows::{ListedMember, Reading};
 use std::alloc::{AllocError, Global};
+use tree_walk::{Row, item_rows};
 
 /// The letter of a kind.
 fn letter(kind: AstIdKind) -> Option<&'static str>

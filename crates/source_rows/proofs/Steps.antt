@@ -8,7 +8,7 @@ use Rattle.rust_lexer.specs.Piece.{Piece}
 use Rattle.rust_cursor.specs.Tokens.{Tokens}
 use Rattle.rust_cursor.specs.Words.{symbol, text, is_empty, bumped}
 use Rattle.rust_cursor.proofs.Nesting.{not_first}
-use Rattle.source_skeleton.specs.declared.kept.Hole.{Hole}
+use Rattle.source_rows.specs.declared.kept.Hole.{Hole}
 use Rattle.source_rows.specs.declared.items.Part as code_part
 use Rattle.rust_items.specs.declared.source_file.ItemPlace.{ItemPlace}
 use Rattle.source_rows.specs.Headers.{gap, is_over, reach_behind, spaced, spaced_from}

@@ -3,3 +3,11 @@ pub mod Headers
 pub mod Parts
 pub mod Rows
 pub mod Views
+pub mod Enabled
+pub mod Types
+pub mod Listed
+pub mod ListedViews
+pub mod Skeletons
+pub mod Changes
+pub mod Inner
+pub mod ChangeViews

@@ -2,9 +2,9 @@
 use Rattle.std.specs.Prelude.{ℕ, ◌+◌, ◌-◌, Bool, nat_le, nat_lt, if◌then◌else◌, List, [], ◌∷◌, ◌++◌, map, Option, Some, None}
 use Rattle.std.specs.List.{flat_map}
 use Rattle.rust_paths.specs.declared.names.TextRange.{TextRange}
-use Rattle.source_skeleton.specs.declared.kept.Hole.{Hole}
-use Rattle.source_skeleton.specs.Changes.{RowView}
-use Rattle.source_skeleton.specs.Skeletons.{skeleton}
+use Rattle.source_rows.specs.declared.kept.Hole.{Hole}
+use Rattle.source_rows.specs.Changes.{RowView}
+use Rattle.source_rows.specs.Skeletons.{skeleton}
 use Rattle.source_rows.specs.Labels.{text_at}
 use Rattle.source_rows.specs.Parts.{Part}
 

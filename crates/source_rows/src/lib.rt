@@ -1,12 +1,25 @@
-//! The items of a text and their members as rows: what each is called, and its own tokens.
+//! The items of a text and their members as rows, with what each is called and its own tokens; what became of rows and of tokens in
+//! another text; and what lists tell of items beside the tree, as the type and the trait of an impl, and members that have a name.
 #![tactic(auto)]
 
+mod compare;
+mod enabled;
 mod headers;
 mod items;
+mod kept;
+mod labelled;
 mod labels;
+mod laws;
+mod listed;
+mod reading;
 mod tokens;
+mod types;
 
+pub use compare::{Change, ChangeKind, Row, changes};
 pub use headers::header;
 pub use items::{Part, members_in, parts};
+pub use kept::{Hole, same_texts, skeleton};
 pub use labels::{member_word, text_at};
+pub use listed::ListedMember;
+pub use reading::Reading;
 pub use tokens::{bodies, rows};

@@ -2,14 +2,15 @@
 
 ghost use Rattle.std.specs.Prelude.{◌≡◌, ◌++◌, IfOk, OnOk, map};
 ghost use Rattle.std.specs.List.{flat_map};
-ghost use Rattle.source_skeleton.specs.Views.{row_view};
+ghost use Rattle.source_rows.specs.ChangeViews.{row_view};
 ghost use Rattle.source_rows.specs.Rows as spec;
 ghost use Rattle.source_rows.specs.Views.{part_view};
 
+use crate::compare::Row;
 use crate::items::Part;
+use crate::kept::{Hole, skeleton};
 use crate::labels::text_at;
 use rust_members::TextRange;
-use source_skeleton::{Hole, Row, skeleton};
 use std::alloc::{AllocError, Global};
 
 /// Adds what stands between braces.

@@ -1,1 +1,4 @@
 pub mod Below
+pub mod Ids
+pub mod Subjects
+pub mod Outlines

@@ -1,6 +1,12 @@
-//! Walks over an item tree by its public calls alone: the items that stand in an item, and all items of a tree, each before
-//! those that stand in it.
+//! Walks over an item tree by its public calls alone: the items that stand in an item, all items of a tree, each before those that
+//! stand in it; rows of them, each with what it stands in, from which lists of items are made; and outlines, as text and as JSON.
 #![tactic(auto)]
+
+mod laws;
+mod lines;
+mod objects;
+mod rows;
+mod subject;
 
 ghost use Rattle.std.specs.Prelude.{◌≡◌, ◌≢◌, ℕ, false, ◌↔◌, ◌+◌, ◌<◌, ◌^◌, ◌++◌, ◌⊎◌, IsTrue, IsSome, IfOk, IfErr, IfSome, OnOk, Some, map};
 ghost use Rattle.std.specs.List.{sum_by, flat_map, AllPairs, Contains};
@@ -20,7 +26,11 @@ use hir_input::{FileAstId, Name};
 use item_tree::{
     CrateData, ItemTree, LowerError, ModItemId, ModItemKind, ModKind, RawVisibilityId, lower_syntax,
 };
+pub use lines::{outline_text, push_outline};
+pub use objects::outline_json;
+pub use rows::{Row, is_enabled, is_file_enabled, item_rows};
 use std::alloc::{AllocError, Global};
+pub use subject::{Subject, subject_at};
 
 /// The ids of the items that stand in an item, none where no item can.
 #[tactic(auto, using(item_tree::proofs::Walking::leaf_counts, item_tree::proofs::Walking::parent_counts, item_tree::proofs::Walking::children_contained, item_tree::proofs::Walking::leaf_childless))]

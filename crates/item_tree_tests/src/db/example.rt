@@ -1,11 +1,11 @@
 //! The table of trees in a few lines: a file is set, and its tree is read.
 use crate::db::table::crates;
 use crate::lowered::edition;
+use crate::samples::items::one_function;
 use hir_input::ast::Syntax;
 use hir_input::{Crate, HirFileId};
 use item_tree::{CrateData, ModItemKind};
 use item_tree_db::{Edit, Place, Sources, TreeId, file_item_tree};
-use item_tree_samples::items::one_function;
 use std::alloc::{AllocError, Global};
 
 // A table of these crates, in a box.

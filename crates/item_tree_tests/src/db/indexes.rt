@@ -1,10 +1,10 @@
 //! An index that is refreshed over edits: where it finds a name, and how many entries the trees have that changed.
 use crate::db::table::{Answer, OTHER, are_set, make, set_file, table};
+use crate::samples::memory::{leave_again, leave_none};
+use crate::samples::words::name;
 use decl_index::DeclIndex;
 use hir_input::Name;
 use item_tree_db::{Edit, Sources};
-use item_tree_samples::memory::{leave_again, leave_none};
-use item_tree_samples::words::name;
 use std::alloc::{AllocError, Global};
 
 const FOUND: &str = "\

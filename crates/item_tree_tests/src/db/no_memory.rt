@@ -1,9 +1,9 @@
 //! A table over two files and a block, read where no memory is left, and a file removed.
 use crate::db::table::{Answer, BLOCK, CRATE, FILE, OTHER, are_set, make, table};
+use crate::samples::memory::{leave_again, leave_none};
 use hir_input::CfgExpr;
 use item_tree::CrateData;
 use item_tree_db::{Edit, Place, Sources, TreeId, file_item_tree};
-use item_tree_samples::memory::{leave_again, leave_none};
 use std::alloc::{AllocError, Global};
 
 fn count_changes(sources: &Sources) -> usize {

@@ -1,7 +1,7 @@
 //! Options given to a crate over two files and a block, where a request for memory is refused.
 use crate::db::table::{Answer, BLOCK, CRATE, FILE, OTHER, are_set, make, table};
+use crate::samples::attributes::{flag, options};
 use item_tree_db::{Edit, Place, Sources};
-use item_tree_samples::attributes::{flag, options};
 use std::alloc::{AllocError, Global};
 
 // Gives the crate the flag `test`. Whether that is the fourth edit, or handed back.

@@ -10,13 +10,13 @@ ghost use Rattle.item_tree_db.specs.Refusal.{NamesKnown};
 ghost use Rattle.decl_index.specs.Entries.{IndexView, IsBehind};
 
 use crate::db::example::new_table;
+use crate::samples::attributes::{condition, options, word};
+use crate::samples::blocks::block;
+use crate::samples::items::one_function;
 use hir_input::ast::Syntax;
 use hir_input::{BlockId, Crate, HirFileId};
 use item_tree::{CrateData, EditFault, LowerError};
 use item_tree_db::{AllRefused, Edit, EditRefused, Sources};
-use item_tree_samples::attributes::{condition, options, word};
-use item_tree_samples::blocks::block;
-use item_tree_samples::items::one_function;
 use std::alloc::{AllocError, Global};
 
 pub const FILE: HirFileId = HirFileId(5);

@@ -1,5 +1,5 @@
 use Rattle.std.proofs.Common.{◌≡◌, map, take, string_bytes}
-use Rattle.source_skeleton.specs.Views.{change_view}
+use Rattle.source_rows.specs.ChangeViews.{change_view}
 use Rattle.source_changes.specs.Changes.{change_lines}
 use Rattle.source_changes.specs.Views.{side_view, source_view}
 use Rattle.source_changes.proofs.lines.Given as goal

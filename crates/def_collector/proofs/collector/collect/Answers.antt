@@ -3,7 +3,7 @@ use Rattle.std.specs.List.{flat_map}
 use Rattle.item_tree.specs.Walk.{AreContained}
 use Rattle.def_collector.specs.Declarations.{declared_at}
 use Rattle.def_collector.specs.DeclarationView.{collected, defined}
-use Rattle.def_collector.specs.Inner.{defined_from}
+use Rattle.def_collector.specs.Inner.Declared.{defined_from}
 use Rattle.def_collector.proofs.Below.{top_defined, views_alone, ids_alone, declaring_once, declaring_contained}
 use Rattle.def_collector.proofs.collector.collect.Goals as goal
 

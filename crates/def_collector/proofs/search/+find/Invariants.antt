@@ -1,7 +1,7 @@
 use Rattle.std.proofs.Common.{◌≡◌, ◌+◌, ◌*◌, drop}
 use Rattle.std.specs.List.{sum_by}
 use Rattle.item_tree.specs.Walk.{count_at}
-use Rattle.def_collector.specs.Inner.{found_among}
+use Rattle.def_collector.specs.Inner.Declared.{found_among}
 use Rattle.def_collector.proofs.search.+find.Given as goal
 
 abbrev pub decreases-find_among : goal.decreases-find_among

@@ -1,6 +1,6 @@
 use Rattle.std.proofs.Common.{rules, map, subst, sym, refl, ◌∙◌}
 use Rattle.item_tree.specs.Walk.{AreContained}
-use Rattle.item_rows.specs.Views.{row_view}
+use Rattle.tree_walk.specs.Views.{row_view}
 use Rattle.item_changes.specs.Inner.{CountsAll, item_view}
 use Rattle.item_changes.specs.Own.{own_at}
 use Rattle.item_changes.proofs.Tables.{counted_like, one_counted, rows_pushed}

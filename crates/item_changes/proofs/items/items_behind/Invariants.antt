@@ -1,7 +1,7 @@
 use Rattle.std.proofs.Common.{◌≡◌, ◌++◌, [], length, map}
 use Rattle.std.specs.List.{zip}
 use Rattle.item_tree.specs.Walk.{AreContained}
-use Rattle.item_rows.specs.Views.{row_view}
+use Rattle.tree_walk.specs.Views.{row_view}
 use Rattle.item_changes.specs.Changes.{items_behind}
 use Rattle.item_changes.specs.Inner.{CountsAll, item_view}
 use Rattle.item_changes.specs.Own.{own_at}

@@ -1,6 +1,6 @@
 use Rattle.std.proofs.Common.{◌≡◌, length}
 use Rattle.rust_lexer.specs.Tokens.{tokens}
-use Rattle.rust_typing.specs.Laws.{first_plain}
+use Rattle.rust_edits.specs.Typing.Laws.{first_plain}
 use Rattle.rust_edits.specs.Inner.{begins_plain}
 use Rattle.rust_edits.proofs.alone.begins_plain.Given as goal
 

@@ -1,5 +1,5 @@
 use Rattle.std.proofs.Common.{◌≡◌, ◌≤◌, ◌+◌, length}
-use Rattle.rust_typing.specs.Loose.{loose_from}
+use Rattle.rust_edits.specs.Typing.Loose.{loose_from}
 use Rattle.rust_edits.specs.Inner.{brackets_view, loose_inside}
 use Rattle.rust_edits.proofs.alone.loose_brackets.Given as goal
 

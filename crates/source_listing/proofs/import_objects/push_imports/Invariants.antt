@@ -1,7 +1,7 @@
 use Rattle.std.proofs.Common.{◌≡◌, ◌++◌, map, option_map, take}
 use Rattle.std.specs.List.{flat_map}
 use Rattle.serde_json.specs.View.{view}
-use Rattle.import_lister.specs.Listed.{listed_import}
+use Rattle.def_collector.specs.Listed.{listed_import}
 use Rattle.source_listing.specs.ImportObjects as spec
 use Rattle.source_listing.specs.Inner.{IsSameTreeFinder, text_in, trees_view}
 use Rattle.source_listing.specs.Uses.{tree_spots}

@@ -2,8 +2,8 @@ use Rattle.std.proofs.Common.{◌++◌, ◌+◌, ◌∷◌, [], map, ap, ◌∙�
 use Rattle.std.specs.List.{flat_map}
 use Rattle.std.proofs.lemmas.List.{map-append}
 use Rattle.serde_json.specs.View.{items_of, view}
-use Rattle.listed_members.specs.Listed.{header_of, members_of}
-use Rattle.listed_members.specs.Views.{reading_view}
+use Rattle.source_rows.specs.Listed.{header_of, members_of}
+use Rattle.source_rows.specs.ListedViews.{reading_view}
 use Rattle.source_listing.specs.Inner.{file_of, item_view, objects_at, places_of, reserved_of}
 use Rattle.source_listing.specs.Objects.{item_entry, member_objects, object_form}
 use Rattle.source_listing.specs.Views.{choice_view}

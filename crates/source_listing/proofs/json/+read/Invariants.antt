@@ -2,7 +2,7 @@ use Rattle.std.proofs.Common.{◌≡◌, ◌+◌, ◌++◌, ◌*◌, map, take}
 use Rattle.std.specs.List.{sum_by, flat_map}
 use Rattle.serde_json.specs.View.{view}
 use Rattle.item_tree.specs.Walk.{count_at}
-use Rattle.listed_members.specs.Views.{reading_view}
+use Rattle.source_rows.specs.ListedViews.{reading_view}
 use Rattle.source_listing.specs.Inner.{IsSameFile, file_of, objects_at, places_of, reserved_of}
 use Rattle.source_listing.specs.Views.{choice_view}
 use Rattle.source_listing.proofs.json.+read.Given as goal

@@ -1,6 +1,6 @@
 use Rattle.std.proofs.Common.{◌≡◌, map, take}
 use Rattle.serde_json.specs.View.{view}
-use Rattle.listed_members.specs.Views.{listed_view}
+use Rattle.source_rows.specs.ListedViews.{listed_view}
 use Rattle.source_listing.specs.Inner.{IsSameFile, file_of, reserved_of}
 use Rattle.source_listing.specs.Objects.{member_objects}
 use Rattle.source_listing.specs.Views.{choice_view}

@@ -1,5 +1,5 @@
 use Rattle.std.proofs.Common.{◌≡◌, ◌++◌, map, option_map, take}
-use Rattle.import_lister.specs.Listed.{listed_import}
+use Rattle.def_collector.specs.Listed.{listed_import}
 use Rattle.source_listing.specs.Inner.{IsSameTreeFinder, named_view, text_in, trees_view}
 use Rattle.source_listing.specs.Repeated as spec
 use Rattle.source_listing.specs.Uses.{tree_spots}

@@ -1,6 +1,6 @@
 use Rattle.std.proofs.Common.{ap, map, option_map, ◌∙◌}
 use Rattle.std.proofs.lemmas.Result.{on_ok_weaker}
-use Rattle.import_lister.specs.Listed.{listed_import}
+use Rattle.def_collector.specs.Listed.{listed_import}
 use Rattle.source_listing.specs.Inner.{named_view, places_in, text_in, trees_view}
 use Rattle.source_listing.proofs.Repeats.{own_use}
 use Rattle.source_listing.proofs.repeated.push_own.Goals as goal

@@ -1,6 +1,6 @@
 use Rattle.std.proofs.Common.{◌≡◌, map, take, string_bytes}
 use Rattle.std.specs.Prelude.{option_copied}
-use Rattle.item_rows.specs.Views.{row_view}
+use Rattle.tree_walk.specs.Views.{row_view}
 use Rattle.source_listing.specs.Outlines.{reading}
 use Rattle.source_listing.specs.Search as spec
 use Rattle.source_listing.specs.Inner.{IsPrinterOf}

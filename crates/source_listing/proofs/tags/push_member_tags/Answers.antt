@@ -1,7 +1,7 @@
 use Rattle.std.proofs.Common.{map, rules, string_bytes}
 use Rattle.std.specs.Prelude.{option_copied}
-use Rattle.item_rows.specs.Views.{row_view}
-use Rattle.listed_members.specs.Views.{listed_view}
+use Rattle.tree_walk.specs.Views.{row_view}
+use Rattle.source_rows.specs.ListedViews.{listed_view}
 use Rattle.source_listing.specs.Views.{choice_view}
 use Rattle.source_listing.proofs.Begins.{begin_later}
 use Rattle.source_listing.proofs.Tagged.{member_pushed}

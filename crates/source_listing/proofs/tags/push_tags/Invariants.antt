@@ -1,6 +1,6 @@
 use Rattle.std.proofs.Common.{◌≡◌, ◌++◌, map, take, string_bytes}
-use Rattle.item_rows.specs.Views.{row_view}
-use Rattle.listed_members.specs.Views.{reading_view}
+use Rattle.tree_walk.specs.Views.{row_view}
+use Rattle.source_rows.specs.ListedViews.{reading_view}
 use Rattle.source_listing.specs.Ends.{IsBeginOf}
 use Rattle.source_listing.specs.Tags as spec
 use Rattle.source_listing.specs.Inner.{IsFinderOf}

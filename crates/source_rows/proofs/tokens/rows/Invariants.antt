@@ -1,5 +1,5 @@
 use Rattle.std.proofs.Common.{◌≡◌, ◌++◌, map, length}
-use Rattle.source_skeleton.specs.Views.{row_view}
+use Rattle.source_rows.specs.ChangeViews.{row_view}
 use Rattle.source_rows.specs.Rows.{rows}
 use Rattle.source_rows.specs.Views.{part_view}
 use Rattle.source_rows.proofs.tokens.rows.Given as goal

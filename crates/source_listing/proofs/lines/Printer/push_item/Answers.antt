@@ -1,7 +1,7 @@
 use Rattle.std.proofs.Common.{◌++◌, ◌∙◌, ap, rules, string_bytes}
 use Rattle.std.proofs.lemmas.Result.{on_ok_weaker}
 use Rattle.std.specs.Prelude.{option_copied}
-use Rattle.item_rows.specs.Views.{subject_view}
+use Rattle.tree_walk.specs.Views.{subject_view}
 use Rattle.source_listing.specs.Colors.{bold, colored, cyan, faint}
 use Rattle.source_listing.specs.Inner.{file_of, reserved_of}
 use Rattle.source_listing.specs.Lines as spec

@@ -1,5 +1,5 @@
 use Rattle.std.proofs.Common.{◌≡◌, ◌++◌, map, take, string_bytes}
-use Rattle.listed_members.specs.Views.{listed_view}
+use Rattle.source_rows.specs.ListedViews.{listed_view}
 use Rattle.source_listing.specs.Outlines.{member_lines}
 use Rattle.source_listing.specs.Inner.{IsSameFile, file_of, reserved_of}
 use Rattle.source_listing.specs.Views.{look_view}

@@ -1,0 +1,51 @@
+-- For the crate's own functions: what is declared by the ids of items, and by items that are lent.
+use Rattle.std.specs.Prelude.{ℕ, Bool, false, List, [], ◌∷◌, map, Option, option_map, slice_get}
+use Rattle.std.specs.List.{flat_map}
+use Rattle.std.specs.Option.{option_map_or}
+use Rattle.item_tree.specs.Layout.{leaf_vis, trunk_vis}
+use Rattle.item_tree.specs.Node.{Unfolding}
+use Rattle.item_tree.specs.Shown.{Lent, lent_leaf, lent_parent}
+use Rattle.item_tree.specs.Walk.{of_id}
+use Rattle.def_collector.specs.Declarations.{Declared, declared_name, leaf_name, trunk_name, leaf_declares, node_declares, Declaration, declaration_of, with_id, node_declared}
+use Rattle.def_collector.specs.DeclarationView.{DeclarationView, defined}
+use Rattle.def_collector.specs.Found.{same_names, first_named}
+
+-- the declaration of the item of an id alone, and all from it on down
+abbrev pub own_from : Unfolding → List (List ℕ) → ℕ → List (ℕ × Declaration)
+own_from u path i = of_id u [] (λ n. with_id i (declaration_of path n (node_declares n))) i
+
+abbrev pub declared_from : Unfolding → List (List ℕ) → ℕ → List (ℕ × Declaration)
+declared_from u path i = of_id u [] (node_declared u path i) i
+
+-- as what is collected of them
+abbrev pub own_defined : Unfolding → List (List ℕ) → ℕ → List (ℕ × DeclarationView)
+own_defined u path i = map defined (own_from u path i)
+
+abbrev pub defined_from : Unfolding → List (List ℕ) → ℕ → List (ℕ × DeclarationView)
+defined_from u path i = map defined (declared_from u path i)
+
+-- the same words of an item that is lent
+abbrev pub lent_name : Lent → Option (List ℕ)
+lent_name (lent_leaf a l) = leaf_name l
+lent_name (lent_parent a t is) = trunk_name t
+
+abbrev pub lent_declares : Lent → Option Declared
+lent_declares (lent_leaf a l) = leaf_declares l
+lent_declares (lent_parent a t is) = option_map declared_name (trunk_name t)
+
+abbrev pub lent_visibility : Lent → Option ℕ
+lent_visibility (lent_leaf a l) = slice_get (leaf_vis l) 0
+lent_visibility (lent_parent a t is) = slice_get (trunk_vis t) 0
+
+-- ---- the first of a path of names, which begins in the module of the item of an id
+
+-- of the declarations from the item of an id on down, and of those from several
+abbrev pub found_from : Unfolding → List (List ℕ) → ℕ → Option ℕ
+found_from u names i = first_named names (declared_from u [] i)
+
+abbrev pub found_among : Unfolding → List (List ℕ) → List ℕ → Option ℕ
+found_among u names is = first_named names (flat_map (declared_from u []) is)
+
+-- whether the names are an item's alone, where it has one
+abbrev pub is_named : List (List ℕ) → Option (List ℕ) → Bool
+is_named names name = option_map_or (λ n. same_names names (n ∷ [])) name false

@@ -1,4 +1,0 @@
-pub mod Duplicates
-pub mod Inner
-pub mod Listed
-pub mod Written

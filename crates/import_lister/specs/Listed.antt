@@ -1,8 +1,0 @@
--- A listed import as plain data.
-use Rattle.item_tree.specs.Calls.{import}
-use Rattle.item_tree.specs.Imports.{Import}
-use Rattle.import_lister.specs.declared.Listed.{Listed}
-
--- the import that is listed
-abbrev pub listed_import : Listed → Import
-listed_import l = import l.index l.path l.kind l.alias

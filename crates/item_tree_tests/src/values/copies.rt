@@ -1,0 +1,96 @@
+//! A copy is equal to its source, or refused, and of two requests never both are refused.
+use crate::samples::attributes::{flag, literal, nested, options, tokens};
+use crate::samples::words::{name, path};
+use hir_input::{Attr, AttrInput, CfgAtom, Edition, EditionYear, PathKind, SyntaxContext};
+use std::alloc::{AllocError, Global};
+
+// Whether a copy is made, of two requests at least once, and equal to its source.
+fn is_copied<T: Clone + PartialEq + Drop>(source: &T) -> bool {
+    let mut is_made = false;
+    for _ in 0..2 {
+        if let Ok(copy) = source.clone() {
+            if copy != *source {
+                return false;
+            }
+            is_made = true;
+        }
+    }
+    is_made
+}
+
+// The same, or the source was not made for out of memory.
+fn copies<T: Clone + PartialEq + Drop>(source: Result<T, AllocError>) -> bool {
+    match source {
+        Ok(source) => is_copied(&source),
+        Err(AllocError) => true,
+    }
+}
+
+// The same of what is there.
+fn copies_some<T: Clone + PartialEq + Drop>(source: Result<Option<T>, AllocError>) -> bool {
+    match source {
+        Ok(Some(source)) => is_copied(&source),
+        Ok(None) => false,
+        Err(AllocError) => true,
+    }
+}
+
+fn edition(alloc: Global) -> Result<Edition, AllocError> {
+    let mut reserved = Vec::new(alloc);
+    if let Some(word) = name(alloc, "type")? {
+        reserved.push(word)?;
+    }
+    Ok(Edition {
+        year: EditionYear::E2024,
+        reserved,
+    })
+}
+
+#[test]
+fn copies_of_editions_are_whole_or_refused_when_memory_is_refused(rt: HostRuntime) {
+    assert!(rt; copies(edition(rt.alloc())));
+}
+
+// `#[super::a = "a"]`
+fn attr(alloc: Global) -> Result<Option<Attr>, AllocError> {
+    let input = Some(AttrInput::Literal(literal(alloc)?));
+    match path(alloc, PathKind::Super(1), "a")? {
+        Some(path) => Ok(Some(Attr {
+            path,
+            input,
+            ctxt: SyntaxContext::Root(EditionYear::E2024),
+        })),
+        None => Ok(None),
+    }
+}
+
+fn token_input(alloc: Global) -> Result<AttrInput, AllocError> {
+    Ok(AttrInput::TokenTree(tokens(alloc)?))
+}
+
+#[test]
+fn copies_of_attributes_are_whole_or_refused_when_memory_is_refused(rt: HostRuntime) {
+    assert!(rt; copies_some(attr(rt.alloc())));
+    assert!(rt; copies(literal(rt.alloc())));
+    assert!(rt; copies(tokens(rt.alloc())));
+    assert!(rt; copies(token_input(rt.alloc())));
+}
+
+#[test]
+fn copies_of_metas_are_whole_or_refused_when_memory_is_refused(rt: HostRuntime) {
+    assert!(rt; copies(nested(rt.alloc())));
+}
+
+fn atom(alloc: Global) -> Result<Option<CfgAtom>, AllocError> {
+    match name(alloc, "test")? {
+        Some(name) => Ok(Some(CfgAtom::Flag(name))),
+        None => Ok(None),
+    }
+}
+
+#[test]
+fn copies_of_options_are_whole_or_refused_when_memory_is_refused(rt: HostRuntime) {
+    assert!(rt; copies_some(atom(rt.alloc())));
+    assert!(rt; copies(flag(rt.alloc(), "test")));
+    assert!(rt; copies(options(rt.alloc(), "test")));
+}

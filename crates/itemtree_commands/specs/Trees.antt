@@ -1,0 +1,34 @@
+-- What a Rust text's tree is.
+use Rattle.std.specs.Prelude.{◌≡◌, ◌≢◌, ◌<◌, ◌≤◌, ◌^◌, ◌⊎◌, ℕ, false, List, length, AllPairs}
+use Rattle.hir_input.specs.declared.edition.EditionYear.{EditionYear}
+use Rattle.item_tree.specs.declared.crate_data.CrateData.{CrateData}
+use Rattle.item_tree.specs.declared.fault.LowerError.TheVariants.{OutOfMemory}
+use Rattle.item_tree.specs.Lowered.{IsTooLargeIn, kept_in}
+use Rattle.rust_items.specs.SourceFiles.{FileView, IsFileView}
+use Rattle.itemtree_commands.specs.declared.trees.SourceTree.{SourceTree}
+use Rattle.itemtree_commands.specs.declared.trees.SourceError.{SourceError}
+use Rattle.itemtree_commands.specs.declared.trees.SourceError.TheVariants.{TooLong, Lower}
+
+-- what is kept of what is read of a text of an edition, beside the places of items and use trees and the problems that were read
+pub record IsTreeOf (krate : CrateData) (skipped : List (List ℕ)) (edition : EditionYear) (text : List ℕ) (t : SourceTree) : Type 0 where
+  pub file : FileView
+  pub is_read : IsFileView edition text file
+  pub tree : t.tree ≡ kept_in krate false skipped file.syntax
+  pub places : t.places.items ≡ file.places
+  pub use_trees : t.use_trees.items ≡ file.use_trees
+  pub problems : t.problems.items ≡ file.problems
+
+-- no two items have one id
+abbrev pub HasOwnIds : SourceTree → Type 0
+HasOwnIds t = AllPairs (λ p q. p.id ≢ q.id) t.places.items
+
+-- a text that is not read is too long, or memory runs out
+abbrev pub IsUnread : List ℕ → SourceError → Type 0
+IsUnread text TooLong = 2 ^ 32 < length text
+IsUnread text (Lower e) = (length text ≤ 2 ^ 32) × (e ≡ OutOfMemory)
+
+-- a text without a tree is too long, or what is read of it passes a size of the tree, or memory runs out
+abbrev pub IsRefused : CrateData → List (List ℕ) → EditionYear → List ℕ → SourceError → Type 0
+IsRefused krate skipped edition text TooLong = 2 ^ 32 < length text
+IsRefused krate skipped edition text (Lower e) =
+    (length text ≤ 2 ^ 32) × ((e ≡ OutOfMemory) ⊎ ((file : FileView) × IsFileView edition text file × IsTooLargeIn krate false skipped file.syntax e))

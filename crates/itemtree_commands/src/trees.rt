@@ -1,0 +1,143 @@
+//! The item tree of a Rust text, with the places of its items.
+
+ghost use Rattle.std.specs.Prelude.{◌≡◌, ◌≢◌, ◌≤◌, ◌^◌, false, length, AllPairs, IfOk, IfErr, OnOk};
+ghost use Rattle.hir_input.specs.Syntax.{syntax_view};
+ghost use Rattle.item_tree.specs.Lowered.{IsTooLargeIn, kept_in};
+ghost use Rattle.rust_items.specs.SourceFiles.{IsBareFile, IsSourceFile, file_view};
+ghost use Rattle.itemtree_commands.specs.Trees.{HasOwnIds, IsRefused, IsTreeOf, IsUnread};
+
+use hir_input::{EditionYear, Name};
+use item_tree::{CrateData, ItemTree, LowerError, lower_syntax};
+use rust_items::{ItemPlace, Problem, SourceFile, read_source_file, read_without_bodies};
+use std::alloc::{AllocError, Global};
+use thiserror::Error;
+
+/// The tree of a text, and where its items stand.
+#[derive(Debug, Drop)]
+pub struct SourceTree {
+    pub tree: ItemTree,
+    /// The places of all items that were read, in preorder; those that are not kept have no node in the tree.
+    pub places: Vec<ItemPlace>,
+    /// Where the use trees of the uses begin, as the reader tells it.
+    pub use_trees: Vec<usize>,
+    /// What could not be read, in order.
+    pub problems: Vec<Problem>,
+}
+
+/// Why a text has no tree.
+#[derive(Clone, Copy, Debug, PartialEq, Eq, Error)]
+pub enum SourceError {
+    /// More than 2^32 bytes, so that its items could have no ids of their own.
+    #[error("this file is too long")]
+    TooLong,
+    #[error("{0}")]
+    Lower(LowerError),
+}
+
+impl From<AllocError> for SourceError {
+    ghost use Rattle.std.specs.Prelude.{◌≡◌};
+    ghost use Rattle.item_tree.specs.declared.fault.LowerError.TheVariants.{OutOfMemory};
+    ghost use Rattle.itemtree_commands.specs.declared.trees.SourceError.TheVariants.{Lower};
+
+    ghost from_gives = { λ _ e. e ≡ Lower OutOfMemory };
+
+    fn from(_error: AllocError) -> SourceError {
+        SourceError::Lower(LowerError::OutOfMemory)
+    }
+}
+
+impl From<LowerError> for SourceError {
+    ghost use Rattle.std.specs.Prelude.{◌≡◌};
+    ghost use Rattle.itemtree_commands.specs.declared.trees.SourceError.TheVariants.{Lower};
+
+    ghost from_gives = { λ reason e. e ≡ Lower reason };
+
+    fn from(error: LowerError) -> SourceError {
+        SourceError::Lower(error)
+    }
+}
+
+const MOST_BYTES: usize = 0x1_0000_0000;
+
+fn tree_of(
+    alloc: Global,
+    file: SourceFile,
+    krate: &CrateData,
+    skipped: &[Name],
+) -> Result<SourceTree, LowerError>
+    ensures tree { IfOk result
+        (λ t. t.tree ≡ kept_in krate.now false skipped.now (syntax_view file.syntax)) }
+    ensures places { IfOk result (λ t. t.places.items ≡ file.places.items) }
+    ensures use_trees { IfOk result (λ t. t.use_trees.items ≡ file.use_trees.items) }
+    ensures problems { IfOk result (λ t. t.problems.items ≡ file.problems.items) }
+    ensures too_large { IfErr result
+        (IsTooLargeIn krate.now false skipped.now (syntax_view file.syntax)) }
+{
+    let tree = lower_syntax(alloc, &file.syntax, false, krate, skipped)?;
+    Ok(SourceTree {
+        tree,
+        places: file.places,
+        use_trees: file.use_trees,
+        problems: file.problems,
+    })
+}
+
+/// Reads a text of an edition.
+///
+/// # Errors
+///
+/// `TooLong` exactly where the text has more than 2^32 bytes, and `OutOfMemory`.
+pub fn source_file(
+    alloc: Global,
+    text: &str,
+    edition: EditionYear,
+) -> Result<SourceFile, SourceError>
+    ensures file { IfOk result (IsSourceFile edition text.now) }
+    ensures ids { IfOk result (λ file. AllPairs (λ p q. p.id ≢ q.id) file.places.items) }
+    ensures short { OnOk result (length text.now ≤ 2 ^ 32) }
+    ensures refused { IfErr result (IsUnread text.now) }
+{
+    if text.len() > MOST_BYTES {
+        return Err(SourceError::TooLong);
+    }
+    let file = read_source_file(alloc, text, edition)?;
+    Ok(file)
+}
+
+/// Reads a text of an edition, but no body texts.
+fn bare_source(alloc: Global, text: &str, edition: EditionYear) -> Result<SourceFile, SourceError>
+    ensures file { IfOk result (λ file. IsBareFile edition text.now (file_view file)) }
+    ensures ids { IfOk result (λ file. AllPairs (λ p q. p.id ≢ q.id) file.places.items) }
+    ensures short { OnOk result (length text.now ≤ 2 ^ 32) }
+    ensures refused { IfErr result (IsUnread text.now) }
+{
+    if text.len() > MOST_BYTES {
+        return Err(SourceError::TooLong);
+    }
+    let file = read_without_bodies(alloc, text, edition)?;
+    Ok(file)
+}
+
+/// Reads a text of an edition and makes its tree in a crate: the items that are kept, with the attributes that their metas
+/// collect under the crate's options, without those of the skipped names.
+///
+/// # Errors
+///
+/// `TooLong` exactly where the text has more than 2^32 bytes, and those of `lower_syntax`.
+#[tactic(auto, using(crate::proofs::BareTrees::bare_tree))]
+pub fn source_tree(
+    alloc: Global,
+    text: &str,
+    edition: EditionYear,
+    krate: &CrateData,
+    skipped: &[Name],
+) -> Result<SourceTree, SourceError>
+    ensures tree { IfOk result (IsTreeOf krate.now skipped.now edition text.now) }
+    ensures ids { IfOk result HasOwnIds }
+    ensures short { OnOk result (length text.now ≤ 2 ^ 32) }
+    ensures refused { IfErr result (IsRefused krate.now skipped.now edition text.now) }
+{
+    let file = bare_source(alloc, text, edition)?;
+    let tree = tree_of(alloc, file, krate, skipped)?;
+    Ok(tree)
+}

@@ -1,6 +1,0 @@
-use Rattle.std.proofs.Common.{◌≡◌, ◌-◌}
-use Rattle.listed_members.specs.Types.{type_from, type_read}
-use Rattle.listed_members.proofs.types.type_read.Given as goal
-
-abbrev pub invariant-loop-turn : goal.invariant-loop-turn
-invariant-loop-turn l = type_from (l.most - l._turn) l.read l.cursor ≡ type_read l.fn.cursor

@@ -1,4 +1,0 @@
-pub mod Enabled
-pub mod Types
-pub mod Listed
-pub mod Views

@@ -1,0 +1,205 @@
+-- A text that ends with a `;` or a `}` of its own, and what stands behind it: what is in front stays, and the tokens behind are those of the other text, moved.
+use Rattle.rust_edits.specs.Ranges.Joined.{IsBare}
+use Rattle.std.proofs.Common.{◌≡◌, ◌≤◌, ◌+◌, ◌==◌, ◌&&◌, ◌||◌, ℕ, suc, Bool, true, false, Option, Some, None, List, [], ◌∷◌, ◌++◌, length, refl, sym, ap, ◌∙◌, arith, map, append_assoc, length-append, zero}
+use Rattle.std.specs.Prelude.{not, nat_le, slice_index, option_map, if◌then◌else◌}
+use Rattle.std.proofs.lemmas.Bool.{and_parts}
+use Rattle.std.specs.List.{filter}
+use Rattle.std.proofs.lemmas.List.Elements.{filter-append}
+use Rattle.std.proofs.lemmas.Bool.Decides.{nat_tests}
+use Rattle.hir_input.specs.declared.edition.EditionYear.{EditionYear}
+use Rattle.rust_lexer.specs.Alone.{Stop, opening, closing, semicolon, stop, behind_lead, EndsAlone, is_fence, is_full, overhang, front, moved}
+use Rattle.rust_lexer.specs.Cut.{first_cut}
+use Rattle.rust_lexer.specs.Bytes.{is_continuation}
+use Rattle.rust_lexer.specs.Piece.{Piece}
+use Rattle.rust_lexer.specs.Symbol.{symbol_of}
+use Rattle.rust_lexer.specs.Terminated.{is_terminated}
+use Rattle.rust_lexer.specs.Tokens.{has_mark, is_blank, is_bracket_next, is_shebang, is_significant, tokens, tokens_from, whole}
+use Rattle.rust_lexer.proofs.Apart.{own, stop_at, tokens_moved}
+use Rattle.rust_lexer.proofs.Laws.{tokens_lossless, tokens_not_empty}
+use Rattle.rust_lexer.proofs.Same.{by_stop}
+use Rattle.rust_lexer.proofs.Whole.{plain_is, filter_moved}
+use Rattle.rust_cursor.specs.Tokens.{Tokens, end_of, tokens_of, place_if_open, last_unended}
+use Rattle.rust_cursor.specs.Words.{by_first, rest, bumped}
+use Rattle.rust_cursor.proofs.Few.{few}
+use Rattle.rust_cursor.proofs.Leads.{LeadsTo, here, further, when}
+use Rattle.rust_edits.proofs.Ranges.Alone.{last_counts}
+use Rattle.rust_edits.proofs.Ranges.Parts.{ended}
+
+-- ---- what may stand in front of a text
+
+module _ (s : ℕ) (feed : (s == 10 || s == 13) ≡ false) (dash : (s == 45) ≡ false) where
+  fence_by : (x y y' : List ℕ) → is_fence (x ++ s ∷ y') ≡ is_fence (x ++ s ∷ y)
+  fence_by [] y y' = rw (feed, dash) refl
+  fence_by (b ∷ []) y y' =
+      when (b == 10 || b == 13) (λ e. rw e (fence_by [] y y')) (λ e. when (b == 45) (λ f. rw (e, f, dash) refl) (λ f. rw (e, f) refl))
+  fence_by (b ∷ c ∷ []) y y' =
+      when (b == 10 || b == 13) (λ e. rw e (fence_by (c ∷ []) y y'))
+      (λ e. when (b == 45) (λ f. when (c == 45) (λ g. rw (e, f, g, dash) refl) (λ g. rw (e, f, g) refl)) (λ f. rw (e, f) refl))
+  fence_by (b ∷ c ∷ d ∷ x) y y' =
+      when (b == 10 || b == 13) (λ e. rw e (fence_by (c ∷ d ∷ x) y y'))
+      (λ e. when (b == 45)
+      (λ f. when (c == 45) (λ g. when (d == 45) (λ i. rw (e, f, g, i) (grind (arith, nat_tests))) (λ i. rw (e, f, g, i) refl)) (λ g. rw (e, f, g) refl))
+      (λ f. rw (e, f) refl))
+
+mark_by : (s : ℕ) → (s == 239) ≡ false → (s == 187) ≡ false → (x y y' : List ℕ) → has_mark (x ++ s ∷ y') ≡ has_mark (x ++ s ∷ y)
+mark_by s p q [] y y' = rw p refl
+mark_by s p q (a ∷ []) y y' = when (a == 239) (λ e. rw (e, q) refl) (λ e. rw e refl)
+mark_by s p q (a ∷ b ∷ []) y y' = refl
+mark_by s p q (a ∷ b ∷ c ∷ x) y y' = refl
+
+fence_on : (o : Stop) (x y y' : List ℕ) → is_fence (x ++ stop o ∷ y') ≡ is_fence (x ++ stop o ∷ y)
+fence_on o x y y' = by_stop (λ s. is_fence (x ++ s ∷ y') ≡ is_fence (x ++ s ∷ y)) (fence_by 123 refl refl x y y') (fence_by 125 refl refl x y y') (fence_by 59 refl refl x y y') o
+
+mark_on : (o : Stop) (x y y' : List ℕ) → has_mark (x ++ stop o ∷ y') ≡ has_mark (x ++ stop o ∷ y)
+mark_on o x y y' = by_stop (λ s. has_mark (x ++ s ∷ y') ≡ has_mark (x ++ s ∷ y)) (mark_by 123 refl refl x y y') (mark_by 125 refl refl x y y') (mark_by 59 refl refl x y y') o
+
+bracket_on : (o : Stop) (at : ℕ) (xs l l' : List Piece) → is_bracket_next (xs ++ stop_at o at ∷ l') ≡ is_bracket_next (xs ++ stop_at o at ∷ l)
+bracket_on opening at [] l l' = refl
+bracket_on closing at [] l l' = refl
+bracket_on semicolon at [] l l' = refl
+bracket_on o at (t ∷ xs) l l' = when (is_blank t.kind) (λ e. rw e (bracket_on o at xs l l')) (λ e. rw e refl)
+
+shebang_on : (o : Stop) (at : ℕ) (xs l l' : List Piece) → is_shebang (xs ++ stop_at o at ∷ l') ≡ is_shebang (xs ++ stop_at o at ∷ l)
+shebang_on opening at [] l l' = refl
+shebang_on closing at [] l l' = refl
+shebang_on semicolon at [] l l' = refl
+shebang_on opening at (t ∷ []) l l' = refl
+shebang_on closing at (t ∷ []) l l' = refl
+shebang_on semicolon at (t ∷ []) l l' = refl
+shebang_on o at (t ∷ u ∷ xs) l l' = ap (λ r. symbol_of t == 35 && (symbol_of u == 33 && not r)) (bracket_on o at xs l l')
+
+-- nothing stands in front of the longer text either
+pub plain_on : (w : List ℕ) (o : Stop) (y : List ℕ) → EndsAlone w o → is_continuation (slice_index y 0) ≡ false → IsBare (ended w o) → IsBare (w ++ stop o ∷ y)
+plain_on w o y alone clean p = record {
+  mark = mark_on o w [] y ∙ p.mark;
+  shebang =
+      ap is_shebang (own o 0 w y alone clean) ∙ shebang_on o (0 + length w) (front 0 0 w (stop o ∷ [])) [] (tokens_from 0 (suc (0 + length w)) y)
+      ∙ ap is_shebang (sym (own o 0 w [] alone refl)) ∙ p.shebang;
+  fence = fence_on o w [] y ∙ p.fence;
+}
+
+-- nor in front of the shorter one
+pub plain_back : (w : List ℕ) (o : Stop) (y : List ℕ) → EndsAlone w o → is_continuation (slice_index y 0) ≡ false → IsBare (w ++ stop o ∷ y) → IsBare (ended w o)
+plain_back w o y alone clean p = record {
+  mark = mark_on o w y [] ∙ p.mark;
+  shebang =
+      ap is_shebang (own o 0 w [] alone refl) ∙ shebang_on o (0 + length w) (front 0 0 w (stop o ∷ [])) (tokens_from 0 (suc (0 + length w)) y) []
+      ∙ ap is_shebang (sym (own o 0 w y alone clean)) ∙ p.shebang;
+  fence = fence_on o w y [] ∙ p.fence;
+}
+
+-- ---- texts one behind the other
+
+and_both : (a b : Bool) → a ≡ true → b ≡ true → (a && b) ≡ true
+and_both a b e f = rw (e, f) refl
+
+le_more : (i m n : ℕ) → nat_le i m ≡ true → m ≤ n → nat_le i n ≡ true
+le_more i m n e l = grind (arith, nat_tests)
+
+pub full_both : (x z : List ℕ) → is_full x ≡ true → is_full z ≡ true → is_full (x ++ z) ≡ true
+full_both [] z e f = f
+full_both (b ∷ x) z e f =
+    let parts = and_parts (nat_le (behind_lead b) (length x)) (is_full x) e in
+    let sizes = length-append x z in
+    and_both (nat_le (behind_lead b) (length (x ++ z))) (is_full (x ++ z)) (le_more (behind_lead b) (length x) (length (x ++ z)) parts.0 (omega arith)) (full_both x z parts.1 f)
+
+pub full_stop : (o : Stop) (z : List ℕ) → is_full z ≡ true → is_full (stop o ∷ z) ≡ true
+full_stop o z e = by_stop (λ s. is_full (s ∷ z) ≡ true) (first 123 refl) (first 125 refl) (first 59 refl) o
+  where
+    first : (s : ℕ) → behind_lead s ≡ 0 → is_full (s ∷ z) ≡ true
+    first s f = let l : nat_le (behind_lead s) (length z) ≡ true = grind (arith, nat_tests) in and_both (nat_le (behind_lead s) (length z)) (is_full z) l e
+
+pub over_both : (left : ℕ) (x z u : List ℕ) → overhang left (x ++ z) u ≡ overhang (overhang left x (z ++ u)) z u
+over_both left [] z u = refl
+over_both (suc left) (b ∷ x) z u = over_both left x z u
+over_both zero (b ∷ x) z u =
+    ap (λ (y : List ℕ). overhang (whole (first_cut b y) y) (x ++ z) u) (append_assoc x z u) ∙ over_both (whole (first_cut b (x ++ (z ++ u))) (x ++ (z ++ u))) x z u
+
+-- ---- tokens behind
+
+pub plain_tokens : (z : List ℕ) → IsBare z → tokens z ≡ tokens_from 0 0 z
+plain_tokens z p = plain_is z p.mark p.shebang p.fence
+
+-- so many of the tokens count
+pub behind_moved : (d : ℕ) (z : List ℕ) → IsBare z → filter is_significant (tokens_from 0 (0 + d) z) ≡ map (moved d) (filter is_significant (tokens z))
+behind_moved d z p = ap (filter is_significant) (tokens_moved d 0 0 z) ∙ filter_moved d (tokens_from 0 0 z) ∙ ap (λ l. map (moved d) (filter is_significant l)) (sym (plain_tokens z p))
+
+pub first_moved : (d : ℕ) (l : List Piece) → by_first 0 symbol_of (map (moved d) l) ≡ by_first 0 symbol_of l
+first_moved d [] = refl
+first_moved d (t ∷ l) = refl
+
+last_moved : (d : ℕ) (last : Option ℕ) (ts : List Piece) → last_unended (option_map (λ n. n + d) last) (map (moved d) ts) ≡ option_map (λ n. n + d) (last_unended last ts)
+last_moved d last [] = refl
+last_moved d last (t ∷ ts) = ap (λ l. last_unended l (map (moved d) ts)) (place (is_terminated t) t.at) ∙ last_moved d (place_if_open t) ts
+  where
+    place : (closed : Bool) (at : ℕ) → (if closed then None else Some (at + d)) ≡ option_map (λ n. n + d) (if closed then None else Some at)
+    place true at = refl
+    place false at = refl
+
+pub last_append : (last : Option ℕ) (xs ys : List Piece) → last_unended last (xs ++ ys) ≡ last_unended (last_unended last xs) ys
+last_append last [] ys = refl
+last_append last (x ∷ xs) ys = last_append (place_if_open x) xs ys
+
+pub last_stop : (o : Stop) (at : ℕ) (last : Option ℕ) (l : List Piece) → last_unended last (stop_at o at ∷ l) ≡ last_unended None l
+last_stop opening at last l = refl
+last_stop closing at last l = refl
+last_stop semicolon at last l = refl
+
+-- where the last token of the longer text is not ended
+pub unended_behind : (edition : EditionYear) (w : List ℕ) (o : Stop) (y : List ℕ) → EndsAlone w o → is_continuation (slice_index y 0) ≡ false → IsBare (w ++ stop o ∷ y) → IsBare y
+    → (tokens_of edition (w ++ stop o ∷ y)).unended ≡ option_map (λ n. n + suc (length w)) (tokens_of edition y).unended
+unfolding tokens_of
+unended_behind edition w o y alone clean p q =
+    let d = suc (length w) in
+    let xs = front 0 0 w (stop o ∷ []) in
+    let all : tokens (w ++ stop o ∷ y) ≡ xs ++ stop_at o (0 + length w) ∷ tokens_from 0 (suc (0 + length w)) y = plain_tokens (w ++ stop o ∷ y) p ∙ own o 0 w y alone clean in
+    let place : suc (0 + length w) ≡ 0 + d = omega arith in
+    ap (last_unended None) all ∙ last_append None xs (stop_at o (0 + length w) ∷ tokens_from 0 (suc (0 + length w)) y)
+    ∙ last_stop o (0 + length w) (last_unended None xs) (tokens_from 0 (suc (0 + length w)) y)
+    ∙ ap (λ (k : ℕ). last_unended None (tokens_from 0 k y)) place ∙ ap (last_unended None) (tokens_moved d 0 0 y)
+    ∙ last_moved d None (tokens_from 0 0 y) ∙ ap (λ (l : List Piece). option_map (λ n. n + d) (last_unended None l)) (sym (plain_tokens y q))
+
+-- ---- where the last token ends
+
+abbrev end_from : ℕ → List Piece → ℕ
+end_from past [] = past
+end_from past (t ∷ ts) = end_from (end_of t) ts
+
+end_rest : (past : ℕ) (left : List Piece) → end_from (by_first past end_of left) (rest left) ≡ end_from past left
+end_rest past [] = refl
+end_rest past (t ∷ left) = refl
+
+end_on : {ts us : Tokens} → LeadsTo ts us → end_from us.past us.left ≡ end_from ts.past ts.left
+unfolding bumped
+end_on here = refl
+end_on {ts} (further p) = end_on p ∙ end_rest ts.past ts.left
+
+end_last : (past : ℕ) (xs : List Piece) (t : Piece) → end_from past (xs ++ t ∷ []) ≡ end_of t
+end_last past [] t = refl
+end_last past (x ∷ xs) t = end_last (end_of x) xs t
+
+end_whole : (edition : EditionYear) (w : List ℕ) (o : Stop) → EndsAlone w o → IsBare (ended w o) → end_from (tokens_of edition (ended w o)).past (tokens_of edition (ended w o)).left ≡ suc (length w)
+unfolding tokens_of
+end_whole edition w o alone p =
+    let xs = front 0 0 w (stop o ∷ []) in
+    let t = stop_at o (0 + length w) in
+    let counted : filter is_significant (t ∷ []) ≡ t ∷ [] = rw (last_counts o (0 + length w)) refl in
+    let place : end_of t ≡ suc (length w) = omega arith in
+    ap (λ (l : List Piece). end_from 0 (filter is_significant l)) (plain_tokens (ended w o) p ∙ own o 0 w [] alone refl)
+    ∙ ap (end_from 0) (filter-append is_significant xs (t ∷ []) ∙ ap (λ l. filter is_significant xs ++ l) counted)
+    ∙ end_last 0 (filter is_significant xs) t ∙ place
+
+-- where all tokens of such a text were taken
+pub past_whole : (edition : EditionYear) (w : List ℕ) (o : Stop) (us : Tokens) → EndsAlone w o → IsBare (ended w o) → LeadsTo (tokens_of edition (ended w o)) us → us.left ≡ [] → us.past ≡ suc (length w)
+past_whole edition w o us alone p leads none = sym (ap (end_from us.past) none) ∙ end_on leads ∙ end_whole edition w o alone p
+
+-- ---- what stays
+
+pub unended_stays : {ts us : Tokens} → LeadsTo ts us → us.unended ≡ ts.unended
+unfolding bumped
+unended_stays here = refl
+unended_stays (further p) = unended_stays p
+
+pub tokens_short : (edition : EditionYear) (text : List ℕ) → length (tokens_of edition text).left ≤ length text
+unfolding tokens_of
+tokens_short edition text = few (tokens text) text (tokens_not_empty text) (tokens_lossless text)

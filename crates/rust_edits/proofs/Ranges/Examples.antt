@@ -1,0 +1,210 @@
+-- Small examples, by computing: a text that ends with its own token, which items are at the top, and a text that holds a whole item.
+use Rattle.std.proofs.Common.{◌≡◌, ◌<◌, ◌==◌, ℕ, true, false, Option, None, List, [], ◌∷◌, ◌++◌, codes, length, refl, ap, ◌∙◌, arith}
+use Rattle.std.specs.Prelude.{option_to_list, slice_index}
+use Rattle.hir_input.specs.declared.ast.Visibility.{Visibility}
+use Rattle.hir_input.specs.declared.edition.EditionYear.{EditionYear}
+use Rattle.hir_input.specs.Attr.{MetaView}
+use Rattle.hir_input.specs.Syntax.{NodeView, ItemView, listed_extern_block, bare_extern_block, no_items, item_and}
+use Rattle.rust_lexer.specs.declared.kind.DocStyle.TheVariants.{Inner, Outer}
+use Rattle.rust_lexer.specs.declared.kind.TokenKind.TheVariants as kinds
+use Rattle.rust_lexer.specs.Alone.{semicolon, closing}
+use Rattle.rust_lexer.specs.Bytes.{is_continuation, is_wide_start, is_wide_continue}
+use Rattle.rust_lexer.specs.Cut.{first_cut}
+use Rattle.rust_lexer.specs.Piece.{Piece}
+use Rattle.rust_lexer.specs.Tokens.{has_mark, tokens}
+use Rattle.rust_cursor.specs.Elements.{most, turns}
+use Rattle.rust_cursor.specs.Extents.{goes_on}
+use Rattle.rust_cursor.specs.Tokens.{Tokens, tokens_of}
+use Rattle.rust_cursor.specs.Words.{symbol, word, text, kind, at, is_empty, is_at_end, bumped, eat}
+use Rattle.rust_cursor.proofs.Braced.{tokens_at}
+use Rattle.rust_cursor.proofs.Laid.{tokens_laid}
+use Rattle.rust_cursor.proofs.Laid as laid
+use Rattle.rust_cursor.proofs.Leads.{through}
+use Rattle.rust_cursor.proofs.Turns.{turns_stop}
+use Rattle.rust_paths.specs.Names.{plain_name, is_keyword, is_path_keyword, next_name, name, placed_name}
+use Rattle.rust_paths.specs.Visibilities.{visibility}
+use Rattle.rust_metas.specs.Attributes.{is_behind, is_doc, is_attribute, attributes, outer_attributes, inner_attributes}
+use Rattle.rust_metas.proofs.Leads.{inner_attributes_leads}
+use Rattle.rust_leaves.specs.declared.head.Head.{Head}
+use Rattle.rust_leaves.specs.declared.head.Head.TheVariants as heads
+use Rattle.rust_leaves.specs.Heads.{is_modifier, is_modifier_before, behind_modifiers, head, head_by}
+use Rattle.rust_leaves.specs.Fronts.{FrontRead, front_behind, front}
+use Rattle.rust_leaves.specs.Leaves.{named}
+use Rattle.rust_leaves.proofs.Steps.{modifiers_stop}
+use Rattle.rust_items.specs.declared.log.ProblemKind.TheVariants as problem
+use Rattle.rust_items.specs.declared.source_file.ItemPlace.{ItemPlace}
+use Rattle.rust_items.specs.Found.{Found, nothing_found, and_problem_at}
+use Rattle.rust_items.specs.Items.{items, module_with, by_head, inside, turn, depth_of}
+use Rattle.rust_items.specs.SourceFiles.{behind_attributes, found_in, read_of}
+use Rattle.rust_items.proofs.Places.{items_found}
+use Rattle.rust_edits.specs.Ranges.Joined.{IsBare, HoldsItems, BeginsAnew, behind_items, StandsBetween}
+use Rattle.rust_edits.specs.Ranges.Laws.{at_top, EndsOwn}
+use Rattle.rust_edits.proofs.Ranges.Alone.{one_item}
+use Rattle.rust_edits.proofs.Ranges.Behind.{unended_stays}
+use Rattle.rust_edits.proofs.Ranges.Inner.{no_inner}
+
+-- the `;` of `mod b;` is its own
+module_ends : EndsOwn (codes "mod b;")
+unfolding first_cut is_wide_start is_wide_continue
+module_ends = record { before = codes "mod b"; last = semicolon; bytes = refl; ends = refl; alone = record { full = refl; ends = refl } }
+
+-- and so is the last `}` of `fn f() { "}" }`
+function_ends : EndsOwn (codes "fn f() { \"}\" }")
+unfolding first_cut is_wide_start is_wide_continue
+function_ends = record { before = codes "fn f() { \"}\" "; last = closing; bytes = refl; ends = refl; alone = record { full = refl; ends = refl } }
+
+module_unmarked : has_mark (codes "mod b;") ≡ false
+module_unmarked = refl
+
+-- of two items, of which the first holds one, each has its own places
+pub places_of_each : (outer inner last : NodeView) (p q r : ItemPlace)
+    → at_top (item_and (listed_extern_block outer (item_and (bare_extern_block inner) no_items)) (item_and (bare_extern_block last) no_items)) (p ∷ q ∷ r ∷ [])
+    ≡ (listed_extern_block outer (item_and (bare_extern_block inner) no_items), p ∷ q ∷ []) ∷ (bare_extern_block last, r ∷ []) ∷ []
+places_of_each outer inner last p q r = refl
+
+-- ---- a text that holds whole items, and may stand between others
+
+pub mod_b : List ℕ
+mod_b = codes "mod b;"
+
+mod_word : Piece
+mod_word = record { kind = kinds.Ident; text = codes "mod"; at = 0 }
+
+-- `b;`
+name_and_end : List Piece
+name_and_end = record { kind = kinds.Ident; text = codes "b"; at = 4 } ∷ record { kind = kinds.Punct; text = codes ";"; at = 5 } ∷ []
+
+bare : IsBare mod_b
+unfolding mod_b first_cut is_wide_start is_wide_continue
+bare = record { mark = refl; shebang = refl; fence = refl }
+
+module _ (y : EditionYear) where
+  all : Tokens
+  all = tokens_at y 0 (mod_word ∷ name_and_end) None
+
+  behind : Tokens
+  behind = tokens_at y 3 name_and_end None
+
+  abbrev is_module : FrontRead
+  is_module = record { start = 0; attrs = []; visibility = None; head = heads.Module }
+
+  toks : tokens_of y mod_b ≡ all
+  unfolding all mod_b mod_word name_and_end tokens_of tokens first_cut is_wide_start is_wide_continue
+  toks = refl
+
+  not_inner : is_behind Inner all ≡ true
+  unfolding all mod_word is_behind is_doc is_attribute symbol kind
+  not_inner = refl
+
+  not_outer : outer_attributes all ≡ ([], all)
+  unfolding all mod_word outer_attributes attributes turns is_behind is_doc is_attribute symbol kind
+  not_outer = turns_stop (is_behind Outer) _ _ [] all refl
+
+  unseen : visibility all ≡ (None, all)
+  unfolding all mod_word visibility word
+  unseen = refl
+
+  not_modified : is_modifier_before (word all) (bumped all) ≡ false
+  unfolding all mod_word is_modifier_before word
+  not_modified = refl
+
+  unmodified : behind_modifiers all ≡ all
+  unfolding behind_modifiers is_modifier
+  unmodified = modifiers_stop _ all not_modified
+
+  head_is : head all ≡ (heads.Module, behind)
+  unfolding all mod_word behind head head_by word bumped
+  head_is = refl
+
+  abbrev made : Option Visibility → Head × Tokens → FrontRead × Tokens
+  made v h = (record { start = 0; attrs = []; visibility = v; head = h.0 }, h.1)
+
+  front_is : front all ≡ (is_module, behind)
+  unfolding all mod_word front front_behind at
+  front_is =
+      ap (λ r. front_behind (at all) r.0 r.1) not_outer ∙ ap (λ v. made v.0 (head (behind_modifiers v.1))) unseen ∙ ap (λ ts. made None (head ts)) unmodified ∙ ap (made None) head_is
+
+  -- what is read of an item here
+  abbrev read : FrontRead × Tokens → Option ItemView × (Found × Tokens)
+  read r = by_head (inside 128) (depth_of 128) r.0.head r.0 nothing_found r.1
+
+  not_ended : is_at_end all ≡ false
+  unfolding all mod_word is_at_end
+  not_ended = refl
+
+  is_turn : turn 128 nothing_found all ≡ read (is_module, behind)
+  unfolding turn
+  is_turn = rw not_ended (ap read front_is)
+
+  spent : (read (is_module, behind)).1.1.left ≡ []
+  unfolding behind name_and_end named placed_name name next_name plain_name is_keyword is_path_keyword kind text at eat symbol bumped
+  spent = refl
+
+  far : ((read (is_module, behind)).1.1.past == 0) ≡ false
+  unfolding behind name_and_end named placed_name name next_name plain_name is_keyword is_path_keyword kind text at eat symbol bumped
+  far = refl
+
+  sound : (read (is_module, behind)).1.0.problems ≡ []
+  unfolding behind name_and_end named placed_name name next_name plain_name is_keyword is_path_keyword kind text at eat symbol bumped
+  sound = refl
+
+  some_left : is_empty all ≡ false
+  unfolding all mod_word is_empty
+  some_left = refl
+
+  starts : all.past ≡ 0
+  unfolding all
+  starts = refl
+
+  all_read : read_of y mod_b ≡ (option_to_list (turn 128 nothing_found all).0, ((turn 128 nothing_found all).1.0, (turn 128 nothing_found all).1.1))
+  all_read =
+      ap (λ (t : Tokens). items true 128 nothing_found (inner_attributes t).1) toks ∙ ap (λ (p : List MetaView × Tokens). items true 128 nothing_found p.1) (no_inner all not_inner)
+      ∙ one_item nothing_found all some_left (ap (λ (r : Option ItemView × (Found × Tokens)). r.1.1.left) is_turn ∙ spent)
+      (ap (λ (r : Option ItemView × (Found × Tokens)). r.1.1.past == all.past) is_turn ∙ ap (λ n. (read (is_module, behind)).1.1.past == n) starts ∙ far)
+
+  ended : (tokens_of y mod_b).unended ≡ None
+  unfolding all
+  ended = ap (λ (t : Tokens). t.unended) toks
+
+  read_ended : (read_of y mod_b).1.1.unended ≡ None
+  read_ended =
+      let whole = (laid.behind (length mod_b) (inner_attributes_leads (tokens_of y mod_b)) (tokens_laid y mod_b)).laid in
+      unended_stays (through (inner_attributes_leads (tokens_of y mod_b)) (items_found (length mod_b) true 128 nothing_found (behind_attributes y mod_b) whole).leads) ∙ ended
+
+  no_problem : (found_in y mod_b).problems ≡ []
+  unfolding found_in
+  no_problem =
+      ap (λ (u : Option ℕ). (and_problem_at problem.Unterminated u (read_of y mod_b).1.0).problems) read_ended
+      ∙ ap (λ (r : List ItemView × (Found × Tokens)). r.1.0.problems) all_read ∙ ap (λ (r : Option ItemView × (Found × Tokens)). r.1.0.problems) is_turn ∙ sound
+
+  -- `mod b;` holds a whole item
+  pub holds : HoldsItems y mod_b
+  unfolding mod_b
+  holds = record {
+    bare = bare;
+    ends = module_ends;
+    first = (module_with (inside 128) (depth_of 128) is_module nothing_found behind).0;
+    more = [];
+    items = ap (λ (r : List ItemView × (Found × Tokens)). r.0) all_read ∙ ap (λ (r : Option ItemView × (Found × Tokens)). option_to_list r.0) is_turn;
+    sound = no_problem;
+  }
+
+  size : length (mod_b ++ (mod_b ++ mod_b)) < most
+  unfolding mod_b most
+  size = omega arith
+
+  first_uncut : is_continuation (slice_index mod_b 0) ≡ false
+  unfolding mod_b
+  first_uncut = refl
+
+  not_on : goes_on all ≡ false
+  unfolding all mod_word symbol
+  not_on = refl
+
+  -- and may stand behind others
+  pub begins : BeginsAnew y mod_b
+  begins = record { bare = bare; uncut = first_uncut; outer = ap (is_behind Inner) toks ∙ not_inner; still = ap goes_on toks ∙ not_on }
+
+  -- or between them
+  pub stands : StandsBetween y mod_b mod_b mod_b
+  stands = record { whole = holds; follows = behind_items mod_b mod_b holds begins; behind = begins; short = size }

@@ -1,0 +1,318 @@
+-- Whole items and what is behind them are read one after the other.
+use Rattle.std.proofs.Common.{◌≡◌, Bool, ◌<◌, ◌+◌, ◌==◌, ◌||◌, ℕ, suc, true, false, Option, Some, None, List, [], ◌∷◌, ◌++◌, length, refl, sym, ap, ◌∙◌, subst, arith, map, append_assoc, append-nil, length-append}
+use Rattle.std.specs.Prelude.{option_map, not, slice_index}
+use Rattle.std.specs.List.{filter, list_any}
+use Rattle.std.proofs.lemmas.List.{map-append}
+use Rattle.hir_input.specs.declared.edition.EditionYear.{EditionYear}
+use Rattle.hir_input.specs.Attr.{MetaView}
+use Rattle.hir_input.specs.Syntax.{ItemView}
+use Rattle.rust_ids.specs.Row.{Row}
+use Rattle.rust_lexer.specs.Alone.{Stop, stop, EndsAlone, moved}
+use Rattle.rust_lexer.specs.Bytes.{is_continuation}
+use Rattle.rust_lexer.specs.Piece.{Piece}
+use Rattle.rust_lexer.specs.Symbol.{symbol_of}
+use Rattle.rust_lexer.specs.Tokens.{is_significant, tokens}
+use Rattle.rust_cursor.specs.Elements.{most}
+use Rattle.rust_cursor.specs.Tokens.{Tokens, tokens_of, last_unended}
+use Rattle.rust_cursor.specs.Words.{by_first, symbol}
+use Rattle.rust_cursor.proofs.Around.{tokens_sound}
+use Rattle.rust_cursor.proofs.Laid.{behind, tokens_laid}
+use Rattle.rust_cursor.proofs.Leads.{LeadsTo, through}
+use Rattle.rust_cursor.proofs.Parting.{by_kept}
+use Rattle.rust_paths.specs.declared.names.TextRange.{TextRange}
+use Rattle.rust_metas.specs.Attributes.{inner_attributes}
+use Rattle.rust_metas.proofs.AlikeAttributes.{inner_attributes_until}
+use Rattle.rust_metas.proofs.Leads.{inner_attributes_leads}
+use Rattle.rust_items.specs.declared.log.Problem.{Problem}
+use Rattle.rust_items.specs.declared.log.ProblemKind.TheVariants as problem
+use Rattle.rust_items.specs.Found.{Found, nothing_found, and_problem_at, and_all}
+use Rattle.rust_items.specs.Items.{finding, items}
+use Rattle.rust_items.specs.LineEnds.{moved_range, moved_span, moved_problem}
+use Rattle.rust_items.specs.SourceFiles.{behind_attributes, found_in, read_of}
+use Rattle.rust_items.proofs.Places.{Span, items_found}
+use Rattle.rust_edits.specs.Ranges.Laws.{ends_items}
+use Rattle.rust_edits.specs.Ranges.Inside.{read_at}
+use Rattle.rust_edits.specs.Ranges.Joined.{IsBare, found_on, BeginsAnew}
+use Rattle.rust_edits.proofs.Ranges.Near.{Ending, Near, near, fewer}
+use Rattle.rust_edits.proofs.Ranges.NearPassing.{near_parting}
+use Rattle.rust_edits.proofs.Ranges.NearTexts.{near_enters, near_levels}
+use Rattle.rust_edits.proofs.Ranges.NearUntil.{is_still}
+use Rattle.rust_cursor.proofs.Parting as parting
+use Rattle.rust_edits.proofs.Ranges.NearLeaves.{Given, given_on}
+use Rattle.rust_edits.proofs.Ranges.NearItems.{top_end, FoundNear, is_quiet}
+use Rattle.rust_edits.proofs.Ranges.Alone.{part_in, part_near, part_ended, start_near}
+use Rattle.rust_edits.proofs.Ranges.Behind.{plain_on, behind_moved, first_moved, unended_behind, past_whole, unended_stays, tokens_short, plain_tokens}
+use Rattle.rust_edits.proofs.Ranges.Inner.{no_inner}
+use Rattle.rust_edits.proofs.Ranges.Onward.{IsRead, read_on}
+use Rattle.rust_edits.proofs.Ranges.Parts.{ended, IsPart, tokens_behind}
+use Rattle.rust_edits.proofs.Ranges.Ranges.{last_is}
+use Rattle.rust_edits.proofs.Ranges.Seats.{edition_stays}
+use Rattle.rust_edits.proofs.Ranges.Tops.{found_keeps}
+use Rattle.rust_edits.proofs.Ranges.Turning.{run, run_stop, run_none, run_ended, top_is, empty_left}
+
+pub items_top : (is_top : Bool) (left : ℕ) (f : Found) (ts : Tokens) → items is_top (suc left) f ts ≡ run is_top left most [] f ts
+unfolding finding
+items_top is_top left f ts = refl
+
+-- at the top nothing is left
+pub top_spent : (edition : EditionYear) (text : List ℕ) → length text < most → (read_of edition text).1.1.left ≡ []
+top_spent edition text short =
+    let ts = tokens_of edition text in
+    let us = (inner_attributes ts).1 in
+    let laid = (behind (length text) (inner_attributes_leads ts) (tokens_laid edition text)).laid in
+    let few = tokens_short edition text in
+    let less = fewer (inner_attributes_leads ts) in
+    let ended = run_ended true 127 (length text) most [] nothing_found us laid (omega (arith, short)) in
+    ap (λ (r : List ItemView × (Found × Tokens)). r.1.1.left) (items_top true 127 nothing_found us) ∙ empty_left (run true 127 most [] nothing_found us).1.1 (sym (top_is (run true 127 most [] nothing_found us).1.1) ∙ ended)
+
+-- ---- what is found, moved by nothing
+
+range_still : (r : TextRange) → moved_range (λ n. n + 0) r ≡ r
+range_still r = let s : r.start + 0 ≡ r.start = omega arith in let e : r.end + 0 ≡ r.end = omega arith in rw (s, e) refl
+
+range_if_still : (o : Option TextRange) → option_map (moved_range (λ n. n + 0)) o ≡ o
+range_if_still None = refl
+range_if_still (Some r) = ap Some (range_still r)
+
+span_still : (s : Span) → moved_span (λ n. n + 0) s ≡ s
+span_still s = rw (range_still s.range, range_if_still s.name, range_if_still s.body) refl
+
+problem_still : (p : Problem) → moved_problem (λ n. n + 0) p ≡ p
+problem_still p = let e : p.at + 0 ≡ p.at = omega arith in rw e refl
+
+number_still : (n : ℕ) → n + 0 ≡ n
+number_still n = omega arith
+
+map_still : {A : Type 0} (on : A → A) → ((a : A) → on a ≡ a) → (l : List A) → map on l ≡ l
+map_still on e [] = refl
+map_still on e (a ∷ l) = ap (λ b. b ∷ map on l) (e a) ∙ ap (λ m. a ∷ m) (map_still on e l)
+
+abbrev found : List Row → List Span → List ℕ → List Problem → Found
+found rows spans use_trees problems = record { rows = rows; spans = spans; use_trees = use_trees; problems = problems }
+
+found_same : (rows rows' : List Row) (spans spans' : List Span) (trees trees' : List ℕ) (problems problems' : List Problem) → rows ≡ rows' → spans ≡ spans' → trees ≡ trees' → problems ≡ problems'
+    → found rows spans trees problems ≡ found rows' spans' trees' problems'
+found_same rows rows' spans spans' trees trees' problems problems' a b c d = rw (a, b, c, d) refl
+
+-- of the first text, and of both
+found_first : (b : Ending) (f g : Found) → b.by ≡ 0 → FoundNear b nothing_found f g → f ≡ g
+found_first b f g e n =
+    found_same f.rows g.rows f.spans g.spans f.use_trees g.use_trees f.problems g.problems n.rows
+    (n.spans ∙ ap (λ (d : ℕ). map (moved_span (λ n. n + d)) g.spans) e ∙ map_still _ span_still g.spans)
+    (n.use_trees ∙ ap (λ (d : ℕ). map (λ n. n + d) g.use_trees) e ∙ map_still _ number_still g.use_trees)
+    (n.problems ∙ ap (λ (d : ℕ). map (moved_problem (λ n. n + d)) g.problems) e ∙ map_still _ problem_still g.problems)
+
+pub found_both : (b : Ending) (before f g : Found) → FoundNear b before f g → f ≡ and_all (found_on b.by g) before
+found_both b before f g n = found_same f.rows _ f.spans _ f.use_trees _ f.problems _ n.rows n.spans n.use_trees n.problems
+
+pub found_still : (f : Found) → f ≡ and_all (found_on 0 f) nothing_found
+found_still f = sym (found_same f.rows f.rows _ f.spans _ f.use_trees _ f.problems refl (map_still _ span_still f.spans) (map_still _ number_still f.use_trees) (map_still _ problem_still f.problems))
+
+-- with the problem that a token is not ended
+pub unended_join : (d : ℕ) (o : Option ℕ) (f g : Found) → and_problem_at problem.Unterminated (option_map (λ n. n + d) o) (and_all (found_on d g) f) ≡ and_all (found_on d (and_problem_at problem.Unterminated o g)) f
+unended_join d None f g = refl
+unended_join d (Some at) f g =
+    found_same _ _ _ _ _ _ _ _ refl refl refl
+    (append_assoc f.problems (map (moved_problem (λ n. n + d)) g.problems) (record { kind = problem.Unterminated; at = at + d } ∷ [])
+    ∙ ap (λ l. f.problems ++ l) (sym (map-append (moved_problem (λ n. n + d)) g.problems (record { kind = problem.Unterminated; at = at } ∷ []))))
+
+-- where no problem is told, none was found
+pub none_told : (edition : EditionYear) (text : List ℕ) → (found_in edition text).problems ≡ [] → is_quiet (read_of edition text).1.0 ≡ true
+none_told edition text e = let none = (found_keeps edition text).all (λ _. true) (ap (list_any (λ _. true)) e) in ap not none
+
+none_unended : (o : Option ℕ) (f : Found) → (and_problem_at problem.Unterminated o f).problems ≡ [] → and_problem_at problem.Unterminated o f ≡ f
+none_unended None f e = refl
+none_unended (Some at) f e = absurd (no _ f.problems e)
+  where
+    no : (p : Problem) (ps : List Problem) → ps ++ p ∷ [] ≡ [] → ⊥
+    no p [] e = absurd cc
+    no p (q ∷ ps) e = absurd cc
+
+pub found_quiet : (edition : EditionYear) (text : List ℕ) → (found_in edition text).problems ≡ [] → found_in edition text ≡ (read_of edition text).1.0
+unfolding found_in
+found_quiet edition text e = none_unended (read_of edition text).1.1.unended (read_of edition text).1.0 e
+
+-- ---- the two texts
+
+abbrev pub level_at : ℕ → Option ℕ → Ending
+level_at d u = record { by = d; behind = []; unended = u; level = true; none = λ _. refl }
+
+pub level_near : (d past : ℕ) (left : List Piece) (u v : Option ℕ) (edition : EditionYear) (ts : Tokens) → ts.past ≡ past + d → ts.left ≡ map (moved d) left → ts.unended ≡ u → ts.edition ≡ edition
+    → Near (level_at d u) ts (record { past = past; left = left; unended = v; edition = edition })
+level_near d past left u v edition ts p l e y =
+    subst (λ (t : Tokens). Near (level_at d u) t (record { past = past; left = left; unended = v; edition = edition })) (sym (same ts.past (past + d) ts.left (map (moved d) left ++ []) ts.unended u ts.edition edition p (l ∙ sym (append-nil (map (moved d) left))) e y))
+    (near past left v edition refl)
+  where
+    same : (a b : ℕ) (c d : List Piece) (e f : Option ℕ) (g h : EditionYear) → a ≡ b → c ≡ d → e ≡ f → g ≡ h
+        → ◌≡◌ {A = Tokens} (record { past = a; left = c; unended = e; edition = g }) (record { past = b; left = d; unended = f; edition = h })
+    same a b c d e f g h i j k l = rw (i, j, k, l) refl
+
+-- how the tokens of a text stand in a longer one
+module _ (edition : EditionYear) (w : List ℕ) (o : Stop) (y : List ℕ) (alone : EndsAlone w o) (last : ends_items o ≡ true) (plain : IsBare (ended w o)) (clean : is_continuation (slice_index y 0) ≡ false) where
+  abbrev both : Tokens
+  both = tokens_of edition (w ++ stop o ∷ y)
+
+  both_are : both ≡ tokens_behind edition both.unended [] (w ++ stop o ∷ y)
+  unfolding tokens_of
+  both_are =
+      ap (λ (l : List Piece). record { past = 0; left = filter is_significant l; unended = last_unended None (tokens (w ++ stop o ∷ y)); edition = edition })
+      (plain_tokens (w ++ stop o ∷ y) (plain_on w o y alone clean plain))
+
+  pub tokens_near : Near (part_in edition both.unended [] w o y) both (tokens_of edition (ended w o))
+  tokens_near =
+      let part : IsPart w o y = record { ends = alone; behind = clean; plain = plain } in
+      subst (λ (t : Tokens). Near (part_in edition both.unended [] w o y) t (tokens_of edition (ended w o))) (sym both_are) (part_near edition both.unended [] w o y part (part_ended edition [] w o y part (last_is o last)))
+
+-- what is read of both
+pub record Joined (is_top : Bool) (left : ℕ) (edition : EditionYear) (text x y : List ℕ) (d : ℕ) : Type 0 where
+  pub attrs : (inner_attributes (tokens_of edition text)).0 ≡ (inner_attributes (tokens_of edition x)).0
+  pub items : (read_at is_top (suc left) edition text).0 ≡ (read_at is_top (suc left) edition x).0 ++ (read_at is_top (suc left) edition y).0
+  pub found : (read_at is_top (suc left) edition text).1.0 ≡ and_all (found_on d (read_at is_top (suc left) edition y).1.0) (read_at is_top (suc left) edition x).1.0
+  pub unended : (read_at is_top (suc left) edition text).1.1.unended ≡ option_map (λ n. n + d) (read_at is_top (suc left) edition y).1.1.unended
+
+nothing_more : (i : ItemView) (is : List ItemView) → i ∷ is ≡ [] → ⊥
+nothing_more i is e = absurd cc
+
+module _ (is_top : Bool) (left : ℕ) (edition : EditionYear) (w : List ℕ) (o : Stop) (y : List ℕ) (alone : EndsAlone w o) (last : ends_items o ≡ true) (plain : IsBare (ended w o)) (plain' : IsBare y) (begins : BeginsAnew edition y) (short : length (w ++ stop o ∷ y) < most) where
+  abbrev x : List ℕ
+  x = ended w o
+
+  abbrev text : List ℕ
+  text = w ++ stop o ∷ y
+
+  abbrev ts : Tokens
+  ts = tokens_of edition text
+
+  abbrev us : Tokens
+  us = tokens_of edition x
+
+  abbrev vs : Tokens
+  vs = tokens_of edition y
+
+  abbrev by : ℕ
+  by = suc (length w)
+
+  -- how the first stands in both
+  abbrev first : Ending
+  first = part_in edition ts.unended [] w o y
+
+  long_plain : IsBare text
+  long_plain = plain_on w o y alone begins.uncut plain
+
+  pub first_near : Near first ts us
+  first_near = tokens_near edition w o y alone last plain begins.uncut
+
+  first_given : Given (length text) (length x) ts us
+  first_given = record { laid = tokens_laid edition text; short = tokens_sound edition x }
+
+  sizes : length text ≡ length x + length y
+  sizes =
+      let both = length-append w (stop o ∷ y) in
+      let own = length-append w (stop o ∷ []) in
+      omega arith
+
+  -- the tokens behind the first are those of the second
+  behind_is : first.behind ≡ map (moved by) vs.left
+  unfolding tokens_of
+  behind_is = behind_moved by y plain'
+
+  first_still : is_still first ≡ true
+  unfolding symbol
+  first_still =
+      let same : by_first 0 symbol_of first.behind ≡ by_first 0 symbol_of vs.left = ap (by_first 0 symbol_of) behind_is ∙ first_moved by vs.left in
+      let still : not (by_first 0 symbol_of vs.left == 62 || by_first 0 symbol_of vs.left == 44) ≡ true = ap not begins.still in
+      ap (λ c. not (c == 62 || c == 44)) same ∙ still
+
+  -- the second is read with no attributes of its own
+  no_attrs : inner_attributes vs ≡ ([], vs)
+  no_attrs = no_inner vs begins.outer
+
+  second_read : read_at is_top (suc left) edition y ≡ run is_top left most [] nothing_found vs
+  second_read = ap (λ (p : List MetaView × Tokens). items is_top (suc left) nothing_found p.1) no_attrs ∙ items_top is_top left nothing_found vs
+
+  module _ (quiet : is_quiet (read_at is_top (suc left) edition x).1.0 ≡ true) (spent : (read_at is_top (suc left) edition x).1.1.left ≡ []) (k : parting.Kept parting.Same (Near first) (inner_attributes ts) (inner_attributes us)) where
+    abbrev ts' : Tokens
+    ts' = (inner_attributes ts).1
+
+    abbrev us' : Tokens
+    us' = (inner_attributes us).1
+
+    first_read : read_at is_top (suc left) edition x ≡ run is_top left most [] nothing_found us'
+    first_read = items_top is_top left nothing_found us'
+
+    text_few : length ts.left < most
+    text_few = let few = tokens_short edition text in omega (arith, short)
+
+    one : IsRead is_top left first nothing_found [] [] nothing_found ts' (run is_top left most [] nothing_found us')
+    one =
+        let few = tokens_short edition x in
+        let less = fewer (inner_attributes_leads us) in
+        let sum = sizes in
+        read_on is_top left first (length text) (length x) most nothing_found [] [] nothing_found nothing_found ts' us' (given_on first_given (inner_attributes_leads ts) (inner_attributes_leads us)) k.rest
+        (record { rows = refl; spans = refl; use_trees = refl; problems = refl }) (omega (arith, short)) (λ _. (first_still, (ap (λ (r : List ItemView × (Found × Tokens)). is_quiet r.1.0) (sym first_read) ∙ quiet, ap (λ (r : List ItemView × (Found × Tokens)). r.1.1.left) (sym first_read) ∙ spent)))
+
+    to_left : LeadsTo ts one.rest
+    to_left = through (inner_attributes_leads ts) one.leads
+
+    first_past : (read_at is_top (suc left) edition x).1.1.past ≡ by
+    first_past =
+        let laid = (behind (length x) (inner_attributes_leads us) (tokens_laid edition x)).laid in
+        let leads = (items_found (length x) is_top (suc left) nothing_found (behind_attributes edition x) laid).leads in
+        past_whole edition w o (read_at is_top (suc left) edition x).1.1 alone plain (through (inner_attributes_leads us) leads) spent
+
+    second_near : Near (level_at by ts.unended) one.rest vs
+    unfolding tokens_of
+    second_near =
+        let past : one.rest.past ≡ 0 + by = (one.spent refl).past ∙ (let none : (run is_top left most [] nothing_found us').1.1.past + 0 ≡ (run is_top left most [] nothing_found us').1.1.past = omega arith in none)
+        ∙ ap (λ (r : List ItemView × (Found × Tokens)). r.1.1.past) (sym first_read) ∙ first_past ∙ (let none : by ≡ 0 + by = omega arith in none) in
+        level_near by 0 vs.left ts.unended vs.unended edition one.rest past ((one.spent refl).behind ∙ behind_is) (unended_stays to_left) (edition_stays to_left)
+
+    second_given : Given (length text) (length y) one.rest vs
+    second_given = record { laid = (behind (length text) to_left (tokens_laid edition text)).laid; short = tokens_sound edition y }
+
+    two : IsRead is_top left (level_at by ts.unended) one.found ([] ++ one.new) [] one.found one.rest (run is_top left most [] nothing_found vs)
+    two =
+        let few = tokens_short edition y in
+        let sum = sizes in
+        read_on is_top left (level_at by ts.unended) (length text) (length y) most one.found ([] ++ one.new) [] one.found nothing_found one.rest vs second_given second_near (start_near (level_at by ts.unended) one.found) (omega (arith, short)) (λ l. absurd cc)
+
+    all_read : read_at is_top (suc left) edition text ≡ (([] ++ one.new) ++ two.new, (two.found, two.rest))
+    all_read =
+        let a = fewer (inner_attributes_leads ts) in
+        let b = fewer to_left in
+        let c = fewer (through to_left two.leads) in
+        let few = text_few in
+        items_top is_top left nothing_found ts' ∙ one.long most most (omega arith) (omega arith) ∙ two.long most most (omega arith) (omega arith)
+        ∙ run_stop is_top left most (([] ++ one.new) ++ two.new) two.found two.rest (sym (top_end is_top (level_at by ts.unended) two.rest (run is_top left most [] nothing_found vs).1.1 (two.level refl)) ∙ two.ended)
+
+    first_items : (read_at is_top (suc left) edition x).0 ≡ one.new
+    first_items = ap (λ (r : List ItemView × (Found × Tokens)). r.0) first_read ∙ one.list
+
+    second_items : (read_at is_top (suc left) edition y).0 ≡ two.new
+    second_items = ap (λ (r : List ItemView × (Found × Tokens)). r.0) second_read ∙ two.list
+
+    found_all : two.found ≡ and_all (found_on by (read_at is_top (suc left) edition y).1.0) (read_at is_top (suc left) edition x).1.0
+    found_all =
+        found_both (level_at by ts.unended) one.found two.found (run is_top left most [] nothing_found vs).1.0 two.same
+        ∙ ap (λ (f : Found). and_all (found_on by f) one.found) (ap (λ (r : List ItemView × (Found × Tokens)). r.1.0) (sym second_read))
+        ∙ ap (and_all (found_on by (read_at is_top (suc left) edition y).1.0)) (found_first first one.found (run is_top left most [] nothing_found us').1.0 refl one.same ∙ ap (λ (r : List ItemView × (Found × Tokens)). r.1.0) (sym first_read))
+
+    y_unended : (read_at is_top (suc left) edition y).1.1.unended ≡ vs.unended
+    y_unended =
+        let laid = (behind (length y) (inner_attributes_leads vs) (tokens_laid edition y)).laid in
+        unended_stays (through (inner_attributes_leads vs) (items_found (length y) is_top (suc left) nothing_found (behind_attributes edition y) laid).leads)
+
+    joins : Joined is_top left edition text x y by
+    joins = record {
+      attrs = sym k.value;
+      items = ap (λ (r : List ItemView × (Found × Tokens)). r.0) all_read ∙ ap (λ l. l ++ two.new) (sym first_items) ∙ ap (λ l. (read_at is_top (suc left) edition x).0 ++ l) (sym second_items);
+      found = ap (λ (r : List ItemView × (Found × Tokens)). r.1.0) all_read ∙ found_all;
+      unended = ap (λ (r : List ItemView × (Found × Tokens)). r.1.1.unended) all_read ∙ unended_stays (through to_left two.leads) ∙ unended_behind edition w o y alone begins.uncut long_plain plain'
+          ∙ ap (option_map (λ n. n + by)) (sym y_unended);
+    }
+
+  pub joined : (i : ItemView) (is : List ItemView) → (read_at is_top (suc left) edition x).0 ≡ i ∷ is → is_quiet (read_at is_top (suc left) edition x).1.0 ≡ true → (read_at is_top (suc left) edition x).1.1.left ≡ [] → Joined is_top left edition text x y by
+  joined i is some quiet spent =
+      by_kept (inner_attributes_until (near_parting first) (near_enters first) (near_levels first) ts us first_near)
+      (λ g. absurd (nothing_more i is (sym some ∙ ap (λ (r : List ItemView × (Found × Tokens)). r.0) (items_top is_top left nothing_found (inner_attributes us).1 ∙ run_none is_top left most [] nothing_found (inner_attributes us).1 g.none))))
+      (λ k. joins quiet spent k)

@@ -1,0 +1,159 @@
+-- A text of whole items in a longer one: the longer one is read on from its end.
+use Rattle.std.proofs.Common.{◌≡◌, ◌<◌, ◌+◌, ◌==◌, ℕ, zero, suc, Bool, true, false, Option, List, [], ◌++◌, length, sym, ap, ◌∙◌, subst, arith, append_assoc, append-nil}
+use Rattle.std.specs.Prelude.{option_to_list}
+use Rattle.std.proofs.lemmas.Bool.Decides.{nat_tests}
+use Rattle.hir_input.specs.Syntax.{ItemView}
+use Rattle.rust_cursor.specs.Elements.{beyond}
+use Rattle.rust_cursor.specs.Tokens.{Tokens}
+use Rattle.rust_cursor.specs.Words.{at}
+use Rattle.rust_cursor.proofs.Laid.{IsLaid, behind}
+use Rattle.rust_cursor.proofs.Leads.{LeadsTo, here, through, when}
+use Rattle.rust_cursor.proofs.Parting.{by_next}
+use Rattle.rust_items.specs.Found.{Found}
+use Rattle.rust_items.specs.Items.{is_list_end, turn}
+use Rattle.rust_edits.proofs.Ranges.Near.{Ending, Near, Gone, left_behind, more_left, past_same}
+use Rattle.rust_edits.proofs.Ranges.NearPassing.{beyond_near}
+use Rattle.rust_edits.proofs.Ranges.NearUntil.{AtEnd, is_still}
+use Rattle.rust_edits.proofs.Ranges.NearLeaves.{Given, given_on, Ends, passes, before_end, at_end}
+use Rattle.rust_edits.proofs.Ranges.NearItems.{top_end, FoundNear, FoundAlike, is_quiet, quiet_before, turn_whole, list_keeps, flat, is_sound}
+use Rattle.rust_edits.proofs.Ranges.NearTurns.{turn_ends}
+use Rattle.rust_edits.proofs.Ranges.Plain.{true_false}
+use Rattle.rust_edits.proofs.Ranges.Tops.{turn_keeps}
+use Rattle.rust_edits.proofs.Ranges.Turning.{run, run_none, run_same, none_end, next_leads, next_fewer, beyond_none, turn_far}
+
+-- what was read of the short text, and in the long one: the same items, and then what stands behind them is read, whatever number of turns is allowed
+pub record IsRead (is_top : Bool) (left : ℕ) (b : Ending) (before : Found) (done done' : List ItemView) (f : Found) (ts : Tokens) (r : List ItemView × (Found × Tokens)) : Type 0 where
+  pub new : List ItemView
+  pub found : Found
+  pub rest : Tokens
+  pub list : r.0 ≡ done' ++ new
+  pub long : (j k : ℕ) → length ts.left < j → length rest.left < k → run is_top left j done f ts ≡ run is_top left k (done ++ new) found rest
+  pub same : FoundNear b before found r.1.0
+  pub ended : is_list_end is_top r.1.1 ≡ true
+  pub spent : b.level ≡ false → AtEnd b rest r.1.1
+  pub level : b.level ≡ true → Near b rest r.1.1
+  pub leads : LeadsTo ts rest
+
+module _ (is_top : Bool) (left : ℕ) (b : Ending) (n m : ℕ) where
+  -- nothing more is read
+  ended_here : (before : Found) (done done' : List ItemView) (f g : Found) (ts us : Tokens) → IsLaid n ts → FoundNear b before f g → is_list_end is_top us ≡ true → (b.level ≡ false → AtEnd b ts us) → (b.level ≡ true → Near b ts us)
+      → IsRead is_top left b before done done' f ts (done', (g, us))
+  ended_here before done done' f g ts us laid a ended spent level = record {
+    new = [];
+    found = f;
+    rest = ts;
+    list = sym (append-nil done');
+    long = λ j k i l. run_same is_top left n j k done f ts laid i l ∙ ap (λ d. run is_top left k d f ts) (sym (append-nil done));
+    same = a;
+    ended = ended;
+    spent = spent;
+    level = level;
+    leads = here;
+  }
+
+  -- one item more
+  one_more : (before : Found) (done done' : List ItemView) (f g : Found) (ts : Tokens) (o : Option ItemView) (r : List ItemView × (Found × Tokens)) → IsLaid n ts → is_list_end is_top ts ≡ false → o ≡ (turn (suc left) f ts).0
+      → IsRead is_top left b before (done ++ option_to_list (turn (suc left) f ts).0) (done' ++ option_to_list o) (turn (suc left) f ts).1.0 (beyond ts.past (turn (suc left) f ts).1.1) r
+      → IsRead is_top left b before done done' f ts r
+  one_more before done done' f g ts o r laid some e h =
+      let i = option_to_list (turn (suc left) f ts).0 in
+      record {
+        new = i ++ h.new;
+        found = h.found;
+        rest = h.rest;
+        list = h.list ∙ append_assoc done' (option_to_list o) h.new ∙ ap (λ p. done' ++ (option_to_list p ++ h.new)) e;
+        long = long;
+        same = h.same;
+        ended = h.ended;
+        spent = h.spent;
+        level = h.level;
+        leads = through (next_leads is_top left n f ts laid) h.leads;
+      }
+    where
+      long : (j k : ℕ) → length ts.left < j → length h.rest.left < k → run is_top left j done f ts ≡ run is_top left k (done ++ (option_to_list (turn (suc left) f ts).0 ++ h.new)) h.found h.rest
+      long zero k a c = absurd (omega arith)
+      long (suc j) k a c =
+          let less = next_fewer is_top left n f ts laid some in
+          rw some (h.long j k (omega arith) c ∙ ap (λ d. run is_top left k d h.found h.rest) (append_assoc done (option_to_list (turn (suc left) f ts).0) h.new))
+
+by_same : (i j d : ℕ) → (i == j) ≡ false → (i + d == j + d) ≡ false
+by_same i j d e = grind (arith, nat_tests)
+
+-- what is known of the short text where the long one goes on behind it
+abbrev IsCalm : Ending → List ItemView × (Found × Tokens) → Type 0
+IsCalm b r = b.level ≡ false → (is_still b ≡ true) × ((is_quiet r.1.0 ≡ true) × (r.1.1.left ≡ []))
+
+-- it is read on with so many turns at most
+abbrev ReadsOnward : Bool → ℕ → Ending → ℕ → ℕ → ℕ → Type 0
+ReadsOnward is_top left b n m k =
+    (before : Found) (done done' : List ItemView) (f g : Found) (ts us : Tokens) → Given n m ts us → Near b ts us → FoundNear b before f g → length us.left < k → IsCalm b (run is_top left k done' g us)
+    → IsRead is_top left b before done done' f ts (run is_top left k done' g us)
+
+-- with one turn more
+module _ (is_top : Bool) (left : ℕ) (b : Ending) (n m k : ℕ) (more : ReadsOnward is_top left b n m k) (before : Found) (done done' : List ItemView) (f g : Found) (ts us : Tokens) (given : Given n m ts us) (h : Near b ts us) (few : length us.left < suc k) where
+  abbrev next : Tokens
+  next = beyond ts.past (turn (suc left) f ts).1.1
+
+  abbrev next' : Tokens
+  next' = beyond us.past (turn (suc left) g us).1.1
+
+  abbrev rest : List ItemView × (Found × Tokens)
+  rest = run is_top left k (done' ++ option_to_list (turn (suc left) g us).0) (turn (suc left) g us).1.0 next'
+
+  some : is_list_end is_top us ≡ false → is_list_end is_top ts ≡ false
+  some e = sym (top_end is_top b ts us h) ∙ e
+
+  -- no problem was told by the turn
+  quiet : is_quiet rest.1.0 ≡ true → is_quiet (turn (suc left) g us).1.0 ≡ true
+  quiet q =
+      when (is_quiet (turn (suc left) g us).1.0) (λ e. e)
+      (λ e. absurd (true_false q (quiet_before (list_keeps (is_list_end is_top) (turn (suc left)) (turn_keeps (suc left)) k (done' ++ option_to_list (turn (suc left) g us).0) (turn (suc left) g us).1.0 next') e)))
+
+  -- so it took a token
+  taken' : is_quiet rest.1.0 ≡ true → next' ≡ (turn (suc left) g us).1.1
+  taken' q = beyond_none us.past (turn (suc left) g us).1.1 (turn_far (suc left) m g us given.short.laid (quiet q))
+
+  taken : (turn (suc left) f ts).1.1.past ≡ (turn (suc left) g us).1.1.past + b.by → is_quiet rest.1.0 ≡ true → next ≡ (turn (suc left) f ts).1.1
+  taken e q =
+      beyond_none ts.past (turn (suc left) f ts).1.1
+      (ap (λ z. z == ts.past) e ∙ ap (λ z. (turn (suc left) g us).1.1.past + b.by == z) (past_same b ts us h)
+      ∙ by_same (turn (suc left) g us).1.1.past us.past b.by (turn_far (suc left) m g us given.short.laid (quiet q)))
+
+  not_into : (w : Near b (turn (suc left) f ts).1.1 (turn (suc left) g us).1.1) → is_quiet rest.1.0 ≡ true → Gone b next next' → ⊥
+  not_into w q o =
+      let less = o.few in
+      let more_there = more_left b (turn (suc left) f ts).1.1 (turn (suc left) g us).1.1 o.uneven w in
+      let whole : length next.left ≡ length (turn (suc left) f ts).1.1.left = ap (λ (t : Tokens). length t.left) (taken (past_same b _ _ w) q) in
+      absurd (omega arith)
+
+  stepped : is_list_end is_top us ≡ false → IsCalm b rest → Ends (FoundAlike b before) (is_sound (at ts)) turn_whole b (flat (turn (suc left) f ts)) (flat (turn (suc left) g us)) → IsRead is_top left b before done done' f ts rest
+  stepped e calm (passes short uneven strict never) = let c = calm uneven in absurd (true_false (quiet c.1.0) (never c.0))
+  stepped e calm (before_end w) =
+      by_next (beyond_near b ts us (turn (suc left) f ts).1.1 (turn (suc left) g us).1.1 h w.rest)
+      (λ o. absurd (not_into w.rest (calm o.uneven).1.0 o))
+      (λ near. let less = next_fewer is_top left m g us given.short.laid e in
+      one_more is_top left b n m before done done' f g ts (turn (suc left) g us).0 rest given.laid (some e) w.value.value
+      (more before (done ++ option_to_list (turn (suc left) f ts).0) (done' ++ option_to_list (turn (suc left) g us).0) (turn (suc left) f ts).1.0 (turn (suc left) g us).1.0 next next'
+      (given_on given (next_leads is_top left n f ts given.laid) (next_leads is_top left m g us given.short.laid)) near w.value.found (omega arith) calm))
+  stepped e calm (at_end t a) =
+      let c = (calm a.uneven).1.0 in
+      let next_is = taken a.past c in
+      let next_is' = taken' c in
+      let none : next'.left ≡ [] = ap (λ (t : Tokens). t.left) next_is' ∙ a.none in
+      let laid = (behind n (next_leads is_top left n f ts given.laid) given.laid).laid in
+      let spent : AtEnd b next next' = record { behind = ap (λ (t : Tokens). t.left) next_is ∙ a.behind; none = none; past = ap (λ (t : Tokens). t.past) next_is ∙ a.past ∙ ap (λ (t : Tokens). t.past + b.by) (sym next_is'); uneven = a.uneven } in
+      one_more is_top left b n m before done done' f g ts (turn (suc left) g us).0 rest given.laid (some e) t.value
+      (subst (λ (z : List ItemView × (Found × Tokens)). IsRead is_top left b before (done ++ option_to_list (turn (suc left) f ts).0) (done' ++ option_to_list (turn (suc left) g us).0) (turn (suc left) f ts).1.0 next z)
+      (sym (run_none is_top left k (done' ++ option_to_list (turn (suc left) g us).0) (turn (suc left) g us).1.0 next' none))
+      (ended_here is_top left b n m before (done ++ option_to_list (turn (suc left) f ts).0) (done' ++ option_to_list (turn (suc left) g us).0) (turn (suc left) f ts).1.0 (turn (suc left) g us).1.0 next next' laid t.found
+      (none_end is_top next' none) (λ l. spent) (λ l. absurd (true_false l a.uneven))))
+
+pub read_on : (is_top : Bool) (left : ℕ) (b : Ending) (n m k : ℕ) → ReadsOnward is_top left b n m k
+read_on is_top left b n m zero before done done' f g ts us given h a few calm = absurd (omega arith)
+read_on is_top left b n m (suc k) before done done' f g ts us given h a few calm =
+    when (is_list_end is_top us)
+    (λ e. rw e
+    (ended_here is_top left b n m before done done' f g ts us given.laid a e
+    (λ l. let none : us.left ≡ [] = rw e at (calm l).1.1 in record { behind = left_behind b ts us h none; none = none; past = past_same b ts us h; uneven = l }) (λ l. h)))
+    (λ e. rw e
+    (stepped is_top left b n m k (read_on is_top left b n m k) before done done' f g ts us given h few e (λ l. ((calm l).0, (rw e at (calm l).1.0, rw e at (calm l).1.1))) (turn_ends n m left b before f g ts us given h a)))

@@ -1,0 +1,293 @@
+-- What is left of an item is ended in both of two texts or in neither, where as many brackets are loose between the braces of each.
+use Rattle.std.proofs.Common.{◌≡◌, ◌≢◌, ◌<◌, ℕ, zero, suc, ◌+◌, ◌-◌, ◌==◌, ◌||◌, ◌&&◌, Bool, true, false, Option, Some, None, List, [], ◌∷◌, ◌++◌, length, refl, ap, ◌∙◌, sym, subst, arith, map, length-append}
+use Rattle.std.specs.Prelude.{if◌then◌else◌, nat_lt}
+use Rattle.std.proofs.lemmas.Bool.{eqb-true}
+use Rattle.std.proofs.lemmas.Bool.Decides.{nat_tests}
+use Rattle.hir_input.specs.declared.edition.EditionYear.{EditionYear}
+use Rattle.rust_lexer.specs.Piece.{Piece}
+use Rattle.rust_lexer.specs.Symbol.{symbol_of}
+use Rattle.rust_lexer.specs.Alone.{moved, braces_from}
+use Rattle.rust_cursor.specs.declared.cursor.nest.Before.{Before}
+use Rattle.rust_cursor.specs.declared.cursor.nest.Nest.{Nest}
+use Rattle.rust_cursor.specs.Tokens.{Tokens, end_of}
+use Rattle.rust_cursor.specs.Words.{symbol, is_empty, bumped}
+use Rattle.rust_cursor.specs.Nests.{opens_other, closes_other, braces_behind, count_behind, closes_none, behind_braces, flat_behind, is_mark, nest_inside, nest_behind}
+use Rattle.rust_cursor.specs.Extents as extents
+use Rattle.rust_cursor.specs.Extents.{ExcerptRead, stops, ends, opened_behind, taking, taken}
+use Rattle.rust_cursor.specs.Beside.{Bodies, AreOpen, Beside, ahead, behind}
+use Rattle.rust_cursor.proofs.Leads.{when, stops_empty}
+use Rattle.rust_cursor.proofs.Nesting.{shorter}
+use Rattle.rust_cursor.proofs.Scans.{taking_stop, taking_end, taking_more}
+use Rattle.rust_cursor.proofs.Views.{beside_twins, symbol_same, next_ahead, next_behind}
+use Rattle.rust_cursor.proofs.Tests.{nest_same, stops_same, ends_same}
+use Rattle.rust_cursor.proofs.Braced.{tokens_at, symbol_at, some_at, bumped_at, inside_is, enters}
+use Rattle.rust_edits.specs.Typing.Loose.{Loose, none_loose, loose_behind, loose_from}
+
+-- ---- what is counted in braces
+
+opens_closes : (c : ℕ) → opens_other c ≡ true → closes_other c ≡ false
+opens_closes c e = grind (arith, nat_tests)
+
+not_also : (t u : Bool) → (t || (u && false)) ≡ t
+not_also true u = refl
+not_also false true = refl
+not_also false false = refl
+
+inner_is : (i : ℕ) (l : Loose) (c : ℕ) → count_behind (i - l.closing + l.opening) c ≡ i - (loose_behind l c).closing + (loose_behind l c).opening
+inner_is i l c =
+    when (opens_other c) (λ e. rw e (omega arith))
+    (λ e. when (closes_other c)
+    (λ f. when (l.opening == 0)
+    (λ g. let none = eqb-true l.opening 0 g in rw (e, f, g) (omega (arith, none)))
+    (λ g. let some : l.opening ≢ 0 = grind (arith, nat_tests) in rw (e, f, g) (omega (arith, some))))
+    (λ f. rw (e, f) refl))
+
+one_lower : (t : Bool) (i k : ℕ) → ((t || nat_lt i k) || (i - k + 0 == 0 && true)) ≡ (t || nat_lt i (k + 1))
+one_lower true i k = refl
+one_lower false i k =
+    when (nat_lt i k)
+    (λ e. let f : nat_lt i (k + 1) ≡ true = grind (arith, nat_tests) in rw (e, f) refl)
+    (λ e. when (i == k)
+    (λ g. let f : nat_lt i (k + 1) ≡ true = grind (arith, nat_tests) in let z : (i - k + 0 == 0) ≡ true = grind (arith, nat_tests) in rw (e, f, z) refl)
+    (λ g. let f : nat_lt i (k + 1) ≡ false = grind (arith, nat_tests) in let z : (i - k + 0 == 0) ≡ false = grind (arith, nat_tests) in rw (e, f, z) refl))
+
+torn_is : (t : Bool) (i : ℕ) (l : Loose) (c : ℕ) → ((t || nat_lt i l.closing) || closes_none (i - l.closing + l.opening) c) ≡ (t || nat_lt i (loose_behind l c).closing)
+torn_is t i l c =
+    when (opens_other c)
+    (λ e. let f = opens_closes c e in rw (e, f) (not_also (t || nat_lt i l.closing) _))
+    (λ e. when (closes_other c)
+    (λ f. when (l.opening == 0)
+    (λ g. let none = eqb-true l.opening 0 g in rw (e, f, g, none) (one_lower t i l.closing))
+    (λ g. let some : (i - l.closing + l.opening == 0) ≡ false = grind (arith, nat_tests) in rw (e, f, g, some) (not_also (t || nat_lt i l.closing) true)))
+    (λ f. rw (e, f) (not_also (t || nat_lt i l.closing) _)))
+
+-- in so many braces, behind these loose brackets
+abbrev inside : Nest → ℕ → Loose → Nest
+inside n k l = record { braces = k; others = n.others; free = n.free; angles = n.angles; inner = n.inner - l.closing + l.opening; is_torn = n.is_torn || nat_lt n.inner l.closing; before = n.before }
+
+made : Nest → ℕ → ℕ → Bool → Before → Nest
+made n k i t w = record { braces = k; others = n.others; free = n.free; angles = n.angles; inner = i; is_torn = t; before = w }
+
+off : (k : ℕ) → (suc k == 0) ≡ false
+off k = grind (arith, nat_tests)
+
+still_before : (w v : Before) (k j c : ℕ) → braces_behind (suc k) c ≡ suc j → (if suc k == 1 && c == 125 then v else w) ≡ w
+still_before w v k j c e =
+    when (c == 125)
+    (λ f. when (suc k == 1)
+    (λ g. let shut = eqb-true c 125 f in absurd (let no = rw shut at e in let one = eqb-true (suc k) 1 g in omega (arith, no, one)))
+    (λ g. rw (f, g) refl))
+    (λ f. when (suc k == 1) (λ g. rw (f, g) refl) (λ g. rw g refl))
+
+nest_step : (n : Nest) (k j : ℕ) (l : Loose) (ts : Tokens) → braces_behind (suc k) (symbol ts) ≡ suc j → nest_behind (inside n (suc k) l) ts ≡ inside n (suc j) (loose_behind l (symbol ts))
+unfolding made
+nest_step n k j l ts e =
+    let c = symbol ts in
+    let m = inside n (suc k) l in
+    let i = count_behind m.inner c in
+    let t = m.is_torn || closes_none m.inner c in
+    let w = (nest_inside m ts).before in
+    inside_is m ts (off k) ∙ ap (λ b. made n b i t w) e ∙ ap (λ x. made n (suc j) x t w) (inner_is n.inner l c)
+    ∙ ap (λ x. made n (suc j) (inside n (suc j) (loose_behind l c)).inner x w) (torn_is n.is_torn n.inner l c)
+    ∙ ap (λ x. made n (suc j) (inside n (suc j) (loose_behind l c)).inner (inside n (suc j) (loose_behind l c)).is_torn x) (still_before n.before (behind_braces m) k j c e)
+
+nest_is : (n : Nest) (k : ℕ) → n.braces ≡ k → n ≡ inside n k none_loose
+unfolding made
+nest_is n k e =
+    let low : nat_lt n.inner 0 ≡ false = grind (arith, nat_tests) in
+    ap (λ b. made n b n.inner n.is_torn n.before) e ∙ ap (λ x. made n k x n.is_torn n.before) (let same : n.inner ≡ n.inner - 0 + 0 = omega arith in same)
+    ∙ ap (λ x. made n k (n.inner - 0 + 0) x n.before) (let same : n.is_torn ≡ (n.is_torn || nat_lt n.inner 0) = rw low (alone n.is_torn) in same)
+  where
+    alone : (t : Bool) → t ≡ (t || false)
+    alone true = refl
+    alone false = refl
+
+-- behind a token in braces that is seen alike
+inside_same : (n : Nest) (k : ℕ) (ts us : Tokens) → n.braces ≡ suc k → symbol us ≡ symbol ts → nest_behind n us ≡ nest_behind n ts
+inside_same n k ts us d e =
+    let some : (n.braces == 0) ≡ false = grind (arith, nat_tests) in
+    rw (inside_is n us some, inside_is n ts some, e) refl
+
+-- ---- through braces
+
+stops_deep : (e : _) (n : Nest) (ts : Tokens) → is_empty ts ≡ false → (n.braces == 0) ≡ false → stops e n ts ≡ false
+unfolding stops
+stops_deep e n ts h d = rw (h, d) refl
+
+ends_deep : (e : _) (is_call : Bool) (n : Nest) (ts : Tokens) → (n.braces == 0) ≡ false → ends e is_call n ts ≡ false
+unfolding ends
+ends_deep e is_call n ts d = rw d refl
+
+module _ (R : ExcerptRead × Tokens → Type 0) (y : EditionYear) (u : Option ℕ) (n : Nest) where
+  -- one token
+  step : (e : _) (t : Piece) (rest : List Piece) (k j past : ℕ) (l : Loose) (done : List ℕ) (last : ℕ) (o : Option Tokens) → braces_behind (suc k) (symbol_of t) ≡ suc j
+      → ((done : List ℕ) (last : ℕ) (o : Option Tokens) → R (taking e done last o (inside n (suc j) (loose_behind l (symbol_of t))) (tokens_at y (end_of t) rest u))) → R (taking e done last o (inside n (suc k) l) (tokens_at y past (t ∷ rest) u))
+  step e t rest k j past l done last o f next =
+      let ts = tokens_at y past (t ∷ rest) u in
+      let m = inside n (suc k) l in
+      let c = symbol_at y past t rest u in
+      let behind_is : nest_behind m ts ≡ inside n (suc j) (loose_behind l (symbol_of t)) = nest_step n k j l ts (ap (braces_behind (suc k)) c ∙ f) ∙ ap (λ s. inside n (suc j) (loose_behind l s)) c in
+      let go_on = stops_deep e m ts (some_at y past t rest u) (off k) in
+      let no_end : ends e (is_mark m.before) (nest_behind m ts) ts ≡ false = ap (λ x. ends e (is_mark m.before) x ts) behind_is ∙ ends_deep e (is_mark m.before) (inside n (suc j) (loose_behind l (symbol_of t))) ts (off j) in
+      let text = extents.more e last done ts in
+      let braces = opened_behind o m ts in
+      subst R
+      (sym (taking_more e done last o m ts go_on no_end ∙ ap (λ x. taking e text (symbol ts) braces x (bumped ts)) behind_is
+      ∙ ap (taking e text (symbol ts) braces (inside n (suc j) (loose_behind l (symbol_of t)))) (bumped_at y past t rest u))) (next text (symbol ts) braces)
+
+  -- tokens whose braces match
+  through : (e : _) (left : List Piece) (i : ℕ) (ms : List Piece) (k past : ℕ) (l : Loose) (done : List ℕ) (last : ℕ) (o : Option Tokens) → braces_from k ms ≡ Some i
+      → ((done : List ℕ) (last : ℕ) (o : Option Tokens) (past : ℕ) → R (taking e done last o (inside n (suc i) (loose_from l ms)) (tokens_at y past left u))) → R (taking e done last o (inside n (suc k) l) (tokens_at y past (ms ++ left) u))
+  through e left i [] k past l done last o f next =
+      let same : i ≡ k = cc in
+      subst (λ (j : ℕ). R (taking e done last o (inside n (suc j) l) (tokens_at y past left u))) same (next done last o past)
+  through e left i (t ∷ ms) k past l done last o f next =
+      when (symbol_of t == 123)
+      (λ a. let g = rw a at f in
+      step e t (ms ++ left) k (suc k) past l done last o (rw a (omega arith)) (λ done last o. through e left i ms (suc k) (end_of t) (loose_behind l (symbol_of t)) done last o g next))
+      (λ a. let g = rw a at f in
+      when (symbol_of t == 125)
+      (λ b. let h = rw b at g in
+      when (k == 0) (λ z. absurd (let no = rw z at h in cc))
+      (λ z. let r = rw z at h in
+      let some : k ≢ 0 = grind (arith, nat_tests) in
+      step e t (ms ++ left) k (k - 1) past l done last o (rw (a, b) (omega arith)) (λ done last o. through e left i ms (k - 1) (end_of t) (loose_behind l (symbol_of t)) done last o r next)))
+      (λ b. let h = rw b at g in
+      step e t (ms ++ left) k k past l done last o (rw (a, b) refl) (λ done last o. through e left i ms k (end_of t) (loose_behind l (symbol_of t)) done last o h next)))
+
+nothing : (y : EditionYear) (past : ℕ) (u : Option ℕ) → is_empty (tokens_at y past [] u) ≡ true
+unfolding is_empty
+nothing y past u = refl
+
+-- ---- both texts
+
+-- braces that match match in others
+matched_in : (d : ℕ) (ms : List Piece) → braces_from 0 ms ≡ Some 0 → braces_from d ms ≡ Some d
+matched_in d ms e = let same : 0 + d ≡ d = omega arith in subst (λ (k : ℕ). braces_from k ms ≡ Some k) same (shifted d 0 0 ms e)
+  where
+    shifted : (d k j : ℕ) (ms : List Piece) → braces_from k ms ≡ Some j → braces_from (k + d) ms ≡ Some (j + d)
+    shifted d k j [] e = let same : k ≡ j = cc in ap (λ i. Some (i + d)) same
+    shifted d k j (t ∷ ms) e =
+        when (symbol_of t == 123)
+        (λ p. let f = rw p at e in rw p (ap (λ i. braces_from i ms) (omega arith) ∙ shifted d (suc k) j ms f))
+        (λ p. let f = rw p at e in
+        when (symbol_of t == 125)
+        (λ q. let g = rw q at f in
+        when (k == 0) (λ r. absurd (let no = rw r at g in cc))
+        (λ r. let h = rw r at g in
+        let some : k ≢ 0 = grind (arith, nat_tests) in
+        let more : (k + d == 0) ≡ false = grind (arith, nat_tests) in
+        rw (p, q, more) (ap (λ i. braces_from i ms) (omega arith) ∙ shifted d (k - 1) j ms h)))
+        (λ q. let g = rw q at f in rw (p, q) (shifted d k j ms g)))
+
+-- as many brackets are loose between the braces of each text
+abbrev pub SameLoose : Bodies → Type 0
+SameLoose b = loose_from none_loose b.new ≡ loose_from none_loose b.old
+
+module _ (b : Bodies) (same : SameLoose b) where
+  abbrev Alike : (List ℕ → ℕ → Option Tokens → Nest → Tokens → ExcerptRead × Tokens) → Tokens → Tokens → Type 0
+  Alike take ts us = (done done' : List ℕ) (last last' : ℕ) (o o' : Option Tokens) (n : Nest) → (take done' last' o' n us).0.is_ended ≡ (take done last o n ts).0.is_ended
+
+  -- where neither stops
+  onward : (e : _) (ts us : Tokens) (n m : Nest) (done done' : List ℕ) (last last' : ℕ) (o o' : Option Tokens) → stops e n ts ≡ false → stops e n us ≡ false → nest_behind n ts ≡ m → nest_behind n us ≡ m
+      → symbol us ≡ symbol ts → Beside b (bumped ts) (bumped us) → Alike (taking e) (bumped ts) (bumped us) → (taking e done' last' o' n us).0.is_ended ≡ (taking e done last o n ts).0.is_ended
+  onward e ts us n m done done' last last' o o' p p' i i' s next more =
+      let ends' : ends e (is_mark n.before) m us ≡ ends e (is_mark n.before) m ts = ends_same (beside_twins b) e (is_mark n.before) m ts us s next in
+      when (ends e (is_mark n.before) m ts)
+      (λ q. let one = taking_end e done last o n ts p (ap (λ k. ends e (is_mark n.before) k ts) i ∙ q) in
+      let two = taking_end e done' last' o' n us p' (ap (λ k. ends e (is_mark n.before) k us) i' ∙ ends' ∙ q) in
+      rw (one, two, i, i') refl)
+      (λ q. let one = taking_more e done last o n ts p (ap (λ k. ends e (is_mark n.before) k ts) i ∙ q) in
+      let two = taking_more e done' last' o' n us p' (ap (λ k. ends e (is_mark n.before) k us) i' ∙ ends' ∙ q) in
+      rw (one, two, i, i') (more (extents.more e last done ts) (extents.more e last' done' us) (symbol ts) (symbol us) (opened_behind o n ts) (opened_behind o' n us) m))
+
+  -- a token that is none of the braces'
+  one : (e : _) (ts us : Tokens) → Beside b ts us → Beside b (bumped ts) (bumped us) → Alike (taking e) (bumped ts) (bumped us) → Alike (taking e) ts us
+  one e ts us h next more done done' last last' o o' n =
+      let stops' : stops e n us ≡ stops e n ts = stops_same (beside_twins b) e n ts us h in
+      when (stops e n ts)
+      (λ p. rw (taking_stop e done last o n ts p, taking_stop e done' last' o' n us (stops' ∙ p)) refl)
+      (λ p. onward e ts us n (nest_behind n ts) done done' last last' o o' p (stops' ∙ p) refl (nest_same (beside_twins b) n ts us h) (symbol_same b ts us h) next more)
+
+  -- the `}` of the braces, behind as many loose brackets
+  closed : (e : _) (past past' : ℕ) (r : List Piece) (u u' : Option ℕ) → AreOpen b r → (n : Nest) (k : ℕ) → n.braces ≡ suc k → (let tc = tokens_at b.edition past (moved b.by b.closing ∷ map (moved b.by) r) u in
+      let uc = tokens_at b.edition past' (moved b.by_new b.closing ∷ map (moved b.by_new) r) u' in
+      Alike (taking e) (bumped tc) (bumped uc) → (done done' : List ℕ) (last last' : ℕ) (o o' : Option Tokens) → (taking e done' last' o' n uc).0.is_ended ≡ (taking e done last o n tc).0.is_ended)
+  closed e past past' r u u' j n k d more done done' last last' o o' =
+      let tc = tokens_at b.edition past (moved b.by b.closing ∷ map (moved b.by) r) u in
+      let uc = tokens_at b.edition past' (moved b.by_new b.closing ∷ map (moved b.by_new) r) u' in
+      let deep : (n.braces == 0) ≡ false = grind (arith, nat_tests) in
+      let s : symbol uc ≡ symbol tc = symbol_at b.edition past' (moved b.by_new b.closing) (map (moved b.by_new) r) u' ∙ sym (symbol_at b.edition past (moved b.by b.closing) (map (moved b.by) r) u) in
+      onward e tc uc n (nest_behind n tc) done done' last last' o o' (stops_deep e n tc (some_at b.edition past (moved b.by b.closing) (map (moved b.by) r) u) deep)
+      (stops_deep e n uc (some_at b.edition past' (moved b.by_new b.closing) (map (moved b.by_new) r) u') deep) refl (inside_same n k tc uc d s) s (next_behind b past past' b.closing r u u' j.behind) more
+
+  -- the braces
+  block : (e : _) (past : ℕ) (r : List Piece) (u u' : Option ℕ) → AreOpen b r → (let left = moved b.by b.closing ∷ map (moved b.by) r in
+      let left' = moved b.by_new b.closing ∷ map (moved b.by_new) r in
+      let ts = tokens_at b.edition past (b.opening ∷ (b.old ++ left)) u in
+      let us = tokens_at b.edition past (b.opening ∷ (b.new ++ left')) u' in
+      ((past past' : ℕ) → Alike (taking e) (bumped (tokens_at b.edition past left u)) (bumped (tokens_at b.edition past' left' u'))) → Beside b ts us → Alike (taking e) ts us)
+  block e past r u u' j more h done done' last last' o o' n =
+      let left = moved b.by b.closing ∷ map (moved b.by) r in
+      let left' = moved b.by_new b.closing ∷ map (moved b.by_new) r in
+      let ts = tokens_at b.edition past (b.opening ∷ (b.old ++ left)) u in
+      let us = tokens_at b.edition past (b.opening ∷ (b.new ++ left')) u' in
+      let stops' : stops e n us ≡ stops e n ts = stops_same (beside_twins b) e n ts us h in
+      let m = nest_behind n ts in
+      let k = n.braces in
+      let deep = enters n ts (symbol_at b.edition past b.opening (b.old ++ left) u ∙ b.opens) in
+      let m_is : m ≡ inside m (suc k) none_loose = nest_is m (suc k) deep.braces in
+      let m'_is : nest_behind n us ≡ inside m (suc k) none_loose = nest_same (beside_twins b) n ts us h ∙ m_is in
+      let no_end : ends e (is_mark n.before) (inside m (suc k) none_loose) ts ≡ false = ends_deep e (is_mark n.before) (inside m (suc k) none_loose) ts (off k) in
+      let no_end' : ends e (is_mark n.before) (inside m (suc k) none_loose) us ≡ false = ends_deep e (is_mark n.before) (inside m (suc k) none_loose) us (off k) in
+      when (stops e n ts)
+      (λ p. rw (taking_stop e done last o n ts p, taking_stop e done' last' o' n us (stops' ∙ p)) refl)
+      (λ p. let first = taking_more e done last o n ts p (ap (λ x. ends e (is_mark n.before) x ts) m_is ∙ no_end) in
+      let first' = taking_more e done' last' o' n us (stops' ∙ p) (ap (λ x. ends e (is_mark n.before) x us) m'_is ∙ no_end') in
+      let text = extents.more e last done ts in
+      let text' = extents.more e last' done' us in
+      let braces = opened_behind o n ts in
+      let braces' = opened_behind o' n us in
+      let in_it = inside m (suc k) none_loose in
+      let entered = first ∙ ap (λ x. taking e text (symbol ts) braces x (bumped ts)) m_is ∙ ap (taking e text (symbol ts) braces in_it) (bumped_at b.edition past b.opening (b.old ++ left) u) in
+      let entered' = first' ∙ ap (λ x. taking e text' (symbol us) braces' x (bumped us)) m'_is ∙ ap (taking e text' (symbol us) braces' in_it) (bumped_at b.edition past b.opening (b.new ++ left') u') in
+      rw (entered, entered')
+      (through (λ r. r.0.is_ended ≡ (taking e text (symbol ts) braces in_it (tokens_at b.edition (end_of b.opening) (b.old ++ left) u)).0.is_ended) b.edition u' m e left' k b.new k (end_of b.opening) none_loose text' (symbol us) braces' (matched_in k b.new b.new_matched)
+      (λ done' last' o' past'. sym (through (λ r. r.0.is_ended ≡ (taking e done' last' o' (inside m (suc k) (loose_from none_loose b.new)) (tokens_at b.edition past' left' u')).0.is_ended) b.edition u m e left k b.old k (end_of b.opening) none_loose text (symbol ts) braces (matched_in k b.old b.old_matched)
+      (λ done last o past. sym (subst (λ (l : Loose). (taking e done' last' o' (inside m (suc k) l) (tokens_at b.edition past' left' u')).0.is_ended ≡ (taking e done last o (inside m (suc k) (loose_from none_loose b.old)) (tokens_at b.edition past left u)).0.is_ended) (sym same)
+      (closed e past past' r u u' j (inside m (suc k) (loose_from none_loose b.old)) k refl (more past past') done done' last last' o o')))))))
+
+  all : (e : _) (fuel : ℕ) (ts us : Tokens) → length ts.left < fuel → Beside b ts us → Alike (taking e) ts us
+  all e zero ts us le h = absurd (omega arith)
+  all e (suc fuel) ts us le (ahead past [] r u u' f j) =
+      let left = moved b.by b.closing ∷ map (moved b.by) r in
+      let long = length-append b.old left in
+      block e past r u u' j
+      (λ past past'. let tc = tokens_at b.edition past left u in
+      let less = shorter tc (some_at b.edition past (moved b.by b.closing) (map (moved b.by) r) u) in
+      all e fuel (bumped tc) (bumped (tokens_at b.edition past' (moved b.by_new b.closing ∷ map (moved b.by_new) r) u')) (omega arith) (next_behind b past past' b.closing r u u' j.behind))
+      (ahead past [] r u u' f j)
+  all e (suc fuel) ts us le (ahead past (p ∷ x) r u u' f j) =
+      let left = x ++ b.opening ∷ (b.old ++ moved b.by b.closing ∷ map (moved b.by) r) in
+      let left' = x ++ b.opening ∷ (b.new ++ moved b.by_new b.closing ∷ map (moved b.by_new) r) in
+      let ts = tokens_at b.edition past (p ∷ left) u in
+      let us = tokens_at b.edition past (p ∷ left') u' in
+      let less = shorter ts (some_at b.edition past p left u) in
+      let next = next_ahead b past p x r u u' f.1 j in
+      one e ts us (ahead past (p ∷ x) r u u' f j) next (all e fuel (bumped ts) (bumped us) (omega arith) next)
+  all e (suc fuel) ts us le (behind past [] u u' f) =
+      λ done done' last last' o o' n.
+      let ts = tokens_at b.edition (past + b.by) [] u in
+      let us = tokens_at b.edition (past + b.by_new) [] u' in
+      rw (taking_stop e done last o n ts (stops_empty e n ts (nothing b.edition (past + b.by) u)), taking_stop e done' last' o' n us (stops_empty e n us (nothing b.edition (past + b.by_new) u'))) refl
+  all e (suc fuel) ts us le (behind past (p ∷ r) u u' f) =
+      let ts = tokens_at b.edition (past + b.by) (moved b.by p ∷ map (moved b.by) r) u in
+      let us = tokens_at b.edition (past + b.by_new) (moved b.by_new p ∷ map (moved b.by_new) r) u' in
+      let less = shorter ts (some_at b.edition (past + b.by) (moved b.by p) (map (moved b.by) r) u) in
+      let next = next_behind b (past + b.by) (past + b.by_new) p r u u' f.1 in
+      one e ts us (behind past (p ∷ r) u u' f) next (all e fuel (bumped ts) (bumped us) (omega arith) next)
+
+  -- what is taken is ended in both texts or in neither
+  pub taken_ended : (w : Before) (e : _) (ts us : Tokens) → Beside b ts us → (taken w e us).0.is_ended ≡ (taken w e ts).0.is_ended
+  unfolding taken
+  taken_ended w e ts us h = all e (suc (length ts.left)) ts us (omega arith) h [] [] 0 0 None None (flat_behind w)

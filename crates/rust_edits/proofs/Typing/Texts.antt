@@ -1,0 +1,154 @@
+-- The tokens of two texts that differ between two braces.
+use Rattle.std.proofs.Common.{◌≡◌, ◌≤◌, ◌<◌, ℕ, arith, Bool, true, false, suc, ◌+◌, ◌==◌, ◌&&◌, ◌||◌, Option, Some, List, [], ◌∷◌, ◌++◌, length, refl, ap, sym, subst, ◌∙◌, map}
+use Rattle.std.specs.Prelude.{not}
+use Rattle.std.specs.List.{filter}
+use Rattle.hir_input.specs.declared.edition.EditionYear.{EditionYear}
+use Rattle.rust_lexer.specs.declared.kind.DocStyle.TheVariants.{Inner}
+use Rattle.rust_lexer.specs.declared.kind.TokenKind.{TokenKind}
+use Rattle.rust_lexer.specs.declared.kind.TokenKind.TheVariants as kinds
+use Rattle.rust_lexer.specs.Alone.{StandsAlone, opening, front, moved}
+use Rattle.rust_lexer.specs.Piece.{Piece}
+use Rattle.rust_lexer.specs.Symbol.{symbol_from, symbol_of}
+use Rattle.rust_lexer.specs.Tokens.{is_significant}
+use Rattle.rust_lexer.proofs.Counted.{when}
+use Rattle.rust_lexer.proofs.Whole.{open_at, inside_of, body, body_matched, close_of, close_symbol, left_of, front_of, counted_apart}
+use Rattle.rust_lexer.proofs.Whole as wholes
+use Rattle.rust_lexer.proofs.Apart.{front_same}
+use Rattle.rust_cursor.specs.Tokens.{Tokens, end_of, tokens_of}
+use Rattle.rust_cursor.specs.Words.{kind, symbol, bumped}
+use Rattle.rust_cursor.specs.Elements.{turns}
+use Rattle.rust_cursor.specs.Beside.{Bodies, AreBehind, Beside, ahead}
+use Rattle.rust_cursor.proofs.Braced.{tokens_at, bumped_at}
+use Rattle.rust_cursor.proofs.Ordered.{front_before, left_behind}
+use Rattle.rust_cursor.proofs.Places.{Moves, SamePlace}
+use Rattle.rust_cursor.proofs.Turns.{turns_stop}
+use Rattle.rust_metas.specs.Attributes.{is_style, is_doc, is_attribute, is_behind, inner_attributes, attributes}
+use Rattle.rust_metas.specs.Literals.{style_by}
+use Rattle.rust_items.proofs.UntilLeaves.{BeginPlain}
+use Rattle.rust_edits.specs.Typing.Laws.{with_body, OpensAt, is_plain, first_plain, BeginsPlain}
+
+-- ---- the braces
+
+near : (q m s : List ℕ) → length q < (close_of s).at + (suc (length q) + length m)
+near q m s = omega arith
+
+-- what stands between the braces stands behind the `{`
+counted_behind : (low past : ℕ) (ts : List Piece) → low ≤ past → AreBehind low past (filter is_significant (map (moved low) ts))
+counted_behind low past [] h = h
+counted_behind low past (t ∷ ts) h =
+    when (is_significant t) (λ e. rw e ((h, omega arith), counted_behind low (end_of (moved low t)) ts (omega arith))) (λ e. rw e (counted_behind low past ts h))
+
+body_behind : (at : ℕ) (m : List ℕ) → AreBehind (suc at) (at + 1) (body at m)
+unfolding body inside_of
+body_behind at m = counted_behind (suc at) (at + 1) (front 0 0 m (125 ∷ [])) (omega arith)
+
+pub bodies : (edition : EditionYear) (q m m' s : List ℕ) → StandsAlone m → StandsAlone m' → Bodies
+bodies edition q m m' s h h' = record {
+  edition = edition;
+  passed = false;
+  opening = open_at (length q);
+  closing = close_of s;
+  old = body (length q) m;
+  new = body (length q) m';
+  by = suc (length q) + length m;
+  by_new = suc (length q) + length m';
+  opens = refl;
+  is_bracket = refl;
+  closes = close_symbol s;
+  old_behind = body_behind (length q) m;
+  apart = near q m s;
+  apart_new = near q m' s;
+  old_matched = body_matched (length q) m h;
+  new_matched = body_matched (length q) m' h';
+}
+
+pub bodies_at : (edition : EditionYear) (q m m' s : List ℕ) (h : StandsAlone m) (h' : StandsAlone m') → (bodies edition q m m' s h h').opening.at ≡ length q
+unfolding bodies
+bodies_at edition q m m' s h h' = refl
+
+-- a place of the one text, and that of the other
+abbrev pub IsMoved : List ℕ → List ℕ → List ℕ → List ℕ → ℕ → ℕ → Type 0
+IsMoved q m m' s = Moves (length q) (end_of (close_of s)) (suc (length q) + length m) (suc (length q) + length m')
+
+-- what is so of the two bodies, and of places that are moved so
+pub of_bodies : (edition : EditionYear) (q m m' s : List ℕ) (h : StandsAlone m) (h' : StandsAlone m') (P : List Piece → List Piece → Type 0) → P (body (length q) m) (body (length q) m') → (let b = bodies edition q m m' s h h' in P b.old b.new)
+unfolding bodies
+of_bodies edition q m m' s h h' P a = a
+
+pub of_places : (edition : EditionYear) (q m m' s : List ℕ) (h : StandsAlone m) (h' : StandsAlone m') (P : (ℕ → ℕ → Type 0) → Type 0) → P (IsMoved q m m' s) → P (SamePlace (bodies edition q m m' s h h'))
+unfolding bodies
+of_places edition q m m' s h h' P a = a
+
+pub are_moved : (edition : EditionYear) (q m m' s : List ℕ) (h : StandsAlone m) (h' : StandsAlone m') (P : (ℕ → ℕ → Type 0) → Type 0) → P (SamePlace (bodies edition q m m' s h h')) → P (IsMoved q m m' s)
+unfolding bodies
+are_moved edition q m m' s h h' P a = a
+
+-- ---- the tokens
+
+lexer_opens : (q y : List ℕ) → OpensAt q y → wholes.OpensAt q y
+lexer_opens q y o = record { full = o.full; one = o.one; plain = o.plain; unfenced = o.unfenced; bare = o.bare }
+
+pub tokens_beside : (edition : EditionYear) (q m m' s : List ℕ) → OpensAt q (m ++ 125 ∷ s) → (h : StandsAlone m) → (h' : StandsAlone m')
+    → Beside (bodies edition q m m' s h h') (tokens_of edition (with_body q m s)) (tokens_of edition (with_body q m' s))
+unfolding tokens_of bodies
+tokens_beside edition q m m' s o h h' =
+    let b = bodies edition q m m' s h h' in
+    let p = lexer_opens q (m ++ 125 ∷ s) o in
+    let u = (tokens_of edition (with_body q m s)).unended in
+    let u' = (tokens_of edition (with_body q m' s)).unended in
+    let left = front_of q ++ open_at (length q) ∷ (body (length q) m ++ moved (suc (length q) + length m) (close_of s) ∷ map (moved (suc (length q) + length m)) (left_of s)) in
+    subst (λ (l : List Piece). Beside b (tokens_at edition 0 l u) (tokens_of edition (with_body q m' s))) (sym (counted_apart q m m s p h h))
+    (subst (λ (l : List Piece). Beside b (tokens_at edition 0 left u) (tokens_at edition 0 l u')) (sym (counted_apart q m m' s p h h'))
+    (ahead 0 (front_of q) (left_of s) u u' (front_before q (front_same opening 0 0 q (m ++ 125 ∷ s) [] o.full o.one).0) (record { unpassed = refl; behind = left_behind s })))
+
+-- ---- what the body begins with
+
+abbrev plain_list : List Piece → Bool
+plain_list [] = true
+plain_list (t ∷ ts) = is_plain t
+
+neither : (s d r : Bool) → (not s && not d) ≡ true → not (d || (s && r)) ≡ true
+neither true d r e = absurd cc
+neither false true r e = absurd cc
+neither false false r e = refl
+
+plain_behind : (y : EditionYear) (past : ℕ) (l : List Piece) (u : Option ℕ) → plain_list l ≡ true → is_behind Inner (tokens_at y past l u) ≡ true
+unfolding is_behind is_doc is_attribute symbol kind
+plain_behind y past [] u e = refl
+plain_behind y past (t ∷ l) u e = neither (symbol_of t == 35) (is_style Inner (style_by (Some t.kind))) _ e
+
+no_attributes : (ts : Tokens) → is_behind Inner ts ≡ true → (inner_attributes ts).0 ≡ []
+unfolding inner_attributes attributes turns
+no_attributes ts e = ap (λ r. r.0) (turns_stop (is_behind Inner) _ _ [] ts e)
+
+plain_symbol : (k : TokenKind) (b : ℕ) → symbol_from k b ≡ 125 → is_style Inner (style_by (Some k)) ≡ false
+plain_symbol (kinds.LineComment style) b e = absurd cc
+plain_symbol (kinds.BlockComment style) b e = absurd cc
+plain_symbol _ b e = refl
+
+plain_close : (t : Piece) → symbol_of t ≡ 125 → is_plain t ≡ true
+plain_close t e = let style = plain_symbol t.kind _ e in rw (e, style) refl
+
+plain_first : (d : ℕ) (l : List Piece) (c : Piece) (r : List Piece) → is_plain c ≡ true → first_plain l ≡ true → plain_list (filter is_significant (map (moved d) l) ++ c ∷ r) ≡ true
+plain_first d [] c r p e = p
+plain_first d (t ∷ l) c r p e =
+    when (is_significant t) (λ f. let g = rw f at e in rw f g) (λ f. let g = rw f at e in rw f (plain_first d l c r p g))
+
+plain_body : (at : ℕ) (m : List ℕ) (c : Piece) (r : List Piece) → is_plain c ≡ true → BeginsPlain m → plain_list (body at m ++ c ∷ r) ≡ true
+unfolding body inside_of
+plain_body at m c r p e = plain_first (suc at) (front 0 0 m (125 ∷ [])) c r p e
+
+plain_inside : (y : EditionYear) (at past d : ℕ) (m s : List ℕ) (r : List Piece) (u : Option ℕ) → BeginsPlain m
+    → (inner_attributes (bumped (tokens_at y past (open_at at ∷ (body at m ++ moved d (close_of s) ∷ r)) u))).0 ≡ []
+plain_inside y at past d m s r u e =
+    ap (λ t. (inner_attributes t).0) (bumped_at y past (open_at at) (body at m ++ moved d (close_of s) ∷ r) u)
+    ∙ no_attributes (tokens_at y (end_of (open_at at)) (body at m ++ moved d (close_of s) ∷ r) u)
+    (plain_behind y (end_of (open_at at)) (body at m ++ moved d (close_of s) ∷ r) u (plain_body at m (moved d (close_of s)) r (plain_close (moved d (close_of s)) (close_symbol s)) e))
+
+pub begin_plain : (edition : EditionYear) (q m m' s : List ℕ) (h : StandsAlone m) (h' : StandsAlone m') → BeginsPlain m → BeginsPlain m' → BeginPlain (bodies edition q m m' s h h')
+unfolding bodies
+begin_plain edition q m m' s h h' p p' = record {
+  new_behind = body_behind (length q) m';
+  old = λ past r u. plain_inside edition (length q) past (suc (length q) + length m) m s (map (moved (suc (length q) + length m)) r) u p;
+  new = λ past r u. plain_inside edition (length q) past (suc (length q) + length m') m' s (map (moved (suc (length q) + length m')) r) u p';
+}

@@ -1,0 +1,61 @@
+-- What is said of words is so of the tokens that they are.
+use Rattle.std.proofs.Common.{◌≡◌, ℕ, ◌==◌, ◌&&◌, Bool, true, false, List, ◌∷◌, ◌++◌, refl, arith}
+use Rattle.std.specs.Prelude.{if◌then◌else◌}
+use Rattle.std.proofs.lemmas.Bool.Decides.{nat_tests}
+use Rattle.rust_cursor.specs.declared.cursor.nest.Before.{Before}
+use Rattle.rust_cursor.specs.declared.cursor.nest.Before.TheVariants as befores
+use Rattle.rust_cursor.specs.Tokens.{Tokens}
+use Rattle.rust_cursor.specs.Words.{at, is_glued, bumped}
+use Rattle.rust_cursor.specs.Nests as nests
+use Rattle.rust_cursor.specs.Extents as extents
+use Rattle.rust_written.specs.Words.{Link, joined, apart, free, Word, IsAt}
+use Rattle.rust_written.specs.Trees.{Tree, single, group, Trees, no_trees, tree_and, trees_words, first_of, is_joined, is_free}
+use Rattle.rust_written.specs.Trees as trees
+use Rattle.rust_written.proofs.Begins.{Shows, Begins}
+
+-- the first word of trees comes next
+pub shows_first : (is : Trees) (end : Word) (more : List Word) (ts : Tokens) → Begins (trees_words is ++ end ∷ more) ts → Shows (first_of is end) ts
+shows_first no_trees end more ts b = b.0
+shows_first (tree_and (single w) is) end more ts b = b.0
+shows_first (tree_and (group k is') is) end more ts b = b.0
+
+-- ---- what begins an item
+
+pub begins_same : (w next : Word) (ts : Tokens) → Shows w ts → Shows next (bumped ts) → extents.begins_item ts ≡ trees.begins_item w next
+unfolding extents.begins_item
+begins_same w next ts s n = rw (s.word_is, n.symbol_is, n.word_is, n.identifier_is) refl
+
+pub within_same : (w next : Word) (ts : Tokens) → Shows w ts → Shows next (bumped ts) → extents.begins_within ts ≡ trees.begins_within w next
+unfolding extents.begins_within
+within_same w next ts s n = rw (begins_same w next ts s n, s.word_is, n.word_is, n.identifier_is) refl
+
+-- ---- what comes before
+
+glued : (l : Link) (past at : ℕ) → IsAt l past at → is_free l ≡ false → (at == past) ≡ is_joined l
+glued joined past at h e = grind (arith, nat_tests)
+glued apart past at h e = grind (arith, nat_tests)
+glued free past at h e = absurd cc
+
+pub glued_same : (w : Word) (ts : Tokens) → Shows w ts → is_free w.link ≡ false → is_glued ts ≡ is_joined w.link
+unfolding is_glued
+glued_same w ts s e = glued w.link ts.past (at ts) s.at_is e
+
+-- where a `>` comes next, whether it is that of an arrow
+pub arrow_same : {A : Type 0} (more dash loose touch join : Bool) (x y z : A) → (more && (dash && loose)) ≡ false → (loose ≡ false → touch ≡ join)
+    → (if more then (if dash && touch then x else y) else z) ≡ (if more then (if dash && join then x else y) else z)
+arrow_same false dash loose touch join x y z e f = refl
+arrow_same true false loose touch join x y z e f = refl
+arrow_same true true loose touch join x y z e f = rw (f e) refl
+
+symbol_before_same : (before : Before) (w : Word) (ts : Tokens) → Shows w ts → trees.IsClear before w → nests.symbol_before before ts ≡ trees.symbol_before before w
+symbol_before_same before w ts s c =
+    rw s.symbol_is
+    (rw
+    (arrow_same (trees.symbol_of w == 62) (nests.is_dash before) (is_free w.link) (is_glued ts) (is_joined w.link) befores.Other befores.Angle befores.Other c (glued_same w ts s))
+    refl)
+
+can_end_same : (w : Word) (ts : Tokens) → Shows w ts → nests.can_end ts ≡ trees.can_end w
+can_end_same w ts s = rw (s.identifier_is, s.word_is, s.kind_is, s.end_is) refl
+
+pub before_same : (before : Before) (w : Word) (ts : Tokens) → Shows w ts → trees.IsClear before w → nests.before_behind before ts ≡ trees.before_behind before w
+before_same before w ts s c = rw (s.doc_is, can_end_same w ts s, symbol_before_same before w ts s c) refl

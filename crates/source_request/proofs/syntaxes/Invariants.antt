@@ -1,9 +1,0 @@
-use Rattle.std.proofs.Common.{map, take, string_bytes}
-use Rattle.hir_input.specs.Syntax.{syntax_view}
-use Rattle.source_request.specs.Requests.{AreRead}
-use Rattle.source_request.proofs.syntaxes.Given as goal
-
-abbrev pub invariant-loop-text : goal.invariant-loop-text
-invariant-loop-text l = record {
-  read : AreRead l.edition (map string_bytes (take l.text-index l.fn.texts)) (map syntax_view l.files.items);
-}

@@ -1,4 +1,0 @@
-pub mod Skeletons
-pub mod Changes
-pub mod Inner
-pub mod Views

@@ -1,0 +1,14 @@
+use Rattle.std.proofs.Common.{◌≡◌, ◌+◌, ◌*◌, ◌++◌, take, string_bytes}
+use Rattle.std.specs.List.{sum_by, flat_map}
+use Rattle.item_tree.specs.Walk.{count_at}
+use Rattle.tree_walk.specs.Inner.Outlines.{outline_lines_at}
+use Rattle.tree_walk.proofs.lines.+push.Given as goal
+
+abbrev pub decreases-push_all : goal.decreases-push_all
+decreases-push_all l = 2 * sum_by (count_at l.tree.now) l.ids.now + 1
+
+abbrev pub decreases-push_one : goal.decreases-push_one
+decreases-push_one l = 2 * count_at l.tree.now l.id
+
+abbrev pub invariant-push_all-loop-id : goal.invariant-push_all-loop-id
+invariant-push_all-loop-id l = string_bytes l.text ≡ string_bytes l.initial.text ++ flat_map (outline_lines_at l.tree l.indent) (take l.id-index l.ids)

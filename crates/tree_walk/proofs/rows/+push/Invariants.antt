@@ -1,0 +1,15 @@
+use Rattle.std.proofs.Common.{◌≡◌, ◌+◌, ◌*◌, ◌++◌, map, take}
+use Rattle.std.specs.List.{sum_by, flat_map}
+use Rattle.item_tree.specs.Walk.{count_at}
+use Rattle.tree_walk.specs.Inner.Rows.{around_view, rows_at}
+use Rattle.tree_walk.specs.Views.{row_view}
+use Rattle.tree_walk.proofs.rows.+push.Given as goal
+
+abbrev pub decreases-push_all : goal.decreases-push_all
+decreases-push_all l = 2 * sum_by (count_at l.tree.now) l.ids.now + 1
+
+abbrev pub decreases-push_one : goal.decreases-push_one
+decreases-push_one l = 2 * count_at l.tree.now l.id
+
+abbrev pub invariant-push_all-loop-id : goal.invariant-push_all-loop-id
+invariant-push_all-loop-id l = map row_view l.rows.items ≡ map row_view l.initial.rows.items ++ flat_map (rows_at l.tree (around_view l.around)) (take l.id-index l.ids)

@@ -1,0 +1,3 @@
+-- Words that private contracts alone cite.
+pub mod Rows
+pub mod Outlines

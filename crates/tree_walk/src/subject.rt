@@ -1,0 +1,38 @@
+//! What items without names are told by.
+ghost use Rattle.std.specs.Prelude.{◌≡◌};
+ghost use Rattle.item_tree.specs.Shown.{IsContained, lent};
+ghost use Rattle.tree_walk.specs.Inner.Rows as spec;
+ghost use Rattle.tree_walk.specs.Views.{subject_view};
+
+use hir_input::ModPath;
+use item_tree::{ItemTree, ModItemId, ModItemKind, UseTree};
+
+/// What an item without a name is told by.
+#[derive(Clone, Copy, Debug)]
+pub enum Subject<'tree> {
+    /// It has a name, or nothing.
+    Nothing,
+    /// What a use takes in.
+    Use(&'tree UseTree),
+    /// The path of the macro that is called.
+    Call(&'tree ModPath),
+}
+
+fn subject_of(item: ModItemKind<'_>) -> Subject<'_>
+    ensures { subject_view result ≡ spec.lent_subject (lent item.entry) }
+{
+    match item {
+        ModItemKind::Use(_, item) => Subject::Use(item.use_tree()),
+        ModItemKind::MacroCall(_, item) => Subject::Call(&item.path),
+        _ => Subject::Nothing,
+    }
+}
+
+/// What the item of an id is told by if it has no name. Takes no memory.
+#[tactic(auto, using(crate::proofs::Subjects::subjects_at))]
+pub fn subject_at(tree: &ItemTree, id: ModItemId) -> Subject<'_>
+    requires { IsContained tree.now id }
+    ensures { subject_view result ≡ spec.subject_at tree.now id }
+{
+    subject_of(tree.index(id))
+}
