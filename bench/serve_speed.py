@@ -3,9 +3,9 @@
 
     serve_speed.py PROGRAM FOLDER [--files N] [--edits N]
 
-The first N files (891) of the folder with the ending .rs, sorted by their paths, are set as texts. Then some files are edited, each
-many times by typing inside a body and by adding an item; each edit asks what changed and where a name is declared. What is
-printed is the server's processor time for an edit, from /proc.
+The first N files (891) of the folder with the ending .rs, sorted by their paths, are set as texts, and all of them once more as one text.
+Then some are edited, each many times: by typing inside a body (as a range, and as a whole text), and by adding an item. Each edit asks
+what changed; those of whole texts also where a name is declared. What is printed is the server's processor time for an edit, from /proc.
 """
 import argparse
 import json
@@ -15,7 +15,7 @@ import subprocess
 import sys
 import time
 
-WANTED = 2.0
+FIND = {'show': 'find', 'name': 'new'}
 BODY = re.compile(r'^ *(?:pub(?:\([^)]*\))? )?fn \w+[^;{}"\']*\{', re.M)
 
 
@@ -33,10 +33,12 @@ class Server:
         self.number = answer['number']
         return answer['shows']
 
+    def edit(self, edit, *more):
+        """Makes an edit, and gives what changed by that."""
+        return self.ask(edits=[edit], shows=[{'show': 'changed', 'since': self.number}, *more])[0]
+
     def set(self, file, text):
-        """Sets a file, and gives what changed by that."""
-        shows = [{'show': 'changed', 'since': self.number}, {'show': 'find', 'name': 'new'}]
-        return self.ask(edits=[{'edit': 'set_text', 'file': file, 'text': text}], shows=shows)[0]
+        return self.edit({'edit': 'set_text', 'file': file, 'text': text}, FIND)
 
     def milliseconds(self):
         with open(f'/proc/{self.process.pid}/stat', encoding='ascii') as stat:
@@ -73,14 +75,33 @@ def typed_place(server, file, text):
     return None
 
 
-def timed(server, edits, file, texts_of, has_changed):
-    """The milliseconds for an edit, and for the client's whole round."""
-    made = [texts_of(number) for number in range(edits)]
-    before, start = server.milliseconds(), time.monotonic()
-    for text in made:
-        if (server.set(file, text) != '') != has_changed:
+def timed(server, edits, has_changed, *more):
+    """The milliseconds for an edit."""
+    before = server.milliseconds()
+    for edit in edits:
+        if (server.edit(edit, *more) != '') != has_changed:
             sys.exit('serve_speed.py: an edit changed what it should not, or changed nothing')
-    return (server.milliseconds() - before) / edits, (time.monotonic() - start) * 1000 / edits
+    return (server.milliseconds() - before) / len(edits)
+
+
+def typed(server, file, text, count):
+    """The milliseconds for an edit inside a body: of a range, of the whole text, and of this with `find`."""
+    at = typed_place(server, file, text)
+    if at is None:
+        return ''
+    front, back = f'{text[:at]} ', f'; {text[at:]}'
+    server.set(file, f'{front}000000{back}')
+    start = len(front.encode())
+    ranges = [{'edit': 'change_text', 'file': file, 'range': [start, start + 6], 'text': f'{number:06}'} for number in range(count)]
+    wholes = [{'edit': 'set_text', 'file': file, 'text': f'{front}{number:06}{back}'} for number in range(min(count, 5 * 10**8 // len(text)))]
+    times = timed(server, ranges, False), timed(server, wholes, False), timed(server, wholes, False, FIND)
+    return '   typing {:6.3f}, as a whole {:6.3f}, with `find` {:6.3f}'.format(*times)
+
+
+def added(server, file, text, count):
+    """Those for an edit that adds an item."""
+    edits = [{'edit': 'set_text', 'file': file, 'text': f'{text}\npub fn added_{number}() {{}}\n'} for number in range(min(count, 5 * 10**8 // len(text)))]
+    return f'   adding an item {timed(server, edits, True, FIND):6.3f}'
 
 
 def main():
@@ -103,22 +124,14 @@ def main():
     listed = server.milliseconds() - set_all
     print(f'{len(found)} files of {bytes_of / 1e6:.1f} MB set in {set_all:.0f} ms, their names listed in {listed:.0f} ms;'
           f' {server.kilobytes()} kB; {names} items called `new`')
-    print(f'processor milliseconds for an edit with `changed` and `find` (wanted: at most {WANTED}), and those of the round:')
-    worst = 0.0
+    print('processor milliseconds for an edit with `changed`:')
     by_size = sorted(range(len(found)), key=lambda file: len(found[file][1]))
-    for share in (0.1, 0.5, 0.9, 1.0):
-        file = by_size[min(len(found) - 1, int(share * len(found)))]
+    files = [by_size[min(len(found) - 1, int(share * len(found)))] for share in (0.1, 0.5, 0.9, 1.0)]
+    found.append((os.path.join(options.folder, '(all in one)'), '\n'.join(text for _, text in found)))
+    for file in [*files, len(found) - 1]:
         path, text = found[file]
-        at = typed_place(server, file, text)
-        line = f'{len(text.encode()):9} bytes ({share:4.0%})'
-        if at is not None:
-            typing, round_trip = timed(server, options.edits, file, lambda n: f'{text[:at]} {n:06}; {text[at:]}', False)
-            worst = max(worst, typing)
-            line += f'   typing {typing:6.3f} ({round_trip:6.3f})'
-        adding, round_trip = timed(server, options.edits, file, lambda n: f'{text}\npub fn added_{n}() {{}}\n', True)
-        worst = max(worst, adding)
-        print(f'{line}   adding an item {adding:6.3f} ({round_trip:6.3f})   {os.path.relpath(path, options.folder)}')
-    print(f'the slowest: {worst:.3f} ms')
+        line = f'{len(text.encode()):9} bytes{typed(server, file, text, options.edits)}{added(server, file, text, options.edits)}'
+        print(f'{line}   {os.path.relpath(path, options.folder)}')
     server.process.stdin.close()
     return server.process.wait()
 
