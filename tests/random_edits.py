@@ -74,7 +74,7 @@ def bodies_of(text, items, pairs):
     """The braces that functions and the like end with."""
     data = text.encode()
     for item in all_items(items):
-        if item['kind'] in ('mod', 'extern block', 'use') or not item['range']:
+        if item['kind'] in ('mod', 'extern', 'use') or not item['range']:
             continue
         close = len(data[:item['range'][1] - 1].decode('utf-8', 'ignore'))
         if text[close:close + 1] == '}' and close in pairs:

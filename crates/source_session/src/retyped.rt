@@ -85,7 +85,8 @@ pub(crate) fn retype(
         (λ text. CanReplace text.text range typed.now made) }
     ensures here { IsRetypedIf range typed.now shift.now (text_in texts.old.entries file)
         (text_in texts.new.entries file) }
-    ensures others { (f : ℕ) → f ≢ file → text_in texts.new.entries f ≡ text_in texts.old.entries f }
+    ensures others { (f : ℕ) → f ≢ file
+        → text_in texts.new.entries f ≡ text_in texts.old.entries f }
 {
     if let Some(slot) = texts.get_mut(&file) {
         retype_slot(slot, range, typed, made, shift);
