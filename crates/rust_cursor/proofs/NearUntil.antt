@@ -1,11 +1,15 @@
 -- Readers of a text that ends with a `;` or a `}`, and of a longer one: they read alike, until the one of the longer text passes the end.
-use Rattle.std.proofs.Common.{◌≡◌, ◌<◌, ◌+◌, ℕ, ◌==◌, Bool, true, [], ◌∷◌, ◌++◌, length, refl, ap, arith, map, length-append}
+use Rattle.std.proofs.Common.{◌≡◌, ◌<◌, ◌+◌, ℕ, ◌==◌, ◌||◌, Bool, true, false, [], ◌∷◌, ◌++◌, Option, length, refl, ap, arith, map}
+use Rattle.std.specs.Prelude.{not}
+use Rattle.hir_input.specs.declared.edition.EditionYear.{EditionYear}
 use Rattle.rust_lexer.specs.Alone.{moved}
+use Rattle.rust_lexer.specs.Piece.{Piece}
+use Rattle.rust_lexer.specs.Symbol.{symbol_of}
 use Rattle.rust_cursor.specs.Reader.{Reader}
 use Rattle.rust_cursor.specs.Tokens.{Tokens}
-use Rattle.rust_cursor.specs.Words.{symbol, bumped, eat}
+use Rattle.rust_cursor.specs.Words.{by_first, symbol, bumped, eat}
 use Rattle.rust_cursor.proofs.Leads.{Forwards, when, symbol_some}
-use Rattle.rust_cursor.proofs.Near.{Ending, Near, near, next_near, Gone, gone_on, near_twins}
+use Rattle.rust_cursor.proofs.Near.{Ending, Near, near, still_near, next_near, level_ended, Gone, gone_on, near_twins}
 use Rattle.rust_cursor.proofs.Nesting.{shorter}
 use Rattle.rust_cursor.proofs.NearPassing.{near_parting}
 use Rattle.rust_cursor.proofs.Parting.{Same, gone, kept}
@@ -28,38 +32,42 @@ pub record AtEnd (b : Ending) (ts us : Tokens) : Type 0 where
   pub behind : ts.left ≡ b.behind
   pub none : us.left ≡ []
   pub past : ts.past ≡ us.past + b.by
+  pub uneven : b.level ≡ false
 
--- Both go past the end, the longer one further where what it read is ended; or both stay before it, or both come to it.
+-- what stands behind the short text goes on with nothing
+abbrev pub is_still : Ending → Bool
+is_still b = not (by_first 0 symbol_of b.behind == 62 || by_first 0 symbol_of b.behind == 44)
+
+-- Both go past the end, the longer one further where what it read is ended, and what the shorter one read is not; or both stay before it, or both
+-- come to it.
 pub data Outcome {A : Type 0} (alike : A → A → Type 0) (ended : A → Bool) (b : Ending) : A × Tokens → A × Tokens → Type 0 where
-  lost : {p q : A × Tokens} → Gone b p.1 q.1 → (ended p.0 ≡ true → length p.1.left < length b.behind) → Outcome alike ended b p q
+  lost : {p q : A × Tokens} → Gone b p.1 q.1 → (ended p.0 ≡ true → length p.1.left < length b.behind) → (is_still b ≡ true → ended q.0 ≡ false) → Outcome alike ended b p q
   stays : {p q : A × Tokens} → Kept alike b p q → Outcome alike ended b p q
   comes : {p q : A × Tokens} → alike p.0 q.0 → AtEnd b p.1 q.1 → Outcome alike ended b p q
 
 pub outcome_until : {A : Type 0} {alike : A → A → Type 0} {ended : A → Bool} {b : Ending} {p q : A × Tokens} → Outcome alike ended b p q → UntilBy alike b p q
-outcome_until (lost g f) = gone g
+outcome_until (lost g f n) = gone g
 outcome_until (stays k) = kept k
-outcome_until (comes t a) = gone (record { few = let long = ap length a.behind in omega arith; none = a.none })
+outcome_until (comes t a) = gone (record { few = let long = ap length a.behind in omega arith; none = a.none; uneven = a.uneven })
 
--- before the end more is left
-pub more_left : (b : Ending) (ts us : Tokens) → Near b ts us → length b.behind < length ts.left
-more_left b ts us (near past [] u y e) = absurd cc
-more_left b ts us (near past (t ∷ x) u y e) =
-    let both : length (map (moved b.by) x ++ b.behind) ≡ length (map (moved b.by) x) + length b.behind = length-append (map (moved b.by) x) b.behind in
-    omega arith
+-- where nothing is left, nothing is taken that ends
+pub untaken : {t : Bool} {m : ℕ} (us : Tokens) → us.left ≡ [] → (t ≡ true → m < length us.left) → t ≡ false
+untaken {t = false} us none strict = refl
+untaken {t = true} us none strict = let less = strict refl in let empty = ap length none in absurd (omega arith)
 
 pub map_outcome : {A C : Type 0} {alike : A → A → Type 0} {alike' : C → C → Type 0} {ended : A → Bool} {ended' : C → Bool} {b : Ending} {p q : A × Tokens} (f f' : A → C)
-    → (alike p.0 q.0 → alike' (f p.0) (f' q.0)) → (ended' (f p.0) ≡ true → ended p.0 ≡ true) → Outcome alike ended b p q → Outcome alike' ended' b (f p.0, p.1) (f' q.0, q.1)
-map_outcome f f' same tells (lost g strict) = lost g (λ e. strict (tells e))
-map_outcome f f' same tells (stays k) = stays (record { value = same k.value; rest = k.rest })
-map_outcome f f' same tells (comes t a) = comes (same t) a
+    → (alike p.0 q.0 → alike' (f p.0) (f' q.0)) → (ended' (f p.0) ≡ true → ended p.0 ≡ true) → (ended q.0 ≡ false → ended' (f' q.0) ≡ false) → Outcome alike ended b p q → Outcome alike' ended' b (f p.0, p.1) (f' q.0, q.1)
+map_outcome f f' same tells untold (lost g strict never) = lost g (λ e. strict (tells e)) (λ s. untold (never s))
+map_outcome f f' same tells untold (stays k) = stays (record { value = same k.value; rest = k.rest })
+map_outcome f f' same tells untold (comes t a) = comes (same t) a
 
 -- the last of some readers, which takes a token where what it reads is ended
 pub then_outcome : {A B : Type 0} {first : A → A → Type 0} {alike : B → B → Type 0} {ended : B → Bool} {b : Ending} {p q : A × Tokens} (f f' : A → Reader B) → ((a : A) → Forwards (f a)) → ((a : A) → Forwards (f' a))
-    → ((a : A) (ts : Tokens) → ended (f a ts).0 ≡ true → length (f a ts).1.left < length ts.left) → ((a a' : A) → first a a' → (ts us : Tokens) → Near b ts us → Outcome alike ended b (f a ts) (f' a' us))
-    → UntilBy first b p q → Outcome alike ended b (f p.0 p.1) (f' q.0 q.1)
-then_outcome {p = p} {q = q} f f' leads leads' strict more (gone g) =
-    lost (gone_on g (leads p.0 p.1) (leads' q.0 q.1)) (λ e. let less = strict p.0 p.1 e in let few = g.few in omega arith)
-then_outcome {p = p} {q = q} f f' leads leads' strict more (kept k) = more p.0 q.0 k.value p.1 q.1 k.rest
+    → ((a : A) (ts : Tokens) → ended (f a ts).0 ≡ true → length (f a ts).1.left < length ts.left) → ((a : A) (ts : Tokens) → ended (f' a ts).0 ≡ true → length (f' a ts).1.left < length ts.left)
+    → ((a a' : A) → first a a' → (ts us : Tokens) → Near b ts us → Outcome alike ended b (f a ts) (f' a' us)) → UntilBy first b p q → Outcome alike ended b (f p.0 p.1) (f' q.0 q.1)
+then_outcome {p = p} {q = q} f f' leads leads' strict strict' more (gone g) =
+    lost (gone_on g (leads p.0 p.1) (leads' q.0 q.1)) (λ e. let less = strict p.0 p.1 e in let few = g.few in omega arith) (λ s. untaken q.1 g.none (strict' q.0 q.1))
+then_outcome {p = p} {q = q} f f' leads leads' strict strict' more (kept k) = more p.0 q.0 k.value p.1 q.1 k.rest
 
 -- ---- one token
 
@@ -67,11 +75,15 @@ pub data Step (b : Ending) (ts us : Tokens) : Type 0 where
   at_last : AtEnd b (bumped ts) (bumped us) → Step b ts us
   next : Near b (bumped ts) (bumped us) → Step b ts us
 
-pub step : (b : Ending) (ts us : Tokens) → Near b ts us → Step b ts us
+last_ends : (b : Ending) (past : ℕ) (t : Piece) (u : Option ℕ) (y : EditionYear) → b.level ≡ false
+    → AtEnd b (bumped (record { past = past + b.by; left = map (moved b.by) (t ∷ []) ++ b.behind; unended = b.unended; edition = y })) (bumped (record { past = past; left = t ∷ []; unended = u; edition = y }))
 unfolding bumped
-step b ts us (near past [] u y e) = absurd cc
-step b ts us (near past (t ∷ []) u y e) = at_last (record { behind = refl; none = refl; past = omega arith })
-step b ts us (near past (t ∷ v ∷ x) u y e) = next (next_near b past t v x u y e)
+last_ends b past t u y l = record { behind = refl; none = refl; past = omega arith; uneven = l }
+
+pub step : (b : Ending) (ts us : Tokens) → Near b ts us → Step b ts us
+step b ts us (near past [] u y e) = next (still_near b past u y e)
+step b ts us (near past (t ∷ []) u y e) = when b.level (λ l. next (next_near b past t [] u y (level_ended b.level [] l))) (λ l. at_last (last_ends b past t u y l))
+step b ts us (near past (t ∷ v ∷ x) u y e) = next (next_near b past t (v ∷ x) u y e)
 
 pub bump_outcome : {A : Type 0} {alike : A → A → Type 0} {ended : A → Bool} (b : Ending) (a a' : A) {ts us : Tokens} → alike a a' → Step b ts us → Outcome alike ended b (a, bumped ts) (a', bumped us)
 bump_outcome b a a' same (at_last e) = comes same e

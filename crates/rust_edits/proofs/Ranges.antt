@@ -1,8 +1,4 @@
 -- An item's text alone.
-pub mod Near
-pub mod NearPassing
-pub mod NearUntil
-pub mod NearTexts
 pub mod NearPaths
 pub mod NearTrees
 pub mod NearFronts

@@ -21,7 +21,7 @@ use Rattle.rust_cursor.specs.Words.{by_first, at, is_empty}
 use Rattle.rust_cursor.proofs.Around.{tokens_sound}
 use Rattle.rust_cursor.proofs.Laid.{IsLaid, behind, at_behind, taken_behind}
 use Rattle.rust_cursor.proofs.Leads.{LeadsTo, here, further, when, bumped_leads}
-use Rattle.rust_edits.proofs.Ranges.Near.{Ending, Near, near, more_left, is_last, are_ended}
+use Rattle.rust_cursor.proofs.Near.{Ending, Near, near, more_left, is_last, are_ended}
 use Rattle.rust_edits.proofs.Ranges.Parts.{ended, IsPart, tokens_behind}
 use Rattle.rust_items.specs.Found.{Found, nothing_found}
 use Rattle.rust_items.specs.SourceFiles.{read_of}

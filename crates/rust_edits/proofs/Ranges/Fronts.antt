@@ -37,9 +37,9 @@ use Rattle.rust_edits.proofs.Typing.Begins as begun
 use Rattle.rust_edits.proofs.Typing.ProblemsIn.{AreIn, problems_in}
 use Rattle.rust_edits.specs.Ranges.Laws.{ends_items, EndsOwn, is_unfinished, is_unfinished_at, text_at}
 use Rattle.rust_edits.specs.Ranges.Joined.{IsBare, HoldsItems, is_told_up_to, FrontHolds}
-use Rattle.rust_edits.proofs.Ranges.Near.{Ending, Near, fewer, nothing, more_left, near_twins}
-use Rattle.rust_edits.proofs.Ranges.NearPassing.{beyond_near, near_parting}
-use Rattle.rust_edits.proofs.Ranges.NearTexts.{near_enters, near_levels}
+use Rattle.rust_cursor.proofs.Near.{Ending, Near, fewer, nothing, more_left, near_twins}
+use Rattle.rust_cursor.proofs.NearPassing.{beyond_near, near_parting}
+use Rattle.rust_cursor.proofs.NearTexts.{near_enters, near_levels}
 use Rattle.rust_edits.proofs.Ranges.NearLeaves.{Given, given_on, Ends, passes, before_end, at_end}
 use Rattle.rust_edits.proofs.Ranges.NearItems.{FoundNear, FoundAlike, turn_whole, flat, is_sound}
 use Rattle.rust_edits.proofs.Ranges.NearTurns.{turn_ends}

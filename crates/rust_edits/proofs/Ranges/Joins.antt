@@ -33,10 +33,10 @@ use Rattle.rust_items.proofs.Places.{Span, items_found}
 use Rattle.rust_edits.specs.Ranges.Laws.{ends_items}
 use Rattle.rust_edits.specs.Ranges.Inside.{read_at}
 use Rattle.rust_edits.specs.Ranges.Joined.{IsBare, found_on, BeginsAnew}
-use Rattle.rust_edits.proofs.Ranges.Near.{Ending, Near, near, fewer}
-use Rattle.rust_edits.proofs.Ranges.NearPassing.{near_parting}
-use Rattle.rust_edits.proofs.Ranges.NearTexts.{near_enters, near_levels}
-use Rattle.rust_edits.proofs.Ranges.NearUntil.{is_still}
+use Rattle.rust_cursor.proofs.Near.{Ending, Near, near, fewer}
+use Rattle.rust_cursor.proofs.NearPassing.{near_parting}
+use Rattle.rust_cursor.proofs.NearTexts.{near_enters, near_levels}
+use Rattle.rust_cursor.proofs.NearUntil.{is_still}
 use Rattle.rust_cursor.proofs.Parting as parting
 use Rattle.rust_edits.proofs.Ranges.NearLeaves.{Given, given_on}
 use Rattle.rust_edits.proofs.Ranges.NearItems.{top_end, FoundNear, is_quiet}

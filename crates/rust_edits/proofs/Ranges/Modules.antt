@@ -31,10 +31,10 @@ use Rattle.rust_items.proofs.Leads.{named_leads}
 use Rattle.rust_items.proofs.Places.{turn_found, turn_with_found, inside_found}
 use Rattle.rust_edits.specs.Ranges.Joined.{IsBare, text_attrs, found_on}
 use Rattle.rust_edits.specs.Ranges.Inside.{read_at, OpensModule, ModuleReads}
-use Rattle.rust_edits.proofs.Ranges.Near.{Ending, Near}
-use Rattle.rust_edits.proofs.Ranges.NearPassing.{near_parting}
-use Rattle.rust_edits.proofs.Ranges.NearTexts.{near_enters, near_levels}
-use Rattle.rust_edits.proofs.Ranges.NearUntil.{Kept}
+use Rattle.rust_cursor.proofs.Near.{Ending, Near}
+use Rattle.rust_cursor.proofs.NearPassing.{near_parting}
+use Rattle.rust_cursor.proofs.NearTexts.{near_enters, near_levels}
+use Rattle.rust_cursor.proofs.NearUntil.{Kept}
 use Rattle.rust_edits.proofs.Ranges.NearLeaves.{Given, given_on}
 use Rattle.rust_edits.proofs.Ranges.NearItems.{FoundAlike, is_quiet, quiet_before, quiet_sound, list_keeps, list_long, by_long, flat, front_leads, TurnLong}
 use Rattle.rust_edits.proofs.Ranges.NearTurns.{sound_parent, turn_long, inside_ends, inside_unended}

@@ -13,12 +13,12 @@ use Rattle.rust_cursor.specs.Elements.{most, beyond, turns_from, turns, one}
 use Rattle.rust_cursor.proofs.Nesting.{shorter}
 use Rattle.rust_cursor.proofs.Laid.{IsLaid, behind}
 use Rattle.rust_cursor.proofs.Leads.{LeadsTo, here, further, through, when, bumped_leads, eat_leads, behind_angles_leads, beyond_leads}
-use Rattle.rust_edits.proofs.Ranges.Near.{Ending, Near, Gone, fewer, enough_left, past_same, near_twins}
-use Rattle.rust_edits.proofs.Ranges.NearPassing.{behind_angles_near, reached_near, beyond_near, near_parting}
-use Rattle.rust_edits.proofs.Ranges.NearTexts.{near_enters, near_levels}
+use Rattle.rust_cursor.proofs.Near.{Ending, Near, Gone, fewer, enough_left, past_same, near_twins}
+use Rattle.rust_cursor.proofs.NearPassing.{behind_angles_near, reached_near, beyond_near, near_parting}
+use Rattle.rust_cursor.proofs.NearTexts.{near_enters, near_levels}
 use Rattle.rust_cursor.proofs.Parting.{Onward, into, on, onward_leads, by_kept, eat_until}
 use Rattle.rust_cursor.proofs.Twins.{symbol_same, end_same, after_symbol}
-use Rattle.rust_edits.proofs.Ranges.NearTexts.{BlockNear, no_block, block}
+use Rattle.rust_cursor.proofs.NearTexts.{BlockNear, no_block, block}
 use Rattle.rust_paths.specs.Visibilities.{visibility}
 use Rattle.rust_paths.proofs.Alike.{visibility_until}
 use Rattle.rust_paths.proofs.Leads.{visibility_leads}

@@ -6,10 +6,10 @@ use Rattle.rust_cursor.specs.Reader.{Reader, ◌>>=◌, pure, pass}
 use Rattle.rust_cursor.specs.Tokens.{Tokens}
 use Rattle.rust_cursor.specs.Words.{at}
 use Rattle.rust_cursor.proofs.Leads.{Forwards, through}
-use Rattle.rust_edits.proofs.Ranges.Near.{Ending, Near, at_same}
-use Rattle.rust_edits.proofs.Ranges.NearPassing.{near_parting}
-use Rattle.rust_edits.proofs.Ranges.NearTexts.{near_enters, near_levels}
-use Rattle.rust_edits.proofs.Ranges.NearUntil.{UntilBy}
+use Rattle.rust_cursor.proofs.Near.{Ending, Near, at_same}
+use Rattle.rust_cursor.proofs.NearPassing.{near_parting}
+use Rattle.rust_cursor.proofs.NearTexts.{near_enters, near_levels}
+use Rattle.rust_cursor.proofs.NearUntil.{UntilBy}
 use Rattle.rust_cursor.proofs.Parting.{gone, kept, by_kept, then_until}
 use Rattle.rust_paths.proofs.Alike.{visibility_until}
 use Rattle.rust_paths.proofs.Leads.{visibility_leads}

@@ -13,10 +13,10 @@ use Rattle.rust_cursor.specs.Tokens.{Tokens}
 use Rattle.rust_cursor.specs.Words.{symbol, at, eat, eat_word, bumped, is_at_end}
 use Rattle.rust_cursor.proofs.Laid.{IsLaid, behind}
 use Rattle.rust_cursor.proofs.Leads.{LeadsTo, here, further, through, when, bumped_leads, beyond_leads, eat_leads, eat_word_leads}
-use Rattle.rust_edits.proofs.Ranges.Near.{Ending, Near, fewer, nothing, bumped_onward, at_same, past_same, near_twins}
-use Rattle.rust_edits.proofs.Ranges.NearPassing.{beyond_near, near_parting}
-use Rattle.rust_edits.proofs.Ranges.NearTexts.{near_enters, near_levels}
-use Rattle.rust_edits.proofs.Ranges.NearUntil.{Kept, AtEnd, is_still, Outcome, lost, stays, comes, untaken, eat_outcome, eat_fewer}
+use Rattle.rust_cursor.proofs.Near.{Ending, Near, fewer, nothing, bumped_onward, at_same, past_same, near_twins}
+use Rattle.rust_cursor.proofs.NearPassing.{beyond_near, near_parting}
+use Rattle.rust_cursor.proofs.NearTexts.{near_enters, near_levels}
+use Rattle.rust_cursor.proofs.NearUntil.{Kept, AtEnd, is_still, Outcome, lost, stays, comes, untaken, eat_outcome, eat_fewer}
 use Rattle.rust_cursor.proofs.Parting.{Same, by_next, by_kept}
 use Rattle.rust_cursor.proofs.Twins.{symbol_same, empty_same, end_same}
 use Rattle.rust_paths.specs.declared.names.TextRange.{TextRange}

@@ -22,12 +22,12 @@ use Rattle.rust_cursor.proofs.Around.{IsSound, sound_on}
 use Rattle.rust_cursor.proofs.Enclosed.{item_enclosed, impl_enclosed}
 use Rattle.rust_cursor.proofs.Laid.{IsLaid, behind}
 use Rattle.rust_cursor.proofs.Leads.{LeadsTo, here, further, through, Forwards, when, bumped_leads, eat_leads, eat_word_leads, reached_leads, behind_angles_leads, taken_leads_on}
-use Rattle.rust_edits.proofs.Ranges.Near.{Ending, Near, Gone, gone_on, nothing, bumped_onward, fewer, enough_left, more_left, at_same, past_same, taken_same, near_twins}
-use Rattle.rust_edits.proofs.Ranges.NearPassing.{behind_angles_near, reached_near, near_parting}
-use Rattle.rust_edits.proofs.Ranges.NearUntil.{UntilBy, Kept, AtEnd, is_still, Outcome, lost, stays, comes, untaken, map_outcome, then_outcome, eat_outcome, eat_fewer}
+use Rattle.rust_cursor.proofs.Near.{Ending, Near, Gone, gone_on, nothing, bumped_onward, fewer, enough_left, more_left, at_same, past_same, taken_same, near_twins}
+use Rattle.rust_cursor.proofs.NearPassing.{behind_angles_near, reached_near, near_parting}
+use Rattle.rust_cursor.proofs.NearUntil.{UntilBy, Kept, AtEnd, is_still, Outcome, lost, stays, comes, untaken, map_outcome, then_outcome, eat_outcome, eat_fewer}
 use Rattle.rust_cursor.proofs.Parting.{gone, kept, by_next, onward_leads, by_kept, cond_until, then_until, eat_word_until}
 use Rattle.rust_cursor.proofs.Twins.{symbol_same, word_same, text_same, open_same, word_test, after_word, after_symbol}
-use Rattle.rust_edits.proofs.Ranges.NearTexts.{BlockNear, no_block, block, SameText, item_so, macro_so, value_so, tree_so, taken_outcome, taken_until, taken_fewer, next_past, near_enters, near_levels}
+use Rattle.rust_cursor.proofs.NearTexts.{BlockNear, no_block, block, SameText, item_so, macro_so, value_so, tree_so, taken_outcome, taken_until, taken_fewer, next_past, near_enters, near_levels}
 use Rattle.rust_paths.specs.declared.names.TextRange.{TextRange}
 use Rattle.rust_paths.specs.Names.{Placed, as_name}
 use Rattle.rust_paths.specs.Paths.{path}

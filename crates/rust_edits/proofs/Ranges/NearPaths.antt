@@ -2,9 +2,9 @@
 use Rattle.std.proofs.Common.{◌≡◌, ◌+◌, Option, Some, None, List, ℕ, refl}
 use Rattle.rust_cursor.specs.Tokens.{Tokens}
 use Rattle.rust_cursor.specs.Words.{at, bumped}
-use Rattle.rust_edits.proofs.Ranges.Near.{Ending, Near, past_same, at_same}
-use Rattle.rust_edits.proofs.Ranges.NearPassing.{near_parting}
-use Rattle.rust_edits.proofs.Ranges.NearUntil.{UntilBy}
+use Rattle.rust_cursor.proofs.Near.{Ending, Near, past_same, at_same}
+use Rattle.rust_cursor.proofs.NearPassing.{near_parting}
+use Rattle.rust_cursor.proofs.NearUntil.{UntilBy}
 use Rattle.rust_cursor.proofs.Parting.{kept}
 use Rattle.rust_paths.specs.Names.{next_name, taken_with, name, Placed, placed, placed_name}
 use Rattle.rust_paths.proofs.Alike.{next_name_same, after_name}

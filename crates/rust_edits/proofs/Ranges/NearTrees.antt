@@ -1,7 +1,7 @@
 -- Where use trees begin in a text that ends with a `;` or a `}`, and so much further on in a longer one.
 use Rattle.std.proofs.Common.{◌≡◌, ◌+◌, ℕ, Option, Some, List, ◌∷◌, refl, ap, ◌∙◌, map}
 use Rattle.std.specs.Prelude.{option_map}
-use Rattle.rust_edits.proofs.Ranges.Near.{Ending}
+use Rattle.rust_cursor.proofs.Near.{Ending}
 use Rattle.rust_cursor.proofs.Places.{AreAlike, no_more, one_more, IsAlike, neither, both}
 
 -- places so much further on

@@ -12,9 +12,9 @@ use Rattle.rust_cursor.specs.Tokens.{Tokens}
 use Rattle.rust_cursor.specs.Words.{symbol, at, eat, bumped, is_at_end}
 use Rattle.rust_cursor.proofs.Laid.{IsLaid, behind}
 use Rattle.rust_cursor.proofs.Leads.{LeadsTo, through, when, eat_leads}
-use Rattle.rust_edits.proofs.Ranges.Near.{Ending, Near, fewer, nothing, bumped_onward, at_same, past_same, near_twins}
-use Rattle.rust_edits.proofs.Ranges.NearPassing.{behind_tree_near}
-use Rattle.rust_edits.proofs.Ranges.NearUntil.{Step, at_last, next, step, untaken, eat_fewer}
+use Rattle.rust_cursor.proofs.Near.{Ending, Near, fewer, nothing, bumped_onward, at_same, past_same, near_twins}
+use Rattle.rust_cursor.proofs.NearPassing.{behind_tree_near}
+use Rattle.rust_cursor.proofs.NearUntil.{Step, at_last, next, step, untaken, eat_fewer}
 use Rattle.rust_cursor.proofs.Parting.{by_next, by_kept}
 use Rattle.rust_cursor.proofs.Twins.{symbol_same, end_same}
 use Rattle.rust_leaves.specs.declared.head.Head.{Head}

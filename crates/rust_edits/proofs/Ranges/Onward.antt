@@ -11,9 +11,9 @@ use Rattle.rust_cursor.proofs.Leads.{LeadsTo, here, through, when}
 use Rattle.rust_cursor.proofs.Parting.{by_next}
 use Rattle.rust_items.specs.Found.{Found}
 use Rattle.rust_items.specs.Items.{is_list_end, turn}
-use Rattle.rust_edits.proofs.Ranges.Near.{Ending, Near, Gone, left_behind, more_left, past_same}
-use Rattle.rust_edits.proofs.Ranges.NearPassing.{beyond_near}
-use Rattle.rust_edits.proofs.Ranges.NearUntil.{AtEnd, is_still}
+use Rattle.rust_cursor.proofs.Near.{Ending, Near, Gone, left_behind, more_left, past_same}
+use Rattle.rust_cursor.proofs.NearPassing.{beyond_near}
+use Rattle.rust_cursor.proofs.NearUntil.{AtEnd, is_still}
 use Rattle.rust_edits.proofs.Ranges.NearLeaves.{Given, given_on, Ends, passes, before_end, at_end}
 use Rattle.rust_edits.proofs.Ranges.NearItems.{top_end, FoundNear, FoundAlike, is_quiet, quiet_before, turn_whole, list_keeps, flat, is_sound}
 use Rattle.rust_edits.proofs.Ranges.NearTurns.{turn_ends}

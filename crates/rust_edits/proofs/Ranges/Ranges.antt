@@ -34,7 +34,7 @@ use Rattle.rust_edits.proofs.Ranges.Feeds.{part, part_feeds, part_place}
 use Rattle.rust_edits.proofs.Ranges.Fresh.{none_there, turn_anywhere}
 use Rattle.rust_edits.proofs.Ranges.Inner.{IsMute, item_none}
 use Rattle.std.proofs.lemmas.Bool.{and_parts}
-use Rattle.rust_edits.proofs.Ranges.Near.{Ending, is_last}
+use Rattle.rust_cursor.proofs.Near.{Ending, is_last}
 use Rattle.rust_edits.proofs.Ranges.NearItems.{is_sound}
 use Rattle.rust_edits.proofs.Ranges.Plain.{plain_text}
 use Rattle.rust_edits.proofs.Ranges.Seats.{HasPlace, IsLeft, all_left, left_on, year_is}

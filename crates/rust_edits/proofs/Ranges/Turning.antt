@@ -20,7 +20,7 @@ use Rattle.rust_items.specs.declared.log.ProblemKind.TheVariants as problem
 use Rattle.rust_items.specs.Found.{Found, Finder}
 use Rattle.rust_items.specs.Items.{BlockRead, leaf_found, leaf_turn, finding_from, is_list_end, by_head, inside, depth_of, turn}
 use Rattle.rust_items.proofs.Places.{turn_found}
-use Rattle.rust_edits.proofs.Ranges.Near.{fewer}
+use Rattle.rust_cursor.proofs.Near.{fewer}
 use Rattle.rust_edits.proofs.Ranges.NearItems.{is_quiet, told_problem}
 use Rattle.rust_edits.proofs.Ranges.Tops.{turn_strict}
 

@@ -21,7 +21,7 @@ use Rattle.rust_items.specs.Found.{Found, nothing_found, and_problem_at, and_all
 use Rattle.rust_items.specs.SourceFiles.{behind_attributes, found_in, read_of}
 use Rattle.rust_edits.specs.Ranges.Laws.{EndsOwn}
 use Rattle.rust_edits.specs.Ranges.Joined.{IsBare, HoldsItems, BeginsAnew, text_attrs, found_on, ItemsJoin, Follows, as_first, behind_items, IsBetween, StandsBetween, TypingItems}
-use Rattle.rust_edits.proofs.Ranges.Near.{near_twins, nothing}
+use Rattle.rust_cursor.proofs.Near.{near_twins, nothing}
 use Rattle.rust_edits.proofs.Ranges.Behind.{plain_on, unended_stays, tokens_short}
 use Rattle.rust_edits.proofs.Ranges.Joins.{Joined, joined, first_near, none_told, found_quiet, found_still, unended_join, items_top, top_spent}
 use Rattle.hir_input.specs.Attr.{MetaView}
