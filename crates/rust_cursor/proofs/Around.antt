@@ -96,9 +96,7 @@ pub data Shuts (c k j : ℕ) (ts : Tokens) : Type 0 where
 
 other_parts : (a b d : Bool) → (not a && (b && d)) ≡ true → ((a ≡ false) × (b ≡ true)) × (d ≡ true)
 other_parts false true true e = ((refl, refl), refl)
-other_parts false true false e = absurd cc
-other_parts false false d e = absurd cc
-other_parts true b d e = absurd cc
+other_parts _ _ _ e = absurd cc
 
 shut_at : (c k j : ℕ) (ts : Tokens) → is_empty ts ≡ false → is_shut c k j ts ≡ true → Shuts c k j ts
 unfolding is_closing
@@ -187,10 +185,7 @@ pub record IsPlain (s : ℕ) : Type 0 where
 
 plain_parts : (a b d e : Bool) → (not a && (not b && (not d && not e))) ≡ true → ((a ≡ false) × (b ≡ false)) × ((d ≡ false) × (e ≡ false))
 plain_parts false false false false h = ((refl, refl), (refl, refl))
-plain_parts false false false true h = absurd cc
-plain_parts false false true e h = absurd cc
-plain_parts false true d e h = absurd cc
-plain_parts true b d e h = absurd cc
+plain_parts _ _ _ _ h = absurd cc
 
 pub plain_of : (s : ℕ) → is_plain s ≡ true → IsPlain s
 plain_of s e =

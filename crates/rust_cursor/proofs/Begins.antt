@@ -52,10 +52,7 @@ no_impl ts e =
 no_behind : (before : Before) (ts : Tokens) → leads_item (slice_index (word ts) 0) ≡ false → (symbol ts == 35) ≡ false → begins_behind before ts ≡ false
 no_behind befores.End ts e h = rw h (no_impl ts e)
 no_behind befores.Angle ts e h = no_impl ts e
-no_behind befores.Dash ts e h = refl
-no_behind befores.Mark ts e h = refl
-no_behind befores.Hash ts e h = refl
-no_behind befores.Other ts e h = refl
+no_behind _ ts e h = refl
 
 no_within : (ts : Tokens) → leads_item (slice_index (word ts) 0) ≡ false → begins_within ts ≡ false
 unfolding begins_within

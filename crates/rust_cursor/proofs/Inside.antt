@@ -16,9 +16,7 @@ pub record AreFalse (a b c : Bool) : Type 0 where
 
 pub none_of : (a b c : Bool) → (not a && (not b && not c)) ≡ true → AreFalse a b c
 none_of false false false e = record { first = refl; second = refl; third = refl }
-none_of false false true e = absurd cc
-none_of false true c e = absurd cc
-none_of true b c e = absurd cc
+none_of _ _ _ e = absurd cc
 
 -- a brace is left open
 pub left_by : (opens closes : Bool) (n : ℕ) → (n == 0) ≡ false → (n == 1 && closes) ≡ false → ((if opens then n + 1 else (if closes then n - 1 else n)) == 0) ≡ false

@@ -53,14 +53,12 @@ bracket_of b e =
 
 ends_at : {b c : ℕ} → Bracket b c → (nest : Nest) (ts : Tokens) → is_empty ts ≡ false → symbol ts ≡ c → nest.braces ≡ 0 → nest.others ≡ 0 → is_closing b nest ts ≡ true
 unfolding is_closing
-ends_at round nest ts some s n m = rw (some, n, m, s) refl
-ends_at square nest ts some s n m = rw (some, n, m, s) refl
 ends_at curly nest ts some s n m = rw (some, n, s) refl
+ends_at _ nest ts some s n m = rw (some, n, m, s) refl
 
 behind_at : {b c : ℕ} → Bracket b c → (ts : Tokens) → symbol ts ≡ c → behind_closing b ts ≡ bumped ts
-behind_at round ts s = rw s refl
-behind_at square ts s = rw s refl
 behind_at curly ts s = refl
+behind_at _ ts s = rw s refl
 
 and_false : (x : Bool) → (x && false) ≡ false
 and_false true = refl

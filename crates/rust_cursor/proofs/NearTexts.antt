@@ -65,8 +65,7 @@ flat_item : (s c a g m : Bool) → (s || (c && (not a && (g || m)))) ≡ true �
 flat_item true c a g m e = refl
 flat_item false true false true m e = refl
 flat_item false true false false m e = refl
-flat_item false true true g m e = absurd cc
-flat_item false false a g m e = absurd cc
+flat_item _ _ _ _ m e = absurd cc
 
 abbrev item_ends_at : Bool → Nest → Tokens → Bool
 item_ends_at is_call n ts = if is_flat n then symbol ts == 59 || (symbol ts == 125 && (not is_call && (n.angles == 0 || not (goes_on (bumped ts))))) else false

@@ -20,22 +20,16 @@ shorter ts e = shorter_from ts.left e
 -- ---- one token opens one bracket at most
 
 braces_step : (opens closes : Bool) (n : ℕ) → (if opens then n + 1 else (if closes then n - 1 else n)) ≤ n + 1
-braces_step true closes n = omega arith
 braces_step false true n = omega arith
-braces_step false false n = omega arith
+braces_step _ _ n = omega arith
 
 others_step : (opens closes ends : Bool) (n : ℕ) → (if opens then n + 1 else (if closes then n - 1 else (if ends then 0 else n))) ≤ n + 1
-others_step true closes ends n = omega arith
-others_step false true ends n = omega arith
 others_step false false true n = omega arith
-others_step false false false n = omega arith
+others_step _ _ _ n = omega arith
 
 angles_step : (counts opens closes arrow : Bool) (n : ℕ) → (if counts then (if opens then n + 1 else (if closes then (if arrow then n else n - 1) else n)) else n) ≤ n + 1
-angles_step false opens closes arrow n = omega arith
-angles_step true true closes arrow n = omega arith
-angles_step true false false arrow n = omega arith
 angles_step true false true true n = omega arith
-angles_step true false true false n = omega arith
+angles_step _ _ _ _ n = omega arith
 
 braces_le : (nest : Nest) (ts : Tokens) → (nest_behind nest ts).braces ≤ nest.braces + 1
 unfolding nest_behind

@@ -96,10 +96,7 @@ ends_deep e w n ts d = rw d refl
 stops_inner : (e : Extent) (n : Nest) (i : ℕ) (t : Bool) (ts : Tokens) → stops e (inner_by n i t) ts ≡ stops e n ts
 unfolding stops
 stops_inner extents.Tree n i t ts = refl
-stops_inner extents.Group n i t ts = refl
-stops_inner extents.Value n i t ts = refl
-stops_inner extents.Item n i t ts = refl
-stops_inner extents.Macro n i t ts = refl
+stops_inner _ n i t ts = refl
 
 ends_inner : (e : Extent) (w : Before) (n : Nest) (i : ℕ) (t : Bool) (ts : Tokens) → taking_ends e w (inner_by n i t) ts ≡ taking_ends e w n ts
 unfolding ends
@@ -143,20 +140,17 @@ reached_deep r n ts h d = rw (h, d) refl
 closed_deep : (r : Reach) (n : Nest) → (n.braces == 0) ≡ false → is_closed r n ≡ false
 unfolding is_closed
 closed_deep reaches.Angles n d = rw d refl
-closed_deep reaches.Field n d = refl
-closed_deep reaches.Header n d = refl
+closed_deep _ n d = refl
 
 reached_inner : (r : Reach) (n : Nest) (i : ℕ) (t : Bool) (ts : Tokens) → is_reached r (inner_by n i t) ts ≡ is_reached r n ts
 unfolding is_reached
 reached_inner reaches.Angles n i t ts = refl
-reached_inner reaches.Field n i t ts = refl
-reached_inner reaches.Header n i t ts = refl
+reached_inner _ n i t ts = refl
 
 closed_inner : (r : Reach) (n : Nest) (i : ℕ) (t : Bool) → is_closed r (inner_by n i t) ≡ is_closed r n
 unfolding is_closed
 closed_inner reaches.Angles n i t = refl
-closed_inner reaches.Field n i t = refl
-closed_inner reaches.Header n i t = refl
+closed_inner _ n i t = refl
 
 abbrev reaching_rest : Reach → Unit {0} → Nest → Tokens → Tokens
 reaching_rest r s n ts = reaching r n ts
@@ -258,9 +252,8 @@ unfolding to_closing
 to_closing_beside b bracket ts us h = walk_beside (closing_rest bracket) same_state (is_closing bracket) never no_more one_more nothing_seen no_state Beside (closing_walk bracket) b ts us tt tt flat 0 false tt h
 
 both_no : (p q : Bool) → (not p && (q && false)) ≡ true → ⊥
-both_no true q e = cc
 both_no false true e = cc
-both_no false false e = cc
+both_no _ _ e = cc
 
 -- no `{` comes next where it stops
 not_open : (bracket : ℕ) (n : Nest) (ts : Tokens) → is_closing bracket n ts ≡ true → (symbol ts == 123) ≡ false

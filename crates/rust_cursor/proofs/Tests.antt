@@ -40,10 +40,7 @@ impl_same b ts us h n = rw (const_same b (bumped ts) (bumped us) n, word_same b 
 behind_same : (b : Twins) (before : Before) (ts us : Tokens) → b.are ts us → b.are (bumped ts) (bumped us) → begins_behind before us ≡ begins_behind before ts
 behind_same b befores.End ts us h n = rw (symbol_same b ts us h, symbol_same b (bumped ts) (bumped us) n, impl_same b ts us h n) refl
 behind_same b befores.Angle ts us h n = impl_same b ts us h n
-behind_same b befores.Dash ts us h n = refl
-behind_same b befores.Mark ts us h n = refl
-behind_same b befores.Hash ts us h n = refl
-behind_same b befores.Other ts us h n = refl
+behind_same b _ ts us h n = refl
 
 within_same : (b : Twins) (ts us : Tokens) → b.are ts us → b.are (bumped ts) (bumped us) → begins_within us ≡ begins_within ts
 unfolding begins_within
@@ -81,20 +78,17 @@ pub stops_same : (b : Twins) (e : Extent) (n : Nest) (ts us : Tokens) → b.are 
 unfolding stops
 stops_same b extents.Tree n ts us h = rw (empty_same b ts us h, symbol_same b ts us h) refl
 stops_same b extents.Group n ts us h = rw (empty_same b ts us h, symbol_same b ts us h) refl
-stops_same b extents.Value n ts us h = rw (empty_same b ts us h, symbol_same b ts us h, begins_same b n ts us h) refl
-stops_same b extents.Item n ts us h = rw (empty_same b ts us h, symbol_same b ts us h, begins_same b n ts us h) refl
-stops_same b extents.Macro n ts us h = rw (empty_same b ts us h, symbol_same b ts us h, begins_same b n ts us h) refl
+stops_same b _ n ts us h = rw (empty_same b ts us h, symbol_same b ts us h, begins_same b n ts us h) refl
 
 goes_same : (b : Twins) (ts us : Tokens) → b.are ts us → goes_on us ≡ goes_on ts
 goes_same b ts us h = rw (symbol_same b ts us h) refl
 
 pub ends_same : (b : Twins) (e : Extent) (is_call : Bool) (n : Nest) (ts us : Tokens) → symbol us ≡ symbol ts → b.are (bumped ts) (bumped us) → ends e is_call n us ≡ ends e is_call n ts
 unfolding ends
-ends_same b extents.Tree is_call n ts us s h = refl
-ends_same b extents.Group is_call n ts us s h = refl
 ends_same b extents.Value is_call n ts us s h = rw s refl
 ends_same b extents.Item is_call n ts us s h = rw (s, goes_same b (bumped ts) (bumped us) h) refl
 ends_same b extents.Macro is_call n ts us s h = rw s refl
+ends_same b _ is_call n ts us s h = refl
 
 joined_same : (b : Twins) (last : ℕ) (ts us : Tokens) → b.are ts us → is_joined last us ≡ is_joined last ts
 unfolding is_joined
@@ -103,10 +97,7 @@ joined_same b last ts us h = rw (symbol_same b ts us h, b.glued ts us h) refl
 pub more_same : (b : Twins) (e : Extent) (last : ℕ) (done : List ℕ) (ts us : Tokens) → b.are ts us → more e last done us ≡ more e last done ts
 unfolding more has_blank
 more_same b extents.Tree last done ts us h = rw (doc_same b ts us h, text_same b ts us h, joined_same b last ts us h) refl
-more_same b extents.Group last done ts us h = rw (doc_same b ts us h, text_same b ts us h) refl
-more_same b extents.Value last done ts us h = rw (doc_same b ts us h, text_same b ts us h) refl
-more_same b extents.Item last done ts us h = rw (doc_same b ts us h, text_same b ts us h) refl
-more_same b extents.Macro last done ts us h = rw (doc_same b ts us h, text_same b ts us h) refl
+more_same b _ last done ts us h = rw (doc_same b ts us h, text_same b ts us h) refl
 
 pub closing_same : (b : Twins) (bracket : ℕ) (n : Nest) (ts us : Tokens) → b.are ts us → is_closing bracket n us ≡ is_closing bracket n ts
 unfolding is_closing

@@ -8,7 +8,7 @@ use Rattle.rust_lexer.specs.Piece.{Piece}
 use Rattle.rust_lexer.specs.Symbol.{symbol_of}
 use Rattle.rust_lexer.specs.Alone.{moved}
 use Rattle.rust_cursor.specs.Tokens.{Tokens, end_of}
-use Rattle.rust_cursor.specs.Words.{is_open, is_close, word_by, by_first, symbol, word, kind, text, at, is_empty, is_at_open, is_at_end, bumped, is_glued}
+use Rattle.rust_cursor.specs.Words.{is_open, is_close, word_by, by_first, symbol, word, text, at, is_empty, is_at_open, is_at_end, bumped, is_glued}
 use Rattle.rust_cursor.proofs.Leads.{when}
 use Rattle.rust_cursor.specs.Beside.{Bodies, AreBefore, AreBehind, AreOpen, Beside, ahead, behind}
 use Rattle.rust_cursor.proofs.Twins.{Twins, is_edge}
@@ -16,10 +16,9 @@ use Rattle.rust_cursor.proofs.Twins.{Twins, is_edge}
 -- a view of a token that asks not where it stands
 pub first_same : (b : Bodies) {A : Type 0} (default : A) (view : Piece → A) → ((d : ℕ) (t : Piece) → view (moved d t) ≡ view t) → (ts us : Tokens) → Beside b ts us
     → by_first default view us.left ≡ by_first default view ts.left
-first_same b default view still ts us (ahead past [] r u u' i j) = refl
-first_same b default view still ts us (ahead past (t ∷ x) r u u' i j) = refl
-first_same b default view still ts us (behind past [] u u' i) = refl
 first_same b default view still ts us (behind past (t ∷ r) u u' i) = still b.by_new t ∙ sym (still b.by t)
+first_same b default view still ts us (ahead past [] r u u' i j) = refl
+first_same b default view still ts us _ = refl
 
 pub symbol_same : (b : Bodies) (ts us : Tokens) → Beside b ts us → symbol us ≡ symbol ts
 unfolding symbol
@@ -28,10 +27,6 @@ symbol_same b ts us h = first_same b 0 symbol_of (λ d t. refl) ts us h
 pub word_same : (b : Bodies) (ts us : Tokens) → Beside b ts us → word us ≡ word ts
 unfolding word
 word_same b ts us h = first_same b [] (λ t. word_by t.kind t.text) (λ d t. refl) ts us h
-
-pub kind_same : (b : Bodies) (ts us : Tokens) → Beside b ts us → kind us ≡ kind ts
-unfolding kind
-kind_same b ts us h = first_same b None (λ t. Some t.kind) (λ d t. refl) ts us h
 
 pub text_same : (b : Bodies) (ts us : Tokens) → Beside b ts us → text us ≡ text ts
 unfolding text
@@ -58,10 +53,10 @@ glued_by m n d d' = grind (arith, nat_tests)
 
 pub glued_same : (b : Bodies) (ts us : Tokens) → Beside b ts us → is_glued us ≡ is_glued ts
 unfolding is_glued at
-glued_same b ts us (ahead past [] r u u' i j) = refl
-glued_same b ts us (ahead past (t ∷ x) r u u' i j) = refl
 glued_same b ts us (behind past [] u u' i) = glued_by past past b.by b.by_new
 glued_same b ts us (behind past (t ∷ r) u u' i) = glued_by t.at past b.by b.by_new
+glued_same b ts us (ahead past [] r u u' i j) = refl
+glued_same b ts us (ahead past (t ∷ x) r u u' i j) = refl
 
 -- ---- one token further
 
