@@ -2,7 +2,7 @@
 use Rattle.std.proofs.Common.{◌≡◌, ◌≢◌, ◌≤◌, ◌<◌, ℕ, zero, suc, ◌==◌, ◌||◌, ◌&&◌, Bool, true, false, Option, None, List, [], ◌∷◌, length, refl, ap, ◌∙◌, sym, subst, arith}
 use Rattle.std.specs.Prelude.{if◌then◌else◌, not}
 use Rattle.std.specs.Str.{bytes_eq}
-use Rattle.std.proofs.lemmas.Bool.{eqb-true}
+use Rattle.std.proofs.lemmas.Bool.{eqb-true, or_parts}
 use Rattle.std.proofs.lemmas.Bool.Decides.{nat_tests}
 use Rattle.hir_input.specs.declared.edition.EditionYear.{EditionYear}
 use Rattle.rust_lexer.specs.declared.kind.TokenKind.{TokenKind}
@@ -26,14 +26,14 @@ use Rattle.rust_cursor.specs.Brackets.{behind_closing, is_closing, closing, to_c
 use Rattle.rust_cursor.specs.Elements.{beyond, turns_from, turns, elements}
 use Rattle.rust_cursor.specs.Extents.{stops, ends, opened_behind, more, taking, taken, tree_text}
 use Rattle.rust_cursor.specs.Angles.{closes_around, is_reached, is_closed, reaching, reached, behind_angles}
-use Rattle.rust_cursor.proofs.Leads.{behind_closing_leads, bumped_leads, end_some, closing_leads, LeadsTo, here, further, through, Forwards, when, from_last, symbol_some, beyond_leads}
+use Rattle.rust_cursor.proofs.Leads.{behind_closing_leads, bumped_leads, end_some, closing_leads, LeadsTo, here, further, through, Forwards, when, from_last, symbol_some, beyond_leads, stops_empty, reached_empty, closing_empty}
 use Rattle.rust_cursor.proofs.Steps.{closing_stop, closing_more}
 use Rattle.rust_cursor.proofs.Scans.{taking_stop, taking_end, taking_more}
 use Rattle.rust_cursor.proofs.Reaches.{reaching_stop, reaching_end, reaching_more}
 use Rattle.rust_cursor.proofs.Laid.{IsLaid, behind, taken_behind, at_behind, tokens_laid}
 use Rattle.rust_cursor.proofs.Local.{both_true}
 use Rattle.rust_cursor.proofs.Braced.{inside_is, outside_is}
-use Rattle.rust_cursor.proofs.Passing.{stops_none, reached_none, closing_none, braces_of}
+use Rattle.rust_cursor.proofs.Passing.{braces_of}
 
 -- in so many braces, and in so many other brackets around them
 abbrev pub deep : ℕ → ℕ → Nest
@@ -68,7 +68,7 @@ next_of c n ts = ap (λ k. upto c k (nest_behind n ts).others (bumped ts)) (brac
 closing_any : (c : ℕ) (ts : Tokens) (n : Nest) → closing c n ts ≡ upto c n.braces n.others ts
 closing_any c ts n =
     from_last (λ ts. (n : Nest) → closing c n ts ≡ upto c n.braces n.others ts)
-    (λ ts e n. closing_stop c n ts (closing_none c n ts e) ∙ sym (closing_stop c (deep n.braces n.others) ts (closing_none c (deep n.braces n.others) ts e)))
+    (λ ts e n. closing_stop c n ts (closing_empty c n ts e) ∙ sym (closing_stop c (deep n.braces n.others) ts (closing_empty c (deep n.braces n.others) ts e)))
     (λ ts e inner n. when (is_closing c n ts)
     (λ s. closing_stop c n ts s ∙ sym (closing_stop c (deep n.braces n.others) ts (closing_by c n ts ∙ s)))
     (λ s. closing_more c n ts s ∙ inner (nest_behind n ts) ∙ next_of c n ts ∙ sym (next_of c (deep n.braces n.others) ts)
@@ -76,7 +76,7 @@ closing_any c ts n =
     ts n
 
 upto_none : (c k j : ℕ) (ts : Tokens) → is_empty ts ≡ true → upto c k j ts ≡ ts
-upto_none c k j ts e = closing_stop c (deep k j) ts (closing_none c (deep k j) ts e)
+upto_none c k j ts e = closing_stop c (deep k j) ts (closing_empty c (deep k j) ts e)
 
 pub upto_more : (c k j : ℕ) (ts : Tokens) → is_shut c k j ts ≡ false → upto c k j ts ≡ upto c (braces_behind k (symbol ts)) (others_next k j (symbol ts)) (bumped ts)
 upto_more c k j ts s = closing_more c (deep k j) ts s ∙ closing_any c (bumped ts) (nest_behind (deep k j) ts) ∙ next_of c (deep k j) ts
@@ -392,14 +392,10 @@ pub record NoCloser (s : ℕ) : Type 0 where
   pub no_brace : (s == 125) ≡ false
   pub no_other : closes_other s ≡ false
 
-neither : (a b : Bool) → (a || b) ≡ false → (a ≡ false) × (b ≡ false)
-neither false b e = (refl, e)
-neither true b e = absurd cc
-
 pub not_end : (end : ℕ) (ts : Tokens) → IsSound end ts → is_at_end ts ≡ false → NoCloser (symbol ts)
 not_end end ts s e =
     let some = end_some ts e in
-    let p = neither (symbol ts == 125) (closes_other (symbol ts)) (sym (end_is end ts s some) ∙ e) in
+    let p = or_parts (symbol ts == 125) (closes_other (symbol ts)) (sym (end_is end ts s some) ∙ e) in
     record { no_brace = p.0; no_other = p.1 }
 
 other_opens : (s : ℕ) → opens_other s ≡ true → NoCloser s
@@ -503,7 +499,7 @@ unfolding behind_tree
 tree_within end c ts s n =
     when (is_at_open ts)
     (λ e. rw e (inside_within end c ts (bumped ts) s (opens_at end ts s e) here here))
-    (λ e. let p = neither (symbol ts == 123) (opens_other (symbol ts)) (sym (open_is end ts s) ∙ e) in
+    (λ e. let p = or_parts (symbol ts == 123) (opens_other (symbol ts)) (sym (open_is end ts s) ∙ e) in
     rw e (same_within c (bumped ts) ts (plain_upto c ts (record { opens_brace = p.0; closes_brace = n.no_brace; opens = p.1; closes = n.no_other }))))
 
 beyond_within : (end c : ℕ) (ts us : Tokens) → IsSound end ts → LeadsTo ts us → NoCloser (symbol ts) → Within c us ts → Within c (beyond ts.past us) ts
@@ -581,13 +577,13 @@ module _ (end c : ℕ) (r : Reach) (bars : Bars r) where
   no_bar n ts p e z = when (closes_around n ts) (λ f. let yes = bars n ts e z f in absurd cc) (λ f. f)
 
   not_none : (n : Nest) (ts : Tokens) → is_reached r n ts ≡ false → is_empty ts ≡ false
-  not_none n ts p = when (is_empty ts) (λ e. let yes = reached_none r n ts e in absurd cc) (λ e. e)
+  not_none n ts p = when (is_empty ts) (λ e. let yes = reached_empty r n ts e in absurd cc) (λ e. e)
 
   reached_within : (ts : Tokens) → IsSound end ts → Within c (reached r ts) ts
   unfolding reached
   reached_within ts s =
       go_within c (λ (s : Unit {0}) n ts. reaching r n ts) (λ s n ts. s) (is_reached r) (λ n ts. is_closed r (nest_behind n ts))
-      (λ s n ts p. reaching_stop r n ts p) (λ s n ts p q. reaching_end r n ts p q) (λ s n ts p q. reaching_more r n ts p q) (reached_none r)
+      (λ s n ts p. reaching_stop r n ts p) (λ s n ts p q. reaching_end r n ts p q) (λ s n ts p q. reaching_more r n ts p q) (reached_empty r)
       (λ n ts. IsSound end ts) (λ n ts o p h. not_shut end c n ts o (not_none n ts p) (no_bar n ts p (not_none n ts p)) h) (λ n ts o p q. sound_on end (bumped_leads ts) o) ts tt _ s
 
 pub behind_angles_within : (end c : ℕ) (ts : Tokens) → IsSound end ts → Within c (behind_angles ts) ts
@@ -618,7 +614,7 @@ unfolding taken
 tree_text_within c ts f =
     go_within c (λ (s : State) n ts. (taking extents.Tree s.0 s.1 s.2 n ts).1) (λ s n ts. (more extents.Tree s.1 s.0 ts, symbol ts, opened_behind s.2 n ts)) (stops extents.Tree) (λ n ts. ends extents.Tree (is_mark n.before) (nest_behind n ts) ts)
     (λ s n ts p. ap (λ r. r.1) (taking_stop extents.Tree s.0 s.1 s.2 n ts p)) (λ s n ts p q. ap (λ r. r.1) (taking_end extents.Tree s.0 s.1 s.2 n ts p q)) (λ s n ts p q. ap (λ r. r.1) (taking_more extents.Tree s.0 s.1 s.2 n ts p q))
-    (stops_none extents.Tree) NoEnd (λ n ts o p h. tree_shuts c n ts o p h) (λ n ts o p q. tree_on n ts q) ts ([], 0, None) _ (λ _. f)
+    (stops_empty extents.Tree) NoEnd (λ n ts o p h. tree_shuts c n ts o p h) (λ n ts o p q. tree_on n ts q) ts ([], 0, None) _ (λ _. f)
 
 -- ---- words
 

@@ -11,10 +11,10 @@ use Rattle.rust_cursor.specs.Tokens.{Tokens}
 use Rattle.rust_cursor.specs.Words.{symbol, is_empty, bumped}
 use Rattle.rust_cursor.specs.Nests.{braces_behind, is_mark, nest_behind}
 use Rattle.rust_cursor.specs.Extents.{ExcerptRead, stops, ends, opened_behind, block_at, taking, taken, item_rest, impl_rest}
-use Rattle.rust_cursor.proofs.Leads.{LeadsTo, here, further, when, from_last, HasBlock, no_block, block, taken_block}
+use Rattle.rust_cursor.proofs.Leads.{LeadsTo, here, further, when, from_last, HasBlock, no_block, block, taken_block, stops_empty}
 use Rattle.rust_cursor.proofs.Steps.{closing_stop}
 use Rattle.rust_cursor.proofs.Scans.{taking_stop, taking_end, taking_more}
-use Rattle.rust_cursor.proofs.Passing.{stops_none, braces_of}
+use Rattle.rust_cursor.proofs.Passing.{braces_of}
 use Rattle.rust_cursor.proofs.Around.{deep, upto, around, others_next, Shuts, by_brace, by_other, shut_by_brace, shut_not, upto_more, one_deeper}
 
 -- what is left of braces that were opened last stands in them
@@ -96,7 +96,7 @@ opened_next o n ts h some a e j d =
 taken_enclosed : (ts : Tokens) (done : List ℕ) (last : ℕ) (o : Option Tokens) (n : Nest) → Opened o n ts → Encloses (taking extents.Item done last o n ts)
 taken_enclosed ts done last o n h =
     from_last (λ ts. (done : List ℕ) (last : ℕ) (o : Option Tokens) (n : Nest) → Opened o n ts → Encloses (taking extents.Item done last o n ts))
-    (λ ts e done last o n h. stopped ts done last o n (stops_none extents.Item n ts e))
+    (λ ts e done last o n h. stopped ts done last o n (stops_empty extents.Item n ts e))
     (λ ts e inner done last o n h. when (stops extents.Item n ts)
     (λ p. stopped ts done last o n p)
     (λ p. when (ends extents.Item (is_mark n.before) (nest_behind n ts) ts)

@@ -3,8 +3,11 @@ use Rattle.std.proofs.Common.{◌≡◌, ◌<◌, ◌≤◌, ◌+◌, ℕ, List,
 use Rattle.std.specs.List.{filter}
 use Rattle.std.proofs.lemmas.List.Elements.{All-head, All-tail}
 use Rattle.std.proofs.lemmas.List.Sums.{length-filter, count_by-le-length}
+use Rattle.hir_input.specs.declared.edition.EditionYear.{EditionYear}
 use Rattle.rust_lexer.specs.Piece.{Piece}
-use Rattle.rust_lexer.specs.Tokens.{is_significant, text_of}
+use Rattle.rust_lexer.specs.Tokens.{tokens, is_significant, text_of}
+use Rattle.rust_lexer.proofs.Laws.{tokens_lossless, tokens_not_empty}
+use Rattle.rust_cursor.specs.Tokens.{tokens_of}
 
 few_of : (ts : List Piece) → All (λ t. 0 < length t.text) ts → length ts ≤ length (text_of ts)
 few_of [] h = omega arith
@@ -22,3 +25,7 @@ few ts text h e =
     let fewer = count_by-le-length is_significant ts in
     let same : length (text_of ts) ≡ length text = ap length e in
     omega arith
+
+pub tokens_short : (edition : EditionYear) (text : List ℕ) → length (tokens_of edition text).left ≤ length text
+unfolding tokens_of
+tokens_short edition text = few (tokens text) text (tokens_not_empty text) (tokens_lossless text)

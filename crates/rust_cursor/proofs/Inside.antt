@@ -24,15 +24,15 @@ left_by true closes n some more = grind (arith, nat_tests)
 left_by false true n some more = grind (arith, nat_tests)
 left_by false false n some more = some
 
-goes_on : (e : Extent) (nest : Nest) (ts : Tokens) → is_empty ts ≡ false → (nest.braces == 0) ≡ false → stops e nest ts ≡ false
+pub stops_deep : (e : Extent) (nest : Nest) (ts : Tokens) → is_empty ts ≡ false → (nest.braces == 0) ≡ false → stops e nest ts ≡ false
 unfolding stops
-goes_on e nest ts some deep = rw (some, deep) refl
+stops_deep e nest ts some deep = rw (some, deep) refl
 
 is_behind : (nest : Nest) (ts : Tokens) → (nest.braces == 0) ≡ false → nest_inside nest ts ≡ nest_behind nest ts
 unfolding nest_behind
 is_behind nest ts deep = rw deep refl
 
-not_last : (e : Extent) (is_call : Bool) (behind : Nest) (ts : Tokens) → (behind.braces == 0) ≡ false → ends e is_call behind ts ≡ false
+pub not_last : (e : Extent) (is_call : Bool) (behind : Nest) (ts : Tokens) → (behind.braces == 0) ≡ false → ends e is_call behind ts ≡ false
 unfolding ends
 not_last e is_call behind ts deep = rw deep refl
 
@@ -53,7 +53,7 @@ inside e nest behind ts test is =
     let left = left_by (symbol ts == 123) (symbol ts == 125) nest.braces none.first none.third in
     record {
       some = none.second;
-      goes = goes_on e nest ts none.second none.first;
+      goes = stops_deep e nest ts none.second none.first;
       after = is ∙ is_behind nest ts none.first;
       more = not_last e (is_mark nest.before) behind ts (ap (λ k. k.braces == 0) is ∙ left);
       opened = λ o. opened_same o nest ts none.first;

@@ -233,7 +233,7 @@ closed start ts (Some a) some (opened_at b before first behind) = block b before
 no_brace : (c : ℕ) → (c == 125) ≡ true → (c == 123) ≡ false
 no_brace c e = let same : c ≡ 125 = eqb-true c 125 e in rw same refl
 
-still_same : (o : Option Tokens) (nest : Nest) (ts : Tokens) → (symbol ts == 125) ≡ true → opened_behind o nest ts ≡ o
+pub still_same : (o : Option Tokens) (nest : Nest) (ts : Tokens) → (symbol ts == 125) ≡ true → opened_behind o nest ts ≡ o
 still_same o nest ts e = let none = no_brace (symbol ts) e in rw none (if_none (nest.braces == 0))
   where
     if_none : (b : Bool) → (if b && false then Some ts else o) ≡ o

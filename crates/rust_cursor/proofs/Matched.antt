@@ -8,11 +8,12 @@ use Rattle.rust_lexer.specs.Symbol.{symbol_of}
 use Rattle.rust_cursor.specs.declared.cursor.nest.Nest.{Nest}
 use Rattle.rust_cursor.specs.Tokens.{Tokens}
 use Rattle.rust_cursor.specs.Words.{by_first, rest, symbol, is_empty, is_at_open, bumped}
-use Rattle.rust_cursor.specs.Nests.{flat, opens_other, closes_other, braces_behind, others_behind, nest_behind}
+use Rattle.rust_cursor.specs.Nests.{flat, opens_other, closes_other, others_behind, nest_behind}
 use Rattle.rust_cursor.specs.Brackets.{is_closing, closing, to_closing, behind_closing, behind_closed, behind_tree}
 use Rattle.rust_cursor.specs.Matched.{closer, is_closer, opened, behind_matching, behind_match}
 use Rattle.rust_cursor.proofs.Leads.{when}
 use Rattle.rust_cursor.proofs.Steps.{closing_stop, closing_more}
+use Rattle.rust_cursor.proofs.Passing.{braces_of}
 
 -- ---- what is counted
 
@@ -28,10 +29,6 @@ others_in (c ∷ due) = if braces_in (c ∷ due) == 0 then others_in due + 1 els
 record Counts (due : List ℕ) (nest : Nest) : Type 0 where
   pub braces : nest.braces ≡ braces_in due
   pub others : nest.others ≡ others_in due
-
-braces_step : (nest : Nest) (ts : Tokens) → (nest_behind nest ts).braces ≡ braces_behind nest.braces (symbol ts)
-unfolding nest_behind
-braces_step nest ts = when (nest.braces == 0) (λ e. let none : nest.braces ≡ 0 = eqb-true nest.braces 0 e in rw none refl) (λ e. rw e refl)
 
 others_step : (nest : Nest) (ts : Tokens) → (nest_behind nest ts).others ≡ (if nest.braces == 0 then others_behind nest.others (symbol ts) else nest.others)
 unfolding nest_behind
@@ -82,7 +79,7 @@ module _ (b : ℕ) (nest : Nest) (ts : Tokens) (some : is_empty ts ≡ false) wh
   close_other : (due : List ℕ) (s : ℕ) → symbol ts ≡ s → (s == 123) ≡ false → (s == 125) ≡ false → opens_other s ≡ false → closes_other s ≡ true → Counts (s ∷ due) nest → Goes due
   close_other due s e f g h i n =
       let braces : nest.braces ≡ braces_in due = rw g at n.braces in
-      let stays : (nest_behind nest ts).braces ≡ nest.braces = braces_step nest ts ∙ rw (e, f, g) refl in
+      let stays : (nest_behind nest ts).braces ≡ nest.braces = braces_of nest ts ∙ rw (e, f, g) refl in
       when (braces_in due == 0)
       (λ z. let others : nest.others ≡ others_in due + 1 = rw (g, z) at n.others in
       let flat : (nest.braces == 0) ≡ true = rw braces z in
@@ -101,12 +98,12 @@ module _ (b : ℕ) (nest : Nest) (ts : Tokens) (some : is_empty ts ≡ false) wh
       let deep : (nest.braces == 0) ≡ false = grind (arith, nat_tests) in
       let more : (braces_in due + 1 == 0) ≡ false = grind (arith, nat_tests) in
       let others : nest.others ≡ others_in due = rw more at n.others in
-      record { on = inside deep; counts = record { braces = braces_step nest ts ∙ rw e (omega arith); others = others_step nest ts ∙ rw deep others } }
+      record { on = inside deep; counts = record { braces = braces_of nest ts ∙ rw e (omega arith); others = others_step nest ts ∙ rw deep others } }
 
   open_other : (due : List ℕ) (s c : ℕ) → symbol ts ≡ s → (s == 123) ≡ false → (s == 125) ≡ false → opens_other s ≡ true → closes_other s ≡ false → (c == 125) ≡ false → Counts due nest → Goes (c ∷ due)
   open_other due s c e f g h i j n =
       let braces : braces_in (c ∷ due) ≡ braces_in due = rw j refl in
-      let stays : (nest_behind nest ts).braces ≡ braces_in (c ∷ due) = braces_step nest ts ∙ rw (e, f, g) (n.braces ∙ sym braces) in
+      let stays : (nest_behind nest ts).braces ≡ braces_in (c ∷ due) = braces_of nest ts ∙ rw (e, f, g) (n.braces ∙ sym braces) in
       let on : is_closing b nest ts ≡ false = outside (rw e g) (rw (e, i) (and_false (nest.others == 0))) in
       let others : nest.others ≡ others_in due = n.others in
       when (braces_in due == 0)
@@ -123,7 +120,7 @@ module _ (b : ℕ) (nest : Nest) (ts : Tokens) (some : is_empty ts ≡ false) wh
       record {
         on = outside (rw e refl) (rw e (and_false (nest.others == 0)));
         counts = record {
-          braces = braces_step nest ts ∙ rw e (omega arith);
+          braces = braces_of nest ts ∙ rw e (omega arith);
           others = others_step nest ts ∙ when (nest.braces == 0) (λ z. rw (z, e) (n.others ∙ sym others)) (λ z. rw z (n.others ∙ sym others));
         };
       }
@@ -132,7 +129,7 @@ module _ (b : ℕ) (nest : Nest) (ts : Tokens) (some : is_empty ts ≡ false) wh
   neither due s e f g h i n = record {
     on = outside (rw e g) (rw (e, i) (and_false (nest.others == 0)));
     counts = record {
-      braces = braces_step nest ts ∙ rw (e, f, g) n.braces;
+      braces = braces_of nest ts ∙ rw (e, f, g) n.braces;
       others = others_step nest ts ∙ when (nest.braces == 0) (λ z. rw (z, e, h, i, g) n.others) (λ z. rw z n.others);
     };
   }

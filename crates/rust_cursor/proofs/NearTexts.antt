@@ -1,6 +1,7 @@
 -- The text of what is left of an item is the same in a text that ends with it, and in a longer one where it ends there too.
 use Rattle.std.proofs.Common.{◌≡◌, ◌<◌, ℕ, ◌+◌, ◌-◌, ◌==◌, ◌||◌, ◌&&◌, Bool, true, false, Option, Some, None, List, [], ◌∷◌, ◌++◌, length, refl, ap, ◌∙◌, sym, arith, map}
 use Rattle.std.specs.Prelude.{not, if◌then◌else◌}
+use Rattle.std.proofs.lemmas.Bool.{not-true}
 use Rattle.hir_input.specs.declared.edition.EditionYear.{EditionYear}
 use Rattle.rust_lexer.specs.Alone.{moved}
 use Rattle.rust_lexer.specs.Piece.{Piece}
@@ -41,14 +42,10 @@ no_more : (ts : Tokens) → ts.left ≡ [] → goes_on ts ≡ false
 unfolding symbol
 no_more ts e = rw e refl
 
-not_so : (t : Bool) → not t ≡ true → t ≡ false
-not_so true e = absurd cc
-not_so false e = refl
-
 -- nor behind it in the long text
 still_behind : (b : Ending) (ts : Tokens) → ts.left ≡ b.behind → is_still b ≡ true → goes_on ts ≡ false
 unfolding symbol
-still_behind b ts e s = rw e (not_so _ s)
+still_behind b ts e s = rw e (not-true _ s)
 
 -- What ends in the long text with the last token of the short one ends in that. Where nothing goes on behind it, it ends in both or in neither.
 pub record EndsSo (b : Ending) (ends_at : Bool → Nest → Tokens → Bool) : Type 0 where

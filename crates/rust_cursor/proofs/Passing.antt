@@ -2,6 +2,7 @@
 use Rattle.std.proofs.Common.{◌≡◌, ◌≢◌, ◌<◌, ℕ, zero, suc, ◌+◌, ◌-◌, ◌==◌, ◌&&◌, Bool, true, false, Option, Some, None, List, [], ◌∷◌, ◌++◌, length, refl, ap, ◌∙◌, sym, arith, map}
 use Rattle.std.specs.Prelude.{not}
 use Rattle.std.proofs.lemmas.Bool.Decides.{nat_tests}
+use Rattle.std.proofs.lemmas.Bool.{eqb-true}
 use Rattle.hir_input.specs.declared.edition.EditionYear.{EditionYear}
 use Rattle.rust_lexer.specs.Piece.{Piece}
 use Rattle.rust_lexer.specs.Symbol.{symbol_of}
@@ -20,15 +21,16 @@ use Rattle.rust_cursor.specs.Angles.{is_reached, is_closed, reaching, reached, b
 use Rattle.rust_cursor.specs.Brackets.{is_closing, closing, to_closing, behind_closing, behind_closed, behind_tree}
 use Rattle.rust_cursor.specs.Elements.{beyond}
 use Rattle.rust_cursor.specs.Beside.{Bodies, AreOpen, Beside, ahead, behind}
-use Rattle.rust_cursor.proofs.Leads.{when, symbol_some}
+use Rattle.rust_cursor.proofs.Leads.{when, symbol_some, stops_empty, reached_empty, closing_empty, still_same}
 use Rattle.rust_cursor.proofs.Steps.{closing_stop, closing_more, closing_some}
 use Rattle.rust_cursor.proofs.Scans.{taking_stop, taking_end, taking_more}
 use Rattle.rust_cursor.proofs.Reaches.{reaching_stop, reaching_end, reaching_more}
 use Rattle.rust_cursor.proofs.Views.{beside_twins, symbol_same, word_same, open_same, not_brace, next_ahead, next_behind, next_none, taken_same, before_same}
 use Rattle.rust_cursor.proofs.Tests.{stops_same, ends_same, closing_same, reached_same}
-use Rattle.rust_cursor.proofs.Braced.{tokens_at, symbol_at, some_at, bumped_at, inside_is, outside_is, Stays}
+use Rattle.rust_cursor.proofs.Braced.{tokens_at, symbol_at, some_at, bumped_at, Stays}
 use Rattle.rust_cursor.proofs.Nesting.{shorter}
 use Rattle.rust_cursor.proofs.Walk.{Walk, inner_by, walk_beside}
+use Rattle.rust_cursor.proofs.Inside.{stops_deep}
 
 -- ---- texts
 
@@ -70,24 +72,11 @@ opened_stays e s n ts d = rw d refl
 opened_beside : (b : Bodies) (o o' : Option Tokens) (n : Nest) (ts us : Tokens) → BothBeside b o o' → Beside b ts us → BothBeside b (opened_behind o n ts) (opened_behind o' n us)
 opened_beside b o o' n ts us a h = when (n.braces == 0 && symbol ts == 123) (λ e. rw (symbol_same b ts us h, e) (both ts us h)) (λ e. rw (symbol_same b ts us h, e) a)
 
-unopened : (o : Option Tokens) (n : Nest) (ts : Tokens) → (symbol ts == 125) ≡ true → opened_behind o n ts ≡ o
-unopened o n ts e =
-    let other : (symbol ts == 123) ≡ false = grind (arith, nat_tests) in
-    when (n.braces == 0) (λ z. rw (z, other) refl) (λ z. rw z refl)
-
 block_beside : (b : Bodies) (o o' : Option Tokens) (n n' : Nest) (ts us : Tokens) → BothBeside b o o' → symbol us ≡ symbol ts → BothBeside b (block_at (opened_behind o n ts) ts) (block_at (opened_behind o' n' us) us)
 block_beside b o o' n n' ts us a s =
     when (symbol ts == 125)
-    (λ e. let f : (symbol us == 125) ≡ true = ap (λ c. c == 125) s ∙ e in rw (unopened o n ts e, unopened o' n' us f, f, e) a)
+    (λ e. let f : (symbol us == 125) ≡ true = ap (λ c. c == 125) s ∙ e in rw (still_same o n ts e, still_same o' n' us f, f, e) a)
     (λ e. let f : (symbol us == 125) ≡ false = ap (λ c. c == 125) s ∙ e in rw (f, e) neither)
-
-pub stops_none : (e : Extent) (n : Nest) (ts : Tokens) → is_empty ts ≡ true → stops e n ts ≡ true
-unfolding stops
-stops_none e n ts h = rw h refl
-
-stops_deep : (e : Extent) (n : Nest) (ts : Tokens) → is_empty ts ≡ false → (n.braces == 0) ≡ false → stops e n ts ≡ false
-unfolding stops
-stops_deep e n ts h d = rw (h, d) refl
 
 ends_deep : (e : Extent) (w : Before) (n : Nest) (ts : Tokens) → (n.braces == 0) ≡ false → taking_ends e w n ts ≡ false
 unfolding ends
@@ -107,7 +96,7 @@ taking_walk e = record {
   stop = λ s n ts p. taking_stop e s.0 s.1.0 s.1.1 n ts p;
   end = λ s n ts p q. taking_end e s.0 s.1.0 s.1.1 n ts p q;
   more = λ s n ts p q. taking_more e s.0 s.1.0 s.1.1 n ts p q;
-  none = stops_none e;
+  none = stops_empty e;
   deep_stops = stops_deep e;
   deep_ends = ends_deep e;
   stops_inner = stops_inner e;
@@ -128,10 +117,6 @@ taken_both b before e ts us h =
     ([], (0, None)) ([], (0, None)) (flat_behind before) 0 false neither h
 
 -- ---- angle brackets
-
-pub reached_none : (r : Reach) (n : Nest) (ts : Tokens) → is_empty ts ≡ true → is_reached r n ts ≡ true
-unfolding is_reached
-reached_none r n ts h = rw h refl
 
 pub reached_deep : (r : Reach) (n : Nest) (ts : Tokens) → is_empty ts ≡ false → (n.braces == 0) ≡ false → is_reached r n ts ≡ false
 unfolding is_reached
@@ -178,7 +163,7 @@ reaching_walk r = record {
   stop = λ s n ts p. reaching_stop r n ts p;
   end = λ s n ts p q. reaching_end r n ts p q;
   more = λ s n ts p q. reaching_more r n ts p q;
-  none = reached_none r;
+  none = reached_empty r;
   deep_stops = reached_deep r;
   deep_ends = λ w n ts d. closed_deep r n d;
   stops_inner = reached_inner r;
@@ -211,10 +196,6 @@ is_trait_impl_same b ts us ts' us' h h' =
 
 -- ---- brackets
 
-pub closing_none : (bracket : ℕ) (n : Nest) (ts : Tokens) → is_empty ts ≡ true → is_closing bracket n ts ≡ true
-unfolding is_closing
-closing_none bracket n ts h = rw h refl
-
 closing_deep : (bracket : ℕ) (n : Nest) (ts : Tokens) → is_empty ts ≡ false → (n.braces == 0) ≡ false → is_closing bracket n ts ≡ false
 unfolding is_closing
 closing_deep bracket n ts h d = rw (h, d) refl
@@ -234,7 +215,7 @@ closing_walk bracket = record {
   stop = λ s n ts p. closing_stop bracket n ts p;
   end = λ s n ts p q. absurd cc;
   more = λ s n ts p q. closing_more bracket n ts p;
-  none = closing_none bracket;
+  none = closing_empty bracket;
   deep_stops = closing_deep bracket;
   deep_ends = λ w n ts d. refl;
   stops_inner = closing_inner bracket;
@@ -290,10 +271,8 @@ behind_closed_beside b bracket ts us h = behind_closing_beside b bracket _ _ (to
 -- ---- trees
 
 pub braces_of : (n : Nest) (ts : Tokens) → (nest_behind n ts).braces ≡ braces_behind n.braces (symbol ts)
-braces_of n ts =
-    when (n.braces == 0)
-    (λ e. let flat : n.braces ≡ 0 = grind (arith, nat_tests) in ap (λ (m : Nest). m.braces) (outside_is n ts e) ∙ ap (λ k. braces_behind k (symbol ts)) (sym flat))
-    (λ e. ap (λ (m : Nest). m.braces) (inside_is n ts e))
+unfolding nest_behind
+braces_of n ts = when (n.braces == 0) (λ e. let none : n.braces ≡ 0 = eqb-true n.braces 0 e in rw none refl) (λ e. rw e refl)
 
 -- from inside braces to their `}`
 record Out (n : Nest) (ts : Tokens) (y : EditionYear) (left : List Piece) (u : Option ℕ) : Type 0 where

@@ -77,7 +77,7 @@ shifted d k j (t ∷ ms) e =
     rw (p, q, more) (ap (λ i. braces_from i ms) (omega arith) ∙ shifted d (k - 1) j ms h)))
     (λ q. let g = rw q at f in rw (p, q) (shifted d k j ms g)))
 
-matched_in : (d : ℕ) (ms : List Piece) → braces_from 0 ms ≡ Some 0 → braces_from d ms ≡ Some d
+pub matched_in : (d : ℕ) (ms : List Piece) → braces_from 0 ms ≡ Some 0 → braces_from d ms ≡ Some d
 matched_in d ms e = let same : 0 + d ≡ d = omega arith in subst (λ (k : ℕ). braces_from k ms ≡ Some k) same (shifted d 0 0 ms e)
 
 -- behind a `}`
@@ -98,7 +98,7 @@ shut n m ts d e =
     alike (closed n) k (ap (λ (x : Nest). x.braces) is ∙ less) (ap (λ (x : Nest). x.others) is ∙ d.others) (ap (λ (x : Nest). x.free) is ∙ d.free)
     (ap (λ (x : Nest). x.angles) is ∙ d.angles) (ap (λ (x : Nest). x.before) is ∙ closed_before n m ts d e)
 
-nothing : (y : EditionYear) (past : ℕ) (u : Option ℕ) → is_empty (tokens_at y past [] u) ≡ true
+pub nothing : (y : EditionYear) (past : ℕ) (u : Option ℕ) → is_empty (tokens_at y past [] u) ≡ true
 unfolding is_empty
 nothing y past u = refl
 
