@@ -18,6 +18,7 @@ pub mod Parting
 pub mod Views
 pub mod Braced
 pub mod Unkept
+pub mod Outer
 pub mod Walk
 pub mod Passing
 pub mod Local

@@ -49,7 +49,7 @@ turn_fewer e y past t left u nest s m =
     let is = turn_inside e y past t left u nest s m in
     fewer nest (inside_behind nest (symbol_of t)) (tokens_at y past (t ∷ left) u) (tokens_at y (end_of t) left u) is.some is.after refl
 
-turn_leads : (past : ℕ) (t : Piece) (left : List Piece) (nest : Nest) → (nest.braces == 0) ≡ false → (nest.braces == 1 && symbol_of t == 125) ≡ false → LeadsOn past (t ∷ left) nest (end_of t) left (inside_behind nest (symbol_of t))
+pub turn_leads : (past : ℕ) (t : Piece) (left : List Piece) (nest : Nest) → (nest.braces == 0) ≡ false → (nest.braces == 1 && symbol_of t == 125) ≡ false → LeadsOn past (t ∷ left) nest (end_of t) left (inside_behind nest (symbol_of t))
 turn_leads past t left nest s m =
     let less = turn_fewer extents.Group year.E2024 past t left None nest s m in
     record { same = turn_same past t left nest s m; fewer = omega (arith, less.left); braces = less.braces; inner = less.inner; others = refl; angles = refl }
@@ -68,7 +68,7 @@ leads_through p q r ls ms ns n m k a b = record {
 pub open_still : (nest : Nest) (c : ℕ) → (nest.braces == 0) ≡ false → (nest.braces == 1 && c == 125) ≡ false → ((inside_behind nest c).braces == 0) ≡ false
 open_still nest c s m = left_by (c == 123) (c == 125) nest.braces s m
 
-counted : (t : Piece) (ts : List Piece) → is_significant t ≡ true → filter is_significant (t ∷ ts) ≡ t ∷ filter is_significant ts
+pub counted : (t : Piece) (ts : List Piece) → is_significant t ≡ true → filter is_significant (t ∷ ts) ≡ t ∷ filter is_significant ts
 counted t ts e = rw e refl
 
 -- behind a token that counts

@@ -16,3 +16,4 @@ pub mod Apart
 pub mod Whole
 pub mod Each
 pub mod Braces
+pub mod Depths

@@ -11,3 +11,4 @@ pub mod Tokens
 pub mod Terminated
 pub mod Alone
 pub mod Inner
+pub mod Depths

@@ -5,6 +5,7 @@ ghost use Rattle.std.specs.Str.{IsUtf8};
 ghost use Rattle.rust_lexer.specs.declared.bytes.Class.TheVariants as class;
 ghost use Rattle.rust_lexer.specs.Bytes as bytes;
 ghost use Rattle.rust_lexer.specs.Cut as spec;
+ghost use Rattle.rust_lexer.specs.Tokens.{whole};
 
 use crate::bytes::{
     Class, byte, is_blank, is_close, is_letter, is_mark, is_open, is_start, is_white, is_word,
@@ -282,4 +283,23 @@ pub(crate) fn frequent_cut(first: u8, z: &[u8]) -> Option<Cut>
         return Some(plain(z));
     }
     None
+}
+
+/// How many bytes belong to the token that begins with this byte, before these: of these alone.
+#[inline(always)]
+pub(crate) fn token_len(first: u8, z: &[u8]) -> usize
+    ensures value { result ≡ whole (spec.first_cut first z.now) z.now }
+    ensures within { result ≤ length z.now }
+{
+    if is_blank(first) {
+        return run(Class::White, z);
+    }
+    if is_letter(first) {
+        return run(Class::Word, z);
+    }
+    if is_mark(first) {
+        return run(Class::Continuation, z);
+    }
+    let len = any_cut(first, z).len;
+    len + run(Class::Continuation, &z[len..])
 }

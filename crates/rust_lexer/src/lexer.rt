@@ -7,10 +7,12 @@ ghost use Rattle.rust_lexer.specs.Tokens as spec;
 ghost use Rattle.rust_lexer.specs.declared.kind.TokenKind.TheVariants as kinds;
 ghost use Rattle.rust_lexer.specs.Inner as inner;
 ghost use Rattle.rust_lexer.specs.Bytes as bytes;
+ghost use Rattle.rust_lexer.specs.Depths as depths;
 ghost use Rattle.rust_lexer.specs.declared.bytes.Class.TheVariants as class;
 
 use crate::bytes::{Class, byte, is_blank, run};
 use crate::cut::{Cut, any_cut, frequent_cut};
+use crate::depth::{Depth, to_outer};
 use crate::frontmatter::frontmatter;
 use crate::kind::TokenKind;
 use crate::token::Token;
@@ -111,6 +113,21 @@ impl<'a> Lexer<'a> {
         self.at += token.text().len();
         self.rest = rest;
         Some(token)
+    }
+
+    /// A short path over what stands in so many braces: it gives in which brackets the `}` stands that closes the last of these, and
+    /// that comes next. Where it finds none, the lexer stays as it was, and so it does at the front of a text.
+    pub fn pass_braces(&mut self, depth: Depth) -> Option<Depth>
+        ensures { MatchOption result (self.new ≡ self.old)
+            (λ d. depths.to_outer depth self.old ≡ Some (d, self.new)) }
+    {
+        let Front::Token = self.front else {
+            return None;
+        };
+        let (depth, at, rest) = to_outer(self.at, self.rest, depth)?;
+        self.at = at;
+        self.rest = rest;
+        Some(depth)
     }
 
     /// Whether no token is left.

@@ -4,6 +4,7 @@
 mod bytes;
 mod comment;
 mod cut;
+mod depth;
 mod frontmatter;
 mod identifier;
 mod kind;
@@ -12,6 +13,7 @@ mod number;
 mod quoted;
 mod token;
 
+pub use depth::Depth;
 pub use identifier::is_identifier;
 pub use kind::{DocStyle, LiteralKind, TokenKind};
 pub use lexer::{Lexer, tokenize};

@@ -1,6 +1,6 @@
 //! The texts of what is taken.
 
-ghost use Rattle.std.specs.Prelude.{◌≡◌, ◌≤◌, ◌<◌, ◌+◌, ◌^◌, ◌++◌, ◌==◌, ◌&&◌, not, false, if◌then◌else◌, OnOk, Option, length, string_bytes};
+ghost use Rattle.std.specs.Prelude.{ℕ, ◌≡◌, ◌≤◌, ◌<◌, ◌+◌, ◌^◌, ◌++◌, ◌==◌, ◌&&◌, not, false, if◌then◌else◌, OnOk, Option, length, string_bytes};
 ghost use Rattle.std.specs.List.{filter};
 ghost use Rattle.rust_lexer.specs.Tokens.{is_significant};
 ghost use Rattle.rust_cursor.specs.Extents as spec;
@@ -10,7 +10,7 @@ ghost use Rattle.rust_cursor.specs.Words.{bumped, is_empty, symbol};
 
 use crate::cursor::nest::{Before, Nest, count_inside, first_byte, is_mark};
 use crate::cursor::{Cursor, note_last};
-use rust_lexer::{Lexer, Token};
+use rust_lexer::{Depth, Lexer, Token};
 use std::alloc::{AllocError, Global};
 
 /// How far tokens are taken, and what stands between their texts.
@@ -287,6 +287,7 @@ impl<'t> Cursor<'t> {
         }
         self.nest_inside(nest);
         self.past = token.end();
+        pass_shortly(&mut self.lexer, nest);
         pass_braced(
             &mut self.lexer,
             &mut self.last,
@@ -448,6 +449,28 @@ fn closes_all(braces: usize, symbol: u8) -> bool
     ensures { result ≡ (braces == 1 && symbol == 125) }
 {
     braces == 1 && symbol == b'}'
+}
+
+/// Passes over tokens in braces up to the brace that closes the outermost of them, if a short path leads there.
+#[inline(always)]
+fn pass_shortly(lexer: &mut Lexer<'_>, nest: &mut Nest)
+    requires { (nest.old.braces == 0) ≡ false }
+    ensures passed { (past : ℕ) → spec.LeadsOn past (filter is_significant lexer.old) nest.old
+        past (filter is_significant lexer.new) nest.new }
+    ensures some { (nest.new.braces == 0) ≡ false }
+    ensures last { (last : Option ℕ) → last_unended last lexer.new ≡ last_unended last lexer.old }
+{
+    let depth = Depth {
+        braces: nest.braces,
+        inner: nest.inner,
+        is_torn: nest.is_torn,
+    };
+    let Some(outer) = lexer.pass_braces(depth) else {
+        return;
+    };
+    nest.braces = outer.braces;
+    nest.inner = outer.inner;
+    nest.is_torn = outer.is_torn;
 }
 
 /// Passes over tokens in braces up to the brace that closes the outermost of them, which is put down as the next.

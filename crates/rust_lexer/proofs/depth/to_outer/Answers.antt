@@ -1,0 +1,21 @@
+use Rattle.std.proofs.Common.{◌∙◌, sym, refl, arith}
+use Rattle.rust_lexer.proofs.Depths.{outer_here, outer_turn, outer_whole}
+use Rattle.rust_lexer.proofs.depth.to_outer.Goals as goal
+
+pub split_at-requires : goal.split_at-requires
+split_at-requires c =
+    (omega arith, λ below. outer_whole c.tokens.depth c.args.at c.tokens.count c.args.text.now c.as_bytes-bytes.result.now c.as_bytes-bytes.ensures.value c.tokens-test.true _ (sym c.is_last.ensures ∙ c.if-is_last.true))
+
+pub returns-then-is_last-clause-value : goal.returns-then-is_last-clause-value
+returns-then-is_last-clause-value c =
+    sym c.tokens.invariant.same
+    ∙ outer_here c.tokens.depth c.args.at c.tokens.count c.args.text.now c.as_bytes-bytes.result.now c.as_bytes-bytes.ensures.value c.tokens-test.true c.split_at.result.1.now
+    (sym c.is_last.ensures ∙ c.if-is_last.true) c.split_at.ensures.back
+
+pub tokens-preserved : goal.tokens-preserved
+tokens-preserved c = record {
+  same = outer_turn c.tokens.depth c.args.at c.tokens.count c.args.text.now c.as_bytes-bytes.result.now c.as_bytes-bytes.ensures.value c.tokens-test.true c.count_bracket.new.depth _ c.token_len.result
+      (sym c.is_last.ensures ∙ c.if-is_last.false) (c.count_bracket.ensures c.if-not-count_bracket.false) refl c.token_len.ensures.value c.token_len.ensures.within
+      ∙ c.tokens.invariant.same;
+  within = omega arith;
+}

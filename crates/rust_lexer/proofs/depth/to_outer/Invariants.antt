@@ -1,0 +1,13 @@
+use Rattle.std.proofs.Common.{◌≡◌, ◌≤◌, ◌+◌, ◌-◌, length, drop}
+use Rattle.rust_lexer.specs.Depths.{to_outer}
+use Rattle.rust_lexer.specs.Tokens.{tokens_from}
+use Rattle.rust_lexer.proofs.depth.to_outer.Given as goal
+
+abbrev pub invariant-tokens : goal.invariant-tokens
+invariant-tokens l = record {
+  same : to_outer l.depth (tokens_from 0 (l.fn.at + l.count) (drop l.count l.fn.text)) ≡ to_outer l.fn.depth (tokens_from 0 l.fn.at l.fn.text);
+  within : l.count ≤ length l.fn.text;
+}
+
+abbrev pub decreases-tokens : goal.decreases-tokens
+decreases-tokens l = length l.fn.text - l.count

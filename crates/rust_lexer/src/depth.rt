@@ -1,0 +1,83 @@
+//! Passes over what stands in braces.
+
+ghost use Rattle.std.specs.Prelude.{◌≡◌, ◌==◌, ◌&&◌, ◌<◌, ◌+◌, ◌^◌, IfSome, IsTrue, Some, length};
+ghost use Rattle.std.specs.Str.{IsUtf8};
+ghost use Rattle.rust_lexer.specs.Depths as spec;
+ghost use Rattle.rust_lexer.specs.Tokens.{tokens_from};
+
+use crate::bytes::{is_close, is_open};
+use crate::cut::token_len;
+
+/// In how many brackets something stands that is in braces.
+#[derive(Clone, Copy, Debug)]
+pub struct Depth {
+    /// In how many braces.
+    pub braces: usize,
+    /// In how many of `(` and `[` that were opened in braces.
+    pub inner: usize,
+    /// Whether one of these closed nothing.
+    pub is_torn: bool,
+}
+
+/// Counts a token that begins with this byte, unless there are too many brackets to be counted.
+#[inline(always)]
+fn count_bracket(first: u8, depth: &mut Depth) -> bool
+    ensures { IsTrue result → depth.new ≡ spec.depth_behind depth.old first }
+{
+    if !is_open(first) && !is_close(first) {
+        return true;
+    }
+    match first {
+        b'{' => {
+            if depth.braces == usize::MAX {
+                return false;
+            }
+            depth.braces += 1;
+        }
+        b'}' => depth.braces = depth.braces.saturating_sub(1),
+        b'(' | b'[' => {
+            if depth.inner == usize::MAX {
+                return false;
+            }
+            depth.inner += 1;
+        }
+        _ => {
+            depth.is_torn = depth.is_torn || depth.inner == 0;
+            depth.inner = depth.inner.saturating_sub(1);
+        }
+    }
+    true
+}
+
+/// Whether a symbol closes the last of so many braces.
+#[inline(always)]
+fn is_last(depth: Depth, symbol: u8) -> bool
+    ensures { result ≡ (depth.braces == 1 && symbol == 125) }
+{
+    depth.braces == 1 && symbol == b'}'
+}
+
+/// The `}` that closes the last of so many braces, in a text that begins at this place: in which brackets it stands, its place, and the
+/// text from it on.
+pub(crate) fn to_outer(at: usize, text: &str, depth: Depth) -> Option<(Depth, usize, &str)>
+    requires { at + length text.now < 2 ^ 64 }
+    ensures value { IfSome result (λ p. spec.to_outer depth (tokens_from 0 at text.now)
+        ≡ Some (p.0, tokens_from 0 p.1 p.2.now)) }
+    ensures utf8 { IfSome result (λ p. IsUtf8 p.2.now) }
+    ensures fits { IfSome result (λ p. p.1 + length p.2.now < 2 ^ 64) }
+{
+    let bytes = text.as_bytes();
+    let mut depth = depth;
+    let mut count = 0;
+    'tokens: while count < bytes.len() {
+        let first = bytes[count];
+        if is_last(depth, first) {
+            return Some((depth, at + count, text.split_at(count).1));
+        }
+        if !count_bracket(first, &mut depth) {
+            return None;
+        }
+        count += 1 + token_len(first, &bytes[count + 1..]);
+    }
+    None
+}
