@@ -1,6 +1,7 @@
 -- A short path over what stands in braces leads where its tokens lead.
 use Rattle.std.proofs.Common.{◌≡◌, ◌≤◌, ◌+◌, ◌==◌, ◌&&◌, ◌||◌, ℕ, Bool, true, false, Option, Some, None, List, [], ◌∷◌, length, refl, sym, ap, ◌∙◌, subst, arith}
 use Rattle.std.proofs.lemmas.Bool.{eqb-true}
+use Rattle.std.specs.Prelude.{if◌then◌else◌, slice_index}
 use Rattle.std.specs.List.{filter}
 use Rattle.hir_input.specs.declared.edition.EditionYear.{EditionYear}
 use Rattle.rust_lexer.specs.declared.depth.Depth.{Depth}
@@ -12,10 +13,11 @@ use Rattle.rust_lexer.specs.Symbol.{symbol_from, symbol_of}
 use Rattle.rust_lexer.specs.Tokens.{is_significant, is_significant_kind}
 use Rattle.rust_cursor.specs.declared.cursor.nest.Nest.{Nest}
 use Rattle.rust_cursor.specs.declared.cursor.texts.Extent.{Extent}
+use Rattle.rust_cursor.specs.declared.cursor.texts.Extent.TheVariants as extents
 use Rattle.rust_cursor.specs.Tokens.{Tokens, end_of, last_unended, place_if_open}
 use Rattle.rust_cursor.specs.Words.{symbol, bumped}
-use Rattle.rust_cursor.specs.Nests.{is_mark, is_whole, inside_behind, nest_behind}
-use Rattle.rust_cursor.specs.Extents.{LeadsOn, block_at, clipped, ends, excerpt, more, opened_behind, stops, taking, taking_on}
+use Rattle.rust_cursor.specs.Nests.{is_flat, is_mark, is_whole, inside_behind, nest_behind}
+use Rattle.rust_cursor.specs.Extents.{LeadsOn, block_at, clipped, ends, ends_flat, excerpt, more, opened_behind, stops, taking, taking_on}
 use Rattle.rust_cursor.proofs.Braced.{inside_is, some_at, tokens_at}
 use Rattle.rust_cursor.proofs.Clipped.{text_clipped}
 use Rattle.rust_cursor.proofs.Inside.{left_by}
@@ -43,9 +45,17 @@ behind_is n y p t left u deep = inside_is n (tokens_at y p (t ∷ left) u) deep
 still : (o : Option Tokens) (n : Nest) (ts : Tokens) → (n.braces == 0) ≡ false → opened_behind o n ts ≡ o
 still o n ts deep = rw deep refl
 
+flat_same : (e : Extent) (c : Bool) (a : ℕ) (y : EditionYear) (p q : ℕ) (t : Piece) (left : List Piece) (u : Option ℕ) → ends_flat e c a (tokens_at y p (t ∷ left) u) ≡ ends_flat e c a (tokens_at y q (t ∷ left) u)
+unfolding symbol bumped
+flat_same extents.Tree c a y p q t left u = refl
+flat_same extents.Group c a y p q t left u = refl
+flat_same extents.Value c a y p q t left u = refl
+flat_same extents.Item c a y p q t left u = refl
+flat_same extents.Macro c a y p q t left u = refl
+
 ends_same : (e : Extent) (c : Bool) (n : Nest) (y : EditionYear) (p q : ℕ) (t : Piece) (left : List Piece) (u : Option ℕ) → ends e c n (tokens_at y p (t ∷ left) u) ≡ ends e c n (tokens_at y q (t ∷ left) u)
-unfolding ends symbol bumped
-ends_same e c n y p q t left u = refl
+unfolding ends
+ends_same e c n y p q t left u = ap (λ x. if is_flat n then x else false) (flat_same e c n.angles y p q t left u)
 
 block_same : (o : Option Tokens) (y : EditionYear) (p q : ℕ) (t : Piece) (left : List Piece) (u : Option ℕ) → block_at o (tokens_at y p (t ∷ left) u) ≡ block_at o (tokens_at y q (t ∷ left) u)
 unfolding symbol
@@ -131,7 +141,9 @@ passed_over t ts e = rw e refl
 
 -- a symbol that is that of a token that counts
 closing_counts : (t : Piece) → (symbol_of t == 125) ≡ true → is_significant t ≡ true
-closing_counts t e = when (is_significant t) (λ s. s) (λ s. let none = silent_by t.kind _ s in absurd cc)
+closing_counts t e =
+    let same : symbol_of t ≡ 125 = eqb-true (symbol_of t) 125 e in
+    when (is_significant t) (λ s. s) (λ s. let none : symbol_of t ≡ 0 = silent_by t.kind (slice_index t.text 0) s in absurd (omega (arith, same, none)))
 
 -- ---- up to the `}`
 
@@ -143,8 +155,11 @@ second_of : (a b : Bool) → (a && b) ≡ true → b ≡ true
 second_of true b e = e
 second_of false b e = absurd cc
 
-found_here : (d d' : Depth) (ts us : List Piece) → Some (d, ts) ≡ Some (d', us) → (d ≡ d') × (ts ≡ us)
-found_here d d' ts us e = (cc, cc)
+found_here : (d d' : Depth) (ts us : List Piece) → (let found : Option (Depth × List Piece) = Some (d, ts) in found ≡ Some (d', us)) → (d ≡ d') × (ts ≡ us)
+found_here d d' ts us e =
+    let here : Depth × List Piece = (d, ts) in
+    let there : Depth × List Piece = (d', us) in
+    let same : here ≡ there = cc in (ap (λ (p : Depth × List Piece). p.0) same, ap (λ (p : Depth × List Piece). p.1) same)
 
 pub outer_leads : (n : Nest) (ts us : List Piece) (d d' : Depth) (p q : ℕ) → (d.braces == 0) ≡ false → to_outer d ts ≡ Some (d', us) → LeadsOn p (filter is_significant ts) (nest_at n d) q (filter is_significant us) (nest_at n d')
 outer_leads n [] us d d' p q s e = absurd cc

@@ -99,15 +99,15 @@ symbol_first : (ts : Tokens) (t : Piece) (left : List Piece) → ts.left ≡ t �
 unfolding symbol
 symbol_first ts t left e = ap (by_first 0 symbol_of) e
 
--- from the next token on
-pub leads_first : (ts : Tokens) (n m k : Nest) (o : Option Piece) (t : Piece) (ls rest : List Piece) (p q : ℕ) → left_of o ls ≡ ts.left → o ≡ Some t
-    → (not (n.braces == 0) && (not (is_empty ts) && not (n.braces == 1 && symbol ts == 125))) ≡ true → m ≡ nest_inside n ts → p ≡ end_of t → LeadsOn p (filter is_significant ls) m q rest k → LeadsOn ts.past ts.left n q rest k
-leads_first ts n m k o t ls rest p q v i test j e h =
+-- behind the next token
+pub leads_first : (ts : Tokens) (n m : Nest) (o : Option Piece) (t : Piece) (ls : List Piece) (p : ℕ) → left_of o ls ≡ ts.left → o ≡ Some t
+    → (not (n.braces == 0) && (not (is_empty ts) && not (n.braces == 1 && symbol ts == 125))) ≡ true → m ≡ nest_inside n ts → p ≡ end_of t → LeadsOn ts.past ts.left n p (filter is_significant ls) m
+leads_first ts n m o t ls p v i test j e =
     let none = none_of (n.braces == 0) (is_empty ts) (n.braces == 1 && symbol ts == 125) test in
     let behind = filter is_significant ls in
     let left : ts.left ≡ t ∷ behind = sym v ∙ ap (λ z. left_of z ls) i in
     let mark : symbol ts ≡ symbol_of t = symbol_first ts t behind left in
     let turn : LeadsOn ts.past (t ∷ behind) n (end_of t) behind (inside_behind n (symbol_of t)) = turn_leads ts.past t behind n none.first (ap (λ c. n.braces == 1 && c == 125) (sym mark) ∙ none.third) in
-    let placed : LeadsOn (end_of t) behind m q rest k = subst (λ z. LeadsOn z behind m q rest k) e h in
-    let nested : LeadsOn (end_of t) behind (inside_behind n (symbol_of t)) q rest k = subst (λ z. LeadsOn (end_of t) behind z q rest k) (j ∙ ap (inside_behind n) mark) placed in
-    subst (λ z. LeadsOn ts.past z n q rest k) (sym left) (leads_through ts.past (end_of t) q (t ∷ behind) behind rest n (inside_behind n (symbol_of t)) k turn nested)
+    let nested : LeadsOn ts.past (t ∷ behind) n (end_of t) behind m = subst (λ z. LeadsOn ts.past (t ∷ behind) n (end_of t) behind z) (ap (inside_behind n) (sym mark) ∙ sym j) turn in
+    let placed : LeadsOn ts.past (t ∷ behind) n p behind m = subst (λ z. LeadsOn ts.past (t ∷ behind) n z behind m) (sym e) nested in
+    subst (λ z. LeadsOn ts.past z n p behind m) (sym left) placed

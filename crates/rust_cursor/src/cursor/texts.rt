@@ -465,8 +465,9 @@ fn pass_shortly(lexer: &mut Lexer<'_>, nest: &mut Nest)
         inner: nest.inner,
         is_torn: nest.is_torn,
     };
-    let Some(outer) = lexer.pass_braces(depth) else {
-        return;
+    let outer = match lexer.pass_braces(depth) {
+        Some(outer) => outer,
+        None => return,
     };
     nest.braces = outer.braces;
     nest.inner = outer.inner;
