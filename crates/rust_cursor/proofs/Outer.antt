@@ -1,5 +1,5 @@
 -- A short path over what stands in braces leads where its tokens lead.
-use Rattle.std.proofs.Common.{◌≡◌, ◌≤◌, ◌+◌, ◌==◌, ◌&&◌, ◌||◌, ℕ, Bool, true, false, Option, Some, None, List, [], ◌∷◌, length, refl, sym, ap, ◌∙◌, subst, arith}
+use Rattle.std.proofs.Common.{◌≡◌, ◌==◌, ◌&&◌, ◌||◌, ℕ, Bool, true, false, Option, Some, List, [], ◌∷◌, refl, sym, ap, ◌∙◌, subst, arith}
 use Rattle.std.proofs.lemmas.Bool.{eqb-true}
 use Rattle.std.specs.Prelude.{if◌then◌else◌, slice_index}
 use Rattle.std.specs.List.{filter}
@@ -23,7 +23,7 @@ use Rattle.rust_cursor.proofs.Clipped.{text_clipped}
 use Rattle.rust_cursor.proofs.Inside.{left_by}
 use Rattle.rust_cursor.proofs.Leads.{when}
 use Rattle.rust_cursor.proofs.Scans.{taking_end, taking_more}
-use Rattle.rust_cursor.proofs.Unkept.{counted, leads_through, turn_leads}
+use Rattle.rust_cursor.proofs.Unkept.{leads_through, turn_leads}
 
 -- the brackets that are counted in braces, and a nest with others of these
 abbrev pub depth_of : Nest → Depth

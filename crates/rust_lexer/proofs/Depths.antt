@@ -1,5 +1,5 @@
 -- A loop over bytes leads to the same `}` as one over tokens: a bracket that begins a token is that token.
-use Rattle.std.proofs.Common.{◌≡◌, ◌<◌, ◌≤◌, ℕ, suc, ◌+◌, ◌-◌, ◌==◌, ◌||◌, ◌&&◌, Bool, true, false, Some, List, [], ◌∷◌, length, get_or, take, drop, drop-cons, drop-drop, length-take-le, refl, sym, ap, ◌∙◌, inl, inr, ◌⊎◌, subst, arith}
+use Rattle.std.proofs.Common.{◌≡◌, ◌<◌, ◌≤◌, ℕ, suc, ◌+◌, ◌-◌, ◌==◌, ◌||◌, ◌&&◌, Bool, true, false, Some, List, ◌∷◌, length, get_or, take, drop, drop-cons, drop-drop, length-take-le, refl, sym, ap, ◌∙◌, inl, inr, ◌⊎◌, subst, arith}
 use Rattle.std.proofs.lemmas.Bool.{eqb-true}
 use Rattle.std.proofs.lemmas.Bool.Decides.{nat_tests}
 use Rattle.std.proofs.lemmas.List.{take_rest}
@@ -9,7 +9,7 @@ use Rattle.rust_lexer.specs.declared.depth.Depth.{Depth}
 use Rattle.rust_lexer.specs.declared.kind.TokenKind.{TokenKind}
 use Rattle.rust_lexer.specs.declared.kind.TokenKind.TheVariants as kind
 use Rattle.rust_lexer.specs.Bytes.{run}
-use Rattle.rust_lexer.specs.Cut.{cut, first_cut, symbol_kind}
+use Rattle.rust_lexer.specs.Cut.{first_cut, symbol_kind}
 use Rattle.rust_lexer.specs.Depths.{depth_behind, to_outer}
 use Rattle.rust_lexer.specs.Inner.{is_blank, is_close, is_letter, is_mark, is_open}
 use Rattle.rust_lexer.specs.Piece.{Piece}
@@ -45,8 +45,7 @@ any_len b z c n e r =
 
 -- ---- its symbol
 
--- none of the six brackets
-abbrev is_bracket : ℕ → Bool
+abbrev pub is_bracket : ℕ → Bool
 is_bracket b = is_open b || is_close b
 
 quiet : (d : Depth) (b : ℕ) → is_bracket b ≡ false → depth_behind d b ≡ d
@@ -89,8 +88,8 @@ told d at b z =
     (λ e. let m : is_mark b ≡ true = grind (arith, nat_tests) in
     told_same d _ b (ap (λ (c : Cut). symbol_from c.kind b) (mark_first b z m) ∙ bracket_kind b e))
     (λ e. elim (symbol_by (first_cut b z).kind b) [
-      inl same ↦ told_same d _ b same
-    | inr none ↦
+      | inl same ↦ told_same d _ b same
+      | inr none ↦
           let other : (b == 125) ≡ false = grind (arith, nat_tests) in
           record { behind = rw none (quiet d 0 refl ∙ sym (quiet d b e)); last = rw (none, other) refl }
     ])
@@ -106,6 +105,18 @@ step_here d t ts e = rw e refl
 
 step_on : (d : Depth) (t : Piece) (ts : List Piece) → (d.braces == 1 && symbol_of t == 125) ≡ false → to_outer d (t ∷ ts) ≡ to_outer (depth_behind d (symbol_of t)) ts
 step_on d t ts e = rw e refl
+
+-- a token that begins with no bracket counts for nothing
+pub quiet_turn : (d : Depth) (at b : ℕ) (z : List ℕ) → is_bracket b ≡ false → to_outer d (tokens_from 0 at (b ∷ z)) ≡ to_outer d (tokens_from (whole (first_cut b z) z) (suc at) z)
+quiet_turn d at b z e =
+    let t = told d at b z in
+    let other : (b == 125) ≡ false = grind (arith, nat_tests) in
+    let more = tokens_from (whole (first_cut b z) z) (suc at) z in
+    step_on d (piece (first_cut b z) at b z) more (t.last ∙ and_false d.braces (b == 125) other)
+    ∙ ap (λ k. to_outer k more) (t.behind ∙ quiet d b e)
+  where
+    and_false : (n : ℕ) (t : Bool) → t ≡ false → (n == 1 && t) ≡ false
+    and_false n t f = when (n == 1) (λ e. rw (e, f) refl) (λ e. rw e refl)
 
 module _ (d : Depth) (at k : ℕ) (text w : List ℕ) (same : w ≡ text) (some : k < length w) where
   first_is : drop k text ≡ get_or w k 0 ∷ drop (suc k) w

@@ -17,3 +17,4 @@ pub mod Whole
 pub mod Each
 pub mod Braces
 pub mod Depths
+pub mod Plain

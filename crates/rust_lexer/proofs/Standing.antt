@@ -38,21 +38,21 @@ word_run (b ∷ z) rest h e =
     when (is_word_byte b) (λ w. rw w (ap suc (word_run z rest (rw w at h) e))) (λ w. absurd cc)
 
 -- what stands behind the first letter
-abbrev goes_on : ℕ → Bool
+abbrev pub goes_on : ℕ → Bool
 goes_on b = nat_lt b 128 && not (b == 34 || b == 35 || b == 39)
 
 goes_front : (z rest : List ℕ) → list_all is_word_byte z ≡ true → ends_word (slice_index rest 0) ≡ true → goes_on (slice_index (z ++ rest) 0) ≡ true
 goes_front [] rest h e = grind (arith, nat_tests)
 goes_front (b ∷ z) rest h e = when (is_word_byte b) (λ w. grind (arith, nat_tests)) (λ w. absurd cc)
 
-no_raw : (n : ℕ) (y : List ℕ) → goes_on (slice_index y 0) ≡ true → raw_string n y ≡ None
+pub no_raw : (n : ℕ) (y : List ℕ) → goes_on (slice_index y 0) ≡ true → raw_string n y ≡ None
 no_raw n [] e = refl
 no_raw n (b ∷ z) e =
     let hash : (b == 35) ≡ false = grind (arith, nat_tests) in
     let quote : (b == 34) ≡ false = grind (arith, nat_tests) in
     rw (hash, quote) refl
 
-plain_r : (y : List ℕ) → goes_on (slice_index y 0) ≡ true → r_word y ≡ plain y
+pub plain_r : (y : List ℕ) → goes_on (slice_index y 0) ≡ true → r_word y ≡ plain y
 plain_r y e =
     let hash : (slice_index y 0 == 35) ≡ false = grind (arith, nat_tests) in
     rw (no_raw 0 y e, hash) refl

@@ -1,7 +1,7 @@
 -- For the crate's own functions.
-use Rattle.std.specs.Prelude.{ℕ, Bool, not, ◌&&◌, ◌||◌, ◌==◌, nat_le, if◌then◌else◌, List, [], ◌∷◌, drop, Option, Some, None}
+use Rattle.std.specs.Prelude.{ℕ, zero, suc, Bool, not, ◌&&◌, ◌||◌, ◌==◌, nat_le, nat_lt, slice_index, if◌then◌else◌, List, [], ◌∷◌, drop, Option, Some, None}
 use Rattle.rust_lexer.specs.declared.cut.Cut.{Cut}
-use Rattle.std.specs.Char.{is_ascii_alphanumeric}
+use Rattle.std.specs.Char.{is_ascii_alphabetic, is_ascii_alphanumeric, is_ascii_digit}
 use Rattle.rust_lexer.specs.Bytes.{code, is_char, is_continuation}
 use Rattle.rust_lexer.specs.Cut.{is_punctuation}
 use Rattle.rust_lexer.specs.Piece.{Piece}
@@ -44,3 +44,31 @@ is_lone_mark b = is_punctuation b && not (b == 47)
 
 abbrev pub is_mark : ℕ → Bool
 is_mark b = is_open b || is_close b || is_lone_mark b
+
+-- ---- bytes that are whole tokens side by side
+
+-- a letter of ASCII or `_`
+abbrev pub is_name_letter : ℕ → Bool
+is_name_letter b = is_ascii_alphabetic b || b == 95
+
+-- a letter, white space, or a mark that begins no comment and is no `#`
+abbrev pub is_plain_byte : ℕ → Bool
+is_plain_byte b = is_name_letter b || is_blank b || (is_lone_mark b && not (b == 35))
+
+-- how many bytes at the front are plain
+abbrev pub plain_run : List ℕ → ℕ
+plain_run [] = 0
+plain_run (b ∷ z) = if is_plain_byte b then suc (plain_run z) else 0
+
+-- can make one token with a letter before it
+abbrev pub joins : ℕ → Bool
+joins b = b == 34 || b == 35 || b == 39 || is_ascii_digit b
+
+-- a letter stands before a place; at the front, as this says
+abbrev pub is_letter_before : Bool → List ℕ → ℕ → Bool
+is_letter_before front z zero = front
+is_letter_before front z (suc n) = is_name_letter (slice_index z n)
+
+-- plain bytes end with a token before this byte, where a letter is the last of them or not
+abbrev pub is_clean : Bool → ℕ → Bool
+is_clean after_letter b = nat_lt b 128 && not (after_letter && joins b)

@@ -1,11 +1,12 @@
 //! Passes over what stands in braces.
 
-ghost use Rattle.std.specs.Prelude.{◌≡◌, ◌==◌, ◌&&◌, ◌<◌, ◌+◌, ◌^◌, IfSome, IsTrue, Some, length};
+ghost use Rattle.std.specs.Prelude.{ℕ, ◌≡◌, ◌==◌, ◌&&◌, ◌≤◌, ◌<◌, ◌+◌, ◌^◌, IfSome, IsTrue, Some, drop, length};
 ghost use Rattle.std.specs.Str.{IsUtf8};
 ghost use Rattle.rust_lexer.specs.Depths as spec;
 ghost use Rattle.rust_lexer.specs.Tokens.{tokens_from};
+ghost use Rattle.rust_lexer.specs.declared.depth.Depth.{Depth};
 
-use crate::bytes::{is_close, is_open};
+use crate::bytes::{is_clean, is_close, is_open, plain_run};
 use crate::cut::token_len;
 
 /// In how many brackets something stands that is in braces.
@@ -57,6 +58,29 @@ fn is_last(depth: Depth, symbol: u8) -> bool
     depth.braces == 1 && symbol == b'}'
 }
 
+/// The place behind plain bytes from a token's beginning on, which are tokens that count for nothing; or the same place. Where the last
+/// of them is not whole, its end is put down, and up to there tokens are cut.
+#[inline(always)]
+fn past_plain(bytes: &[u8], count: usize, until: &mut usize) -> usize
+    requires { count ≤ length bytes.now }
+    ensures same { (d : Depth) (at : ℕ) →
+        spec.to_outer d (tokens_from 0 (at + result) (drop result bytes.now))
+        ≡ spec.to_outer d (tokens_from 0 (at + count) (drop count bytes.now)) }
+    ensures onwards { count ≤ result }
+    ensures within { result ≤ length bytes.now }
+{
+    if count < *until {
+        return count;
+    }
+    let rest = &bytes[count..];
+    let len = plain_run(rest);
+    if is_clean(rest, len) {
+        return count + len;
+    }
+    *until = count + len;
+    count
+}
+
 /// The `}` that closes the last of so many braces, in a text that begins at this place: in which brackets it stands, its place, and the
 /// text from it on.
 pub(crate) fn to_outer(at: usize, text: &str, depth: Depth) -> Option<(Depth, usize, &str)>
@@ -69,6 +93,7 @@ pub(crate) fn to_outer(at: usize, text: &str, depth: Depth) -> Option<(Depth, us
     let bytes = text.as_bytes();
     let mut depth = depth;
     let mut count = 0;
+    let mut until = 0;
     'tokens: while count < bytes.len() {
         let first = bytes[count];
         if is_last(depth, first) {
@@ -78,6 +103,7 @@ pub(crate) fn to_outer(at: usize, text: &str, depth: Depth) -> Option<(Depth, us
             return None;
         }
         count += 1 + token_len(first, &bytes[count + 1..]);
+        count = past_plain(bytes, count, &mut until);
     }
     None
 }
