@@ -4,6 +4,7 @@ pub mod CfgLemmas
 pub mod Joining
 pub mod MetaEq
 pub mod MetaLemmas
+pub mod Naming
 pub mod PathEq
 pub mod PathLemmas
 pub mod Reading

@@ -7,7 +7,7 @@ ghost use Rattle.std.specs.Cmp.Lexicographic.{pointwise, nat_list_eq_equiv};
 ghost use Rattle.std.specs.Cmp.{partial_equiv_from_equiv};
 ghost use Rattle.std.specs.Cmp.Rules.{hashing};
 ghost use Rattle.std.proofs.Common.{rules};
-ghost use Rattle.hir_input.specs.Name.{IsName};
+ghost use Rattle.hir_input.specs.Name.{IsName, name_in};
 
 use std::alloc::AllocError;
 use std::hash::{Hash, Hasher};
@@ -42,8 +42,10 @@ impl Model for Name {
 
 impl Name {
     /// The name with this text, or `None` where the text is empty or holds a line feed.
+    #[tactic(auto, using(crate::proofs::Naming::new_name))]
     pub fn new(text: String) -> Option<Name>
-        ensures { SomeIff result (IsName (string_bytes text)) (string_bytes text) }
+        ensures some { SomeIff result (IsName (string_bytes text)) (string_bytes text) }
+        ensures is { result ≡ name_in (string_bytes text) }
     {
         if text.is_empty() || text.as_bytes().contains(&b'\n') {
             return None;

@@ -4,7 +4,6 @@ pub mod Inside
 pub mod Items
 pub mod Laws
 pub mod Lists
-pub mod Names
 pub mod Pointers
 pub mod Spans
 pub mod UseTrees

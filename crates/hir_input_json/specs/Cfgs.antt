@@ -5,7 +5,8 @@ use Rattle.serde_json.specs.Find.{get, as_null, as_str}
 use Rattle.hir_input.specs.Cfg.{AtomView, flag, key_value, CfgView, CfgViews, invalid, all_of, any_of, not_of, cfgs_from}
 use Rattle.hir_input.specs.Cfg as condition
 use Rattle.hir_input_json.specs.Reading.{Reading, right, wrong, reading_map, here, under, ◌>>=◌}
-use Rattle.hir_input_json.specs.Forms.{field, required_at, by_first, text, name, name_in, members_in, list_of}
+use Rattle.hir_input.specs.Name.{name_in}
+use Rattle.hir_input_json.specs.Forms.{field, required_at, by_first, text, name, members_in, list_of}
 use Rattle.hir_input_json.specs.Nested.{nested}
 
 -- an atom of this key, and of the value beside it, which is required

@@ -1,8 +1,8 @@
 -- The readings that forms are made of.
 use Rattle.std.specs.Prelude.{ℕ, ◌+◌, ◌^◌, List, [], ◌∷◌, bytes_eq, nat_lt, decimal, Bool, true, false, ◌==◌, if◌then◌else◌, Option, Some, None, option_and_then}
-use Rattle.std.specs.List.{list_any}
 use Rattle.serde_json.specs.Data.{Data, null, boolean, number, string, array, object, Items, no_items, item, Members}
 use Rattle.serde_json.specs.Find.{get, as_number, as_u64, as_bool, as_str, as_array, as_object}
+use Rattle.hir_input.specs.Name.{name_in}
 use Rattle.hir_input_json.specs.Reading.{Reading, right, wrong, reading_map, here, behind, under, ◌>>=◌}
 
 -- a null counts as absent
@@ -85,15 +85,6 @@ whole bound d = here (option_and_then (below bound) (option_and_then as_u64 (as_
 -- the number of a file or of a crate, which is required
 abbrev pub id_at : List ℕ → Data → Reading ℕ
 id_at key d = required_at key (whole (2 ^ 32)) d
-
--- whether a text is not empty and holds no line feed
-abbrev pub is_name : List ℕ → Bool
-is_name [] = false
-is_name (b ∷ bs) = if list_any (λ c. c == 10) (b ∷ bs) then false else true
-
--- the text, if it is a name
-abbrev pub name_in : List ℕ → Option (List ℕ)
-name_in s = if is_name s then Some s else None
 
 -- a text that is a name
 abbrev pub name : Data → Reading (List ℕ)

@@ -4,7 +4,8 @@ use Rattle.serde_json.specs.Data.{Data}
 use Rattle.hir_input.specs.declared.ast.Rename.{Rename}
 use Rattle.hir_input.specs.UseTreeView.{UseTreeView, tree_from}
 use Rattle.hir_input_json.specs.Reading.{Reading, right, reading_map, here, ◌>>=◌}
-use Rattle.hir_input_json.specs.Forms.{optional_at, maybe_at, on_word, text, flag, name_in, members_in, list_of}
+use Rattle.hir_input.specs.Name.{name_in}
+use Rattle.hir_input_json.specs.Forms.{optional_at, maybe_at, on_word, text, flag, members_in, list_of}
 use Rattle.hir_input_json.specs.Nested.{nested}
 use Rattle.hir_input_json.specs.Paths.{path_at}
 

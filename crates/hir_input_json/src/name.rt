@@ -3,7 +3,8 @@ ghost use Rattle.std.specs.Prelude.{◌≡◌, ◌≤◌, OnOk, string_bytes};
 ghost use Rattle.std.specs.Vec.Iter.{into_iter_items};
 ghost use Rattle.serde_json.specs.View.{view, items_view};
 ghost use Rattle.hir_input_json.specs.Reading.{here};
-ghost use Rattle.hir_input_json.specs.Forms.{maybe_at, name as name_form, name_in, each_from, list_at as each_at};
+ghost use Rattle.hir_input.specs.Name.{name_in};
+ghost use Rattle.hir_input_json.specs.Forms.{maybe_at, name as name_form, each_from, list_at as each_at};
 ghost use Rattle.hir_input_json.specs.Held.{held, without};
 ghost use Rattle.hir_input_json.specs.Reads.{Reads};
 
@@ -15,7 +16,6 @@ use std::alloc::Global;
 use std::vec::IntoIter;
 
 // A text that is not empty and holds no line feed.
-#[tactic(auto, using(crate::proofs::Names::new_name))]
 pub(crate) fn name_from(alloc: Global, text: String) -> Result<Name, Fault>
     ensures { Reads (λ name. name) result (here (name_in (string_bytes text))) }
 {

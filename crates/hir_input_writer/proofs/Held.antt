@@ -2,7 +2,8 @@
 use Rattle.std.proofs.Common.{◌≡◌, ℕ, ◌+◌, List, [], ◌∷◌, Bool, true, false, nat_lt, IfSome, Option, Some, None, if◌then◌else◌, option_map, option_and_then, refl}
 use Rattle.serde_json.specs.Data.{Data, number, unsigned, string}
 use Rattle.hir_input_json.specs.Reading.{Reading}
-use Rattle.hir_input_json.specs.Forms.{below, is_name, name, name_in, text, whole}
+use Rattle.hir_input.specs.Name.{is_name, name_in}
+use Rattle.hir_input_json.specs.Forms.{below, name, text, whole}
 use Rattle.hir_input_writer.specs.Held.{Holds, MayHold, HoldEach}
 use Rattle.hir_input_writer.specs.Parts.{each_data, maybe_data, name_data, text_or_null, whole_data}
 

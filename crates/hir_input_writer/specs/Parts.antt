@@ -1,7 +1,8 @@
 -- The data that others are made of. Each is none where no form reads the value.
 use Rattle.std.specs.Prelude.{ℕ, List, [], ◌∷◌, Option, Some, None, option_map, option_and_then}
 use Rattle.serde_json.specs.Data.{Data, null, number, unsigned, string, array, Items, no_items, item}
-use Rattle.hir_input_json.specs.Forms.{below, name_in}
+use Rattle.hir_input.specs.Name.{name_in}
+use Rattle.hir_input_json.specs.Forms.{below}
 
 -- one after another
 abbrev pub ◌>>=◌ : {A B : Type 0} → Option A → (A → Option B) → Option B

@@ -15,7 +15,8 @@ use Rattle.rust_cursor.specs.Tokens.{Tokens, tokens_of, end_of}
 use Rattle.rust_cursor.specs.Words.{word_by, by_first, rest, word, kind, text, at, is_empty, bumped}
 use Rattle.rust_cursor.proofs.Leads.{LeadsTo, here, further, through, when}
 use Rattle.rust_paths.specs.declared.names.TextRange.{TextRange}
-use Rattle.rust_paths.specs.Names.{Placed, placed, placed_name, taken_with, name, next_name, name_text, plain_name, raw_name, behind_hash, unless_path_keyword, is_name, as_name, is_keyword, is_path_keyword, is_underscore}
+use Rattle.hir_input.specs.Name.{is_name}
+use Rattle.rust_paths.specs.Names.{Placed, placed, placed_name, taken_with, name, next_name, name_text, plain_name, raw_name, behind_hash, unless_path_keyword, as_name, is_keyword, is_path_keyword, is_underscore}
 use Rattle.rust_paths.proofs.Leads.{placed_next}
 use Rattle.rust_leaves.specs.Leaves.{name_read, named, named_or}
 use Rattle.rust_items.specs.LineEnds.{with_feeds, place_in, moved_range}

@@ -1,7 +1,6 @@
 //! The names of items, and where items end.
 
 ghost use Rattle.std.specs.Prelude.{◌≡◌, ◌++◌, IfOk, Some, string_bytes, map, option_map, false};
-ghost use Rattle.rust_paths.specs.Names.{as_name};
 ghost use Rattle.rust_paths.specs.Views.{placed_view};
 ghost use Rattle.hir_input.specs.Attr.{meta_view};
 ghost use Rattle.rust_cursor.specs.Extents.{excerpt_view};
@@ -71,13 +70,6 @@ pub fn item_name<'t>(alloc: Global, cursor: &mut Cursor<'t>) -> Result<Named<'t>
     Ok(named_of(placed, text))
 }
 
-#[tactic(auto, using(rust_paths::proofs::Naming::new_name))]
-fn name_from(text: String) -> Option<Name>
-    ensures { result ≡ as_name (Some (string_bytes text)) }
-{
-    Name::new(text)
-}
-
 /// Takes a token, and tells where it stands.
 pub(crate) fn next_range(cursor: &mut Cursor<'_>) -> TextRange
     ensures value { result ≡ spec.next_range cursor.old }
@@ -102,7 +94,7 @@ pub(crate) fn item_name_or<'t>(
     if hashed != keyword {
         return item_name(alloc, cursor);
     }
-    let name = name_from(String::from_str(alloc, hashed)?);
+    let name = Name::new(String::from_str(alloc, hashed)?);
     let range = Some(next_range(cursor));
     Ok(Named {
         name,

@@ -4,7 +4,6 @@ ghost use Rattle.std.specs.Prelude.{◌≡◌, IfOk, Some, map, option_map, stri
 ghost use Rattle.hir_input.specs.Cfg.{cfg_view};
 ghost use Rattle.rust_cursor.specs.Elements.{elements, one};
 ghost use Rattle.rust_cursor.specs.Reader.{Gives};
-ghost use Rattle.rust_paths.specs.Names.{as_name};
 ghost use Rattle.rust_metas.specs.Conditions as spec;
 
 use crate::literal::{is_ended, is_literal_kind, string_by};
@@ -30,14 +29,6 @@ pub(crate) fn pass_comma(cursor: &mut Cursor<'_>)
         }
         cursor.pass_tree();
     }
-}
-
-/// The name of this text, if it is one.
-#[tactic(auto, using(crate::proofs::Naming::new_name))]
-fn name_from(text: String) -> Option<Name>
-    ensures { result ≡ as_name (Some (string_bytes text)) }
-{
-    Name::new(text)
 }
 
 /// Whether an option's name comes next as it is written: a word, or `r#true` or `r#false`, which are not `true` and `false`.
@@ -68,7 +59,7 @@ fn option_name(alloc: Global, cursor: &mut Cursor<'_>) -> Result<Option<Name>, A
     }
     let text = String::from_str(alloc, cursor.text())?;
     cursor.bump();
-    Ok(name_from(text))
+    Ok(Name::new(text))
 }
 
 /// The negation of one condition.

@@ -235,7 +235,7 @@ fn metas(
 }
 
 /// The path `doc`.
-#[tactic(auto, using(crate::proofs::Naming::doc_is_name))]
+#[tactic(auto)]
 fn doc_path(alloc: Global) -> Result<Option<PathNode>, AllocError>
     ensures { IfOk result (λ p. p ≡ Some spec.doc_path) }
 {

@@ -4,6 +4,7 @@ use Rattle.std.specs.List.{list_any}
 use Rattle.std.specs.Str.{bytes_eq}
 use Rattle.hir_input.specs.declared.edition.EditionYear.{EditionYear}
 use Rattle.hir_input.specs.declared.edition.EditionYear.TheVariants as year
+use Rattle.hir_input.specs.Name.{name_in}
 use Rattle.rust_lexer.specs.declared.kind.TokenKind.{TokenKind}
 use Rattle.rust_lexer.specs.declared.kind.TokenKind.TheVariants as kinds
 use Rattle.rust_cursor.specs.Tokens.{Tokens}
@@ -86,14 +87,10 @@ name_text edition _ text = None
 unfoldable pub has_name : Tokens → Bool
 has_name ts = is_some (name_text ts.edition (kind ts) (text ts))
 
--- a text that is not empty and holds no line feed, as each identifier
-abbrev pub is_name : List ℕ → Bool
-is_name [] = false
-is_name (b ∷ bs) = if list_any (λ c. c == 10) (b ∷ bs) then false else true
-
+-- each identifier is a name
 abbrev pub as_name : Option (List ℕ) → Option (List ℕ)
 as_name None = None
-as_name (Some text) = if is_name text then Some text else None
+as_name (Some text) = name_in text
 
 -- the name that comes next
 unfoldable pub next_name : Tokens → Option (List ℕ)

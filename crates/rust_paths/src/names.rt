@@ -133,20 +133,13 @@ pub fn has_name(cursor: &Cursor<'_>) -> bool
     name_text(cursor.edition(), cursor.kind(), cursor.text()).is_some()
 }
 
-#[tactic(auto, using(crate::proofs::Naming::new_name))]
-fn name_from(text: String) -> Option<Name>
-    ensures { result ≡ spec.as_name (Some (string_bytes text)) }
-{
-    Name::new(text)
-}
-
 /// The name that comes next.
 #[tactic(auto, unfolding(crate::specs::Names::next_name))]
 pub(crate) fn next_name(alloc: Global, cursor: &Cursor<'_>) -> Result<Option<Name>, AllocError>
     ensures { IfOk result (λ name. name ≡ spec.next_name cursor.now) }
 {
     match name_text(cursor.edition(), cursor.kind(), cursor.text()) {
-        Some(text) => Ok(name_from(String::from_str(alloc, text)?)),
+        Some(text) => Ok(Name::new(String::from_str(alloc, text)?)),
         None => Ok(None),
     }
 }

@@ -6,7 +6,8 @@ use Rattle.hir_input.specs.declared.ast.Rename.{Rename}
 use Rattle.hir_input.specs.UseTreeView.{UseTreeView, tree_from}
 use Rattle.hir_input.specs.Words as meanings
 use Rattle.rust_paths.specs.Meaning.{path_node}
-use Rattle.rust_paths.specs.Names.{plain_name, is_name}
+use Rattle.hir_input.specs.Name.{is_name}
+use Rattle.rust_paths.specs.Names.{plain_name}
 use Rattle.rust_paths.specs.Paths.{front}
 use Rattle.rust_written.specs.Words.{Word}
 use Rattle.rust_written.specs.Trees.{word, mark, joined_mark, open_mark, close_mark}

@@ -8,7 +8,8 @@ use Rattle.hir_input.specs.declared.ast.Visibility.{Visibility}
 use Rattle.hir_input.specs.declared.ast.Visibility.TheVariants.{Pub, PubCrate, PubSuper, PubSelf}
 use Rattle.hir_input.specs.Syntax.{NamedView, FieldsView, record_fields, tuple_fields, no_fields, PlainKind, fn_kind, union_kind, enum_kind, static_kind, trait_kind, type_alias_kind, ast_kind, ItemView, plain_item, const_item, struct_item, use_item, impl_item, module_from}
 use Rattle.rust_cursor.specs.Words.{documents}
-use Rattle.rust_paths.specs.Names.{plain_name, is_name}
+use Rattle.hir_input.specs.Name.{is_name}
+use Rattle.rust_paths.specs.Names.{plain_name}
 use Rattle.rust_ids.specs.Row.{Row}
 use Rattle.rust_leaves.specs.Heads.{follows_const, follows_async, follows_unsafe, follows_safe, follows_default, follows_extern}
 use Rattle.rust_leaves.specs.Kinds.{node, named_node}

@@ -4,7 +4,8 @@ use Rattle.std.specs.List.{flat_map}
 use Rattle.std.specs.Option.{unwrap_or}
 use Rattle.serde_json.specs.Data.{Data}
 use Rattle.hir_input_json.specs.Reading.{Reading, right, here, ◌>>=◌}
-use Rattle.hir_input_json.specs.Forms.{required_at, text, name_in}
+use Rattle.hir_input.specs.Name.{name_in}
+use Rattle.hir_input_json.specs.Forms.{required_at, text}
 use Rattle.item_tree.specs.Node.{Unfolding}
 use Rattle.item_tree_db.specs.State.{State, unfolding_at}
 use Rattle.def_collector.specs.Declarations.{Declaration, declared_at}

@@ -1,7 +1,8 @@
 //! Lines, read from their members.
 ghost use Rattle.std.specs.Prelude.{◌≡◌, ◌++◌, All, IfOk, OnOk, codes, length, map, option_to_list};
 ghost use Rattle.serde_json.specs.View.{items_view};
-ghost use Rattle.hir_input_json.specs.Forms.{each, list_at as each_at, name_in};
+ghost use Rattle.hir_input.specs.Name.{name_in};
+ghost use Rattle.hir_input_json.specs.Forms.{each, list_at as each_at};
 ghost use Rattle.hir_input_json.specs.Held.{held, without};
 ghost use Rattle.hir_input_json.specs.Reads.{Reads};
 ghost use Rattle.source_session.specs.Edits.{edit_view, line_edit, IsUsable};
@@ -69,7 +70,6 @@ pub const USUAL_SKIPPED: [&str; 13] = [
 ];
 
 // Adds a word, if it is a name.
-#[tactic(auto, using(hir_input_json::proofs::Names::new_name))]
 fn push_name(alloc: Global, word: &str, names: &mut Vec<Name>) -> Result<(), AllocError>
     ensures { OnOk result (names.new.items ≡ names.old.items ++ option_to_list (name_in word.now)) }
 {

@@ -2,7 +2,7 @@
 use Rattle.std.proofs.Common.{◌≡◌, take}
 use Rattle.std.specs.Prelude.{option_to_list}
 use Rattle.std.specs.List.{flat_map}
-use Rattle.hir_input_json.specs.Forms.{name_in}
+use Rattle.hir_input.specs.Name.{name_in}
 use Rattle.source_session.proofs.line.usual_skipped.Given as goal
 
 abbrev pub invariant-loop-word : goal.invariant-loop-word

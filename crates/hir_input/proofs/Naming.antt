@@ -4,8 +4,7 @@ use Rattle.std.specs.Option.{SomeIff}
 use Rattle.std.specs.List.{list_any}
 use Rattle.std.proofs.lemmas.Bool.Decides.{nat_tests}
 use Rattle.std.proofs.lemmas.List.Folds.{list_any_at, list_any_none}
-use Rattle.hir_input.specs.Name.{IsName}
-use Rattle.hir_input_json.specs.Forms.{is_name, name_in}
+use Rattle.hir_input.specs.Name.{IsName, is_name, name_in}
 
 not_found : (b : Bool) → (if b then false else true) ≡ true → b ≡ false
 not_found true h = sym h
@@ -21,7 +20,7 @@ is_name-from : (bytes : List ℕ) → IsName bytes → is_name bytes ≡ true
 is_name-from [] h = absurd (omega (arith, h.0))
 is_name-from (b ∷ bs) h = rw (feeds_none (b ∷ bs) h.1) refl
 
-name-from_test : (bytes : List ℕ) → is_name bytes ≡ true → IsName bytes
+pub name-from_test : (bytes : List ℕ) → is_name bytes ≡ true → IsName bytes
 name-from_test [] h = absurd cc
 name-from_test (b ∷ bs) h = (omega arith, feeds_all (b ∷ bs) (not_found (list_any (λ c. c == 10) (b ∷ bs)) h))
 
