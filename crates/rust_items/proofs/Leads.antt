@@ -23,7 +23,8 @@ use Rattle.rust_paths.proofs.Leads.{placed_name_leads, placed_next, path_leads, 
 use Rattle.rust_metas.proofs.Leads.{outer_attributes_leads}
 use Rattle.rust_leaves.specs.declared.head.Head.{Head}
 use Rattle.rust_leaves.specs.declared.head.Head.TheVariants as heads
-use Rattle.rust_leaves.specs.Heads.{is_literal_kind, behind_abi, is_modifier, behind_modifier, behind_modifiers_from, behind_modifiers, head_by, behind_head, head, behind_others}
+use Rattle.rust_cursor.specs.Nests.{is_literal_kind}
+use Rattle.rust_leaves.specs.Heads.{behind_abi, is_modifier, behind_modifier, behind_modifiers_from, behind_modifiers, head_by, behind_head, head, behind_others}
 use Rattle.rust_cursor.specs.Words.{is_at_end}
 use Rattle.rust_leaves.specs.Leaves.{LeafRead, range_to, name_read, named, named_or, alias, alias_if, renamed, impl_end, item_end, macro_end, value_end, semicolon_end, call_end}
 use Rattle.rust_leaves.specs.Kinds.{function, block_item, union_item, enumeration, trait_item, macro_def, type_alias, static_value, constant, structure, implementation, told_at, crate_item, use_declaration, macro_definition, is_called, invocation, leaf_by, leaf}

@@ -17,7 +17,8 @@ use Rattle.rust_paths.specs.Names.{has_name}
 use Rattle.rust_paths.proofs.Alike.{has_name_same}
 use Rattle.rust_leaves.specs.declared.head.Head.{Head}
 use Rattle.rust_leaves.specs.declared.head.Head.TheVariants as heads
-use Rattle.rust_leaves.specs.Heads.{is_literal_kind, behind_abi, is_auto_trait, is_modifier_before, is_modifier, behind_modifier, behind_modifiers_from, behind_modifiers, extern_head, macro_rules_head, union_head, head_by, behind_head, head, is_union, is_segment, behind_segments_from, behind_segments, is_called_here, may_begin, is_behind_others, behind_others_from, behind_others}
+use Rattle.rust_cursor.specs.Nests.{is_literal_kind}
+use Rattle.rust_leaves.specs.Heads.{behind_abi, is_auto_trait, is_modifier_before, is_modifier, behind_modifier, behind_modifiers_from, behind_modifiers, extern_head, macro_rules_head, union_head, head_by, behind_head, head, is_union, is_segment, behind_segments_from, behind_segments, is_called_here, may_begin, is_behind_others, behind_others_from, behind_others}
 
 -- a literal is no edge
 literal_no_edge : (ts : Tokens) → is_literal_kind (kind ts) ≡ true → is_edge (symbol ts) ≡ false

@@ -4,6 +4,7 @@ use Rattle.std.specs.List.{list_any}
 use Rattle.std.specs.Str.{bytes_eq}
 use Rattle.rust_lexer.specs.declared.kind.TokenKind.{TokenKind}
 use Rattle.rust_lexer.specs.declared.kind.TokenKind.TheVariants as kinds
+use Rattle.rust_cursor.specs.Nests.{is_literal_kind}
 use Rattle.rust_cursor.specs.Tokens.{Tokens}
 use Rattle.rust_cursor.specs.Reader.{Reader}
 use Rattle.rust_cursor.specs.Words.{symbol, word, kind, is_at_identifier, is_at_doc, is_at_end, is_pair, bumped}
@@ -37,10 +38,6 @@ follows_default w =
 
 unfoldable pub follows_extern : List ℕ → Bool
 follows_extern w = list_any (bytes_eq w) (codes "fn" ∷ codes "unsafe" ∷ [])
-
-abbrev pub is_literal_kind : Option TokenKind → Bool
-is_literal_kind (Some (kinds.Literal k)) = true
-is_literal_kind _ = false
 
 -- behind `extern`: the name of an interface stands there, as `"C"`
 unfoldable pub behind_abi : Tokens → Tokens

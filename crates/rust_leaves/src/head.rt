@@ -1,6 +1,7 @@
 //! The words that begin an item, and the modifiers before them.
 
 ghost use Rattle.std.specs.Prelude.{◌≡◌, ◌||◌};
+ghost use Rattle.rust_cursor.specs.Nests.{is_literal_kind};
 ghost use Rattle.rust_cursor.specs.Words.{bumped, word};
 ghost use Rattle.rust_leaves.specs.Heads as spec;
 
@@ -82,7 +83,7 @@ fn follows_extern(word: &str) -> bool
 }
 
 fn is_literal_kind(kind: Option<TokenKind>) -> bool
-    ensures { result ≡ spec.is_literal_kind kind }
+    ensures { result ≡ is_literal_kind kind }
 {
     matches!(kind, Some(TokenKind::Literal(_)))
 }

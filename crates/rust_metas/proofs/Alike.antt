@@ -18,7 +18,8 @@ use Rattle.rust_cursor.proofs.Twins.{is_edge, symbol_same, kind_same, text_same,
 use Rattle.rust_paths.specs.Names.{as_name}
 use Rattle.rust_paths.proofs.Alike.{name_until}
 use Rattle.rust_metas.specs.Conditions.{comma_from, behind_comma, is_word_kind, is_option_word, option_name, composed, pair, named, if_named, ended, condition_with, conditions, condition}
-use Rattle.rust_metas.specs.Literals.{is_literal_kind, is_ended}
+use Rattle.rust_cursor.specs.Nests.{is_literal_kind}
+use Rattle.rust_metas.specs.Literals.{is_ended}
 use Rattle.rust_metas.proofs.Leads.{comma_from_leads, if_named_leads, ended_leads, condition_with_leads, conditions_leads}
 
 -- ---- what stands between commas

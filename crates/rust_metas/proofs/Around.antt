@@ -26,7 +26,8 @@ use Rattle.rust_cursor.proofs.Near.{nothing}
 use Rattle.rust_paths.specs.Paths.{path}
 use Rattle.rust_paths.proofs.Leads.{path_leads}
 use Rattle.rust_paths.proofs.Around.{name_around, path_within}
-use Rattle.rust_metas.specs.Literals.{is_literal_kind, is_truth, is_literal, is_ended, style_by, value, documentation}
+use Rattle.rust_cursor.specs.Nests.{is_literal_kind}
+use Rattle.rust_metas.specs.Literals.{is_truth, is_literal, is_ended, style_by, value, documentation}
 use Rattle.rust_metas.specs.Conditions.{comma_from, behind_comma, is_word_kind, is_option_word, option_name, pair, named, if_named, ended, condition_with, conditions, condition}
 use Rattle.rust_metas.specs.Metas.{input, plain, is_call, member, meta_with, meta, doc}
 use Rattle.rust_metas.specs.Attributes.{behind_docs_from, behind_docs, behind_attribute, deepest, is_style, is_doc, is_attribute, is_behind, bracketed, opened, one_attribute, attribute, attributes, inner_attributes}

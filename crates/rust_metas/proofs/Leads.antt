@@ -12,7 +12,8 @@ use Rattle.rust_cursor.specs.Elements.{one}
 use Rattle.rust_cursor.specs.Extents.{begins_item}
 use Rattle.rust_cursor.proofs.Leads.{LeadsTo, here, further, through, Forwards, when, bumped_leads, behind_closed_leads, behind_tree_leads, turns_leads, taken_leads_on}
 use Rattle.rust_paths.proofs.Leads.{name_leads, path_leads}
-use Rattle.rust_metas.specs.Literals.{is_literal_kind, is_literal, is_ended, value, documentation}
+use Rattle.rust_cursor.specs.Nests.{is_literal_kind}
+use Rattle.rust_metas.specs.Literals.{is_literal, is_ended, value, documentation}
 use Rattle.rust_metas.specs.Conditions.{comma_from, behind_comma, is_option_word, option_name, pair, named, if_named, ended, condition_with, conditions, condition}
 use Rattle.rust_metas.specs.Metas.{input, plain, is_call, unsafe_with, cfg_with, member, cfg_attr_with, meta_with, meta, doc}
 use Rattle.rust_metas.specs.Attributes.{is_doc, is_behind, behind_bracket, bracketed, opened, one_attribute, behind_docs_from, behind_docs, behind_attribute, attribute, attributes, outer_attributes, inner_attributes}

@@ -10,7 +10,8 @@ use Rattle.rust_cursor.specs.Words.{symbol, kind, text, bump, bumped, is_at_end,
 use Rattle.rust_cursor.specs.Brackets.{behind_closed, behind_tree}
 use Rattle.rust_cursor.specs.Elements.{most, elements, one}
 use Rattle.rust_paths.specs.Names.{as_name, name}
-use Rattle.rust_metas.specs.Literals.{string_by, is_literal_kind, is_ended}
+use Rattle.rust_cursor.specs.Nests.{is_literal_kind}
+use Rattle.rust_metas.specs.Literals.{string_by, is_ended}
 
 -- ---- what stands between commas
 

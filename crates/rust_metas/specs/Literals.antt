@@ -11,6 +11,7 @@ use Rattle.rust_lexer.specs.declared.kind.LiteralKind.{LiteralKind}
 use Rattle.rust_lexer.specs.declared.kind.LiteralKind.TheVariants as literals
 use Rattle.rust_lexer.specs.declared.kind.TokenKind.{TokenKind}
 use Rattle.rust_lexer.specs.declared.kind.TokenKind.TheVariants as kinds
+use Rattle.rust_cursor.specs.Nests.{is_literal_kind}
 use Rattle.rust_cursor.specs.Tokens.{Tokens}
 use Rattle.rust_cursor.specs.Reader.{Reader}
 use Rattle.rust_cursor.specs.Words.{symbol, word, kind, text, at, bumped, is_at_end}
@@ -39,10 +40,6 @@ string_of _ z = None
 abbrev pub string_by : Option TokenKind → List ℕ → Option (List ℕ)
 string_by (Some (kinds.Literal k)) z = string_of k z
 string_by _ z = None
-
-abbrev pub is_literal_kind : Option TokenKind → Bool
-is_literal_kind (Some (kinds.Literal k)) = true
-is_literal_kind _ = false
 
 -- `true` and `false`
 unfoldable pub is_truth : Tokens → Bool

@@ -1,6 +1,7 @@
 //! Literals, and documentation comments as literals.
 
 ghost use Rattle.std.specs.Prelude.{◌≡◌, IfOk, option_map, string_bytes};
+ghost use Rattle.rust_cursor.specs.Nests.{is_literal_kind};
 ghost use Rattle.rust_cursor.specs.Reader.{Gives};
 ghost use Rattle.rust_cursor.specs.Words.{bumped};
 ghost use Rattle.rust_metas.specs.Literals as spec;
@@ -78,7 +79,7 @@ pub(crate) fn string_by(
 }
 
 pub(crate) fn is_literal_kind(kind: Option<TokenKind>) -> bool
-    ensures { result ≡ spec.is_literal_kind kind }
+    ensures { result ≡ is_literal_kind kind }
 {
     matches!(kind, Some(TokenKind::Literal(_)))
 }
