@@ -2,6 +2,7 @@ pub mod Characters
 pub mod Commas
 pub mod Depths
 pub mod Docs
+pub mod Kept
 pub mod Strings
 pub mod Texts
 pub mod Leads

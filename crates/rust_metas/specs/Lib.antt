@@ -4,3 +4,4 @@ pub mod Literals
 pub mod Conditions
 pub mod Metas
 pub mod Attributes
+pub mod Docs

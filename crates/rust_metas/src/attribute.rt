@@ -1,13 +1,16 @@
 //! Attributes.
 
-ghost use Rattle.std.specs.Prelude.{◌≡◌, map};
+ghost use Rattle.std.specs.Prelude.{◌≡◌, ◌++◌, ◌∷◌, [], OnOk, false, map, option_map, option_to_list};
 ghost use Rattle.hir_input.specs.Attr.{meta_view};
+ghost use Rattle.rust_cursor.specs.Elements.{one};
 ghost use Rattle.rust_cursor.specs.Reader.{Gives};
 ghost use Rattle.rust_metas.specs.Attributes as spec;
+ghost use Rattle.rust_metas.specs.Docs as docs;
 
 use crate::literal::style_by;
 use crate::meta::{doc, meta};
 use hir_input::Meta;
+use hir_input::ast::PathNode;
 use rust_cursor::Cursor;
 use rust_lexer::DocStyle;
 use std::alloc::{AllocError, Global};
@@ -132,15 +135,105 @@ fn attribute(alloc: Global, cursor: &mut Cursor<'_>, style: DocStyle) -> Result<
     Ok(meta)
 }
 
-/// The attributes of a style that come next.
-#[tactic(auto, unfolding(crate::specs::Attributes::attributes, rust_cursor::specs::Elements::turns), using(rust_cursor::proofs::Turns::turns_stop))]
+fn is_doc_path(path: &Option<PathNode>) -> bool
+    ensures { result ≡ docs.is_doc_path path.now }
+{
+    match path {
+        Some(PathNode::Readable(path)) => match path.as_ident() {
+            Some(name) => name.text() == "doc",
+            None => false,
+        },
+        _ => false,
+    }
+}
+
+/// Whether a meta documents.
+#[tactic(auto, using(hir_input::proofs::MetaLemmas::meta_views))]
+fn is_doc_meta(meta: &Meta) -> bool
+    ensures { result ≡ docs.is_doc_meta (meta_view meta.now) }
+{
+    match meta {
+        Meta::Path { path, .. } => is_doc_path(path),
+        Meta::KeyValue { path, .. } => is_doc_path(path),
+        Meta::TokenTree { path, .. } => is_doc_path(path),
+        Meta::Cfg(_) => false,
+        Meta::CfgAttr { .. } => false,
+        Meta::Unsafe(_) => false,
+    }
+}
+
+/// A meta that was read, unless it documents.
+#[tactic(auto, using(crate::proofs::Kept::meta_kept, crate::proofs::Kept::meta_dropped))]
+fn undocumenting(meta: Meta) -> Option<Meta>
+    ensures { option_to_list (option_map meta_view result)
+        ≡ docs.kept_metas false (meta_view meta ∷ []) }
+{
+    if is_doc_meta(&meta) {
+        return None;
+    }
+    Some(meta)
+}
+
+/// An attribute that does not document: a comment is passed over.
+#[tactic(auto, using(crate::proofs::Kept::doc_passed))]
+fn undocumenting_attribute(
+    alloc: Global,
+    cursor: &mut Cursor<'_>,
+    style: DocStyle,
+) -> Result<Option<Meta>, AllocError>
+    ensures { Gives (λ m. option_to_list (option_map meta_view m))
+        (docs.kept_by false (one (spec.attribute style)) cursor.old) result cursor.new }
+{
+    if is_doc(cursor, style) {
+        cursor.bump();
+        pass_behind(cursor, style);
+        return Ok(None);
+    }
+    let meta = attribute(alloc, cursor, style)?;
+    Ok(undocumenting(meta))
+}
+
+/// An attribute, if it is kept.
+#[tactic(auto, unfolding(crate::specs::Docs::kept_metas))]
+fn kept_attribute(
+    alloc: Global,
+    cursor: &mut Cursor<'_>,
+    style: DocStyle,
+    keeps_docs: bool,
+) -> Result<Option<Meta>, AllocError>
+    ensures { Gives (λ m. option_to_list (option_map meta_view m))
+        (docs.kept_by keeps_docs (one (spec.attribute style)) cursor.old) result cursor.new }
+{
+    if !keeps_docs {
+        return undocumenting_attribute(alloc, cursor, style);
+    }
+    let meta = attribute(alloc, cursor, style)?;
+    Ok(Some(meta))
+}
+
+fn push_some(metas: &mut Vec<Meta>, meta: Option<Meta>) -> Result<(), AllocError>
+    ensures { OnOk result (map meta_view metas.new.items ≡ map meta_view metas.old.items
+        ++ option_to_list (option_map meta_view meta)) }
+{
+    match meta {
+        Some(meta) => {
+            metas.push(meta)?;
+            Ok(())
+        }
+        None => Ok(()),
+    }
+}
+
+/// The attributes of a style that come next, as far as they are kept.
+#[tactic(auto, using(rust_cursor::proofs::Turns::turns_stop))]
 fn attributes(
     alloc: Global,
     cursor: &mut Cursor<'_>,
     style: DocStyle,
+    keeps_docs: bool,
 ) -> Result<Vec<Meta>, AllocError>
     ensures { Gives (λ v. map meta_view v.items)
-        (spec.attributes style cursor.old) result cursor.new }
+        (docs.kept_by keeps_docs (spec.attributes style) cursor.old) result cursor.new }
 {
     let mut metas = Vec::new(alloc);
     let most = Cursor::most_turns();
@@ -149,8 +242,8 @@ fn attributes(
             break;
         }
         let past = cursor.past();
-        let meta = attribute(alloc, cursor, style)?;
-        metas.push(meta)?;
+        let meta = kept_attribute(alloc, cursor, style, keeps_docs)?;
+        push_some(&mut metas, meta)?;
         cursor.pass_beyond(past);
     }
     Ok(metas)
@@ -164,12 +257,12 @@ fn attributes(
 /// # Errors
 ///
 /// Only if memory runs out. The cursor may then stand anywhere.
-#[tactic(auto, unfolding(crate::specs::Attributes::outer_attributes))]
+#[tactic(auto, unfolding(crate::specs::Docs::kept_metas))]
 pub fn outer_attributes(alloc: Global, cursor: &mut Cursor<'_>) -> Result<Vec<Meta>, AllocError>
     ensures { Gives (λ v. map meta_view v.items)
         (spec.outer_attributes cursor.old) result cursor.new }
 {
-    attributes(alloc, cursor, DocStyle::Outer)
+    kept_outer_attributes(alloc, cursor, true)
 }
 
 /// Takes the inner attributes that come next, in order: those in `#![..]`, and the comments `//!` and `/*! .. */` as
@@ -178,10 +271,46 @@ pub fn outer_attributes(alloc: Global, cursor: &mut Cursor<'_>) -> Result<Vec<Me
 /// # Errors
 ///
 /// Only if memory runs out. The cursor may then stand anywhere.
-#[tactic(auto, unfolding(crate::specs::Attributes::inner_attributes))]
+#[tactic(auto, unfolding(crate::specs::Docs::kept_metas))]
 pub fn inner_attributes(alloc: Global, cursor: &mut Cursor<'_>) -> Result<Vec<Meta>, AllocError>
     ensures { Gives (λ v. map meta_view v.items)
         (spec.inner_attributes cursor.old) result cursor.new }
 {
-    attributes(alloc, cursor, DocStyle::Inner)
+    kept_inner_attributes(alloc, cursor, true)
+}
+
+/// Takes the outer attributes that come next as [`outer_attributes`] does, but keeps those of the one name `doc` only if
+/// documentation is kept.
+///
+/// # Errors
+///
+/// Only if memory runs out. The cursor may then stand anywhere.
+#[tactic(auto, unfolding(crate::specs::Attributes::outer_attributes))]
+pub fn kept_outer_attributes(
+    alloc: Global,
+    cursor: &mut Cursor<'_>,
+    keeps_docs: bool,
+) -> Result<Vec<Meta>, AllocError>
+    ensures { Gives (λ v. map meta_view v.items)
+        (docs.kept_by keeps_docs spec.outer_attributes cursor.old) result cursor.new }
+{
+    attributes(alloc, cursor, DocStyle::Outer, keeps_docs)
+}
+
+/// Takes the inner attributes that come next as [`inner_attributes`] does, but keeps those of the one name `doc` only if
+/// documentation is kept.
+///
+/// # Errors
+///
+/// Only if memory runs out. The cursor may then stand anywhere.
+#[tactic(auto, unfolding(crate::specs::Attributes::inner_attributes))]
+pub fn kept_inner_attributes(
+    alloc: Global,
+    cursor: &mut Cursor<'_>,
+    keeps_docs: bool,
+) -> Result<Vec<Meta>, AllocError>
+    ensures { Gives (λ v. map meta_view v.items)
+        (docs.kept_by keeps_docs spec.inner_attributes cursor.old) result cursor.new }
+{
+    attributes(alloc, cursor, DocStyle::Inner, keeps_docs)
 }

@@ -8,4 +8,6 @@ mod literal;
 mod meta;
 mod string;
 
-pub use attribute::{inner_attributes, outer_attributes};
+pub use attribute::{
+    inner_attributes, kept_inner_attributes, kept_outer_attributes, outer_attributes,
+};

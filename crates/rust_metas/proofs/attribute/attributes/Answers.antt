@@ -1,16 +1,19 @@
-use Rattle.std.proofs.Common.{map, sym, ap, ◌∙◌, is_ok}
-use Rattle.std.proofs.ResultArms.{chosen}
-use Rattle.std.proofs.lemmas.List.{map-append}
+use Rattle.std.proofs.Common.{map, sym, ap, ◌∙◌}
+use Rattle.std.specs.Prelude.{option_map, option_to_list}
 use Rattle.hir_input.specs.Attr.{meta_view}
-use Rattle.rust_cursor.proofs.Turns.{turns_one}
+use Rattle.rust_cursor.specs.Elements.{one}
+use Rattle.rust_cursor.proofs.Turns.{turns_more}
 use Rattle.rust_metas.specs.Attributes.{is_behind, attribute, attributes}
+use Rattle.rust_metas.specs.Docs.{kept_by}
+use Rattle.rust_metas.proofs.Kept.{attributes_kept}
 use Rattle.rust_metas.proofs.attribute.attributes.Goals as goal
+
+pub loop-turn-init : goal.loop-turn-init
+loop-turn-init c =
+    attributes_kept c.args.keeps_docs c.args.style c.args.cursor.now c.most_turns-most.result (map meta_view c.new-metas.result.items) c.most_turns-most.ensures (ap (map meta_view) c.new-metas.ensures.items)
 
 pub loop-turn-preserved : goal.loop-turn-preserved
 loop-turn-preserved c =
-    let pushed = chosen _ _ _ _ c.push.ensures.items (ap is_ok c.in_ok-push.was) in
-    turns_one (is_behind c.args.style) (attribute c.args.style) c.most_turns-most.result c.loop-turn._turn c.past-past.result (map meta_view c.loop-turn.metas.items) (map meta_view c.push.new.self.items)
-    (meta_view c.in_ok-meta.meta) c.loop-turn.cursor c.attribute.new.cursor c.pass_beyond.new.self (attributes c.args.style c.args.cursor.now)
-    c.loop-turn-test.true (sym c.is_behind.ensures ∙ c.if-is_behind.false) c.in_ok-meta.ensures c.past-past.ensures c.pass_beyond.ensures
-    (ap (map meta_view) pushed ∙ map-append meta_view c.loop-turn.metas.items _)
-    c.loop-turn.invariant
+    turns_more (is_behind c.args.style) (kept_by c.args.keeps_docs (one (attribute c.args.style))) c.most_turns-most.result c.loop-turn._turn c.past-past.result (map meta_view c.loop-turn.metas.items) (map meta_view c.push_some.new.metas.items)
+    (option_to_list (option_map meta_view c.in_ok-meta.meta)) c.loop-turn.cursor c.kept_attribute.new.cursor c.pass_beyond.new.self (kept_by c.args.keeps_docs (attributes c.args.style) c.args.cursor.now)
+    c.loop-turn-test.true (sym c.is_behind.ensures ∙ c.if-is_behind.false) c.in_ok-meta.ensures c.past-past.ensures c.pass_beyond.ensures c.in_ok-push_some.ensures c.loop-turn.invariant

@@ -2,7 +2,9 @@ use Rattle.std.proofs.Common.{◌≡◌, map, ◌-◌}
 use Rattle.hir_input.specs.Attr.{meta_view}
 use Rattle.rust_cursor.specs.Elements.{one, turns_from}
 use Rattle.rust_metas.specs.Attributes.{is_behind, attribute, attributes}
+use Rattle.rust_metas.specs.Docs.{kept_by}
 use Rattle.rust_metas.proofs.attribute.attributes.Given as goal
 
 abbrev pub invariant-loop-turn : goal.invariant-loop-turn
-invariant-loop-turn l = turns_from (is_behind l.style) (one (attribute l.style)) (l.most - l._turn) (map meta_view l.metas.items) l.cursor ≡ attributes l.style l.fn.cursor
+invariant-loop-turn l =
+    turns_from (is_behind l.style) (kept_by l.keeps_docs (one (attribute l.style))) (l.most - l._turn) (map meta_view l.metas.items) l.cursor ≡ kept_by l.keeps_docs (attributes l.style) l.fn.cursor
