@@ -1,9 +1,14 @@
--- What is read, with body texts or without.
-use Rattle.std.specs.Prelude.{Bool, true, false, Option, option_map}
-use Rattle.hir_input.specs.Bodies.{item_without_bodies}
-use Rattle.hir_input.specs.Syntax.{ItemView}
+-- What is read, with what is wanted of it.
+use Rattle.std.specs.Prelude.{Bool, Option, List, [], ◌++◌, option_map}
+use Rattle.hir_input.specs.Attr.{MetaView}
+use Rattle.hir_input.specs.Syntax.{NodeView, NamedView, UseView, CallView, ItemView, ItemViews, plain_item, const_item, struct_item, bare_module, listed_module, use_item, extern_crate, bare_extern_block, listed_extern_block, impl_item, macro_call, macro_rules, asm_item, no_items, item_and}
 use Rattle.rust_cursor.specs.Extents.{kept_text}
+use Rattle.rust_cursor.specs.Reader.{Reader}
+use Rattle.rust_metas.specs.Docs.{kept_metas}
+use Rattle.rust_leaves.specs.declared.wanted.Wanted.{Wanted}
+use Rattle.rust_leaves.specs.Fronts.{FrontRead}
 use Rattle.rust_leaves.specs.Leaves.{RestRead, LeafRead}
+use Rattle.rust_leaves.specs.Kinds.{leaf}
 
 -- a reading whose value is changed by this
 unfoldable pub with_value : {A B C : Type 0} → (A → B) → A × C → B × C
@@ -13,15 +18,50 @@ with_value change read = (change read.0, read.1)
 unfoldable pub clipped_rest : Bool → RestRead → RestRead
 clipped_rest keeps r = record { body = kept_text keeps r.body; is_ended = r.is_ended; block = r.block; braces = r.braces }
 
--- an item, without body texts unless they are kept
-unfoldable pub clipped_item : Bool → ItemView → ItemView
-clipped_item true i = i
-clipped_item false i = item_without_bodies i
+-- what stands before an item, with its documentation if that is wanted
+unfoldable pub clipped_front : Wanted → FrontRead → FrontRead
+clipped_front w h = record { start = h.start; attrs = kept_metas w.docs h.attrs; visibility = h.visibility; head = h.head }
 
--- the same of what is read of one that holds no items
-unfoldable pub clipped_leaf : Bool → LeafRead → LeafRead
-clipped_leaf keeps l = record {
-  item = clipped_item keeps l.item;
+-- ---- items
+
+-- what every node has, with its documentation and its body text if they are wanted
+abbrev pub clipped_node : Wanted → NodeView → NodeView
+clipped_node w n = record { hash = n.hash; number = n.number; attrs = kept_metas w.docs n.attrs; body = kept_text w.bodies n.body }
+
+abbrev pub clipped_named : Wanted → NamedView → NamedView
+clipped_named w n = record { node = clipped_node w n.node; name = n.name; visibility = n.visibility }
+
+abbrev pub clipped_use : Wanted → UseView → UseView
+clipped_use w u = record { node = clipped_node w u.node; visibility = u.visibility; use_tree = u.use_tree }
+
+abbrev pub clipped_call : Wanted → CallView → CallView
+clipped_call w c = record { node = clipped_node w c.node; path = c.path; expand_to = c.expand_to; ctxt = c.ctxt }
+
+-- an item, with what is wanted of it and of those in it
+abbrev mutual
+  pub clipped_item : Wanted → ItemView → ItemView
+  clipped_item w (plain_item kind n) = plain_item kind (clipped_named w n)
+  clipped_item w (const_item n) = const_item (clipped_named w n)
+  clipped_item w (struct_item n fields) = struct_item (clipped_named w n) fields
+  clipped_item w (bare_module n semicolon) = bare_module (clipped_named w n) semicolon
+  clipped_item w (listed_module n semicolon is) = listed_module (clipped_named w n) semicolon (clipped_list w is)
+  clipped_item w (use_item u) = use_item (clipped_use w u)
+  clipped_item w (extern_crate n rename) = extern_crate (clipped_named w n) rename
+  clipped_item w (bare_extern_block n) = bare_extern_block (clipped_node w n)
+  clipped_item w (listed_extern_block n is) = listed_extern_block (clipped_node w n) (clipped_list w is)
+  clipped_item w (impl_item n of_trait) = impl_item (clipped_node w n) of_trait
+  clipped_item w (macro_call c) = macro_call (clipped_call w c)
+  clipped_item w (macro_rules n name) = macro_rules (clipped_node w n) name
+  clipped_item w (asm_item n) = asm_item (clipped_node w n)
+
+  pub clipped_list : Wanted → ItemViews → ItemViews
+  clipped_list w no_items = no_items
+  clipped_list w (item_and i is) = item_and (clipped_item w i) (clipped_list w is)
+
+-- what is read of one that holds no items, with its item changed
+abbrev pub with_item : (ItemView → ItemView) → LeafRead → LeafRead
+with_item change l = record {
+  item = change l.item;
   kind = l.kind;
   name = l.name;
   named = l.named;
@@ -31,5 +71,51 @@ clipped_leaf keeps l = record {
   use_trees = l.use_trees;
 }
 
-unfoldable pub clipped_leaf_if : Bool → Option LeafRead → Option LeafRead
-clipped_leaf_if keeps l = option_map (clipped_leaf keeps) l
+-- the same of what is read of one that holds no items
+unfoldable pub clipped_leaf : Wanted → LeafRead → LeafRead
+clipped_leaf w = with_item (clipped_item w)
+
+unfoldable pub clipped_leaf_if : Wanted → Option LeafRead → Option LeafRead
+clipped_leaf_if w l = option_map (clipped_leaf w) l
+
+-- ---- behind attributes
+
+abbrev pub node_behind : List MetaView → NodeView → NodeView
+node_behind attrs n = record { hash = n.hash; number = n.number; attrs = attrs ++ n.attrs; body = n.body }
+
+abbrev pub named_behind : List MetaView → NamedView → NamedView
+named_behind attrs n = record { node = node_behind attrs n.node; name = n.name; visibility = n.visibility }
+
+-- an item with these attributes before its own
+abbrev pub item_behind : List MetaView → ItemView → ItemView
+item_behind attrs (plain_item kind n) = plain_item kind (named_behind attrs n)
+item_behind attrs (const_item n) = const_item (named_behind attrs n)
+item_behind attrs (struct_item n fields) = struct_item (named_behind attrs n) fields
+item_behind attrs (bare_module n semicolon) = bare_module (named_behind attrs n) semicolon
+item_behind attrs (listed_module n semicolon is) = listed_module (named_behind attrs n) semicolon is
+item_behind attrs (use_item u) = use_item (record { node = node_behind attrs u.node; visibility = u.visibility; use_tree = u.use_tree })
+item_behind attrs (extern_crate n rename) = extern_crate (named_behind attrs n) rename
+item_behind attrs (bare_extern_block n) = bare_extern_block (node_behind attrs n)
+item_behind attrs (listed_extern_block n is) = listed_extern_block (node_behind attrs n) is
+item_behind attrs (impl_item n of_trait) = impl_item (node_behind attrs n) of_trait
+item_behind attrs (macro_call c) = macro_call (record { node = node_behind attrs c.node; path = c.path; expand_to = c.expand_to; ctxt = c.ctxt })
+item_behind attrs (macro_rules n name) = macro_rules (node_behind attrs n) name
+item_behind attrs (asm_item n) = asm_item (node_behind attrs n)
+
+-- an item with what is wanted of it, behind these attributes
+unfoldable pub wanted_item : Wanted → List MetaView → ItemView → ItemView
+wanted_item w attrs i = item_behind attrs (clipped_item w i)
+
+unfoldable pub wanted_leaf : Wanted → List MetaView → LeafRead → LeafRead
+wanted_leaf w attrs = with_item (wanted_item w attrs)
+
+unfoldable pub wanted_leaf_if : Wanted → List MetaView → Option LeafRead → Option LeafRead
+wanted_leaf_if w attrs l = option_map (wanted_leaf w attrs) l
+
+-- what stands before an item, without attributes
+abbrev pub unattributed : FrontRead → FrontRead
+unattributed h = record { start = h.start; attrs = []; visibility = h.visibility; head = h.head }
+
+-- an item that holds no items, with what is wanted of it, behind the attributes that stand before it
+unfoldable pub leaf_behind : Wanted → FrontRead → Reader (Option LeafRead)
+leaf_behind w h ts = with_value (wanted_leaf_if w h.attrs) (leaf (unattributed h) ts)

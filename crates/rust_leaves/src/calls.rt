@@ -1,9 +1,9 @@
 //! Macro calls and macros by example.
 
-ghost use Rattle.std.specs.Prelude.{◌≡◌, Some, map, option_map};
+ghost use Rattle.std.specs.Prelude.{◌≡◌, Some, [], map, option_map};
 ghost use Rattle.hir_input.specs.Attr.{meta_view};
 ghost use Rattle.rust_cursor.specs.Reader.{Gives};
-ghost use Rattle.rust_leaves.specs.Clipped.{clipped_leaf, clipped_leaf_if, with_value};
+ghost use Rattle.rust_leaves.specs.Clipped.{wanted_leaf, wanted_leaf_if, with_value};
 ghost use Rattle.rust_leaves.specs.Kinds as spec;
 ghost use Rattle.rust_leaves.specs.Views.{leaf_view};
 
@@ -11,6 +11,7 @@ use crate::head::second;
 use crate::leaf::Leaf;
 use crate::named::{call_end, item_name_or};
 use crate::texts::{bare, last_text};
+use crate::wanted::Wanted;
 use hir_input::ast::{Item, MacroCall, MacroRules, PathNode};
 use hir_input::{AstIdKind, EditionYear, ExpandTo, Meta, SyntaxContext};
 use rust_cursor::Cursor;
@@ -21,15 +22,15 @@ use std::alloc::{AllocError, Global};
 pub(crate) fn macro_definition<'t>(
     alloc: Global,
     cursor: &mut Cursor<'t>,
-    keeps_body: bool,
+    wanted: Wanted,
     attrs: Vec<Meta>,
 ) -> Result<Leaf<'t>, AllocError>
     ensures { Gives leaf_view
-        (with_value (clipped_leaf keeps_body)
-        (spec.macro_definition (map meta_view attrs.items) cursor.old)) result cursor.new }
+        (with_value (wanted_leaf wanted (map meta_view attrs.items))
+        (spec.macro_definition [] cursor.old)) result cursor.new }
 {
     let named = item_name_or(alloc, cursor, "try")?;
-    let rest = call_end(alloc, cursor, keeps_body)?;
+    let rest = call_end(alloc, cursor, wanted.bodies)?;
     let item = Item::MacroRules(MacroRules {
         hash: 0,
         number: 0,
@@ -61,16 +62,16 @@ pub(crate) fn is_called(cursor: &Cursor<'_>) -> bool
 fn call_behind<'t>(
     alloc: Global,
     cursor: &mut Cursor<'t>,
-    keeps_body: bool,
+    wanted: Wanted,
     attrs: Vec<Meta>,
     path: Option<PathNode>,
     name: &'t str,
 ) -> Result<Leaf<'t>, AllocError>
     ensures { Gives leaf_view
-        (with_value (clipped_leaf keeps_body)
-        (spec.call_behind (map meta_view attrs.items) path name.now cursor.old)) result cursor.new }
+        (with_value (wanted_leaf wanted (map meta_view attrs.items))
+        (spec.call_behind [] path name.now cursor.old)) result cursor.new }
 {
-    let rest = call_end(alloc, cursor, keeps_body)?;
+    let rest = call_end(alloc, cursor, wanted.bodies)?;
     let item = Item::MacroCall(MacroCall {
         hash: 0,
         number: 0,
@@ -97,12 +98,12 @@ fn call_behind<'t>(
 pub(crate) fn invocation<'t>(
     alloc: Global,
     cursor: &mut Cursor<'t>,
-    keeps_body: bool,
+    wanted: Wanted,
     attrs: Vec<Meta>,
 ) -> Result<Option<Leaf<'t>>, AllocError>
     ensures { Gives (option_map leaf_view)
-        (with_value (clipped_leaf_if keeps_body)
-        (spec.invocation (map meta_view attrs.items) cursor.old)) result cursor.new }
+        (with_value (wanted_leaf_if wanted (map meta_view attrs.items))
+        (spec.invocation [] cursor.old)) result cursor.new }
 {
     let mut ahead = cursor.ahead();
     let path = path(alloc, &mut ahead)?;
@@ -115,5 +116,5 @@ pub(crate) fn invocation<'t>(
     let name = bare(last_text(cursor, ahead.past()));
     ahead.bump();
     *cursor = ahead;
-    Ok(Some(call_behind(alloc, cursor, keeps_body, attrs, path, name)?))
+    Ok(Some(call_behind(alloc, cursor, wanted, attrs, path, name)?))
 }

@@ -3,14 +3,16 @@
 ghost use Rattle.std.specs.Prelude.{map};
 ghost use Rattle.hir_input.specs.Attr.{meta_view};
 ghost use Rattle.rust_cursor.specs.Reader.{Gives};
+ghost use Rattle.rust_leaves.specs.Clipped.{clipped_front, with_value};
 ghost use Rattle.rust_leaves.specs.Fronts as spec;
 ghost use Rattle.rust_leaves.specs.Views.{front_view};
 
 use crate::head::{Head, pass_modifiers, take_head};
+use crate::wanted::Wanted;
 use hir_input::Meta;
 use hir_input::ast::Visibility;
 use rust_cursor::Cursor;
-use rust_metas::outer_attributes;
+use rust_metas::{kept_outer_attributes, outer_attributes};
 use rust_paths::visibility;
 use std::alloc::{AllocError, Global};
 
@@ -61,5 +63,24 @@ pub fn take_front(alloc: Global, cursor: &mut Cursor<'_>) -> Result<Front, Alloc
 {
     let start = cursor.at();
     let attrs = outer_attributes(alloc, cursor)?;
+    front_behind(alloc, cursor, start, attrs)
+}
+
+/// Takes the same with its documentation only if that is wanted.
+///
+/// # Errors
+///
+/// Only if memory runs out. The cursor may then stand anywhere.
+#[tactic(auto, using(crate::proofs::Clipped::front_clipped))]
+pub fn wanted_front(
+    alloc: Global,
+    cursor: &mut Cursor<'_>,
+    wanted: Wanted,
+) -> Result<Front, AllocError>
+    ensures { Gives front_view
+        (with_value (clipped_front wanted) (spec.front cursor.old)) result cursor.new }
+{
+    let start = cursor.at();
+    let attrs = kept_outer_attributes(alloc, cursor, wanted.docs)?;
     front_behind(alloc, cursor, start, attrs)
 }

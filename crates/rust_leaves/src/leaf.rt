@@ -1,9 +1,9 @@
 //! Items that hold no items.
 
-ghost use Rattle.std.specs.Prelude.{◌≡◌, map, option_map};
+ghost use Rattle.std.specs.Prelude.{[], map, option_map};
 ghost use Rattle.hir_input.specs.Attr.{meta_view};
 ghost use Rattle.rust_cursor.specs.Reader.{Gives};
-ghost use Rattle.rust_leaves.specs.Clipped.{clipped_leaf, clipped_leaf_if, with_value};
+ghost use Rattle.rust_leaves.specs.Clipped.{leaf_behind, wanted_leaf, with_value};
 ghost use Rattle.rust_leaves.specs.Kinds as spec;
 ghost use Rattle.rust_leaves.specs.Views.{front_view, leaf_view};
 
@@ -13,6 +13,7 @@ use crate::head::Head;
 use crate::named::{impl_end, item_end, item_name, macro_end, value_end, with_inner};
 use crate::structs::{has_trait, structure};
 use crate::uses::{crate_item, use_declaration};
+use crate::wanted::Wanted;
 use hir_input::ast::{Impl, Item, NamedNode, Visibility};
 use hir_input::{AstIdKind, Meta};
 use rust_cursor::Cursor;
@@ -66,17 +67,17 @@ macro_rules! named_leaf {
 fn function<'t>(
     alloc: Global,
     cursor: &mut Cursor<'t>,
-    keeps_body: bool,
+    wanted: Wanted,
     attrs: Vec<Meta>,
     visibility: Option<Visibility>,
 ) -> Result<Leaf<'t>, AllocError>
     ensures { Gives leaf_view
-        (with_value (clipped_leaf keeps_body)
-        (spec.function (map meta_view attrs.items) visibility cursor.old)) result cursor.new }
+        (with_value (wanted_leaf wanted (map meta_view attrs.items))
+        (spec.function [] visibility cursor.old)) result cursor.new }
 {
     let named = item_name(alloc, cursor)?;
-    let rest = item_end(alloc, cursor, keeps_body)?;
-    let attrs = with_inner(alloc, attrs, rest.block)?;
+    let rest = item_end(alloc, cursor, wanted.bodies)?;
+    let attrs = with_inner(alloc, attrs, rest.block, wanted.docs)?;
     Ok(named_leaf!(Fn, alloc, attrs, visibility, named, rest))
 }
 
@@ -84,16 +85,16 @@ fn function<'t>(
 fn union_item<'t>(
     alloc: Global,
     cursor: &mut Cursor<'t>,
-    keeps_body: bool,
+    wanted: Wanted,
     attrs: Vec<Meta>,
     visibility: Option<Visibility>,
 ) -> Result<Leaf<'t>, AllocError>
     ensures { Gives leaf_view
-        (with_value (clipped_leaf keeps_body)
-        (spec.union_item (map meta_view attrs.items) visibility cursor.old)) result cursor.new }
+        (with_value (wanted_leaf wanted (map meta_view attrs.items))
+        (spec.union_item [] visibility cursor.old)) result cursor.new }
 {
     let named = item_name(alloc, cursor)?;
-    let rest = item_end(alloc, cursor, keeps_body)?;
+    let rest = item_end(alloc, cursor, wanted.bodies)?;
     Ok(named_leaf!(Union, alloc, attrs, visibility, named, rest))
 }
 
@@ -101,16 +102,16 @@ fn union_item<'t>(
 fn enumeration<'t>(
     alloc: Global,
     cursor: &mut Cursor<'t>,
-    keeps_body: bool,
+    wanted: Wanted,
     attrs: Vec<Meta>,
     visibility: Option<Visibility>,
 ) -> Result<Leaf<'t>, AllocError>
     ensures { Gives leaf_view
-        (with_value (clipped_leaf keeps_body)
-        (spec.enumeration (map meta_view attrs.items) visibility cursor.old)) result cursor.new }
+        (with_value (wanted_leaf wanted (map meta_view attrs.items))
+        (spec.enumeration [] visibility cursor.old)) result cursor.new }
 {
     let named = item_name(alloc, cursor)?;
-    let rest = item_end(alloc, cursor, keeps_body)?;
+    let rest = item_end(alloc, cursor, wanted.bodies)?;
     Ok(named_leaf!(Enum, alloc, attrs, visibility, named, rest))
 }
 
@@ -118,16 +119,16 @@ fn enumeration<'t>(
 fn trait_item<'t>(
     alloc: Global,
     cursor: &mut Cursor<'t>,
-    keeps_body: bool,
+    wanted: Wanted,
     attrs: Vec<Meta>,
     visibility: Option<Visibility>,
 ) -> Result<Leaf<'t>, AllocError>
     ensures { Gives leaf_view
-        (with_value (clipped_leaf keeps_body)
-        (spec.trait_item (map meta_view attrs.items) visibility cursor.old)) result cursor.new }
+        (with_value (wanted_leaf wanted (map meta_view attrs.items))
+        (spec.trait_item [] visibility cursor.old)) result cursor.new }
 {
     let named = item_name(alloc, cursor)?;
-    let rest = item_end(alloc, cursor, keeps_body)?;
+    let rest = item_end(alloc, cursor, wanted.bodies)?;
     Ok(named_leaf!(Trait, alloc, attrs, visibility, named, rest))
 }
 
@@ -135,16 +136,16 @@ fn trait_item<'t>(
 fn macro_def<'t>(
     alloc: Global,
     cursor: &mut Cursor<'t>,
-    keeps_body: bool,
+    wanted: Wanted,
     attrs: Vec<Meta>,
     visibility: Option<Visibility>,
 ) -> Result<Leaf<'t>, AllocError>
     ensures { Gives leaf_view
-        (with_value (clipped_leaf keeps_body)
-        (spec.macro_def (map meta_view attrs.items) visibility cursor.old)) result cursor.new }
+        (with_value (wanted_leaf wanted (map meta_view attrs.items))
+        (spec.macro_def [] visibility cursor.old)) result cursor.new }
 {
     let named = item_name(alloc, cursor)?;
-    let rest = macro_end(alloc, cursor, keeps_body)?;
+    let rest = macro_end(alloc, cursor, wanted.bodies)?;
     Ok(named_leaf!(MacroDef, alloc, attrs, visibility, named, rest))
 }
 
@@ -152,16 +153,16 @@ fn macro_def<'t>(
 fn type_alias<'t>(
     alloc: Global,
     cursor: &mut Cursor<'t>,
-    keeps_body: bool,
+    wanted: Wanted,
     attrs: Vec<Meta>,
     visibility: Option<Visibility>,
 ) -> Result<Leaf<'t>, AllocError>
     ensures { Gives leaf_view
-        (with_value (clipped_leaf keeps_body)
-        (spec.type_alias (map meta_view attrs.items) visibility cursor.old)) result cursor.new }
+        (with_value (wanted_leaf wanted (map meta_view attrs.items))
+        (spec.type_alias [] visibility cursor.old)) result cursor.new }
 {
     let named = item_name(alloc, cursor)?;
-    let rest = value_end(alloc, cursor, keeps_body)?;
+    let rest = value_end(alloc, cursor, wanted.bodies)?;
     Ok(named_leaf!(TypeAlias, alloc, attrs, visibility, named, rest))
 }
 
@@ -169,17 +170,17 @@ fn type_alias<'t>(
 fn static_value<'t>(
     alloc: Global,
     cursor: &mut Cursor<'t>,
-    keeps_body: bool,
+    wanted: Wanted,
     attrs: Vec<Meta>,
     visibility: Option<Visibility>,
 ) -> Result<Leaf<'t>, AllocError>
     ensures { Gives leaf_view
-        (with_value (clipped_leaf keeps_body)
-        (spec.static_value (map meta_view attrs.items) visibility cursor.old)) result cursor.new }
+        (with_value (wanted_leaf wanted (map meta_view attrs.items))
+        (spec.static_value [] visibility cursor.old)) result cursor.new }
 {
     cursor.eat_word("mut");
     let named = item_name(alloc, cursor)?;
-    let rest = value_end(alloc, cursor, keeps_body)?;
+    let rest = value_end(alloc, cursor, wanted.bodies)?;
     Ok(named_leaf!(Static, alloc, attrs, visibility, named, rest))
 }
 
@@ -187,17 +188,17 @@ fn static_value<'t>(
 fn constant<'t>(
     alloc: Global,
     cursor: &mut Cursor<'t>,
-    keeps_body: bool,
+    wanted: Wanted,
     attrs: Vec<Meta>,
     visibility: Option<Visibility>,
 ) -> Result<Leaf<'t>, AllocError>
     ensures { Gives leaf_view
-        (with_value (clipped_leaf keeps_body)
-        (spec.constant (map meta_view attrs.items) visibility cursor.old)) result cursor.new }
+        (with_value (wanted_leaf wanted (map meta_view attrs.items))
+        (spec.constant [] visibility cursor.old)) result cursor.new }
 {
     let named = item_name(alloc, cursor)?;
     cursor.eat_word("_");
-    let rest = value_end(alloc, cursor, keeps_body)?;
+    let rest = value_end(alloc, cursor, wanted.bodies)?;
     Ok(named_leaf!(Const, alloc, attrs, visibility, named, rest))
 }
 
@@ -205,17 +206,17 @@ fn constant<'t>(
 fn implementation<'t>(
     alloc: Global,
     cursor: &mut Cursor<'t>,
-    keeps_body: bool,
+    wanted: Wanted,
     attrs: Vec<Meta>,
 ) -> Result<Leaf<'t>, AllocError>
     ensures { Gives leaf_view
-        (with_value (clipped_leaf keeps_body)
-        (spec.implementation (map meta_view attrs.items) cursor.old)) result cursor.new }
+        (with_value (wanted_leaf wanted (map meta_view attrs.items))
+        (spec.implementation [] cursor.old)) result cursor.new }
 {
     let header = cursor.ahead();
-    let rest = impl_end(alloc, cursor, keeps_body)?;
+    let rest = impl_end(alloc, cursor, wanted.bodies)?;
     let is_trait_impl = has_trait(&header, cursor.past());
-    let attrs = with_inner(alloc, attrs, rest.block)?;
+    let attrs = with_inner(alloc, attrs, rest.block, wanted.docs)?;
     let item = Item::Impl(Impl {
         hash: 0,
         number: 0,
@@ -235,8 +236,8 @@ fn implementation<'t>(
     })
 }
 
-/// Takes an item that holds no items, behind the words that begin it, or nothing where none is written. Its body text is empty
-/// unless it is to be kept.
+/// Takes an item that holds no items, behind the words that begin it, or nothing where none is written. Of its body text and its
+/// inner documentation it has what is wanted; the attributes before it are those that it is given.
 ///
 /// # Errors
 ///
@@ -245,31 +246,30 @@ fn implementation<'t>(
 pub fn take_leaf<'t>(
     alloc: Global,
     cursor: &mut Cursor<'t>,
-    keeps_body: bool,
+    wanted: Wanted,
     front: Front,
 ) -> Result<Option<Leaf<'t>>, AllocError>
     ensures { Gives (option_map leaf_view)
-        (with_value (clipped_leaf_if keeps_body)
-        (spec.leaf (front_view front) cursor.old)) result cursor.new }
+        (leaf_behind wanted (front_view front) cursor.old) result cursor.new }
 {
     let attrs = front.attrs;
     let visibility = front.visibility;
     let leaf = match front.head {
         Head::Use => use_declaration(alloc, cursor, attrs, visibility)?,
         Head::ExternCrate => crate_item(alloc, cursor, attrs, visibility)?,
-        Head::Fn => function(alloc, cursor, keeps_body, attrs, visibility)?,
-        Head::Impl => implementation(alloc, cursor, keeps_body, attrs)?,
-        Head::Trait => trait_item(alloc, cursor, keeps_body, attrs, visibility)?,
-        Head::Struct => structure(alloc, cursor, keeps_body, attrs, visibility)?,
-        Head::Union => union_item(alloc, cursor, keeps_body, attrs, visibility)?,
-        Head::Enum => enumeration(alloc, cursor, keeps_body, attrs, visibility)?,
-        Head::Const => constant(alloc, cursor, keeps_body, attrs, visibility)?,
-        Head::Static => static_value(alloc, cursor, keeps_body, attrs, visibility)?,
-        Head::TypeAlias => type_alias(alloc, cursor, keeps_body, attrs, visibility)?,
-        Head::MacroDef => macro_def(alloc, cursor, keeps_body, attrs, visibility)?,
-        Head::MacroRules => macro_definition(alloc, cursor, keeps_body, attrs)?,
+        Head::Fn => function(alloc, cursor, wanted, attrs, visibility)?,
+        Head::Impl => implementation(alloc, cursor, wanted, attrs)?,
+        Head::Trait => trait_item(alloc, cursor, wanted, attrs, visibility)?,
+        Head::Struct => structure(alloc, cursor, wanted, attrs, visibility)?,
+        Head::Union => union_item(alloc, cursor, wanted, attrs, visibility)?,
+        Head::Enum => enumeration(alloc, cursor, wanted, attrs, visibility)?,
+        Head::Const => constant(alloc, cursor, wanted, attrs, visibility)?,
+        Head::Static => static_value(alloc, cursor, wanted, attrs, visibility)?,
+        Head::TypeAlias => type_alias(alloc, cursor, wanted, attrs, visibility)?,
+        Head::MacroDef => macro_def(alloc, cursor, wanted, attrs, visibility)?,
+        Head::MacroRules => macro_definition(alloc, cursor, wanted, attrs)?,
         Head::Module | Head::ExternBlock | Head::Other => return invocation(
-            alloc, cursor, keeps_body, attrs,
+            alloc, cursor, wanted, attrs,
         ),
     };
     Ok(Some(leaf))

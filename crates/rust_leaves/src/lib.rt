@@ -11,9 +11,11 @@ mod statements;
 mod structs;
 mod texts;
 mod uses;
+mod wanted;
 
-pub use front::{Front, front_behind, take_front};
+pub use front::{Front, front_behind, take_front, wanted_front};
 pub use head::{Head, pass_others};
 pub use leaf::{Leaf, take_leaf};
 pub use named::{Named, item_name, joined};
 pub use statements::{Call, is_item, pass_statement, statement_call};
+pub use wanted::Wanted;

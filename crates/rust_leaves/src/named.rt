@@ -6,6 +6,7 @@ ghost use Rattle.hir_input.specs.Attr.{meta_view};
 ghost use Rattle.rust_cursor.specs.Extents.{excerpt_view};
 ghost use Rattle.rust_cursor.specs.Reader.{Gives};
 ghost use Rattle.rust_cursor.specs.Words.{bumped};
+ghost use Rattle.rust_metas.specs.Docs.{kept_metas};
 ghost use Rattle.rust_leaves.specs.Clipped.{clipped_rest, with_value};
 ghost use Rattle.rust_leaves.specs.Leaves as spec;
 ghost use Rattle.rust_leaves.specs.Views.{name_view, rest_view};
@@ -13,7 +14,7 @@ ghost use Rattle.rust_leaves.specs.Views.{name_view, rest_view};
 use crate::texts::bare;
 use hir_input::{Meta, Name};
 use rust_cursor::{Cursor, Excerpt};
-use rust_metas::inner_attributes;
+use rust_metas::kept_inner_attributes;
 use rust_paths::{PlacedName, TextRange, placed_name};
 use std::alloc::{AllocError, Global};
 
@@ -230,15 +231,20 @@ pub(crate) fn call_end<'t>(
     Ok(semicolon_end(excerpt, cursor))
 }
 
-/// The inner attributes at the beginning of the braces that an item ends with.
-#[tactic(auto, unfolding(crate::specs::Leaves::block_attributes))]
-fn block_attributes(alloc: Global, block: Option<Cursor<'_>>) -> Result<Vec<Meta>, AllocError>
-    ensures { IfOk result (λ v. map meta_view v.items ≡ spec.block_attributes block.entry) }
+/// The inner attributes at the beginning of the braces that an item ends with, as far as they are kept.
+#[tactic(auto, unfolding(crate::specs::Leaves::block_attributes), using(rust_metas::proofs::Kept::kept_none))]
+fn block_attributes(
+    alloc: Global,
+    block: Option<Cursor<'_>>,
+    keeps_docs: bool,
+) -> Result<Vec<Meta>, AllocError>
+    ensures { IfOk result (λ v. map meta_view v.items
+        ≡ kept_metas keeps_docs (spec.block_attributes block.entry)) }
 {
     match block {
         Some(mut inside) => {
             inside.bump();
-            inner_attributes(alloc, &mut inside)
+            kept_inner_attributes(alloc, &mut inside, keeps_docs)
         }
         None => Ok(Vec::new(alloc)),
     }
@@ -257,15 +263,16 @@ pub fn joined(mut attrs: Vec<Meta>, mut more: Vec<Meta>) -> Result<Vec<Meta>, Al
     Ok(attrs)
 }
 
-/// Attributes with the inner ones of an item's block behind.
+/// Attributes with the inner ones of an item's block behind, as far as these are kept.
 pub(crate) fn with_inner(
     alloc: Global,
     attrs: Vec<Meta>,
     block: Option<Cursor<'_>>,
+    keeps_docs: bool,
 ) -> Result<Vec<Meta>, AllocError>
     ensures { IfOk result (λ v. map meta_view v.items ≡ map meta_view attrs.items
-        ++ spec.block_attributes block.entry) }
+        ++ kept_metas keeps_docs (spec.block_attributes block.entry)) }
 {
-    let inner = block_attributes(alloc, block)?;
+    let inner = block_attributes(alloc, block, keeps_docs)?;
     joined(attrs, inner)
 }

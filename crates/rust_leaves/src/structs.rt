@@ -1,20 +1,21 @@
 //! Structs, and what an impl is of.
 
-ghost use Rattle.std.specs.Prelude.{◌≡◌, ◌++◌, IfOk, OnOk, map, [], ◌∷◌};
+ghost use Rattle.std.specs.Prelude.{◌≡◌, IfOk, [], map};
 ghost use Rattle.hir_input.specs.Attr.{meta_view};
 ghost use Rattle.hir_input.specs.Syntax.{fields_view};
 ghost use Rattle.rust_cursor.specs.Reader.{Gives};
-ghost use Rattle.rust_leaves.specs.Clipped.{clipped_leaf, with_value};
+ghost use Rattle.rust_leaves.specs.Clipped.{wanted_leaf, with_value};
 ghost use Rattle.rust_leaves.specs.Kinds as kinds;
 ghost use Rattle.rust_leaves.specs.Leaves as spec;
 ghost use Rattle.rust_leaves.specs.Views.{field_view, leaf_view};
 
 use crate::leaf::Leaf;
 use crate::named::{item_end, item_name};
+use crate::wanted::Wanted;
 use hir_input::ast::{Item, Struct, StructKind, TupleField, Visibility};
 use hir_input::{AstIdKind, Meta};
 use rust_cursor::Cursor;
-use rust_metas::outer_attributes;
+use rust_metas::kept_outer_attributes;
 use rust_paths::{TreeStarts, visibility};
 use std::alloc::{AllocError, Global};
 
@@ -53,7 +54,7 @@ fn visibility_before(
 fn field(alloc: Global, cursor: &mut Cursor<'_>, end: usize) -> Result<TupleField, AllocError>
     ensures { Gives field_view (spec.field end cursor.old) result cursor.new }
 {
-    let _attrs = outer_attributes(alloc, cursor)?;
+    let _attrs = kept_outer_attributes(alloc, cursor, false)?;
     let visibility = visibility_before(alloc, cursor, end)?;
     cursor.pass_field();
     cursor.eat(b',');
@@ -140,17 +141,17 @@ fn struct_fields(
 pub(crate) fn structure<'t>(
     alloc: Global,
     cursor: &mut Cursor<'t>,
-    keeps_body: bool,
+    wanted: Wanted,
     attrs: Vec<Meta>,
     visibility: Option<Visibility>,
 ) -> Result<Leaf<'t>, AllocError>
     ensures { Gives leaf_view
-        (with_value (clipped_leaf keeps_body)
-        (kinds.structure (map meta_view attrs.items) visibility cursor.old)) result cursor.new }
+        (with_value (wanted_leaf wanted (map meta_view attrs.items))
+        (kinds.structure [] visibility cursor.old)) result cursor.new }
 {
     let named = item_name(alloc, cursor)?;
     let header = cursor.ahead();
-    let rest = item_end(alloc, cursor, keeps_body)?;
+    let rest = item_end(alloc, cursor, wanted.bodies)?;
     let kind = struct_fields(alloc, &header, cursor.past(), &rest.block)?;
     let item = Item::Struct(Struct {
         hash: 0,
