@@ -5,7 +5,7 @@ use Rattle.std.proofs.lemmas.List.{length-map}
 use Rattle.hir_input.specs.declared.edition.EditionYear.{EditionYear}
 use Rattle.hir_input.specs.declared.ids.AstIdKind.{AstIdKind}
 use Rattle.hir_input.specs.declared.ids.FileAstId.{FileAstId}
-use Rattle.hir_input.specs.Syntax.{ItemView, ItemViews, plain_item, const_item, struct_item, bare_module, listed_module, use_item, extern_crate, bare_extern_block, listed_extern_block, impl_item, macro_call, macro_rules, asm_item, items_of, syntax_view}
+use Rattle.hir_input.specs.Syntax.{ItemView, ItemViews, plain_item, const_item, struct_item, bare_module, listed_module, use_item, extern_crate, bare_extern_block, listed_extern_block, impl_item, macro_call, macro_rules, asm_item, items_of}
 use Rattle.rust_cursor.specs.Tokens.{Tokens, tokens_of}
 use Rattle.rust_cursor.proofs.Laid.{behind, past_within, tokens_laid}
 use Rattle.rust_cursor.proofs.Leads.{LeadsTo, here}
@@ -17,7 +17,6 @@ use Rattle.rust_items.specs.declared.ids.Numbers.{Numbers}
 use Rattle.rust_items.specs.declared.log.ItemSpan.{ItemSpan}
 use Rattle.rust_items.specs.declared.log.ProblemKind.{ProblemKind}
 use Rattle.rust_items.specs.declared.source_file.ItemPlace.{ItemPlace}
-use Rattle.rust_items.specs.declared.source_file.SourceFile.{SourceFile}
 use Rattle.rust_items.specs.declared.blocks.SourceBlock.{SourceBlock}
 use Rattle.rust_items.specs.Blocks.{IsBlock, IsBlockOf}
 use Rattle.rust_items.specs.Found.{Found, nothing_found, and_problem_at}
@@ -25,7 +24,7 @@ use Rattle.rust_items.specs.Ids.{held_with_ids, with_ids}
 use Rattle.rust_items.specs.Places.{Telling, id_of, name_of, IsWritten, held, IsPlace, ArePlaces, nothing, placed}
 use Rattle.rust_items.proofs.Names.{IsToken, told_behind, told_written}
 use Rattle.rust_items.specs.LineEnds.{with_feeds, returns_from, place_by, place_in, moved_span}
-use Rattle.rust_items.specs.SourceFiles.{FileView, places, behind_attributes, file_view, found_in, items_in, IsFileView, IsSourceFile}
+use Rattle.rust_items.specs.SourceFiles.{FileView, places, behind_attributes, found_in, items_in, IsFileView}
 use Rattle.rust_items.proofs.LineEnds.{returns_count, place_rises_in, place_within, moved_place, places_moved}
 use Rattle.rust_items.proofs.Places.{few, widened, retold, row_kind, place_kind, place_span, Adds, adds_problem_at, AreFound, same_problem_at, items_found}
 use Rattle.rust_items.proofs.TreesRead.{IsRead, read_around}
@@ -189,9 +188,6 @@ placed_text edition text found items t ids are =
 pub view_placed : (edition : EditionYear) (text : List ℕ) (file : FileView) → IsFileView edition text file → ArePlaces (IsWritten text) 0 (length text) (items_of file.syntax) file.places []
 view_placed edition text file is = rw (is.syntax, is.places) (placed_text edition text _ _ (text_found edition (with_feeds text)) is.ids is.are_ids)
 
-pub file_placed : (edition : EditionYear) (text : List ℕ) (file : SourceFile) → IsSourceFile edition text file → ArePlaces (IsWritten text) 0 (length text) (items_of (syntax_view file.syntax)) file.places.items []
-file_placed edition text file is = view_placed edition text (file_view file) is
-
 -- what is read of a block with line feeds alone is read of the text
 pub same_block : (edition : EditionYear) (text feeds : List ℕ) (len : ℕ) (returns : List ℕ) (read : SourceBlock) → feeds ≡ with_feeds text → len ≡ length (with_feeds text) → returns ≡ returns_from 0 text
     → IsBlockOf edition feeds (place_by len returns) read → IsBlock edition text read
@@ -233,6 +229,3 @@ view_distinct edition text file is short i j d before within same =
     let second : (get_or file.places j d).id ≡ id_at is.ids j = ap (λ l. (get_or l j d).id) is.places ∙ places_at is.ids spans j d pairs high in
     let one : i ≡ j = distinct rows is.ids is.are_ids (omega arith) i j low high (sym first ∙ same ∙ second) in
     absurd (omega arith)
-
-pub file_distinct : (edition : EditionYear) (text : List ℕ) (file : SourceFile) → IsSourceFile edition text file → length text ≤ 4294967296 → AllPairs (λ p q. p.id ≢ q.id) file.places.items
-file_distinct edition text file is = view_distinct edition text (file_view file) is

@@ -1,21 +1,33 @@
--- What is read of items, with body texts or without.
-use Rattle.std.specs.Prelude.{Bool, Option, List, map, option_map}
+-- What is read of items, with what is wanted of them.
+use Rattle.std.specs.Prelude.{Option, List, map, option_map}
+use Rattle.hir_input.specs.Attr.{MetaView}
 use Rattle.hir_input.specs.Syntax.{ItemView}
-use Rattle.rust_leaves.specs.Clipped.{with_value, clipped_item}
+use Rattle.rust_metas.specs.Docs.{kept_metas}
+use Rattle.rust_leaves.specs.declared.wanted.Wanted.{Wanted}
+use Rattle.rust_leaves.specs.Clipped.{with_value, clipped_item, wanted_item, unattributed}
+use Rattle.rust_leaves.specs.Fronts.{FrontRead}
 use Rattle.rust_items.specs.Found.{Finder}
 use Rattle.rust_items.specs.Items.{BlockRead}
 
--- an item if there is one, without body texts unless they are kept
-unfoldable pub clipped_item_if : Bool → Option ItemView → Option ItemView
-clipped_item_if keeps i = option_map (clipped_item keeps) i
+-- an item if there is one, with what is wanted of it
+unfoldable pub clipped_item_if : Wanted → Option ItemView → Option ItemView
+clipped_item_if w i = option_map (clipped_item w) i
 
-unfoldable pub clipped_items : Bool → List ItemView → List ItemView
-clipped_items keeps is = map (clipped_item keeps) is
+unfoldable pub clipped_items : Wanted → List ItemView → List ItemView
+clipped_items w is = map (clipped_item w) is
 
--- what stands in an item's braces, without body texts unless they are kept
-unfoldable pub clipped_block : Bool → BlockRead → BlockRead
-clipped_block keeps b = record { attrs = b.attrs; items = option_map (clipped_items keeps) b.items; is_ended = b.is_ended }
+-- what stands in an item's braces, with what is wanted of it
+unfoldable pub clipped_block : Wanted → BlockRead → BlockRead
+clipped_block w b = record { attrs = kept_metas w.docs b.attrs; items = option_map (clipped_items w) b.items; is_ended = b.is_ended }
 
 -- the same of what gives an item or none
-abbrev pub clipped_turn : Bool → Finder (Option ItemView) → Finder (Option ItemView)
-clipped_turn keeps turn f ts = with_value (clipped_item_if keeps) (turn f ts)
+abbrev pub clipped_turn : Wanted → Finder (Option ItemView) → Finder (Option ItemView)
+clipped_turn w turn f ts = with_value (clipped_item_if w) (turn f ts)
+
+-- an item if there is one, with what is wanted of it, behind these attributes
+unfoldable pub wanted_item_if : Wanted → List MetaView → Option ItemView → Option ItemView
+wanted_item_if w attrs i = option_map (wanted_item w attrs) i
+
+-- what gives an item or none behind what stands before it: with what is wanted of it, behind the attributes that stand there
+unfoldable pub wanted_behind : Wanted → (FrontRead → Finder (Option ItemView)) → FrontRead → Finder (Option ItemView)
+wanted_behind w reads h f ts = with_value (wanted_item_if w h.attrs) (reads (unattributed h) f ts)

@@ -1,12 +1,15 @@
 -- Source files.
-use Rattle.std.specs.Prelude.{◌≡◌, ℕ, Bool, true, false, List, [], ◌∷◌, map}
+use Rattle.std.specs.Prelude.{◌≡◌, ℕ, true, List, [], ◌∷◌, map}
 use Rattle.hir_input.specs.declared.edition.EditionYear.{EditionYear}
 use Rattle.hir_input.specs.declared.ids.FileAstId.{FileAstId}
 use Rattle.hir_input.specs.Bodies.{without_bodies}
 use Rattle.hir_input.specs.Syntax.{ItemView, ItemViews, SyntaxView, source_file, items_from, syntax_view}
 use Rattle.rust_cursor.specs.Tokens.{Tokens, tokens_of}
 use Rattle.rust_metas.specs.Attributes.{inner_attributes}
+use Rattle.rust_metas.specs.Docs.{kept_metas}
 use Rattle.rust_ids.specs.Ids.{AreIds}
+use Rattle.rust_leaves.specs.declared.wanted.Wanted.{Wanted}
+use Rattle.rust_leaves.specs.Clipped.{clipped_list}
 use Rattle.rust_items.specs.declared.log.ItemSpan.{ItemSpan}
 use Rattle.rust_items.specs.declared.log.Problem.{Problem}
 use Rattle.rust_items.specs.declared.log.ProblemKind.TheVariants as problem
@@ -67,22 +70,30 @@ IsFileView edition text file = IsFile edition (with_feeds text) (place_in text) 
 abbrev pub IsSourceFile : EditionYear → List ℕ → SourceFile → Type 0
 IsSourceFile edition text file = IsFileView edition text (file_view file)
 
--- ---- without bodies
+-- ---- with what is wanted
 
 -- what was read, without the texts of bodies
 abbrev pub bare_file : FileView → FileView
 bare_file file = record { syntax = without_bodies file.syntax; places = file.places; use_trees = file.use_trees; problems = file.problems }
 
--- the same unless they are kept
-abbrev pub clipped_file : Bool → FileView → FileView
-clipped_file true file = file
-clipped_file false file = bare_file file
+-- the syntax of a file, with what is wanted of it (no other is read of a text)
+abbrev pub clipped_syntax : Wanted → SyntaxView → SyntaxView
+clipped_syntax w (source_file attrs is) = source_file (kept_metas w.docs attrs) (clipped_list w is)
+clipped_syntax w s = s
 
--- what is read of a text without returns, with the texts of bodies or without
-pub record IsClipped (keeps : Bool) (edition : EditionYear) (text : List ℕ) (place : ℕ → ℕ) (file : FileView) : Type 0 where
+-- what was read, with what is wanted of it
+abbrev pub clipped_file : Wanted → FileView → FileView
+clipped_file w file = record { syntax = clipped_syntax w file.syntax; places = file.places; use_trees = file.use_trees; problems = file.problems }
+
+-- what is read of a text without returns, with what is wanted of it
+pub record IsClipped (w : Wanted) (edition : EditionYear) (text : List ℕ) (place : ℕ → ℕ) (file : FileView) : Type 0 where
   pub read : FileView
   pub is_read : IsFile edition text place read
-  pub clipped : file ≡ clipped_file keeps read
+  pub clipped : file ≡ clipped_file w read
+
+-- what is read of a text of an edition, with what is wanted of it
+abbrev pub IsClippedFile : Wanted → EditionYear → List ℕ → FileView → Type 0
+IsClippedFile w edition text file = IsClipped w edition (with_feeds text) (place_in text) file
 
 -- what is read of a text of an edition, without the texts of bodies
 pub record IsBareFile (edition : EditionYear) (text : List ℕ) (file : FileView) : Type 0 where

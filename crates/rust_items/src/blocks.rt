@@ -21,7 +21,7 @@ use hir_input::ast::{BlockExpr, Item, MacroCall, Stmt, Tail};
 use hir_input::{AstIdKind, EditionYear, Meta};
 use rust_cursor::Cursor;
 use rust_ids::assign;
-use rust_leaves::{Call, front_behind, is_item, pass_statement, statement_call};
+use rust_leaves::{Call, Wanted, front_behind, is_item, pass_statement, statement_call};
 use rust_metas::{inner_attributes, outer_attributes};
 use rust_paths::TextRange;
 use std::alloc::{AllocError, Global};
@@ -169,7 +169,7 @@ fn take_called<'t>(
     }
 }
 
-#[tactic(auto, using(crate::proofs::Clipped::kept_whole))]
+#[tactic(auto, using(crate::proofs::Clipped::behind_front_whole))]
 fn take_item<'t>(
     alloc: Global,
     cursor: &mut Cursor<'t>,
@@ -182,7 +182,11 @@ fn take_item<'t>(
         (log_view log.new) cursor.new }
 {
     let front = front_behind(alloc, cursor, start, attrs)?;
-    let item = behind_front(alloc, cursor, true, MOST_DEPTH, front, log)?;
+    let wanted = Wanted {
+        bodies: true,
+        docs: true,
+    };
+    let item = behind_front(alloc, cursor, wanted, MOST_DEPTH, front, log)?;
     Ok(item_part(item))
 }
 

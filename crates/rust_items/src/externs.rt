@@ -3,7 +3,7 @@
 ghost use Rattle.std.specs.Prelude.{◌≡◌, ◌++◌, ◌+◌, ◌<◌, IfOk, OnOk, map, false, [], option_map, option_to_list};
 ghost use Rattle.hir_input.specs.Attr.{meta_view};
 ghost use Rattle.hir_input.specs.Syntax.{item_view, extern_item_view, extern_block_from};
-ghost use Rattle.rust_leaves.specs.Clipped.{clipped_item, with_value};
+ghost use Rattle.rust_leaves.specs.Clipped.{wanted_item, with_value};
 ghost use Rattle.rust_leaves.specs.Kinds.{node};
 ghost use Rattle.rust_leaves.specs.Leaves.{no_name};
 ghost use Rattle.rust_leaves.specs.Views.{leaf_view};
@@ -17,8 +17,8 @@ use crate::turn::{Extent, push_item};
 use hir_input::ast::{ExternBlock, ExternItem, Item};
 use hir_input::{AstIdKind, Meta};
 use rust_cursor::Cursor;
-use rust_leaves::{Front, Leaf, joined, pass_others, take_front, take_leaf};
-use rust_metas::inner_attributes;
+use rust_leaves::{Front, Leaf, Wanted, joined, pass_others, take_leaf, wanted_front};
+use rust_metas::kept_inner_attributes;
 use std::alloc::{AllocError, Global};
 
 /// What stands in the braces of an extern block.
@@ -94,18 +94,18 @@ fn kept<'t>(
 fn extern_by<'t>(
     alloc: Global,
     cursor: &mut Cursor<'t>,
-    keeps_bodies: bool,
+    wanted: Wanted,
     depth: usize,
     log: &mut Log<'t>,
 ) -> Result<Option<ExternItem>, AllocError>
     ensures { Finds (option_map extern_item_view)
-        (with_value (clipped_item_if keeps_bodies)
+        (with_value (clipped_item_if wanted)
         (spec.extern_by depth (log_view log.old) cursor.old)) result
         (log_view log.new) cursor.new }
 {
-    let front = take_front(alloc, cursor)?;
+    let front = wanted_front(alloc, cursor, wanted)?;
     let start = front.start;
-    match take_leaf(alloc, cursor, keeps_bodies, front)? {
+    match take_leaf(alloc, cursor, wanted, front)? {
         Some(leaf) => {
             let end = cursor.past();
             kept(leaf, depth, start, end, log)
@@ -123,12 +123,12 @@ fn extern_by<'t>(
 fn extern_turn<'t>(
     alloc: Global,
     cursor: &mut Cursor<'t>,
-    keeps_bodies: bool,
+    wanted: Wanted,
     depth: usize,
     log: &mut Log<'t>,
 ) -> Result<Option<ExternItem>, AllocError>
     ensures { Finds (option_map extern_item_view)
-        (with_value (clipped_item_if keeps_bodies)
+        (with_value (clipped_item_if wanted)
         (spec.extern_turn depth (log_view log.old) cursor.old)) result
         (log_view log.new) cursor.new }
 {
@@ -137,7 +137,7 @@ fn extern_turn<'t>(
         cursor.bump();
         return Ok(None);
     }
-    extern_by(alloc, cursor, keeps_bodies, depth, log)
+    extern_by(alloc, cursor, wanted, depth, log)
 }
 
 fn push_some(items: &mut Vec<ExternItem>, item: Option<ExternItem>) -> Result<(), AllocError>
@@ -158,12 +158,12 @@ fn push_some(items: &mut Vec<ExternItem>, item: Option<ExternItem>) -> Result<()
 fn extern_items<'t>(
     alloc: Global,
     cursor: &mut Cursor<'t>,
-    keeps_bodies: bool,
+    wanted: Wanted,
     depth: usize,
     log: &mut Log<'t>,
 ) -> Result<Vec<ExternItem>, AllocError>
     ensures { Finds (λ v. map extern_item_view v.items)
-        (spec.finding (spec.is_list_end false) (clipped_turn keeps_bodies (spec.extern_turn depth))
+        (spec.finding (spec.is_list_end false) (clipped_turn wanted (spec.extern_turn depth))
         (log_view log.old) cursor.old) result (log_view log.new) cursor.new }
 {
     let mut items = Vec::new(alloc);
@@ -173,7 +173,7 @@ fn extern_items<'t>(
             return Ok(items);
         }
         let past = cursor.past();
-        let item = extern_turn(alloc, cursor, keeps_bodies, depth, log)?;
+        let item = extern_turn(alloc, cursor, wanted, depth, log)?;
         push_some(&mut items, item)?;
         cursor.pass_beyond(past);
     }
@@ -185,12 +185,12 @@ fn extern_items<'t>(
 fn extern_inside<'t>(
     alloc: Global,
     cursor: &mut Cursor<'t>,
-    keeps_bodies: bool,
+    wanted: Wanted,
     depth: usize,
     log: &mut Log<'t>,
 ) -> Result<ExternInside, AllocError>
     ensures { Finds extern_inside_view
-        (with_value (clipped_block keeps_bodies)
+        (with_value (clipped_block wanted)
         (spec.extern_inside depth (log_view log.old) cursor.old)) result
         (log_view log.new) cursor.new }
 {
@@ -202,8 +202,8 @@ fn extern_inside<'t>(
         });
     }
     cursor.bump();
-    let attrs = inner_attributes(alloc, cursor)?;
-    let items = extern_items(alloc, cursor, keeps_bodies, depth, log)?;
+    let attrs = kept_inner_attributes(alloc, cursor, wanted.docs)?;
+    let items = extern_items(alloc, cursor, wanted, depth, log)?;
     let is_ended = cursor.eat(b'}');
     Ok(ExternInside {
         attrs,
@@ -256,20 +256,20 @@ fn push_block<'t>(
 pub(crate) fn extern_block<'t>(
     alloc: Global,
     cursor: &mut Cursor<'t>,
-    keeps_bodies: bool,
+    wanted: Wanted,
     depth: usize,
     front: Front,
     log: &mut Log<'t>,
 ) -> Result<Item, AllocError>
     requires { depth < 129 }
     ensures { Finds item_view
-        (with_value (clipped_item keeps_bodies)
-        (spec.extern_block depth front.start (map meta_view front.attrs.items)
-        (log_view log.old) cursor.old)) result (log_view log.new) cursor.new }
+        (with_value (wanted_item wanted (map meta_view front.attrs.items))
+        (spec.extern_block depth front.start [] (log_view log.old) cursor.old)) result
+        (log_view log.new) cursor.new }
 {
     let mut more = Log::new(alloc);
     let start = front.start;
-    let inside = extern_inside(alloc, cursor, keeps_bodies, depth + 1, &mut more)?;
+    let inside = extern_inside(alloc, cursor, wanted, depth + 1, &mut more)?;
     let end = cursor.past();
     push_block(log, depth, start, end, inside.is_ended, more)?;
     block_item(alloc, front, inside)

@@ -3,11 +3,11 @@
 ghost use Rattle.std.specs.Prelude.{◌≡◌, ◌++◌, IfOk, OnOk, map, option_map, option_to_list, []};
 ghost use Rattle.hir_input.specs.Attr.{meta_view};
 ghost use Rattle.hir_input.specs.Syntax.{item_view, module_from};
-ghost use Rattle.rust_items.specs.Clipped.{clipped_block, clipped_item_if, clipped_turn};
+ghost use Rattle.rust_items.specs.Clipped.{clipped_block, clipped_item_if, clipped_turn, wanted_behind};
 ghost use Rattle.rust_items.specs.Found.{Finds, log_view};
 ghost use Rattle.rust_items.specs.Items as spec;
 ghost use Rattle.rust_items.specs.Views.{inside_view};
-ghost use Rattle.rust_leaves.specs.Clipped.{clipped_item, with_value};
+ghost use Rattle.rust_leaves.specs.Clipped.{unattributed, wanted_item, with_value};
 ghost use Rattle.rust_leaves.specs.Kinds.{named_node};
 ghost use Rattle.rust_leaves.specs.Views.{front_view, name_view};
 
@@ -17,8 +17,8 @@ use crate::turn::{Extent, leaf_turn, push_item};
 use hir_input::ast::{Item, Module};
 use hir_input::{AstIdKind, Meta, Name};
 use rust_cursor::Cursor;
-use rust_leaves::{Front, Head, Named, item_name, joined, take_front};
-use rust_metas::inner_attributes;
+use rust_leaves::{Front, Head, Named, Wanted, item_name, joined, wanted_front};
+use rust_metas::kept_inner_attributes;
 use std::alloc::{AllocError, Global};
 
 /// How deep modules may stand in one another.
@@ -118,12 +118,12 @@ fn module_item(
 fn module_inside<'t>(
     alloc: Global,
     cursor: &mut Cursor<'t>,
-    keeps_bodies: bool,
+    wanted: Wanted,
     left: usize,
     log: &mut Log<'t>,
 ) -> Result<Inside, AllocError>
     ensures { Finds inside_view
-        (with_value (clipped_block keeps_bodies) (spec.inside left (log_view log.old) cursor.old))
+        (with_value (clipped_block wanted) (spec.inside left (log_view log.old) cursor.old))
         result (log_view log.new) cursor.new }
 {
     if cursor.symbol() != b'{' {
@@ -135,8 +135,8 @@ fn module_inside<'t>(
         return Ok(no_inside(alloc, true));
     }
     cursor.bump();
-    let attrs = inner_attributes(alloc, cursor)?;
-    let items = items(alloc, cursor, keeps_bodies, false, left - 1, log)?;
+    let attrs = kept_inner_attributes(alloc, cursor, wanted.docs)?;
+    let items = items(alloc, cursor, wanted, false, left - 1, log)?;
     let is_ended = cursor.eat(b'}');
     Ok(Inside {
         attrs,
@@ -150,20 +150,20 @@ fn module_inside<'t>(
 fn inside_unless<'t>(
     alloc: Global,
     cursor: &mut Cursor<'t>,
-    keeps_bodies: bool,
+    wanted: Wanted,
     semicolon: bool,
     left: usize,
     log: &mut Log<'t>,
 ) -> Result<Inside, AllocError>
     ensures { Finds inside_view
-        (with_value (clipped_block keeps_bodies)
+        (with_value (clipped_block wanted)
         (spec.inside_unless semicolon (spec.inside left) (log_view log.old) cursor.old)) result
         (log_view log.new) cursor.new }
 {
     if semicolon {
         return Ok(no_inside(alloc, false));
     }
-    module_inside(alloc, cursor, keeps_bodies, left, log)
+    module_inside(alloc, cursor, wanted, left, log)
 }
 
 /// Takes a module, behind `mod`.
@@ -172,20 +172,20 @@ fn inside_unless<'t>(
 fn module<'t>(
     alloc: Global,
     cursor: &mut Cursor<'t>,
-    keeps_bodies: bool,
+    wanted: Wanted,
     left: usize,
     front: Front,
     log: &mut Log<'t>,
 ) -> Result<Item, AllocError>
     ensures { Finds item_view
-        (with_value (clipped_item keeps_bodies)
-        (spec.module_at left (front_view front) (log_view log.old) cursor.old)) result
-        (log_view log.new) cursor.new }
+        (with_value (wanted_item wanted (map meta_view front.attrs.items))
+        (spec.module_at left (unattributed (front_view front)) (log_view log.old) cursor.old))
+        result (log_view log.new) cursor.new }
 {
     let named = item_name(alloc, cursor)?;
     let semicolon = cursor.eat(b';');
     let mut more = Log::new(alloc);
-    let inside = inside_unless(alloc, cursor, keeps_bodies, semicolon, left, &mut more)?;
+    let inside = inside_unless(alloc, cursor, wanted, semicolon, left, &mut more)?;
     let end = cursor.past();
     let is_ended = semicolon || inside.is_ended;
     push_module(
@@ -206,26 +206,25 @@ fn module<'t>(
 pub(crate) fn behind_front<'t>(
     alloc: Global,
     cursor: &mut Cursor<'t>,
-    keeps_bodies: bool,
+    wanted: Wanted,
     left: usize,
     front: Front,
     log: &mut Log<'t>,
 ) -> Result<Option<Item>, AllocError>
     ensures { Finds (option_map item_view)
-        (with_value (clipped_item_if keeps_bodies)
-        (spec.behind_front left (front_view front) (log_view log.old) cursor.old)) result
-        (log_view log.new) cursor.new }
+        (wanted_behind wanted (spec.behind_front left) (front_view front)
+        (log_view log.old) cursor.old) result (log_view log.new) cursor.new }
 {
     match front.head {
         Head::Module => {
-            let item = module(alloc, cursor, keeps_bodies, left, front, log)?;
+            let item = module(alloc, cursor, wanted, left, front, log)?;
             Ok(Some(item))
         }
         Head::ExternBlock => {
-            let item = extern_block(alloc, cursor, keeps_bodies, depth_of(left), front, log)?;
+            let item = extern_block(alloc, cursor, wanted, depth_of(left), front, log)?;
             Ok(Some(item))
         }
-        _ => leaf_turn(alloc, cursor, keeps_bodies, depth_of(left), front, log),
+        _ => leaf_turn(alloc, cursor, wanted, depth_of(left), front, log),
     }
 }
 
@@ -235,12 +234,12 @@ pub(crate) fn behind_front<'t>(
 fn turn<'t>(
     alloc: Global,
     cursor: &mut Cursor<'t>,
-    keeps_bodies: bool,
+    wanted: Wanted,
     left: usize,
     log: &mut Log<'t>,
 ) -> Result<Option<Item>, AllocError>
     ensures { Finds (option_map item_view)
-        (with_value (clipped_item_if keeps_bodies)
+        (with_value (clipped_item_if wanted)
         (spec.turn left (log_view log.old) cursor.old)) result (log_view log.new) cursor.new }
 {
     if cursor.is_at_end() {
@@ -248,8 +247,8 @@ fn turn<'t>(
         cursor.bump();
         return Ok(None);
     }
-    let front = take_front(alloc, cursor)?;
-    behind_front(alloc, cursor, keeps_bodies, left, front, log)
+    let front = wanted_front(alloc, cursor, wanted)?;
+    behind_front(alloc, cursor, wanted, left, front, log)
 }
 
 /// The items of a file, or of a module.
@@ -258,13 +257,13 @@ fn turn<'t>(
 pub(crate) fn items<'t>(
     alloc: Global,
     cursor: &mut Cursor<'t>,
-    keeps_bodies: bool,
+    wanted: Wanted,
     is_top: bool,
     left: usize,
     log: &mut Log<'t>,
 ) -> Result<Vec<Item>, AllocError>
     ensures { Finds (λ v. map item_view v.items)
-        (spec.finding (spec.is_list_end is_top) (clipped_turn keeps_bodies (spec.turn left))
+        (spec.finding (spec.is_list_end is_top) (clipped_turn wanted (spec.turn left))
         (log_view log.old) cursor.old) result
         (log_view log.new) cursor.new }
 {
@@ -275,7 +274,7 @@ pub(crate) fn items<'t>(
             return Ok(items);
         }
         let past = cursor.past();
-        let item = turn(alloc, cursor, keeps_bodies, left, log)?;
+        let item = turn(alloc, cursor, wanted, left, log)?;
         push_some(&mut items, item)?;
         cursor.pass_beyond(past);
     }

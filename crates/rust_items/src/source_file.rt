@@ -19,7 +19,8 @@ use hir_input::ast::{Item, Syntax};
 use hir_input::{EditionYear, FileAstId, Meta};
 use rust_cursor::Cursor;
 use rust_ids::assign;
-use rust_metas::inner_attributes;
+use rust_leaves::Wanted;
+use rust_metas::kept_inner_attributes;
 use rust_paths::TextRange;
 use std::alloc::{AllocError, Global};
 
@@ -96,14 +97,14 @@ pub(crate) struct Reading {
 fn top_items<'t>(
     alloc: Global,
     cursor: &mut Cursor<'t>,
-    keeps_bodies: bool,
+    wanted: Wanted,
     log: &mut Log<'t>,
 ) -> Result<Vec<Item>, AllocError>
     ensures { Finds (λ v. map item_view v.items)
-        (with_value (clipped_items keeps_bodies)
+        (with_value (clipped_items wanted)
         (found.items true 128 (log_view log.old) cursor.old)) result (log_view log.new) cursor.new }
 {
-    items(alloc, cursor, keeps_bodies, true, MOST_DEPTH, log)
+    items(alloc, cursor, wanted, true, MOST_DEPTH, log)
 }
 
 /// What is read of a text of an edition with line feeds alone.
@@ -111,17 +112,17 @@ fn top_items<'t>(
 fn reading_of(
     alloc: Global,
     text: &str,
-    keeps_bodies: bool,
+    wanted: Wanted,
     edition: EditionYear,
     ends: &LineEnds,
 ) -> Result<Reading, AllocError>
-    ensures { IfOk result (λ read. spec.IsClipped keeps_bodies edition text.now
+    ensures { IfOk result (λ read. spec.IsClipped wanted edition text.now
         (place_by ends.now.len ends.now.returns.items) (reading_file read)) }
 {
     let mut cursor = Cursor::new(text, edition);
-    let attrs = inner_attributes(alloc, &mut cursor)?;
+    let attrs = kept_inner_attributes(alloc, &mut cursor, wanted.docs)?;
     let mut log = Log::new(alloc);
-    let items = top_items(alloc, &mut cursor, keeps_bodies, &mut log)?;
+    let items = top_items(alloc, &mut cursor, wanted, &mut log)?;
     log.push_problem_at(ProblemKind::Unterminated, cursor.unended())?;
     let ids = assign(alloc, &log.rows)?;
     let places = places(alloc, &ids, &log.spans, ends)?;
@@ -142,18 +143,17 @@ fn reading_of(
 fn read_text(
     alloc: Global,
     text: &str,
-    keeps_bodies: bool,
+    wanted: Wanted,
     edition: EditionYear,
 ) -> Result<Reading, AllocError>
-    ensures { IfOk result (λ read. spec.IsClipped keeps_bodies edition (with_feeds text.now)
-        (place_in text.now) (reading_file read)) }
+    ensures { IfOk result (λ read. spec.IsClippedFile wanted edition text.now (reading_file read)) }
 {
     if !has_return(text) {
         let ends = LineEnds::none(alloc, text);
-        return reading_of(alloc, text, keeps_bodies, edition, &ends);
+        return reading_of(alloc, text, wanted, edition, &ends);
     }
     let (feeds, ends) = with_feeds(alloc, text)?;
-    reading_of(alloc, &feeds, keeps_bodies, edition, &ends)
+    reading_of(alloc, &feeds, wanted, edition, &ends)
 }
 
 fn file_of(reading: Reading) -> SourceFile
@@ -170,19 +170,15 @@ fn file_of(reading: Reading) -> SourceFile
     }
 }
 
-#[tactic(auto, using(crate::proofs::BareFiles::file_seen))]
-fn read_file(alloc: Global, text: &str, edition: EditionYear) -> Result<SourceFile, AllocError>
-    ensures { IfOk result (λ file. spec.IsSourceFile edition text.now file) }
+fn read_file(
+    alloc: Global,
+    text: &str,
+    wanted: Wanted,
+    edition: EditionYear,
+) -> Result<SourceFile, AllocError>
+    ensures { IfOk result (λ file. spec.IsClippedFile wanted edition text.now (spec.file_view file)) }
 {
-    let reading = read_text(alloc, text, true, edition)?;
-    Ok(file_of(reading))
-}
-
-#[tactic(auto, using(crate::proofs::BareFiles::bare_seen))]
-fn read_bare(alloc: Global, text: &str, edition: EditionYear) -> Result<SourceFile, AllocError>
-    ensures { IfOk result (λ file. spec.IsBareFile edition text.now (spec.file_view file)) }
-{
-    let reading = read_text(alloc, text, false, edition)?;
+    let reading = read_text(alloc, text, wanted, edition)?;
     Ok(file_of(reading))
 }
 
@@ -194,7 +190,7 @@ fn read_bare(alloc: Global, text: &str, edition: EditionYear) -> Result<SourceFi
 /// # Errors
 ///
 /// Only if memory runs out.
-#[tactic(auto, using(crate::proofs::FilePlaces::file_placed, crate::proofs::FilePlaces::file_distinct))]
+#[tactic(auto, using(crate::proofs::BareFiles::file_seen))]
 pub fn read_source_file(
     alloc: Global,
     text: &str,
@@ -206,7 +202,11 @@ pub fn read_source_file(
     ensures distinct { length text.now ≤ 2 ^ 32
         → IfOk result (λ file. AllPairs (λ p q. p.id ≢ q.id) file.places.items) }
 {
-    read_file(alloc, text, edition)
+    let wanted = Wanted {
+        bodies: true,
+        docs: true,
+    };
+    read_wanted(alloc, text, wanted, edition)
 }
 
 /// Reads the items of a text as `read_source_file` does, but leaves the texts of all bodies empty.
@@ -214,7 +214,7 @@ pub fn read_source_file(
 /// # Errors
 ///
 /// Only if memory runs out.
-#[tactic(auto, using(crate::proofs::BareFiles::bare_placed, crate::proofs::BareFiles::bare_distinct))]
+#[tactic(auto, using(crate::proofs::BareFiles::bare_seen))]
 pub fn read_without_bodies(
     alloc: Global,
     text: &str,
@@ -226,5 +226,31 @@ pub fn read_without_bodies(
     ensures distinct { length text.now ≤ 2 ^ 32
         → IfOk result (λ file. AllPairs (λ p q. p.id ≢ q.id) file.places.items) }
 {
-    read_bare(alloc, text, edition)
+    let wanted = Wanted {
+        bodies: false,
+        docs: true,
+    };
+    read_wanted(alloc, text, wanted, edition)
+}
+
+/// Reads the items of a text as `read_source_file` does, but leaves out what is not wanted.
+///
+/// # Errors
+///
+/// Only if memory runs out.
+#[tactic(auto, using(crate::proofs::BareFiles::clipped_placed, crate::proofs::BareFiles::clipped_distinct))]
+pub fn read_wanted(
+    alloc: Global,
+    text: &str,
+    wanted: Wanted,
+    edition: EditionYear,
+) -> Result<SourceFile, AllocError>
+    ensures file { IfOk result (λ file. spec.IsClippedFile wanted edition text.now
+        (spec.file_view file)) }
+    ensures placed { IfOk result (λ file. let items = items_of (syntax_view file.syntax) in
+        ArePlaces (IsWritten text.now) 0 (length text.now) items file.places.items []) }
+    ensures distinct { length text.now ≤ 2 ^ 32
+        → IfOk result (λ file. AllPairs (λ p q. p.id ≢ q.id) file.places.items) }
+{
+    read_file(alloc, text, wanted, edition)
 }

@@ -2,9 +2,8 @@
 
 ghost use Rattle.std.specs.Prelude.{◌≡◌, IfOk, OnOk, option_map};
 ghost use Rattle.hir_input.specs.Syntax.{item_view};
-ghost use Rattle.rust_leaves.specs.Clipped.{with_value};
 ghost use Rattle.rust_leaves.specs.Views.{front_view, leaf_view};
-ghost use Rattle.rust_items.specs.Clipped.{clipped_item_if};
+ghost use Rattle.rust_items.specs.Clipped.{wanted_behind};
 ghost use Rattle.rust_items.specs.Found.{Finds, and_problem_at, log_view};
 ghost use Rattle.rust_items.specs.Items as spec;
 
@@ -13,7 +12,7 @@ use hir_input::AstIdKind;
 use hir_input::ast::Item;
 use rust_cursor::Cursor;
 use rust_ids::Node;
-use rust_leaves::{Front, Leaf, pass_others, take_leaf};
+use rust_leaves::{Front, Leaf, Wanted, pass_others, take_leaf};
 use rust_paths::{TextRange, TreeStarts};
 use std::alloc::{AllocError, Global};
 
@@ -130,18 +129,17 @@ fn kept<'t>(
 pub(crate) fn leaf_turn<'t>(
     alloc: Global,
     cursor: &mut Cursor<'t>,
-    keeps_bodies: bool,
+    wanted: Wanted,
     depth: usize,
     front: Front,
     log: &mut Log<'t>,
 ) -> Result<Option<Item>, AllocError>
     ensures { Finds (option_map item_view)
-        (with_value (clipped_item_if keeps_bodies)
-        (spec.leaf_turn depth (front_view front) (log_view log.old) cursor.old)) result
-        (log_view log.new) cursor.new }
+        (wanted_behind wanted (spec.leaf_turn depth) (front_view front)
+        (log_view log.old) cursor.old) result (log_view log.new) cursor.new }
 {
     let start = front.start;
-    match take_leaf(alloc, cursor, keeps_bodies, front)? {
+    match take_leaf(alloc, cursor, wanted, front)? {
         Some(leaf) => {
             let end = cursor.past();
             kept(leaf, depth, start, end, log)

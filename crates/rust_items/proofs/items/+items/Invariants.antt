@@ -25,5 +25,5 @@ decreases-items l = 6 * l.left + 5
 
 abbrev pub invariant-items-loop-turn : goal.invariant-items-loop-turn
 invariant-items-loop-turn l =
-    finding_from (is_list_end l.is_top) (clipped_turn l.keeps_bodies (turn l.left)) (l.most - l._turn) (map item_view l.items.items) (log_view l.log) l.cursor
-    ≡ finding (is_list_end l.is_top) (clipped_turn l.keeps_bodies (turn l.left)) (log_view l.fn.log) l.fn.cursor
+    finding_from (is_list_end l.is_top) (clipped_turn l.wanted (turn l.left)) (l.most - l._turn) (map item_view l.items.items) (log_view l.log) l.cursor
+    ≡ finding (is_list_end l.is_top) (clipped_turn l.wanted (turn l.left)) (log_view l.fn.log) l.fn.cursor

@@ -10,7 +10,7 @@ returns-then-not-has_return c =
     let feeds : text ≡ with_feeds text = search rules in
     let len : ends.len ≡ length (with_feeds text) = search rules in
     let returns : ends.returns.items ≡ returns_from 0 text = search rules in
-    same_reading c.args.keeps_bodies c.args.edition text text ends.len ends.returns.items c.reading_of.result feeds len returns c.reading_of.ensures
+    same_reading c.args.wanted c.args.edition text text ends.len ends.returns.items c.reading_of.result feeds len returns c.reading_of.ensures
 
 pub returns : goal.returns
 returns c =
@@ -19,4 +19,4 @@ returns c =
     let feeds : c.deref.result.now ≡ with_feeds text = search rules in
     let len : ends.len ≡ length (with_feeds text) = search rules in
     let returns : ends.returns.items ≡ returns_from 0 text = search rules in
-    same_reading c.args.keeps_bodies c.args.edition text c.deref.result.now ends.len ends.returns.items c.reading_of-2.result feeds len returns c.reading_of-2.ensures
+    same_reading c.args.wanted c.args.edition text c.deref.result.now ends.len ends.returns.items c.reading_of-2.result feeds len returns c.reading_of-2.ensures

@@ -1,9 +1,8 @@
 use Rattle.std.proofs.Common.{rules, ◌≡◌, Some, option_map, sym, ap, ◌∙◌}
 use Rattle.hir_input.specs.Syntax.{item_view}
-use Rattle.rust_leaves.specs.Clipped.{clipped_leaf_if, with_value}
-use Rattle.rust_leaves.specs.Kinds.{leaf}
+use Rattle.rust_leaves.specs.Clipped.{leaf_behind}
 use Rattle.rust_leaves.specs.Views.{front_view, leaf_view}
-use Rattle.rust_items.specs.Clipped.{clipped_item_if}
+use Rattle.rust_items.specs.Clipped.{wanted_behind}
 use Rattle.rust_items.specs.Found.{log_view}
 use Rattle.rust_items.specs.Items.{and_rest, leaf_found, leaf_kept, leaf_turn}
 use Rattle.rust_items.proofs.Clipped.{leaf_turn_clipped, finds_by}
@@ -15,9 +14,9 @@ returns-in-Some c =
     let log = log_view c.args.log.now in
     let read = leaf_view c.in-Some.leaf in
     let rest = c.take_leaf.new.cursor in
-    let taken : with_value (clipped_leaf_if c.args.keeps_bodies) (leaf front c.args.cursor.now) ≡ (Some read, rest) = search rules in
-    finds_by (option_map item_view) c.kept.result (leaf_kept c.args.depth front.start c.past-end.result read log) (with_value (clipped_item_if c.args.keeps_bodies) (leaf_turn c.args.depth front log c.args.cursor.now)) (log_view c.kept.new.log) rest
-    (leaf_turn_clipped c.args.keeps_bodies c.args.depth front log c.args.cursor.now
+    let taken : leaf_behind c.args.wanted front c.args.cursor.now ≡ (Some read, rest) = search rules in
+    finds_by (option_map item_view) c.kept.result (leaf_kept c.args.depth front.start c.past-end.result read log) (wanted_behind c.args.wanted (leaf_turn c.args.depth) front log c.args.cursor.now) (log_view c.kept.new.log) rest
+    (leaf_turn_clipped c.args.wanted c.args.depth front log c.args.cursor.now
     ∙ ap (λ l. leaf_found c.args.depth front.start l.0 log l.1) taken
     ∙ ap (λ n. and_rest (leaf_kept c.args.depth front.start n read log) rest) (sym c.past-end.ensures))
     c.kept.ensures
