@@ -1,15 +1,18 @@
--- What a member is does not stand in body texts.
-use Rattle.std.proofs.Common.{◌≡◌, ℕ, false, Option, Some, None, refl, sym, ap, ◌∙◌}
-use Rattle.hir_input.specs.Bodies.{item_without_bodies}
+-- What a member is stands neither in documentation nor in body texts.
+use Rattle.std.proofs.Common.{◌≡◌, ℕ, Option, Some, None, refl, sym, ap, ◌∙◌}
 use Rattle.hir_input.specs.Syntax.{ItemView, plain_item, fn_kind, union_kind, enum_kind, trait_kind, macro_def_kind, type_alias_kind, static_kind, const_item, struct_item, bare_module, listed_module, use_item, extern_crate, bare_extern_block, listed_extern_block, impl_item, macro_call, macro_rules, asm_item}
 use Rattle.rust_cursor.specs.Tokens.{Tokens}
-use Rattle.rust_leaves.specs.Clipped.{with_value, clipped_item, clipped_leaf, clipped_leaf_if}
+use Rattle.rust_metas.specs.Docs.{kept_metas}
+use Rattle.rust_leaves.specs.Clipped.{with_value, clipped_front, clipped_item, clipped_leaf, clipped_leaf_if, leaf_behind}
 use Rattle.rust_leaves.specs.Fronts.{FrontRead}
 use Rattle.rust_leaves.specs.Kinds.{leaf}
 use Rattle.rust_leaves.specs.Leaves.{LeafRead}
+use Rattle.rust_leaves.proofs.Clipped.{leaf_front}
+use Rattle.rust_items.proofs.Bare.{bare}
 use Rattle.rust_members.specs.Parts.{Told, told_of, kept, leaf_kept, behind_front}
 
-told_bare : (i : ItemView) → told_of (item_without_bodies i) ≡ told_of i
+told_bare : (i : ItemView) → told_of (clipped_item bare i) ≡ told_of i
+unfolding kept_metas
 told_bare (plain_item fn_kind n) = refl
 told_bare (plain_item union_kind n) = refl
 told_bare (plain_item enum_kind n) = refl
@@ -30,16 +33,16 @@ told_bare (macro_call c) = refl
 told_bare (macro_rules n name) = refl
 told_bare (asm_item n) = refl
 
-kept_bare : (start end : ℕ) (l : LeafRead) (t : Option Told) → kept start end (clipped_leaf false l) t ≡ kept start end l t
+kept_bare : (start end : ℕ) (l : LeafRead) (t : Option Told) → kept start end (clipped_leaf bare l) t ≡ kept start end l t
 unfolding clipped_leaf
 kept_bare start end l None = refl
 kept_bare start end l (Some t) = refl
 
-leaf_bare : (start : ℕ) (l : Option LeafRead) (ts : Tokens) → leaf_kept start l ts ≡ leaf_kept start (clipped_leaf_if false l) ts
-unfolding clipped_leaf_if clipped_leaf clipped_item
+leaf_bare : (start : ℕ) (l : Option LeafRead) (ts : Tokens) → leaf_kept start l ts ≡ leaf_kept start (clipped_leaf_if bare l) ts
+unfolding clipped_leaf_if clipped_leaf
 leaf_bare start None ts = refl
-leaf_bare start (Some l) ts = ap (λ m. (m, ts)) (sym (kept_bare start ts.past l (told_of (item_without_bodies l.item)) ∙ ap (kept start ts.past l) (told_bare l.item)))
+leaf_bare start (Some l) ts = ap (λ m. (m, ts)) (sym (kept_bare start ts.past l (told_of (clipped_item bare l.item)) ∙ ap (kept start ts.past l) (told_bare l.item)))
 
-pub behind_front_bare : (h : FrontRead) (ts : Tokens) → behind_front h ts ≡ (let r = with_value (clipped_leaf_if false) (leaf h ts) in leaf_kept h.start r.0 r.1)
-unfolding with_value
-behind_front_bare h ts = leaf_bare h.start (leaf h ts).0 (leaf h ts).1
+pub behind_front_bare : (h : FrontRead) (ts : Tokens) → behind_front h ts ≡ (let r = leaf_behind bare h ts in leaf_kept h.start r.0 r.1)
+unfolding with_value clipped_front kept_metas
+behind_front_bare h ts = leaf_bare h.start (leaf h ts).0 (leaf h ts).1 ∙ ap (λ r. leaf_kept h.start r.0 r.1) (leaf_front bare h ts)

@@ -11,7 +11,7 @@ use crate::member::{Member, MemberKind};
 use hir_input::Meta;
 use hir_input::ast::{Item, MacroCall, NamedNode, Visibility};
 use rust_cursor::Cursor;
-use rust_leaves::{Front, Leaf, pass_others, take_front, take_leaf};
+use rust_leaves::{Front, Leaf, Wanted, pass_others, take_front, take_leaf};
 use rust_paths::TextRange;
 use std::alloc::{AllocError, Global};
 
@@ -97,7 +97,11 @@ fn behind_front(
         (spec.behind_front (front_view front) cursor.old) result cursor.new }
 {
     let start = front.start;
-    match take_leaf(alloc, cursor, false, front)? {
+    let wanted = Wanted {
+        bodies: false,
+        docs: true,
+    };
+    match take_leaf(alloc, cursor, wanted, front)? {
         Some(leaf) => {
             let end = cursor.past();
             Ok(kept(leaf, start, end))
