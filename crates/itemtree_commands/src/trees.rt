@@ -1,14 +1,15 @@
 //! The item tree of a Rust text, with the places of its items.
 
-ghost use Rattle.std.specs.Prelude.{◌≡◌, ◌≢◌, ◌≤◌, ◌^◌, false, length, AllPairs, IfOk, IfErr, OnOk};
+ghost use Rattle.std.specs.Prelude.{◌≡◌, ◌≢◌, ◌≤◌, ◌^◌, codes, false, length, AllPairs, IfOk, IfErr, OnOk};
+ghost use Rattle.hir_input.specs.Name.{is_among};
 ghost use Rattle.hir_input.specs.Syntax.{syntax_view};
 ghost use Rattle.item_tree.specs.Lowered.{IsTooLargeIn, kept_in};
-ghost use Rattle.rust_items.specs.SourceFiles.{IsBareFile, IsSourceFile, file_view};
-ghost use Rattle.itemtree_commands.specs.Trees.{HasOwnIds, IsRefused, IsTreeOf, IsUnread};
+ghost use Rattle.rust_items.specs.SourceFiles.{IsClippedFile, IsSourceFile, file_view};
+ghost use Rattle.itemtree_commands.specs.Trees.{HasOwnIds, IsRefused, IsTreeOf, IsUnread, wanted_under};
 
 use hir_input::{EditionYear, Name};
 use item_tree::{CrateData, ItemTree, LowerError, lower_syntax};
-use rust_items::{ItemPlace, Problem, SourceFile, read_source_file, read_without_bodies};
+use rust_items::{ItemPlace, Problem, SourceFile, Wanted, read_source_file, read_wanted};
 use std::alloc::{AllocError, Global};
 use thiserror::Error;
 
@@ -104,9 +105,22 @@ pub fn source_file(
     Ok(file)
 }
 
-/// Reads a text of an edition, but no body texts.
-fn bare_source(alloc: Global, text: &str, edition: EditionYear) -> Result<SourceFile, SourceError>
-    ensures file { IfOk result (λ file. IsBareFile edition text.now (file_view file)) }
+/// Whether documentation is left out.
+fn skips_docs(skipped: &[Name]) -> bool
+    ensures { result ≡ is_among skipped.now (codes "doc") }
+{
+    skipped.iter().any(|name| name.text() == "doc")
+}
+
+/// Reads a text of an edition: no body texts, and documentation only where it is not left out.
+fn bare_source(
+    alloc: Global,
+    text: &str,
+    edition: EditionYear,
+    skipped: &[Name],
+) -> Result<SourceFile, SourceError>
+    ensures file { IfOk result (λ file. IsClippedFile (wanted_under skipped.now) edition text.now
+        (file_view file)) }
     ensures ids { IfOk result (λ file. AllPairs (λ p q. p.id ≢ q.id) file.places.items) }
     ensures short { OnOk result (length text.now ≤ 2 ^ 32) }
     ensures refused { IfErr result (IsUnread text.now) }
@@ -114,7 +128,11 @@ fn bare_source(alloc: Global, text: &str, edition: EditionYear) -> Result<Source
     if text.len() > MOST_BYTES {
         return Err(SourceError::TooLong);
     }
-    let file = read_without_bodies(alloc, text, edition)?;
+    let wanted = Wanted {
+        bodies: false,
+        docs: !skips_docs(skipped),
+    };
+    let file = read_wanted(alloc, text, wanted, edition)?;
     Ok(file)
 }
 
@@ -137,7 +155,7 @@ pub fn source_tree(
     ensures short { OnOk result (length text.now ≤ 2 ^ 32) }
     ensures refused { IfErr result (IsRefused krate.now skipped.now edition text.now) }
 {
-    let file = bare_source(alloc, text, edition)?;
+    let file = bare_source(alloc, text, edition, skipped)?;
     let tree = tree_of(alloc, file, krate, skipped)?;
     Ok(tree)
 }
