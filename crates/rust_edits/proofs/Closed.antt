@@ -1,58 +1,76 @@
 -- What was found to stand alone in braces does.
-use Rattle.std.proofs.Common.{◌≡◌, ◌≤◌, ◌+◌, ◌-◌, ◌==◌, ℕ, zero, suc, true, false, Option, Some, None, List, [], ◌∷◌, ◌++◌, length, IsUtf8, refl, ap, sym, subst, ◌∙◌, arith, length-append}
+use Rattle.std.proofs.Common.{◌≡◌, ◌≤◌, ◌+◌, ◌-◌, ◌==◌, ℕ, zero, suc, true, false, Option, Some, None, List, [], ◌∷◌, ◌++◌, length, map, IsUtf8, refl, ap, sym, subst, ◌∙◌, arith}
 use Rattle.std.specs.Prelude.{nat_le, slice_index}
-use Rattle.std.proofs.lemmas.Bool.{and_parts, eqb-true}
+use Rattle.std.specs.List.{filter}
+use Rattle.std.proofs.lemmas.Bool.{and_parts, eqb-true, false≢true}
 use Rattle.std.proofs.lemmas.Bool.Decides.{nat_tests}
-use Rattle.rust_lexer.specs.Alone.{overhang, front, braces_from, StandsAlone}
+use Rattle.rust_lexer.specs.declared.kind.TokenKind.{TokenKind}
+use Rattle.rust_lexer.specs.declared.kind.TokenKind.TheVariants as kinds
+use Rattle.rust_lexer.specs.Alone.{overhang, front, moved, braces_from, StandsAlone}
 use Rattle.rust_lexer.specs.Bytes.{is_continuation, is_wide_start}
 use Rattle.rust_lexer.specs.Cut.{first_cut}
-use Rattle.rust_lexer.specs.Symbol.{symbol_of}
-use Rattle.rust_lexer.specs.Tokens.{is_significant, piece, tokens, tokens_from, whole}
-use Rattle.rust_lexer.proofs.Whole.{plain_is}
+use Rattle.rust_lexer.specs.Piece.{Piece}
+use Rattle.rust_lexer.specs.Symbol.{symbol_from, symbol_of}
+use Rattle.rust_lexer.specs.Tokens.{is_nil, is_significant, piece, tokens, tokens_from, whole}
+use Rattle.rust_lexer.proofs.Whole.{OpensAt, plain_is, close_of, close_symbol, left_of, front_of, counted_apart}
+use Rattle.rust_cursor.specs.Words.{rest}
 use Rattle.rust_cursor.proofs.Leads.{when}
 use Rattle.rust_items.specs.LineEnds.{with_feeds}
 use Rattle.rust_edits.specs.Typing.Laws.{first_plain, BeginsPlain}
 use Rattle.rust_edits.specs.Typing.Loose.{Loose, none_loose, loose_behind, loose_from, loose_in}
+use Rattle.rust_edits.specs.Inner.{in_braces, closes_last, begins_plain, is_alone, loose_inside}
 use Rattle.rust_edits.proofs.Typing.Full.{feeds_full, feeds_lead}
 use Rattle.rust_edits.proofs.Typing.Returns.{feeds_body}
-use Rattle.rust_edits.specs.Inner.{in_braces, closes_at, begins_plain, is_alone, loose_inside}
+use Rattle.rust_edits.proofs.Typing.Texts.{body_plain}
 use Rattle.rust_edits.proofs.Steps.{both_true}
 
--- a text before a `}` at this place, which closes braces that are open so many deep: its braces match, and none of its tokens takes the `}`
-inside : (last d left at from : ℕ) (x : List ℕ) → at + length x ≡ last → 1 ≤ d → closes_at last d (tokens_from left at (x ++ 125 ∷ [])) ≡ true
+-- a `}` takes no byte of a `}` behind it
+close_whole : (x : List ℕ) → whole (first_cut 125 (x ++ 125 ∷ [])) (x ++ 125 ∷ []) ≤ length x
+unfolding first_cut is_wide_start
+close_whole [] = omega arith
+close_whole (b ∷ x) = let more = close_whole x in when (is_continuation b) (λ e. rw e (omega arith)) (λ e. rw e (omega arith))
+
+close_few : (b : ℕ) (x : List ℕ) → (b == 125) ≡ true → whole (first_cut b (x ++ 125 ∷ [])) (x ++ 125 ∷ []) ≤ length x
+close_few b x e = rw (eqb-true b 125 e) (close_whole x)
+
+close_byte : (k : TokenKind) (b : ℕ) → (symbol_from k b == 125) ≡ true → (b == 125) ≡ true
+close_byte kinds.OpenDelim b e = e
+close_byte kinds.CloseDelim b e = e
+close_byte kinds.Punct b e = e
+close_byte _ b e = absurd cc
+
+some_left : (left at : ℕ) (x : List ℕ) → left ≤ length x → is_nil (tokens_from left at (x ++ 125 ∷ [])) ≡ false
+some_left zero at [] h = refl
+some_left (suc left) at [] h = absurd (omega arith)
+some_left zero at (b ∷ x) h = refl
+some_left (suc left) at (b ∷ x) h = some_left left (suc at) x (omega arith)
+
+-- a text before a `}` that is the last token, and closes braces that are open so many deep: its braces match, and none of its tokens takes the `}`
+inside : (d left at from : ℕ) (x : List ℕ) → 1 ≤ d → closes_last d (tokens_from left at (x ++ 125 ∷ [])) ≡ true
     → (overhang left x (125 ∷ []) ≡ 0) × (braces_from (d - 1) (front left from x (125 ∷ [])) ≡ Some 0)
 unfolding first_cut is_wide_start
-inside last d zero at from [] h some e =
+inside d zero at from [] some e =
     when (nat_le d 1) (λ z. let one : d - 1 ≡ 0 = grind (arith, nat_tests) in (refl, ap (λ (k : ℕ). Some k) one)) (λ z. absurd (let no : false ≡ true = rw z at e in cc))
-inside last d (suc left) at from [] h some e = absurd cc
-inside last d (suc left) at from (b ∷ x) h some e = inside last d left (suc at) (suc from) x (omega (arith, h)) some e
-inside last d zero at from (b ∷ x) h some e =
+inside d (suc left) at from [] some e = absurd cc
+inside d (suc left) at from (b ∷ x) some e = inside d left (suc at) (suc from) x some e
+inside d zero at from (b ∷ x) some e =
     let z = x ++ 125 ∷ [] in
     let n = whole (first_cut b z) z in
     let t = piece (first_cut b z) at b z in
     let fs = front n (suc from) x (125 ∷ []) in
-    let next : suc at + length x ≡ last = omega (arith, h) in
     when (symbol_of t == 123)
-    (λ o. let r = inside last (d + 1) n (suc at) (suc from) x next (omega arith) (rw o at e) in
+    (λ o. let r = inside (d + 1) n (suc at) (suc from) x (omega arith) (rw o at e) in
     let deeper : suc (d - 1) ≡ d + 1 - 1 = omega arith in
     (r.0, rw o (ap (λ (k : ℕ). braces_from k fs) deeper ∙ r.1)))
     (λ o. when (symbol_of t == 125)
     (λ c. when (nat_le d 1)
-    (λ l. let here : (at == last) ≡ true = rw (o, c, l) at e in let same : at ≡ last = eqb-true at last here in absurd (omega (arith, h, same)))
+    (λ l. let last : is_nil (tokens_from n (suc at) z) ≡ true = rw (o, c, l) at e in
+    absurd (false≢true (sym (some_left n (suc at) x (close_few b x (close_byte (first_cut b z).kind b c))) ∙ last)))
     (λ l. let more : 1 ≤ d - 1 = grind (arith, nat_tests) in
     let left_open : (d - 1 == 0) ≡ false = grind (arith, nat_tests) in
-    let r = inside last (d - 1) n (suc at) (suc from) x next more (rw (o, c, l) at e) in
+    let r = inside (d - 1) n (suc at) (suc from) x more (rw (o, c, l) at e) in
     (r.0, rw (o, c, left_open) r.1)))
-    (λ c. let r = inside last d n (suc at) (suc from) x next some (rw (o, c) at e) in (r.0, rw (o, c) r.1)))
-
--- and it begins with no inner attribute
-plain_inside : (left at from : ℕ) (x w : List ℕ) → first_plain (tokens_from left at (x ++ w)) ≡ true → first_plain (front left from x w) ≡ true
-plain_inside left at from [] w e = refl
-plain_inside (suc left) at from (b ∷ x) w e = plain_inside left (suc at) (suc from) x w e
-plain_inside zero at from (b ∷ x) w e =
-    let z = x ++ w in
-    let t = piece (first_cut b z) at b z in
-    when (is_significant t) (λ s. let one = rw s at e in rw s one) (λ s. let more = rw s at e in rw s (plain_inside (whole (first_cut b z) z) (suc at) (suc from) x w more))
+    (λ c. let r = inside d n (suc at) (suc from) x some (rw (o, c) at e) in (r.0, rw (o, c) r.1)))
 
 -- and the other way round
 same_some : (m n : ℕ) → ◌≡◌ {A = Option ℕ} (Some m) (Some n) → m ≡ n
@@ -64,44 +82,32 @@ still_open d e = grind (arith, nat_tests)
 not_last : (d : ℕ) → (d - 1 == 0) ≡ false → nat_le d 1 ≡ false
 not_last d e = grind (arith, nat_tests)
 
-outside : (last d left at from : ℕ) (x : List ℕ) → at + length x ≡ last → 1 ≤ d → overhang left x (125 ∷ []) ≡ 0 → braces_from (d - 1) (front left from x (125 ∷ [])) ≡ Some 0
-    → closes_at last d (tokens_from left at (x ++ 125 ∷ [])) ≡ true
+outside : (d left at from : ℕ) (x : List ℕ) → 1 ≤ d → overhang left x (125 ∷ []) ≡ 0 → braces_from (d - 1) (front left from x (125 ∷ [])) ≡ Some 0
+    → closes_last d (tokens_from left at (x ++ 125 ∷ [])) ≡ true
 unfolding first_cut is_wide_start
-outside last d zero at from [] h some o e =
+outside d zero at from [] some o e =
     let none = same_some (d - 1) 0 e in
     let one : nat_le d 1 ≡ true = grind (arith, nat_tests) in
-    let here : (at == last) ≡ true = grind (arith, nat_tests) in
-    rw (one, here) refl
-outside last d (suc left) at from [] h some o e = absurd cc
-outside last d (suc left) at from (b ∷ x) h some o e = outside last d left (suc at) (suc from) x (omega (arith, h)) some o e
-outside last d zero at from (b ∷ x) h some o e =
+    rw one refl
+outside d (suc left) at from [] some o e = absurd cc
+outside d (suc left) at from (b ∷ x) some o e = outside d left (suc at) (suc from) x some o e
+outside d zero at from (b ∷ x) some o e =
     let z = x ++ 125 ∷ [] in
     let n = whole (first_cut b z) z in
     let t = piece (first_cut b z) at b z in
     let fs = front n (suc from) x (125 ∷ []) in
-    let next : suc at + length x ≡ last = omega (arith, h) in
     when (symbol_of t == 123)
     (λ i. let inner : braces_from (suc (d - 1)) fs ≡ Some 0 = rw i at e in
     let deeper : d + 1 - 1 ≡ suc (d - 1) = omega arith in
-    rw i (outside last (d + 1) n (suc at) (suc from) x next (omega arith) o (ap (λ (k : ℕ). braces_from k fs) deeper ∙ inner)))
+    rw i (outside (d + 1) n (suc at) (suc from) x (omega arith) o (ap (λ (k : ℕ). braces_from k fs) deeper ∙ inner)))
     (λ i. when (symbol_of t == 125)
     (λ j. when (d - 1 == 0)
     (λ k. let no : ◌≡◌ {A = Option ℕ} None (Some 0) = rw (i, j, k) at e in absurd cc)
     (λ k. let inner : braces_from (d - 1 - 1) fs ≡ Some 0 = rw (i, j, k) at e in
     let more = still_open d k in
     let l : nat_le d 1 ≡ false = not_last d k in
-    rw (i, j, l) (outside last (d - 1) n (suc at) (suc from) x next more o inner)))
-    (λ j. let inner : braces_from (d - 1) fs ≡ Some 0 = rw (i, j) at e in rw (i, j) (outside last d n (suc at) (suc from) x next some o inner)))
-
-plain_outside : (left at from : ℕ) (x : List ℕ) → overhang left x (125 ∷ []) ≡ 0 → first_plain (front left from x (125 ∷ [])) ≡ true → first_plain (tokens_from left at (x ++ 125 ∷ [])) ≡ true
-unfolding first_cut is_wide_start
-plain_outside zero at from [] o e = refl
-plain_outside (suc left) at from [] o e = absurd cc
-plain_outside (suc left) at from (b ∷ x) o e = plain_outside left (suc at) (suc from) x o e
-plain_outside zero at from (b ∷ x) o e =
-    let z = x ++ 125 ∷ [] in
-    let t = piece (first_cut b z) at b z in
-    when (is_significant t) (λ s. let one = rw s at e in rw s one) (λ s. let more = rw s at e in rw s (plain_outside (whole (first_cut b z) z) (suc at) (suc from) x o more))
+    rw (i, j, l) (outside (d - 1) n (suc at) (suc from) x more o inner)))
+    (λ j. let inner : braces_from (d - 1) fs ≡ Some 0 = rw (i, j) at e in rw (i, j) (outside d n (suc at) (suc from) x some o inner)))
 
 brace_tokens : (z : List ℕ) → tokens (123 ∷ z) ≡ tokens_from 0 0 (123 ∷ z)
 unfolding first_cut is_wide_start
@@ -112,17 +118,21 @@ unfolding first_cut is_wide_start
 brace_whole [] w e = refl
 brace_whole (b ∷ x) w e = rw e refl
 
-closes_behind : (last : ℕ) (z : List ℕ) → closes_at last 0 (tokens_from 0 0 (123 ∷ z)) ≡ closes_at last 1 (tokens_from (whole (first_cut 123 z) z) 1 z)
+closes_behind : (z : List ℕ) → closes_last 0 (tokens_from 0 0 (123 ∷ z)) ≡ closes_last 1 (tokens_from (whole (first_cut 123 z) z) 1 z)
 unfolding first_cut is_wide_start
-closes_behind last z = refl
+closes_behind z = refl
 
-plain_behind : (z : List ℕ) → begins_plain (tokens_from 0 0 (123 ∷ z)) ≡ first_plain (tokens_from (whole (first_cut 123 z) z) 1 z)
-unfolding first_cut is_wide_start
-plain_behind z = refl
+-- a text that stands alone begins in braces as it does by itself
+plain_same : (x : List ℕ) → StandsAlone x → begins_plain (tokens (in_braces x)) ≡ first_plain (filter is_significant (front 0 0 x (125 ∷ [])))
+unfolding front_of first_cut is_wide_start
+plain_same x h =
+    let opens : OpensAt [] (x ++ 125 ∷ []) = record { full = refl; one = refl; plain = refl; bare = refl; unfenced = refl } in
+    ap (λ l. first_plain (rest l)) (counted_apart [] x x [] opens h h)
+    ∙ body_plain 0 x (moved (1 + length x) (close_of [])) (map (moved (1 + length x)) (left_of [])) (close_symbol [])
 
 -- what was found of a text in braces
 pub alone_is : (m : List ℕ) → IsUtf8 m → is_alone (with_feeds (in_braces m)) ≡ true → StandsAlone (with_feeds m) × BeginsPlain (with_feeds m)
-alone_is m u e = (record { full = feeds_full m u; begins = lead; ends = matched.0; matched = matched.1 }, plain_inside 0 1 0 x (125 ∷ []) plain)
+alone_is m u e = (alone, sym (plain_same x alone) ∙ parts.0)
   where
     x : List ℕ
     x = with_feeds m
@@ -130,33 +140,22 @@ alone_is m u e = (record { full = feeds_full m u; begins = lead; ends = matched.
     z : List ℕ
     z = with_feeds m ++ 125 ∷ []
 
-    lead : is_continuation (slice_index x 0) ≡ false
-    lead = feeds_lead m u
+    parts : (begins_plain (tokens (123 ∷ z)) ≡ true) × (closes_last 0 (tokens (123 ∷ z)) ≡ true)
+    parts = and_parts (begins_plain (tokens (123 ∷ z))) (closes_last 0 (tokens (123 ∷ z))) (subst (λ (w : List ℕ). is_alone w ≡ true) (feeds_body [] m []) e)
 
-    none : whole (first_cut 123 z) z ≡ 0
-    none = brace_whole (with_feeds m) [] lead
-
-    tests : is_alone (123 ∷ z) ≡ true
-    tests = subst (λ (w : List ℕ). is_alone w ≡ true) (feeds_body [] m []) e
-
-    parts : (closes_at (length (123 ∷ z) - 1) 0 (tokens (123 ∷ z)) ≡ true) × (begins_plain (tokens (123 ∷ z)) ≡ true)
-    parts = and_parts (closes_at (length (123 ∷ z) - 1) 0 (tokens (123 ∷ z))) (begins_plain (tokens (123 ∷ z))) tests
-
-    closed : closes_at (length (123 ∷ z) - 1) 1 (tokens_from 0 1 z) ≡ true
-    closed = ap (λ n. closes_at (length (123 ∷ z) - 1) 1 (tokens_from n 1 z)) (sym none) ∙ sym (closes_behind (length (123 ∷ z) - 1) z) ∙ ap (λ ts. closes_at (length (123 ∷ z) - 1) 0 ts) (sym (brace_tokens z)) ∙ parts.0
-
-    plain : first_plain (tokens_from 0 1 z) ≡ true
-    plain = ap (λ n. first_plain (tokens_from n 1 z)) (sym none) ∙ ap begins_plain (sym (brace_tokens z)) ∙ parts.1
-
-    last : 1 + length x ≡ length (123 ∷ z) - 1
-    last = let long = length-append (with_feeds m) (125 ∷ []) in omega (arith, long)
+    closed : closes_last 1 (tokens_from 0 1 z) ≡ true
+    closed = ap (λ n. closes_last 1 (tokens_from n 1 z)) (sym (brace_whole x [] (feeds_lead m u))) ∙ sym (closes_behind z) ∙ ap (closes_last 0) (sym (brace_tokens z)) ∙ parts.1
 
     matched : (overhang 0 x (125 ∷ []) ≡ 0) × (braces_from 0 (front 0 0 x (125 ∷ [])) ≡ Some 0)
-    matched = inside (length (123 ∷ z) - 1) 1 0 1 0 x last (omega arith) closed
+    matched = inside 1 0 1 0 x (omega arith) closed
+
+    alone : StandsAlone x
+    alone = record { full = feeds_full m u; begins = feeds_lead m u; ends = matched.0; matched = matched.1 }
 
 -- and what may stand in a body is found so
 pub is_found : (m : List ℕ) → StandsAlone (with_feeds m) × BeginsPlain (with_feeds m) → is_alone (with_feeds (in_braces m)) ≡ true
-is_found m h = subst (λ (w : List ℕ). is_alone w ≡ true) (sym (feeds_body [] m [])) (both_true (closes_at (length (123 ∷ z) - 1) 0 (tokens (123 ∷ z))) (begins_plain (tokens (123 ∷ z))) closed plain)
+is_found m h =
+    subst (λ (w : List ℕ). is_alone w ≡ true) (sym (feeds_body [] m [])) (both_true (begins_plain (tokens (123 ∷ z))) (closes_last 0 (tokens (123 ∷ z))) (plain_same x h.0 ∙ h.1) closed)
   where
     x : List ℕ
     x = with_feeds m
@@ -164,22 +163,15 @@ is_found m h = subst (λ (w : List ℕ). is_alone w ≡ true) (sym (feeds_body [
     z : List ℕ
     z = with_feeds m ++ 125 ∷ []
 
-    none : whole (first_cut 123 z) z ≡ 0
-    none = brace_whole (with_feeds m) [] h.0.begins
-
-    last : 1 + length x ≡ length (123 ∷ z) - 1
-    last = let long = length-append (with_feeds m) (125 ∷ []) in omega (arith, long)
-
-    inner : closes_at (length (123 ∷ z) - 1) 1 (tokens_from 0 1 z) ≡ true
-    inner = outside (length (123 ∷ z) - 1) 1 0 1 0 x last (omega arith) h.0.ends h.0.matched
-
-    closed : closes_at (length (123 ∷ z) - 1) 0 (tokens (123 ∷ z)) ≡ true
-    closed = ap (λ ts. closes_at (length (123 ∷ z) - 1) 0 ts) (brace_tokens z) ∙ closes_behind (length (123 ∷ z) - 1) z ∙ ap (λ n. closes_at (length (123 ∷ z) - 1) 1 (tokens_from n 1 z)) none ∙ inner
-
-    plain : begins_plain (tokens (123 ∷ z)) ≡ true
-    plain = ap begins_plain (brace_tokens z) ∙ plain_behind z ∙ ap (λ n. first_plain (tokens_from n 1 z)) none ∙ plain_outside 0 1 0 x h.0.ends h.1
+    closed : closes_last 0 (tokens (123 ∷ z)) ≡ true
+    closed = ap (closes_last 0) (brace_tokens z) ∙ closes_behind z ∙ ap (λ n. closes_last 1 (tokens_from n 1 z)) (brace_whole x [] h.0.begins) ∙ outside 1 0 1 0 x (omega arith) h.0.ends h.0.matched
 
 -- ---- loose brackets
+
+-- none stand behind the last token
+pub none_behind : (l : Loose) (ts : List Piece) → is_nil ts ≡ true → loose_from l ts ≡ l
+none_behind l [] e = refl
+none_behind l (t ∷ ts) e = absurd cc
 
 loose_outside : (l : Loose) (left at from : ℕ) (x : List ℕ) → overhang left x (125 ∷ []) ≡ 0 → loose_from l (tokens_from left at (x ++ 125 ∷ [])) ≡ loose_from l (front left from x (125 ∷ []))
 unfolding first_cut is_wide_start

@@ -1,8 +1,10 @@
 -- For the crate's own functions.
-use Rattle.std.specs.Prelude.{◌≡◌, ◌<◌, ℕ, suc, ◌+◌, ◌-◌, ◌^◌, Bool, true, false, ◌==◌, ◌&&◌, nat_le, if◌then◌else◌, List, [], ◌∷◌, ◌++◌, length, IsUtf8}
+use Rattle.std.specs.Prelude.{◌≡◌, ◌<◌, ℕ, suc, ◌+◌, ◌-◌, ◌^◌, Bool, false, ◌==◌, ◌&&◌, nat_le, if◌then◌else◌, List, [], ◌∷◌, ◌++◌, length, IsUtf8}
+use Rattle.std.specs.List.{filter}
 use Rattle.rust_lexer.specs.Piece.{Piece}
 use Rattle.rust_lexer.specs.Symbol.{symbol_of}
-use Rattle.rust_lexer.specs.Tokens.{tokens}
+use Rattle.rust_lexer.specs.Tokens.{is_nil, is_significant, tokens}
+use Rattle.rust_cursor.specs.Words.{rest}
 use Rattle.rust_paths.specs.declared.names.TextRange.{TextRange}
 use Rattle.rust_edits.specs.Typing.Laws.{first_plain}
 use Rattle.rust_edits.specs.Typing.Loose.{Loose, none_loose, loose_from}
@@ -15,21 +17,20 @@ use Rattle.rust_edits.specs.Edits.{ArePartsAbout}
 abbrev pub in_braces : List ℕ → List ℕ
 in_braces m = 123 ∷ (m ++ 125 ∷ [])
 
--- the braces that are open so many deep before these tokens are closed by a `}` at this place, and no sooner
-abbrev pub closes_at : ℕ → ℕ → List Piece → Bool
-closes_at last depth [] = false
-closes_at last depth (t ∷ ts) =
-    if symbol_of t == 123 then closes_at last (depth + 1) ts
-    else (if symbol_of t == 125 then (if nat_le depth 1 then t.at == last else closes_at last (depth - 1) ts) else closes_at last depth ts)
+-- the braces that are open so many deep before these tokens are closed by the last of them, and no sooner
+abbrev pub closes_last : ℕ → List Piece → Bool
+closes_last depth [] = false
+closes_last depth (t ∷ ts) =
+    if symbol_of t == 123 then closes_last (depth + 1) ts
+    else (if symbol_of t == 125 then (if nat_le depth 1 then is_nil ts else closes_last (depth - 1) ts) else closes_last depth ts)
 
 -- no inner attribute stands behind the first token
 abbrev pub begins_plain : List Piece → Bool
-begins_plain [] = true
-begins_plain (t ∷ ts) = first_plain ts
+begins_plain ts = first_plain (rest (filter is_significant ts))
 
--- the braces of a text with braces around it stand alone, and it begins with no inner attribute
+-- a text with braces around it begins with no inner attribute, and its braces stand alone
 abbrev pub is_alone : List ℕ → Bool
-is_alone w = closes_at (length w - 1) 0 (tokens w) && begins_plain (tokens w)
+is_alone w = begins_plain (tokens w) && closes_last 0 (tokens w)
 
 abbrev pub brackets_view : Brackets → Loose
 brackets_view b = record { closing = b.closing; opening = b.opening }

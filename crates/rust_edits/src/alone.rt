@@ -1,13 +1,17 @@
 //! Whether a text may stand between the braces of a body, whatever stands around them.
 
-ghost use Rattle.std.specs.Prelude.{◌≡◌, ◌++◌, ◌∷◌, [], ◌-◌, IfOk, IfSome, is_some, length, string_bytes};
+ghost use Rattle.std.specs.Prelude.{◌≡◌, ◌++◌, IfOk, IfSome, is_some, string_bytes};
+ghost use Rattle.rust_lexer.specs.declared.kind.DocStyle.TheVariants.{Inner};
 ghost use Rattle.rust_lexer.specs.Tokens.{tokens};
+ghost use Rattle.rust_metas.specs.Attributes.{is_style};
+ghost use Rattle.rust_metas.specs.Literals.{style_by};
 ghost use Rattle.rust_items.specs.LineEnds.{with_feeds};
-ghost use Rattle.rust_edits.specs.Typing.Laws.{is_plain};
 ghost use Rattle.rust_edits.specs.Inner as spec;
 
+use hir_input::EditionYear;
+use rust_cursor::Cursor;
 use rust_items::line_ends::with_feeds;
-use rust_lexer::{DocStyle, Lexer, Token, TokenKind};
+use rust_lexer::{DocStyle, Lexer, TokenKind};
 use std::alloc::{AllocError, Global};
 
 /// Of the brackets `(` and `[` in a text, how many close nothing, and how many stay open.
@@ -25,9 +29,14 @@ impl Brackets {
     }
 }
 
-fn loose_brackets(text: &str) -> Brackets
-    ensures { spec.brackets_view result ≡ spec.loose_inside text.now }
+/// The brackets that are loose in a text, if the braces that it begins with are closed by its last token, and no sooner.
+#[tactic(auto, using(crate::proofs::Closed::none_behind))]
+fn loose_if_closed(text: &str) -> Option<Brackets>
+    ensures closed { is_some result ≡ spec.closes_last 0 (tokens text.now) }
+    ensures loose { IfSome result
+        (λ loose. spec.brackets_view loose ≡ spec.loose_inside text.now) }
 {
+    let mut depth = 0usize;
     let mut loose = Brackets {
         closing: 0,
         opening: 0,
@@ -35,58 +44,50 @@ fn loose_brackets(text: &str) -> Brackets
     let mut lexer = Lexer::new(text);
     'tokens: while let Some(token) = lexer.next() {
         match token.symbol() {
+            b'{' => depth += 1,
+            b'}' if depth > 1 => depth -= 1,
+            b'}' if lexer.is_empty() => return Some(loose),
+            b'}' => return None,
             b'(' | b'[' => loose.opening += 1,
             b')' | b']' if loose.opening == 0 => loose.closing += 1,
             b')' | b']' => loose.opening -= 1,
             _ => (),
         }
     }
-    loose
+    None
 }
 
-/// Whether the braces that a text begins with are closed by its last byte, and no sooner.
-fn is_closed(text: &str) -> bool
-    ensures { result ≡ spec.closes_at (length text.now - 1) 0 (tokens text.now) }
+/// Whether a token is inner documentation.
+fn is_inner_doc(kind: Option<TokenKind>) -> bool
+    ensures { result ≡ is_style Inner (style_by kind) }
 {
-    let last = text.len().saturating_sub(1);
-    let mut depth = 0usize;
-    let mut lexer = Lexer::new(text);
-    'tokens: while let Some(token) = lexer.next() {
-        match token.symbol() {
-            b'{' => depth += 1,
-            b'}' if depth <= 1 => return token.at() == last,
-            b'}' => depth -= 1,
-            _ => (),
-        }
-    }
-    false
-}
-
-/// Whether a token is neither a `#` nor inner documentation.
-fn is_plain(token: &Token<'_>) -> bool
-    ensures { result ≡ is_plain token.now }
-{
-    match token.kind() {
-        TokenKind::LineComment(Some(DocStyle::Inner)) => false,
-        TokenKind::BlockComment(Some(DocStyle::Inner)) => false,
-        _ => token.symbol() != b'#',
+    match kind {
+        Some(TokenKind::LineComment(Some(DocStyle::Inner))) => true,
+        Some(TokenKind::BlockComment(Some(DocStyle::Inner))) => true,
+        _ => false,
     }
 }
 
-/// Whether no inner attribute comes next in braces.
+/// Whether no inner attribute stands behind the first token of a text.
+#[tactic(auto, unfolding(rust_cursor::specs::Tokens::tokens_of, rust_cursor::specs::Words::bumped, rust_cursor::specs::Words::kind, rust_cursor::specs::Words::symbol))]
 fn begins_plain(text: &str) -> bool
     ensures { result ≡ spec.begins_plain (tokens text.now) }
 {
-    let mut lexer = Lexer::new(text);
-    let Some(_brace) = lexer.next() else {
-        return true;
-    };
-    'tokens: while let Some(token) = lexer.next() {
-        if token.is_significant() {
-            return is_plain(&token);
-        }
+    // Which edition it is matters to names alone.
+    let mut cursor = Cursor::new(text, EditionYear::E2024);
+    cursor.bump();
+    if is_inner_doc(cursor.kind()) {
+        return false;
     }
-    true
+    if cursor.symbol() != b'#' {
+        return true;
+    }
+    cursor.bump();
+    if cursor.symbol() != b'!' {
+        return true;
+    }
+    cursor.bump();
+    cursor.symbol() != b'['
 }
 
 /// Three texts one behind the other, in braces.
@@ -117,8 +118,8 @@ pub(crate) fn loose_if_alone(
 {
     let text = in_braces(alloc, front, typed, back)?;
     let (feeds, _ends) = with_feeds(alloc, &text)?;
-    if is_closed(&feeds) && begins_plain(&feeds) {
-        return Ok(Some(loose_brackets(&feeds)));
+    if begins_plain(&feeds) {
+        return Ok(loose_if_closed(&feeds));
     }
     Ok(None)
 }

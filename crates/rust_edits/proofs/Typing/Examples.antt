@@ -1,4 +1,4 @@
--- Two small bodies, and a text with the one, by computing.
+-- Three small bodies, and a text with the one, by computing.
 use Rattle.std.proofs.Common.{◌≡◌, ◌<◌, ◌||◌, ℕ, zero, suc, true, false, Option, Some, None, List, [], ◌∷◌, ◌++◌, length, refl, ap, sym, subst, ◌∙◌, arith}
 use Rattle.std.specs.Prelude.{option_to_list}
 use Rattle.hir_input.specs.declared.ast.Visibility.{Visibility}
@@ -47,6 +47,10 @@ one = 32 ∷ 49 ∷ 32 ∷ []
 two : List ℕ
 two = 32 ∷ 34 ∷ 125 ∷ 34 ∷ 32 ∷ 47 ∷ 47 ∷ 32 ∷ 120 ∷ 10 ∷ []
 
+-- ` #[inline] fn x() { }`
+three : List ℕ
+three = 32 ∷ 35 ∷ 91 ∷ 105 ∷ 110 ∷ 108 ∷ 105 ∷ 110 ∷ 101 ∷ 93 ∷ 32 ∷ 102 ∷ 110 ∷ 32 ∷ 120 ∷ 40 ∷ 41 ∷ 32 ∷ 123 ∷ 32 ∷ 125 ∷ []
+
 one_alone : StandsAlone one
 unfolding one first_cut is_wide_start is_wide_continue past_digits
 one_alone = record { full = refl; begins = refl; ends = refl; matched = refl }
@@ -55,6 +59,10 @@ two_alone : StandsAlone two
 unfolding two first_cut is_wide_start is_wide_continue past_digits
 two_alone = record { full = refl; begins = refl; ends = refl; matched = refl }
 
+three_alone : StandsAlone three
+unfolding three first_cut is_wide_start is_wide_continue
+three_alone = record { full = refl; begins = refl; ends = refl; matched = refl }
+
 one_plain : BeginsPlain one
 unfolding one first_cut is_wide_start is_wide_continue past_digits
 one_plain = refl
@@ -62,6 +70,19 @@ one_plain = refl
 two_plain : BeginsPlain two
 unfolding two first_cut is_wide_start is_wide_continue past_digits
 two_plain = refl
+
+three_plain : BeginsPlain three
+unfolding three first_cut is_wide_start is_wide_continue
+three_plain = refl
+
+-- `#!` alone is no attribute, and `#/**/! [` begins one
+hash_plain : BeginsPlain (35 ∷ 33 ∷ [])
+unfolding first_cut is_wide_start
+hash_plain = refl
+
+not_plain : BeginsPlain (35 ∷ 47 ∷ 42 ∷ 42 ∷ 47 ∷ 33 ∷ 32 ∷ 91 ∷ []) → ⊥
+unfolding first_cut is_wide_start
+not_plain e = absurd cc
 
 same_loose : loose_in two ≡ loose_in one
 unfolding one two first_cut is_wide_start is_wide_continue past_digits
@@ -186,3 +207,6 @@ module _ (y : EditionYear) where
 
   typed : IsTyped y header one two []
   typed = record { opens = impl_opens; body = body_is; alone = one_alone; alone_new = two_alone; begins = one_plain; begins_new = two_plain }
+
+  attributed : IsTyped y header one three []
+  attributed = record { opens = impl_opens; body = body_is; alone = one_alone; alone_new = three_alone; begins = one_plain; begins_new = three_plain }

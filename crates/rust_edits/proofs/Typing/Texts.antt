@@ -1,6 +1,5 @@
 -- The tokens of two texts that differ between two braces.
-use Rattle.std.proofs.Common.{◌≡◌, ◌≤◌, ◌<◌, ℕ, arith, Bool, true, false, suc, ◌+◌, ◌==◌, ◌&&◌, ◌||◌, Option, Some, List, [], ◌∷◌, ◌++◌, length, refl, ap, sym, subst, ◌∙◌, map}
-use Rattle.std.specs.Prelude.{not}
+use Rattle.std.proofs.Common.{◌≡◌, ◌≤◌, ◌<◌, ℕ, arith, true, false, suc, ◌+◌, Option, Some, List, [], ◌∷◌, ◌++◌, length, refl, ap, sym, subst, ◌∙◌, map}
 use Rattle.std.specs.List.{filter}
 use Rattle.hir_input.specs.declared.edition.EditionYear.{EditionYear}
 use Rattle.rust_lexer.specs.declared.kind.DocStyle.TheVariants.{Inner}
@@ -11,7 +10,7 @@ use Rattle.rust_lexer.specs.Piece.{Piece}
 use Rattle.rust_lexer.specs.Symbol.{symbol_from, symbol_of}
 use Rattle.rust_lexer.specs.Tokens.{is_significant}
 use Rattle.rust_lexer.proofs.Counted.{when}
-use Rattle.rust_lexer.proofs.Whole.{open_at, inside_of, body, body_matched, close_of, close_symbol, left_of, front_of, counted_apart}
+use Rattle.rust_lexer.proofs.Whole.{open_at, inside_of, body, body_matched, close_of, close_symbol, left_of, front_of, counted_apart, filter_moved}
 use Rattle.rust_lexer.proofs.Whole as wholes
 use Rattle.rust_lexer.proofs.Apart.{front_same}
 use Rattle.rust_cursor.specs.Tokens.{Tokens, end_of, tokens_of}
@@ -25,7 +24,7 @@ use Rattle.rust_cursor.proofs.Turns.{turns_stop}
 use Rattle.rust_metas.specs.Attributes.{is_style, is_doc, is_attribute, is_behind, inner_attributes, attributes}
 use Rattle.rust_metas.specs.Literals.{style_by}
 use Rattle.rust_items.proofs.UntilLeaves.{BeginPlain}
-use Rattle.rust_edits.specs.Typing.Laws.{with_body, OpensAt, is_plain, first_plain, BeginsPlain}
+use Rattle.rust_edits.specs.Typing.Laws.{with_body, OpensAt, first_plain, BeginsPlain}
 
 -- ---- the braces
 
@@ -103,19 +102,9 @@ tokens_beside edition q m m' s o h h' =
 
 -- ---- what the body begins with
 
-abbrev plain_list : List Piece → Bool
-plain_list [] = true
-plain_list (t ∷ ts) = is_plain t
-
-neither : (s d r : Bool) → (not s && not d) ≡ true → not (d || (s && r)) ≡ true
-neither true d r e = absurd cc
-neither false true r e = absurd cc
-neither false false r e = refl
-
-plain_behind : (y : EditionYear) (past : ℕ) (l : List Piece) (u : Option ℕ) → plain_list l ≡ true → is_behind Inner (tokens_at y past l u) ≡ true
-unfolding is_behind is_doc is_attribute symbol kind
-plain_behind y past [] u e = refl
-plain_behind y past (t ∷ l) u e = neither (symbol_of t == 35) (is_style Inner (style_by (Some t.kind))) _ e
+plain_behind : (y : EditionYear) (past : ℕ) (l : List Piece) (u : Option ℕ) → first_plain l ≡ true → is_behind Inner (tokens_at y past l u) ≡ true
+unfolding is_behind is_doc is_attribute symbol kind bumped
+plain_behind y past l u e = e
 
 no_attributes : (ts : Tokens) → is_behind Inner ts ≡ true → (inner_attributes ts).0 ≡ []
 unfolding inner_attributes attributes turns
@@ -126,24 +115,31 @@ plain_symbol (kinds.LineComment style) b e = absurd cc
 plain_symbol (kinds.BlockComment style) b e = absurd cc
 plain_symbol _ b e = refl
 
-plain_close : (t : Piece) → symbol_of t ≡ 125 → is_plain t ≡ true
-plain_close t e = let style = plain_symbol t.kind _ e in rw (e, style) refl
+-- a `}` behind them makes no attribute of these, nor does it matter where they stand
+closed_plain : (l : List Piece) (c : Piece) (r : List Piece) → symbol_of c ≡ 125 → first_plain (l ++ c ∷ r) ≡ first_plain l
+closed_plain [] c r e = let style = plain_symbol c.kind _ e in rw (style, e) refl
+closed_plain (t ∷ []) c r e = rw e refl
+closed_plain (t ∷ u ∷ []) c r e = rw e refl
+closed_plain (t ∷ u ∷ v ∷ l) c r e = refl
 
-plain_first : (d : ℕ) (l : List Piece) (c : Piece) (r : List Piece) → is_plain c ≡ true → first_plain l ≡ true → plain_list (filter is_significant (map (moved d) l) ++ c ∷ r) ≡ true
-plain_first d [] c r p e = p
-plain_first d (t ∷ l) c r p e =
-    when (is_significant t) (λ f. let g = rw f at e in rw f g) (λ f. let g = rw f at e in rw f (plain_first d l c r p g))
+moved_plain : (d : ℕ) (l : List Piece) → first_plain (map (moved d) l) ≡ first_plain l
+moved_plain d [] = refl
+moved_plain d (t ∷ []) = refl
+moved_plain d (t ∷ u ∷ []) = refl
+moved_plain d (t ∷ u ∷ v ∷ l) = refl
 
-plain_body : (at : ℕ) (m : List ℕ) (c : Piece) (r : List Piece) → is_plain c ≡ true → BeginsPlain m → plain_list (body at m ++ c ∷ r) ≡ true
+pub body_plain : (at : ℕ) (m : List ℕ) (c : Piece) (r : List Piece) → symbol_of c ≡ 125 → first_plain (body at m ++ c ∷ r) ≡ first_plain (filter is_significant (front 0 0 m (125 ∷ [])))
 unfolding body inside_of
-plain_body at m c r p e = plain_first (suc at) (front 0 0 m (125 ∷ [])) c r p e
+body_plain at m c r e =
+    let ts = front 0 0 m (125 ∷ []) in
+    closed_plain (filter is_significant (map (moved (suc at)) ts)) c r e ∙ ap first_plain (filter_moved (suc at) ts) ∙ moved_plain (suc at) (filter is_significant ts)
 
 plain_inside : (y : EditionYear) (at past d : ℕ) (m s : List ℕ) (r : List Piece) (u : Option ℕ) → BeginsPlain m
     → (inner_attributes (bumped (tokens_at y past (open_at at ∷ (body at m ++ moved d (close_of s) ∷ r)) u))).0 ≡ []
 plain_inside y at past d m s r u e =
-    ap (λ t. (inner_attributes t).0) (bumped_at y past (open_at at) (body at m ++ moved d (close_of s) ∷ r) u)
-    ∙ no_attributes (tokens_at y (end_of (open_at at)) (body at m ++ moved d (close_of s) ∷ r) u)
-    (plain_behind y (end_of (open_at at)) (body at m ++ moved d (close_of s) ∷ r) u (plain_body at m (moved d (close_of s)) r (plain_close (moved d (close_of s)) (close_symbol s)) e))
+    let l = body at m ++ moved d (close_of s) ∷ r in
+    ap (λ t. (inner_attributes t).0) (bumped_at y past (open_at at) l u)
+    ∙ no_attributes (tokens_at y (end_of (open_at at)) l u) (plain_behind y (end_of (open_at at)) l u (body_plain at m (moved d (close_of s)) r (close_symbol s) ∙ e))
 
 pub begin_plain : (edition : EditionYear) (q m m' s : List ℕ) (h : StandsAlone m) (h' : StandsAlone m') → BeginsPlain m → BeginsPlain m' → BeginPlain (bodies edition q m m' s h h')
 unfolding bodies

@@ -1,5 +1,6 @@
 -- The law.
-use Rattle.std.specs.Prelude.{◌≡◌, ℕ, Bool, true, false, not, ◌==◌, ◌&&◌, if◌then◌else◌, Some, List, [], ◌∷◌, ◌++◌, length}
+use Rattle.std.specs.Prelude.{◌≡◌, ℕ, Bool, true, false, not, ◌==◌, ◌&&◌, ◌||◌, Some, None, List, [], ◌∷◌, ◌++◌, length}
+use Rattle.std.specs.List.{filter}
 use Rattle.hir_input.specs.declared.edition.EditionYear.{EditionYear}
 use Rattle.hir_input.specs.Bodies.{without_bodies}
 use Rattle.rust_lexer.specs.declared.kind.DocStyle.TheVariants.{Inner}
@@ -7,6 +8,7 @@ use Rattle.rust_lexer.specs.Alone.{is_fence, is_full, overhang, front, StandsAlo
 use Rattle.rust_lexer.specs.Piece.{Piece}
 use Rattle.rust_lexer.specs.Symbol.{symbol_of}
 use Rattle.rust_lexer.specs.Tokens.{has_mark, is_shebang, is_significant, tokens_from}
+use Rattle.rust_cursor.specs.Words.{by_first, rest}
 use Rattle.rust_metas.specs.Attributes.{is_style}
 use Rattle.rust_metas.specs.Literals.{style_by}
 use Rattle.rust_items.specs.LineEnds.{with_feeds}
@@ -30,18 +32,14 @@ pub record OpensAt (q y : List ℕ) : Type 0 where
 abbrev pub IsBody : EditionYear → List ℕ → List ℕ → List ℕ → Type 0
 IsBody edition q m s = has_body (length q) (found_in edition (with_body q m s)).spans ≡ true
 
--- neither a `#` nor inner documentation
-abbrev pub is_plain : Piece → Bool
-is_plain t = not (symbol_of t == 35) && not (is_style Inner (style_by (Some t.kind)))
-
--- the first of these that counts is neither
+-- neither inner documentation comes next, nor `#![`
 abbrev pub first_plain : List Piece → Bool
-first_plain [] = true
-first_plain (t ∷ ts) = if is_significant t then is_plain t else first_plain ts
+first_plain ts =
+    not (is_style Inner (style_by (by_first None (λ t. Some t.kind) ts)) || (by_first 0 symbol_of ts == 35 && (by_first 0 symbol_of (rest ts) == 33 && by_first 0 symbol_of (rest (rest ts)) == 91)))
 
--- what stands between braces begins with no inner attribute
+-- what stands between braces begins, behind white space and comments, with no inner attribute
 abbrev pub BeginsPlain : List ℕ → Type 0
-BeginsPlain m = first_plain (front 0 0 m (125 ∷ [])) ≡ true
+BeginsPlain m = first_plain (filter is_significant (front 0 0 m (125 ∷ []))) ≡ true
 
 -- a text of which what stands in a body was typed anew
 pub record IsTyped (edition : EditionYear) (q m m' s : List ℕ) : Type 0 where
