@@ -31,8 +31,7 @@ gap_len (g ∷ gs) = blank_len g + gap_len gs
 some_blank : (g : Blank) → 0 < blank_len g
 unfolding blank_len
 some_blank (white b) = omega arith
-some_blank (line z) = omega arith
-some_blank (comment z) = omega arith
+some_blank _ = omega arith
 
 white_front : (b : ℕ) → is_white_byte b ≡ true → is_continuation b ≡ false
 white_front b e = grind (arith, nat_tests)
@@ -40,8 +39,7 @@ white_front b e = grind (arith, nat_tests)
 gap_front : (gs : List Blank) (rest : List ℕ) → AreBlank gs → IsBoundary rest → IsBoundary (gap_before gs rest)
 gap_front [] rest h w = w
 gap_front (white b ∷ gs) rest h w = white_front b h.0
-gap_front (line z ∷ gs) rest h w = refl
-gap_front (comment z ∷ gs) rest h w = refl
+gap_front _ rest h w = refl
 
 blank_step : (at : ℕ) (g : Blank) (rest : List ℕ) → IsBlank g → IsBoundary rest → counted 0 at (blank_before g rest) ≡ counted 0 (at + blank_len g) rest
 unfolding blank_len

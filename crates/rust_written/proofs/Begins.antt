@@ -3,7 +3,7 @@ use Rattle.std.proofs.Common.{◌≡◌, ◌<◌, ◌≤◌, ℕ, ◌+◌, true,
 use Rattle.rust_lexer.specs.Piece.{Piece}
 use Rattle.rust_cursor.specs.Tokens.{Tokens}
 use Rattle.rust_cursor.specs.Words.{opens, closes, documents, identifies, symbol, word, kind, text, at, is_empty, is_at_open, is_at_end, is_at_identifier, is_at_doc, bumped}
-use Rattle.rust_written.specs.Words.{Link, joined, apart, free, Word, IsAt, AreTokens}
+use Rattle.rust_written.specs.Words.{Link, joined, Word, IsAt, AreTokens}
 use Rattle.rust_written.specs.Trees as trees
 
 -- a word comes next
@@ -50,8 +50,7 @@ past_behind (w ∷ ws) ts h = let one = h.0.past in let more = past_behind ws (b
 
 link_past : (l : Link) (past at : ℕ) → IsAt l past at → past ≤ at
 link_past joined past at h = omega arith
-link_past apart past at h = omega arith
-link_past free past at h = omega arith
+link_past _ past at h = omega arith
 
 bumped_left : (ts : Tokens) (t : Piece) (left : List Piece) → ts.left ≡ t ∷ left → (bumped ts).left ≡ left
 unfolding bumped

@@ -2,6 +2,7 @@
 use Rattle.std.proofs.Common.{◌≡◌, ℕ, ◌+◌, ◌-◌, ◌==◌, ◌&&◌, Bool, true, false, [], codes, refl, ap, ◌∙◌}
 use Rattle.std.specs.Prelude.{if◌then◌else◌}
 use Rattle.std.specs.Str.{bytes_eq}
+use Rattle.std.proofs.lemmas.Bool.{or_parts}
 use Rattle.rust_cursor.specs.declared.cursor.nest.Before.{Before}
 use Rattle.rust_cursor.specs.declared.cursor.nest.Before.TheVariants as befores
 use Rattle.rust_cursor.specs.Tokens.{Tokens}
@@ -10,11 +11,11 @@ use Rattle.rust_cursor.specs.Nests.{nest_behind}
 use Rattle.rust_cursor.specs.Nests as nests
 use Rattle.rust_cursor.specs.Extents as extents
 use Rattle.rust_written.specs.Words.{Word}
-use Rattle.rust_written.specs.Trees.{mark, Bracket, round, square, curly, open_of, Tree, single, IsTree, is_joined, is_free}
+use Rattle.rust_written.specs.Trees.{mark, Bracket, round, open_of, single, IsTree, is_joined, is_free}
 use Rattle.rust_written.specs.Trees as trees
 use Rattle.rust_written.proofs.Begins.{Shows}
 use Rattle.rust_written.proofs.Same.{glued_same, arrow_same, before_same, begins_same}
-use Rattle.rust_written.proofs.Nested.{nest, no_first, plain_word, flat_plain}
+use Rattle.rust_written.proofs.Nested.{nest, plain_word, flat_plain}
 
 -- ---- a word that is no bracket
 
@@ -41,20 +42,17 @@ flat_word a before w ts h s c =
 impl_or_const : (ts : Tokens) → trees.is_impl_word (word ts) ≡ false → extents.begins_impl_or_const ts ≡ false
 unfolding extents.begins_impl_or_const
 impl_or_const ts e =
-    let i = no_first (bytes_eq (word ts) (codes "impl")) _ e in
-    let u = no_first (bytes_eq (word ts) (codes "unsafe")) _ i.1 in
+    let i = or_parts (bytes_eq (word ts) (codes "impl")) _ e in
+    let u = or_parts (bytes_eq (word ts) (codes "unsafe")) _ i.1 in
     rw (i.0, u.0, u.1) refl
 
 behind_word : (before : Before) (w : Word) (ts : Tokens) → Shows w ts → trees.may_begin_behind before w ≡ false → extents.begins_behind before ts ≡ false
 behind_word befores.End w ts s e =
-    let i = no_first (trees.symbol_of w == 35) _ e in
+    let i = or_parts (trees.symbol_of w == 35) _ e in
     let no : (symbol ts == 35) ≡ false = ap (λ (c : ℕ). c == 35) s.symbol_is ∙ i.0 in
     rw (no, impl_or_const ts (ap trees.is_impl_word s.word_is ∙ i.1)) refl
 behind_word befores.Angle w ts s e = impl_or_const ts (ap trees.is_impl_word s.word_is ∙ e)
-behind_word befores.Dash w ts s e = refl
-behind_word befores.Mark w ts s e = refl
-behind_word befores.Hash w ts s e = refl
-behind_word befores.Other w ts s e = refl
+behind_word _ w ts s e = refl
 
 pub word_begins : (a : ℕ) (before : Before) (w next : Word) (ts : Tokens) → Shows w ts → Shows next (bumped ts) → trees.begins_item w next ≡ false → trees.may_begin_behind before w ≡ false
     → extents.begins (nest 0 0 0 0 a before) ts ≡ false
@@ -64,10 +62,7 @@ word_begins a before w next ts s n e f = rw (begins_same w next ts s n ∙ e, be
 no_word : (before : Before) (w : Word) → (trees.symbol_of w == 35) ≡ false → trees.text_of w ≡ [] → trees.may_begin_behind before w ≡ false
 no_word befores.End w e t = rw (e, t) refl
 no_word befores.Angle w e t = rw t refl
-no_word befores.Dash w e t = refl
-no_word befores.Mark w e t = refl
-no_word befores.Hash w e t = refl
-no_word befores.Other w e t = refl
+no_word _ w e t = refl
 
 no_item : (w : Word) (ts : Tokens) → Shows w ts → trees.text_of w ≡ [] → extents.begins_item ts ≡ false
 unfolding extents.begins_item
@@ -78,8 +73,7 @@ mark_begins a before w ts s e t = rw (no_item w ts s t, behind_word before w ts 
 
 pub open_begins : (k : Bracket) (a : ℕ) (before : Before) (ts : Tokens) → Shows (open_of k) ts → extents.begins (nest 0 0 0 0 a before) ts ≡ false
 open_begins round a before ts s = mark_begins a before (open_of round) ts s refl refl
-open_begins square a before ts s = mark_begins a before (open_of square) ts s refl refl
-open_begins curly a before ts s = mark_begins a before (open_of curly) ts s refl refl
+open_begins k a before ts s = mark_begins a before (open_of k) ts s refl refl
 
 pub semicolon_begins : (a : ℕ) (before : Before) (ts : Tokens) → Shows (mark 59) ts → extents.begins (nest 0 0 0 0 a before) ts ≡ false
 semicolon_begins a before ts s = mark_begins a before (mark 59) ts s refl refl

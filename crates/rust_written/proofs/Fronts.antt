@@ -4,6 +4,7 @@ use Rattle.std.specs.Prelude.{if◌then◌else◌, map}
 use Rattle.std.proofs.lemmas.Slice.Eq.{bytes_eq-Decides}
 use Rattle.rust_lexer.proofs.Counted.{when}
 use Rattle.std.specs.Str.{bytes_eq}
+use Rattle.std.proofs.lemmas.Bool.{and_right}
 use Rattle.rust_lexer.specs.declared.kind.DocStyle.{DocStyle}
 use Rattle.rust_lexer.specs.declared.kind.TokenKind.{TokenKind}
 use Rattle.rust_lexer.specs.declared.kind.TokenKind.TheVariants as kinds
@@ -30,7 +31,7 @@ use Rattle.rust_written.specs.Trees as trees
 use Rattle.rust_written.proofs.Begins.{Shows, Begins, behind, behind_append, begins_left, begins_right}
 use Rattle.rust_cursor.proofs.Nesting.{shorter}
 use Rattle.rust_written.proofs.Uses.{fewer_left}
-use Rattle.rust_written.specs.Written.{Front, front_words, front_view, modifies, first_modifier, AreModifiers, Scope, unwritten, everywhere, in_crate, in_super, in_self, scope_words, scope_view, BlockKind, functions, unions, enums, traits, block_word, ValueKind, statics, aliases, constants, value_word, IsNamed}
+use Rattle.rust_written.specs.Written.{Front, front_words, front_view, modifies, first_modifier, AreModifiers, Scope, unwritten, everywhere, scope_words, scope_view, BlockKind, functions, unions, enums, traits, block_word, ValueKind, statics, aliases, constants, value_word, IsNamed}
 
 -- ---- no attributes
 
@@ -75,9 +76,7 @@ pub scope_reads : (v : Scope) (w : List ℕ) (more : List Word) (ts : Tokens) �
 unfolding visibility scoped is_in scope scope_of
 scope_reads unwritten w more ts e b = rw (b.0.word_is, e) refl
 scope_reads everywhere w more ts e b = rw (b.0.word_is, b.1.0.symbol_is) refl
-scope_reads in_crate w more ts e b = rw (b.0.word_is, b.1.0.symbol_is, b.1.1.0.word_is, b.1.1.1.0.symbol_is) refl
-scope_reads in_super w more ts e b = rw (b.0.word_is, b.1.0.symbol_is, b.1.1.0.word_is, b.1.1.1.0.symbol_is) refl
-scope_reads in_self w more ts e b = rw (b.0.word_is, b.1.0.symbol_is, b.1.1.0.word_is, b.1.1.1.0.symbol_is) refl
+scope_reads _ w more ts e b = rw (b.0.word_is, b.1.0.symbol_is, b.1.1.0.word_is, b.1.1.1.0.symbol_is) refl
 
 -- ---- modifiers
 
@@ -143,10 +142,7 @@ modified_from (m ∷ ms) w more = (modified ms w more, refl)
 
 scope_first : (v : Scope) (w : List ℕ) (more : List Word) (ts : Tokens) → Begins (scope_words v ++ trees.word w ∷ more) ts → (x : List ℕ) × Shows (trees.word x) ts
 scope_first unwritten w more ts b = (w, b.0)
-scope_first everywhere w more ts b = (codes "pub", b.0)
-scope_first in_crate w more ts b = (codes "pub", b.0)
-scope_first in_super w more ts b = (codes "pub", b.0)
-scope_first in_self w more ts b = (codes "pub", b.0)
+scope_first _ w more ts b = (codes "pub", b.0)
 
 -- behind a visibility stands the first modifier, or the item's word
 scope_begins : (v : Front) (w : List ℕ) (more : List Word) (ts : Tokens) → Begins (front_words v ++ trees.word w ∷ more) ts
@@ -171,10 +167,8 @@ block_head traits = heads.Trait
 
 pub block_heads : (k : BlockKind) (n : List ℕ) (ts : Tokens) → IsNamed n → Shows (trees.word (block_word k)) ts → Shows (trees.word n) (bumped ts) → Heads (block_head k) ts
 unfolding is_modifier is_modifier_before head head_by union_head has_name
-block_heads functions n ts h s m = record { modifier = rw s.word_is refl; head = rw s.word_is refl }
 block_heads unions n ts h s m = record { modifier = rw s.word_is refl; head = rw (s.word_is, m.kind_is, m.text_is, name_in (bumped ts).edition n h.plain) refl }
-block_heads enums n ts h s m = record { modifier = rw s.word_is refl; head = rw s.word_is refl }
-block_heads traits n ts h s m = record { modifier = rw s.word_is refl; head = rw s.word_is refl }
+block_heads _ n ts h s m = record { modifier = rw s.word_is refl; head = rw s.word_is refl }
 
 abbrev pub value_head : ValueKind → Head
 value_head statics = heads.Static
@@ -202,31 +196,20 @@ no_item_word : (w : List ℕ) (rest : Bool) → (if is_item_word w then true els
 no_item_word w rest e = last (bytes_eq w (codes "pub")) (bytes_eq w (codes "mod")) (bytes_eq w (codes "struct")) (bytes_eq w (codes "enum")) (bytes_eq w (codes "trait")) rest e
   where
     last : (a b c d f rest : Bool) → (if a || (b || (c || (d || f))) then true else rest) ≡ false → f ≡ false
-    last true b c d f rest e = absurd cc
-    last false true c d f rest e = absurd cc
-    last false false true d f rest e = absurd cc
-    last false false false true f rest e = absurd cc
-    last false false false false true rest e = absurd cc
     last false false false false false rest e = refl
+    last _ _ _ _ _ rest e = absurd cc
 
 -- what a value begins with is no item
 no_trait : (t : trees.Trees) → trees.GoesOn true t (trees.mark 59) → bytes_eq (trees.text_of (trees.first_of t (trees.mark 59))) (codes "trait") ≡ false
-no_trait trees.no_trees g = refl
 no_trait (trees.tree_and (trees.single w) t) g = no_item_word (trees.text_of w) _ g.2
 no_trait (trees.tree_and (trees.group trees.round is) t) g = refl
-no_trait (trees.tree_and (trees.group trees.square is) t) g = refl
-no_trait (trees.tree_and (trees.group trees.curly is) t) g = refl
-
-and_false : (b : Bool) → (b && false) ≡ false
-and_false true = refl
-and_false false = refl
+no_trait _ g = refl
 
 pub value_heads : (k : ValueKind) (n : List ℕ) (t : trees.Trees) (ts : Tokens) → IsNamed n → trees.GoesOn true t (trees.mark 59) → Shows (trees.word (value_word k)) ts → Shows (trees.word n) (bumped ts)
     → Shows (trees.first_of t (trees.mark 59)) (bumped (bumped ts)) → Heads (value_head k) ts
 unfolding is_modifier is_modifier_before head head_by
-value_heads statics n t ts h g s m f = record { modifier = rw s.word_is refl; head = rw s.word_is refl }
-value_heads aliases n t ts h g s m f = record { modifier = rw s.word_is refl; head = rw s.word_is refl }
-value_heads constants n t ts h g s m f = record { modifier = rw (s.word_is, m.word_is, no_modifier n h, f.word_is, no_trait t g) (and_false (bytes_eq n (codes "auto"))); head = rw s.word_is refl }
+value_heads constants n t ts h g s m f = record { modifier = rw (s.word_is, m.word_is, no_modifier n h, f.word_is, no_trait t g) (and_right (bytes_eq n (codes "auto")) false refl); head = rw s.word_is refl }
+value_heads _ n t ts h g s m f = record { modifier = rw s.word_is refl; head = rw s.word_is refl }
 
 pub struct_heads : (ts : Tokens) → Shows (trees.word (codes "struct")) ts → Heads heads.Struct ts
 unfolding is_modifier is_modifier_before head head_by

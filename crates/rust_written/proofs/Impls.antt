@@ -1,8 +1,8 @@
 -- Generics, the types of fields and the headers of impls are passed over.
 use Rattle.std.proofs.Common.{◌≡◌, ◌<◌, ◌≤◌, ℕ, ◌==◌, ◌||◌, ◌&&◌, Bool, true, false, Option, Some, None, List, [], ◌∷◌, ◌++◌, codes, refl, ap, ◌∙◌, sym, subst, arith, append_assoc}
 use Rattle.std.specs.Prelude.{if◌then◌else◌, not, nat_lt, is_some}
-use Rattle.std.proofs.lemmas.Bool.Decides.{nat_tests}
 use Rattle.std.specs.Str.{bytes_eq}
+use Rattle.std.proofs.lemmas.Bool.{lt-ltb}
 use Rattle.rust_cursor.specs.declared.cursor.generics.Reach.TheVariants as reaches
 use Rattle.rust_cursor.specs.declared.cursor.nest.Before.{Before}
 use Rattle.rust_cursor.specs.declared.cursor.nest.Before.TheVariants as befores
@@ -13,7 +13,7 @@ use Rattle.rust_cursor.specs.Nests.{is_dash, is_mark, nest_behind}
 use Rattle.rust_cursor.specs.Angles.{begins_binder, is_lone_for, is_header_end, is_reached, is_closed, reaching, reached, behind_angles, behind_field, is_trait_impl}
 use Rattle.rust_cursor.proofs.Reaches.{reaching_stop, reaching_end}
 use Rattle.rust_written.specs.Words.{Word}
-use Rattle.rust_written.specs.Trees.{mark, Bracket, round, square, curly, open_of, close_of, Tree, single, group, Trees, no_trees, tree_and, tree_words, trees_words, IsTree, AreTrees, first_of, GoesBehind, GoesOn, AreClosed, angles_behind, angles_behind_all, before_behind, behind_group}
+use Rattle.rust_written.specs.Trees.{mark, Bracket, round, curly, open_of, single, group, Trees, no_trees, tree_and, tree_words, trees_words, AreTrees, first_of, GoesBehind, angles_behind, before_behind, behind_group}
 use Rattle.rust_written.specs.Trees as trees
 use Rattle.rust_written.specs.Impls.{before_behind_all, trees_append, StaysOpen, AreGenerics, generics, is_header_word, HasNoComma, IsFieldType, IsOnePart, IsPart, ImplHeader, trait_part, where_part, type_part, behind_generics, header_trees, HasGenerics, HasTrait, IsImplHeader}
 use Rattle.rust_written.proofs.Begins.{Shows, Begins, behind, behind_append, begins_left, begins_right, past_behind}
@@ -46,8 +46,7 @@ before_angles a b ts end semicolon more = record {
 
 open_no_close : (k : Bracket) (ts : Tokens) → Shows (open_of k) ts → is_at_end ts ≡ false
 open_no_close round ts s = s.end_is
-open_no_close square ts s = s.end_is
-open_no_close curly ts s = s.end_is
+open_no_close _ ts s = s.end_is
 
 all_before_angles : (is : Trees) (before : Before) (a : ℕ) (end : Word) (more : List Word) (ts : Tokens) → AreTrees is → GoesBehind false before is end → (a == 0) ≡ false → StaysOpen before a is
     → Begins (trees_words is ++ end ∷ more) ts → AreBefore reaches.Angles before a is ts
@@ -127,8 +126,7 @@ before_field a b ts end comma = record {
 
 open_no_comma : (k : Bracket) (a : Bool) (ts : Tokens) → Shows (open_of k) ts → (a && symbol ts == 44) ≡ false
 open_no_comma round a ts s = rw s.symbol_is (and_false a)
-open_no_comma square a ts s = rw s.symbol_is (and_false a)
-open_no_comma curly a ts s = rw s.symbol_is (and_false a)
+open_no_comma _ a ts s = rw s.symbol_is (and_false a)
 
 all_before_comma : (is : Trees) (before : Before) (a : ℕ) (end : Word) (more : List Word) (ts : Tokens) → AreTrees is → GoesBehind false before is end → HasNoComma before a is → Begins (trees_words is ++ end ∷ more) ts
     → AreBefore reaches.Field before a is ts
@@ -207,8 +205,7 @@ all_before_header (tree_and (group k is') is) before a end more ts h g o b =
   where
     no_word : (flat : Bool) (k : Bracket) (ts : Tokens) → Shows (open_of k) ts → (flat && is_header_word (word ts)) ≡ false
     no_word flat round ts s = rw s.word_is (and_false flat)
-    no_word flat square ts s = rw s.word_is (and_false flat)
-    no_word flat curly ts s = rw s.word_is (and_false flat)
+    no_word flat _ ts s = rw s.word_is (and_false flat)
 
 -- up to what ends a part
 part_behind : (is : Trees) (end : Word) (more : List Word) (ts : Tokens) → AreTrees is → IsPart is end → Begins (trees_words is ++ end ∷ more) ts
@@ -251,15 +248,12 @@ UpTo end ws ts = Begins ws ts × ((behind ws ts).past ≤ end)
 up_to_right : (end : ℕ) (ws vs : List Word) (ts : Tokens) → UpTo end (ws ++ vs) ts → UpTo end vs (behind ws ts)
 up_to_right end ws vs ts b = (begins_right ws vs ts b.0, let same : (behind (ws ++ vs) ts).past ≡ (behind vs (behind ws ts)).past = ap (λ k. k.past) (behind_append ws vs ts) in let le = b.1 in omega arith)
 
-is_below : (a b : ℕ) → a < b → nat_lt a b ≡ true
-is_below a b h = grind (arith, nat_tests, h)
-
 first_before : (end : ℕ) (w : Word) (ws : List Word) (ts : Tokens) → UpTo end (w ∷ ws) ts → nat_lt ts.past end ≡ true
 first_before end w ws ts b =
     let one : ts.past < (bumped ts).past = b.0.0.past in
     let more : (bumped ts).past ≤ (behind ws (bumped ts)).past = past_behind ws (bumped ts) b.0.1 in
     let le : (behind ws (bumped ts)).past ≤ end = b.1 in
-    is_below ts.past end (omega arith)
+    lt-ltb ts.past end (omega arith)
 
 -- behind a trait's path stands `for`
 trait_found : (end : ℕ) (t : Trees) (next : Word) (more : List Word) (ts : Tokens) → AreTrees t → IsPart t (trees.word (codes "for")) → (trees.symbol_of next == 60) ≡ false

@@ -23,12 +23,12 @@ use Rattle.rust_items.specs.Found.{Found, Finder, nothing_found, and_row}
 use Rattle.rust_items.specs.Items.{span_of, needs_name, and_flaw, and_leaf, and_item, leaf_turn, finding_from, finding, is_list_end, BlockRead, no_block, and_parent, block_of, depth_of, inside_unless, by_head, inside, turn}
 use Rattle.rust_items.proofs.Steps.{finding_stop}
 use Rattle.rust_written.specs.Words.{Word}
-use Rattle.rust_written.specs.Trees.{Trees, no_trees, mark, open_mark, close_mark, curly, trees_words}
+use Rattle.rust_written.specs.Trees.{Trees, mark, open_mark, close_mark, trees_words}
 use Rattle.rust_written.specs.Trees as trees
 use Rattle.rust_written.specs.Impls.{ImplHeader, header_trees}
 use Rattle.rust_written.proofs.Begins.{Shows, Begins, behind, behind_append, begins_left, begins_right, past_behind}
 use Rattle.rust_written.proofs.Same.{shows_first}
-use Rattle.rust_written.specs.Written.{Front, front_words, front_view, impl_front, AreModifiers, BlockKind, functions, unions, enums, traits, block_word, block_kind, ValueKind, statics, aliases, constants, value_word, value_id, Item, Items, blocked, valued, structure, Shape, struct_words, implemented, file_module, module_of, used, no_more, also, braced, ended, item_words, words, item_view, views, row, item_rows, rows, IsNamed, IsItem, AreItems}
+use Rattle.rust_written.specs.Written.{Front, front_words, front_view, impl_front, AreModifiers, BlockKind, functions, block_word, block_kind, ValueKind, statics, value_word, value_id, Item, Items, blocked, valued, structure, Shape, struct_words, implemented, file_module, module_of, used, no_more, also, braced, ended, item_words, words, item_view, views, row, item_rows, rows, IsNamed, IsItem, AreItems}
 use Rattle.rust_written.specs.UseTrees.{UseTree, use_words}
 use Rattle.rust_written.proofs.Uses.{fewer_left}
 use Rattle.rust_written.proofs.Fronts.{inner_none, first_shows, block_head, block_heads, value_head, value_heads, struct_heads, impl_heads, use_heads, module_heads, Heads, front_at, front_reads, named_at, named_reads}
@@ -42,8 +42,7 @@ Turns left item rs ws f ts = (f' : Found) × (turn left f ts ≡ (Some item, (f'
 
 flaw_rows : (is_ended is_nameless : Bool) (start : ℕ) (f : Found) → (and_flaw is_ended is_nameless start f).rows ≡ f.rows
 flaw_rows true true start f = refl
-flaw_rows true false start f = refl
-flaw_rows false is_nameless start f = refl
+flaw_rows _ _ start f = refl
 
 rows_if : (e : Bool) (depth start end : ℕ) (body : Option TextRange) (k : AstIdKind) (n : List ℕ) (range : Option TextRange) (f : Found) → (and_item depth start end body k n range e f).rows ≡ f.rows ++ row depth k n ∷ []
 rows_if e depth start end body k n range f = flaw_rows e (is_none range && needs_name k) start (and_row (row depth k n) (span_of start end body range) f)
@@ -118,25 +117,19 @@ front_of v h w more ts few e a b is = ((first_shows v w more ts b).1.end_is, fro
 
 no_pub_block : (k : BlockKind) → bytes_eq (block_word k) (codes "pub") ≡ false
 no_pub_block functions = refl
-no_pub_block unions = refl
-no_pub_block enums = refl
-no_pub_block traits = refl
+no_pub_block _ = refl
 
 leaf_block : (k : BlockKind) → IsLeafHead (block_head k)
 leaf_block functions = tt
-leaf_block unions = tt
-leaf_block enums = tt
-leaf_block traits = tt
+leaf_block _ = tt
 
 no_pub_value : (k : ValueKind) → bytes_eq (value_word k) (codes "pub") ≡ false
 no_pub_value statics = refl
-no_pub_value aliases = refl
-no_pub_value constants = refl
+no_pub_value _ = refl
 
 leaf_value : (k : ValueKind) → IsLeafHead (value_head k)
 leaf_value statics = tt
-leaf_value aliases = tt
-leaf_value constants = tt
+leaf_value _ = tt
 
 -- behind a visibility, a word and a name
 behind_name : (v : Front) (w n : List ℕ) (ws : List Word) (ts : Tokens) → behind (front_words v ++ trees.word w ∷ trees.word n ∷ ws) ts ≡ behind ws (bumped (bumped (behind (front_words v) ts)))

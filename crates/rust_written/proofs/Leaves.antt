@@ -1,7 +1,8 @@
 -- Items that hold no items.
-use Rattle.std.proofs.Common.{◌≤◌, length, ◌≡◌, ℕ, ◌==◌, ◌||◌, Bool, true, false, Option, Some, None, List, [], ◌∷◌, ◌++◌, codes, refl, ap, ◌∙◌, sym, arith}
+use Rattle.std.proofs.Common.{◌≤◌, length, ◌≡◌, ℕ, ◌==◌, Bool, true, false, Option, Some, None, List, [], ◌∷◌, ◌++◌, codes, refl, ap, ◌∙◌, sym, arith}
 use Rattle.std.specs.Prelude.{◌&&◌, is_none, is_some}
 use Rattle.std.specs.Str.{bytes_eq}
+use Rattle.std.proofs.lemmas.Bool.{or_parts}
 use Rattle.hir_input.specs.declared.ids.AstIdKind.{AstIdKind}
 use Rattle.hir_input.specs.declared.ids.AstIdKind.TheVariants as kind
 use Rattle.hir_input.specs.declared.ast.Visibility.{Visibility}
@@ -27,7 +28,7 @@ use Rattle.rust_items.specs.Items.{needs_name}
 use Rattle.rust_written.specs.UseTrees.{UseTree, use_words, use_view, IsUse}
 use Rattle.rust_written.proofs.Uses.{IsUseEnd, found_at, use_reads}
 use Rattle.rust_written.specs.Words.{Word}
-use Rattle.rust_written.specs.Trees.{Trees, no_trees, mark, curly, open_of, close_of, first_of, trees_words, AreTrees, GoesOn, GoesOnType, spaced}
+use Rattle.rust_written.specs.Trees.{Trees, mark, curly, open_of, close_of, first_of, trees_words, AreTrees, GoesOn, GoesOnType, spaced}
 use Rattle.rust_written.specs.Impls.{ImplHeader, header_trees, IsImplHeader}
 use Rattle.rust_written.specs.Trees as trees
 use Rattle.rust_written.proofs.Begins.{Shows, Begins, behind, behind_append, begins_left, begins_right, past_behind}
@@ -87,17 +88,13 @@ Reads h v start item kind n ws ts =
 
 -- ---- functions, unions, enums and traits
 
-plain_parts : (a b : Bool) → (a || b) ≡ false → (a ≡ false) × (b ≡ false)
-plain_parts true b e = absurd cc
-plain_parts false b e = (refl, e)
-
 no_inner : (h b : Trees) (ts : Tokens) → IsPlainBlock b → Begins (trees_words h ++ braced b) ts → block_attributes (block_behind h ts) ≡ []
 unfolding block_attributes
 no_inner h b ts p begun =
     let us = behind (trees_words h) ts in
     let inside : Begins (trees_words b ++ close_of curly ∷ []) (bumped us) = (begins_right (trees_words h) (braced b) ts begun).1 in
     let first : Shows (first_of b (close_of curly)) (bumped us) = shows_first b (close_of curly) [] (bumped us) inside in
-    let plain = plain_parts (trees.symbol_of (first_of b (close_of curly)) == 35) (documents (first_of b (close_of curly)).kind) p in
+    let plain = or_parts (trees.symbol_of (first_of b (close_of curly)) == 35) (documents (first_of b (close_of curly)).kind) p in
     ap (λ r. r.0) (inner_none (first_of b (close_of curly)) (bumped us) first plain.1 plain.0)
 
 function_reads : (v : Option Visibility) (n : NameRead) (block : Option Tokens) (ws : List Word) (ts us : Tokens) → named ts ≡ (n, us) → block_attributes block ≡ [] → (e : Ends item_end block ws us)
@@ -222,9 +219,8 @@ struct_reads v n shape block ws start ts m s f ends =
 
 -- the braces that a struct ends with
 abbrev struct_block : Option Trees → Shape → Tokens → Option Tokens
-struct_block g (unit_shape w) ts = None
-struct_block g (tuple_shape fs w) ts = None
 struct_block g (record_shape w b) ts = block_behind (struct_trees g (record_shape w b)) ts
+struct_block g _ ts = None
 
 struct_ends : (g : Option Trees) (s : Shape) (ts : Tokens) → IsStruct g s → Begins (struct_words g s) ts → goes_on (behind (struct_words g s) ts) ≡ false → Ends item_end (struct_block g s ts) (struct_words g s) ts
 struct_ends g (unit_shape w) ts is b e = item_ends None (struct_words g (unit_shape w)) ts (item_semicolon (struct_trees g (unit_shape w)) ts is.trees is.goes b)

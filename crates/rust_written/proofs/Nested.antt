@@ -1,16 +1,17 @@
 -- In which brackets what stands behind words is.
-use Rattle.std.proofs.Common.{◌≡◌, ◌≤◌, ℕ, ◌+◌, ◌-◌, ◌==◌, ◌||◌, ◌&&◌, Bool, true, false, refl, ap, ◌∙◌, arith}
+use Rattle.std.proofs.Common.{◌≡◌, ◌≤◌, ℕ, ◌+◌, ◌-◌, ◌==◌, ◌&&◌, Bool, true, false, refl, ap, ◌∙◌, arith}
 use Rattle.std.specs.Prelude.{if◌then◌else◌, not}
 use Rattle.std.proofs.lemmas.Bool.Decides.{nat_tests}
+use Rattle.std.proofs.lemmas.Bool.{or_parts, eq-eqb}
 use Rattle.rust_cursor.specs.declared.cursor.nest.Before.{Before}
 use Rattle.rust_cursor.specs.declared.cursor.nest.Before.TheVariants as befores
 use Rattle.rust_cursor.specs.declared.cursor.nest.Nest.{Nest}
 use Rattle.rust_cursor.specs.Tokens.{Tokens}
 use Rattle.rust_cursor.specs.Words.{symbol}
-use Rattle.rust_cursor.specs.Nests.{lets_any, behind_free, is_flat, nest_behind}
+use Rattle.rust_cursor.specs.Nests.{lets_any, behind_free, nest_behind}
 use Rattle.rust_cursor.specs.Nests as nests
 use Rattle.rust_written.specs.Words.{Word}
-use Rattle.rust_written.specs.Trees.{Bracket, round, square, curly, open_of, close_of, single, is_bracket, IsTree}
+use Rattle.rust_written.specs.Trees.{Bracket, round, curly, open_of, close_of, single, is_bracket, IsTree}
 use Rattle.rust_written.proofs.Begins.{Shows}
 
 -- in so many braces, in so many other brackets opened in them, in so many around them, of which from this one on any tokens may
@@ -31,17 +32,13 @@ pub record IsPlain (c : ℕ) : Type 0 where
   pub opens_curly : (c == 123) ≡ false
   pub closes_curly : (c == 125) ≡ false
 
-pub no_first : (a b : Bool) → (a || b) ≡ false → (a ≡ false) × (b ≡ false)
-no_first true b e = absurd cc
-no_first false b e = (refl, e)
-
 pub plain : (c : ℕ) → is_bracket c ≡ false → IsPlain c
 plain c e =
-    let a = no_first (c == 40) _ e in
-    let b = no_first (c == 41) _ a.1 in
-    let d = no_first (c == 91) _ b.1 in
-    let f = no_first (c == 93) _ d.1 in
-    let g = no_first (c == 123) _ f.1 in
+    let a = or_parts (c == 40) _ e in
+    let b = or_parts (c == 41) _ a.1 in
+    let d = or_parts (c == 91) _ b.1 in
+    let f = or_parts (c == 93) _ d.1 in
+    let g = or_parts (c == 123) _ f.1 in
     record { opens_round = a.0; closes_round = b.0; opens_square = d.0; closes_square = f.0; opens_curly = g.0; closes_curly = g.1 }
 
 pub plain_word : (w : Word) (ts : Tokens) → Shows w ts → IsTree (single w) → IsPlain (symbol ts)
@@ -65,18 +62,16 @@ IsOther _ = Unit {0}
 
 pub in_open : (k : Bracket) (d i o f a : ℕ) (before : Before) (ts : Tokens) → IsOther k → Shows (open_of k) ts → nest_behind (nest (d + 1) i o f a before) ts ≡ nest (d + 1) (i + 1) o f a before
 unfolding nest_behind
-in_open round d i o f a before ts h s = rw (not_zero d, s.symbol_is, and_false (i == 0), and_false (d + 1 == 1)) refl
-in_open square d i o f a before ts h s = rw (not_zero d, s.symbol_is, and_false (i == 0), and_false (d + 1 == 1)) refl
 in_open curly d i o f a before ts h s = absurd h
+in_open _ d i o f a before ts h s = rw (not_zero d, s.symbol_is, and_false (i == 0), and_false (d + 1 == 1)) refl
 
 pub less : (n : ℕ) → n + 1 - 1 ≡ n
 less n = omega arith
 
 pub in_close : (k : Bracket) (d i o f a : ℕ) (before : Before) (ts : Tokens) → IsOther k → Shows (close_of k) ts → nest_behind (nest (d + 1) (i + 1) o f a before) ts ≡ nest (d + 1) i o f a before
 unfolding nest_behind
-in_close round d i o f a before ts h s = rw (not_zero d, not_zero i, s.symbol_is, less i, and_false (d + 1 == 1)) refl
-in_close square d i o f a before ts h s = rw (not_zero d, not_zero i, s.symbol_is, less i, and_false (d + 1 == 1)) refl
 in_close curly d i o f a before ts h s = absurd h
+in_close _ d i o f a before ts h s = rw (not_zero d, not_zero i, s.symbol_is, less i, and_false (d + 1 == 1)) refl
 
 pub in_enter : (d i o f a : ℕ) (before : Before) (ts : Tokens) → Shows (open_of curly) ts → nest_behind (nest (d + 1) i o f a before) ts ≡ nest (d + 1 + 1) i o f a before
 unfolding nest_behind
@@ -99,13 +94,11 @@ last_leave i o f a before ts s = rw (s.symbol_is, and_false (i == 0)) refl
 -- behind these, a word is what comes before the next
 pub before_open : (k : Bracket) (before : Before) (ts : Tokens) → Shows (open_of k) ts → nests.before_behind before ts ≡ befores.Other
 before_open round before ts s = rw (s.doc_is, s.identifier_is, s.kind_is, s.end_is, s.symbol_is) refl
-before_open square before ts s = rw (s.doc_is, s.identifier_is, s.kind_is, s.end_is, s.symbol_is) refl
-before_open curly before ts s = rw (s.doc_is, s.identifier_is, s.kind_is, s.end_is, s.symbol_is) refl
+before_open _ before ts s = rw (s.doc_is, s.identifier_is, s.kind_is, s.end_is, s.symbol_is) refl
 
 pub before_close : (k : Bracket) (before : Before) (ts : Tokens) → Shows (close_of k) ts → nests.before_behind before ts ≡ befores.End
 before_close round before ts s = rw (s.doc_is, s.identifier_is, s.kind_is, s.end_is) refl
-before_close square before ts s = rw (s.doc_is, s.identifier_is, s.kind_is, s.end_is) refl
-before_close curly before ts s = rw (s.doc_is, s.identifier_is, s.kind_is, s.end_is) refl
+before_close _ before ts s = rw (s.doc_is, s.identifier_is, s.kind_is, s.end_is) refl
 
 -- a word in brackets
 pub out_plain : (o a : ℕ) (before : Before) (ts : Tokens) → IsPlain (symbol ts) → nest_behind (nest 0 0 (o + 1) 0 a before) ts ≡ nest 0 0 (o + 1) 0 a (nests.before_behind before ts)
@@ -140,24 +133,19 @@ opens_by false o x y = refl
 
 pub out_open : (k : Bracket) (o a : ℕ) (before : Before) (ts : Tokens) → IsOther k → Shows (open_of k) ts → nest_behind (nest 0 0 o 0 a before) ts ≡ nest 0 0 (o + 1) (free_in before o) a (inside_of before)
 unfolding nest_behind
-out_open round o a before ts h s = rw (before_open round before ts s, s.symbol_is, either (o == 0) a, and_false (o == 0), opens_by (lets_any before) o before befores.Other) refl
-out_open square o a before ts h s = rw (before_open square before ts s, s.symbol_is, either (o == 0) a, and_false (o == 0), opens_by (lets_any before) o before befores.Other) refl
 out_open curly o a before ts h s = absurd h
+out_open k o a before ts h s = rw (before_open k before ts s, s.symbol_is, either (o == 0) a, and_false (o == 0), opens_by (lets_any before) o before befores.Other) refl
 
 pub free_open : (k : Bracket) (o f a : ℕ) (before : Before) (ts : Tokens) → IsOther k → Shows (open_of k) ts → nest_behind (nest 0 0 (o + 1) (f + 1) a before) ts ≡ nest 0 0 (o + 1 + 1) (f + 1) a before
 unfolding nest_behind
-free_open round o f a before ts h s = rw (s.symbol_is, not_zero o, not_zero f, not_zero f) refl
-free_open square o f a before ts h s = rw (s.symbol_is, not_zero o, not_zero f, not_zero f) refl
 free_open curly o f a before ts h s = absurd h
-
-same_place : (n : ℕ) → (n == n) ≡ true
-same_place n = grind (arith, nat_tests)
+free_open _ o f a before ts h s = rw (s.symbol_is, not_zero o, not_zero f, not_zero f) refl
 
 other_place : (o f : ℕ) → f ≤ o → (o + 1 + 1 == f + 1) ≡ false
 other_place o f h = grind (arith, nat_tests, h)
 
 free_closes : (any : Bool) (o : ℕ) → (if o + 1 == (if any then o + 1 else 0) then 0 else (if any then o + 1 else 0)) ≡ 0
-free_closes true o = rw (same_place (o + 1)) refl
+free_closes true o = rw (eq-eqb (o + 1) (o + 1) refl) refl
 free_closes false o = rw (not_zero o) refl
 
 closes_by : (any : Bool) (o : ℕ) (x y : Before) → (if (if any then o + 1 else 0) == 0 then x else y) ≡ (if any then y else x)
@@ -167,16 +155,14 @@ closes_by false o x y = refl
 pub out_close : (k : Bracket) (o a : ℕ) (any : Bool) (before : Before) (ts : Tokens) → IsOther k → Shows (close_of k) ts
     → nest_behind (nest 0 0 (o + 1) (if any then o + 1 else 0) a before) ts ≡ nest 0 0 o 0 a (if any then behind_free before else befores.End)
 unfolding nest_behind
-out_close round o a any before ts h s = rw (before_close round before ts s, s.symbol_is, not_zero o, free_closes any o, less o, closes_by any o befores.End (behind_free before)) refl
-out_close square o a any before ts h s = rw (before_close square before ts s, s.symbol_is, not_zero o, free_closes any o, less o, closes_by any o befores.End (behind_free before)) refl
 out_close curly o a any before ts h s = absurd h
+out_close k o a any before ts h s = rw (before_close k before ts s, s.symbol_is, not_zero o, free_closes any o, less o, closes_by any o befores.End (behind_free before)) refl
 
 pub free_close : (k : Bracket) (o f a : ℕ) (before : Before) (ts : Tokens) → f ≤ o → IsOther k → Shows (close_of k) ts
     → nest_behind (nest 0 0 (o + 1 + 1) (f + 1) a before) ts ≡ nest 0 0 (o + 1) (f + 1) a before
 unfolding nest_behind
-free_close round o f a before ts le h s = rw (s.symbol_is, not_zero (o + 1), other_place o f le, not_zero f, less (o + 1)) refl
-free_close square o f a before ts le h s = rw (s.symbol_is, not_zero (o + 1), other_place o f le, not_zero f, less (o + 1)) refl
 free_close curly o f a before ts le h s = absurd h
+free_close _ o f a before ts le h s = rw (s.symbol_is, not_zero (o + 1), other_place o f le, not_zero f, less (o + 1)) refl
 
 pub out_enter : (o f a : ℕ) (before : Before) (ts : Tokens) → Shows (open_of curly) ts → nest_behind (nest 0 0 o f a before) ts ≡ nest 1 0 o f a before
 unfolding nest_behind

@@ -1,8 +1,8 @@
 -- What stands between names and ends is in no item but its body text.
 use Rattle.std.proofs.Common.{◌≡◌, ℕ, suc, List, [], ◌∷◌, ◌++◌, refl, ap, ◌∙◌, sym, subst}
 use Rattle.hir_input.specs.declared.ids.FileAstId.{FileAstId}
-use Rattle.hir_input.specs.Bodies.{item_without_bodies, items_without_bodies, named_without_body, node_without_body, without_bodies}
-use Rattle.hir_input.specs.Syntax.{ItemView, ItemViews, plain_item, const_item, struct_item, tuple_fields, bare_module, listed_module, use_item, extern_crate, bare_extern_block, listed_extern_block, impl_item, macro_call, macro_rules, asm_item, no_items, item_and, items_from, source_file}
+use Rattle.hir_input.specs.Bodies.{item_without_bodies, items_without_bodies, named_without_body, without_bodies}
+use Rattle.hir_input.specs.Syntax.{ItemView, ItemViews, struct_item, tuple_fields, listed_module, impl_item, item_and, items_from, source_file}
 use Rattle.std.specs.Prelude.{false, Option, Some, None, is_some, option_map, map}
 use Rattle.rust_leaves.specs.Kinds.{node}
 use Rattle.rust_written.specs.Trees.{Trees, no_trees}
@@ -11,7 +11,7 @@ use Rattle.rust_ids.specs.Ids.{AreIds}
 use Rattle.rust_ids.proofs.Consequences.{determined}
 use Rattle.rust_items.specs.Ids.{with_ids}
 use Rattle.rust_items.proofs.Bodiless.{with_bodiless}
-use Rattle.rust_written.specs.Written.{Item, Items, blocked, valued, structure, Field, field_view, outline_field, Shape, unit_shape, tuple_shape, record_shape, shape_view, outline_shape, implemented, file_module, module_of, used, no_more, also, statics, aliases, constants, item_view, views, item_rows, rows, named_by, item_outline, outline}
+use Rattle.rust_written.specs.Written.{Item, Items, structure, Field, field_view, outline_field, Shape, tuple_shape, shape_view, outline_shape, implemented, module_of, no_more, also, item_view, views, item_rows, rows, named_by, item_outline, outline, valued, statics}
 use Rattle.rust_written.specs.Laws.{IsRead, TypingInside}
 use Rattle.rust_written.proofs.Texts.{read_again}
 
@@ -29,21 +29,16 @@ same_fields [] = refl
 same_fields (f ∷ fs) = ap (λ l. field_view f ∷ l) (same_fields fs)
 
 same_shape : (z : Shape) → shape_view (outline_shape z) ≡ shape_view z
-same_shape (unit_shape w) = refl
 same_shape (tuple_shape fs w) = ap tuple_fields (same_fields fs)
-same_shape (record_shape w b) = refl
+same_shape _ = refl
 
 mutual
   item_view_outline : (i : Item) → item_without_bodies (item_view (item_outline i)) ≡ item_without_bodies (item_view i)
-  item_view_outline (blocked k v n h b) = refl
-  item_view_outline (valued statics v n t) = refl
-  item_view_outline (valued aliases v n t) = refl
-  item_view_outline (valued constants v n t) = refl
   item_view_outline (structure v n g z) = ap (λ s. struct_item (named_without_body (named_by v n [])) s) (same_shape z)
   item_view_outline (implemented ms h b) = ap (λ t. impl_item (node [] []) t) (same_trait h.of_trait)
-  item_view_outline (file_module v n) = refl
-  item_view_outline (used v t) = refl
   item_view_outline (module_of v n is) = ap (listed_module (named_without_body (named_by v n [])) false) (views_outline is)
+  item_view_outline (valued statics v n t) = refl
+  item_view_outline _ = refl
 
   views_outline : (is : Items) → bodiless (views (outline is)) ≡ bodiless (views is)
   views_outline no_more = refl
@@ -51,13 +46,8 @@ mutual
 
 mutual
   item_rows_outline : (depth : ℕ) (i : Item) → item_rows depth (item_outline i) ≡ item_rows depth i
-  item_rows_outline depth (blocked k v n h b) = refl
-  item_rows_outline depth (valued k v n t) = refl
-  item_rows_outline depth (structure v n g z) = refl
-  item_rows_outline depth (implemented ms h b) = refl
-  item_rows_outline depth (file_module v n) = refl
-  item_rows_outline depth (used v t) = refl
   item_rows_outline depth (module_of v n is) = ap (λ l. (record { depth = depth; kind = kind.Module; name = n }) ∷ l) (rows_outline (suc depth) is)
+  item_rows_outline depth _ = refl
 
   rows_outline : (depth : ℕ) (is : Items) → rows depth (outline is) ≡ rows depth is
   rows_outline depth no_more = refl

@@ -10,7 +10,7 @@ use Rattle.rust_cursor.specs.Nests.{is_mark, behind_free, is_flat, nest_behind}
 use Rattle.rust_cursor.specs.Extents.{begins, begins_item, begins_behind, begins_within, opened_behind}
 use Rattle.rust_cursor.proofs.Rests.{Behind, taking_rest, and_next, stops_here, ends_here, rest_more}
 use Rattle.rust_written.specs.Words.{Word}
-use Rattle.rust_written.specs.Trees.{Bracket, round, square, curly, open_of, close_of, Tree, single, group, Trees, no_trees, tree_and, tree_words, trees_words, IsTree, AreTrees, first_of, Holds, MayStand, GoesBehind, angles_behind, angles_behind_all, before_behind, behind_group, and_word, and_words}
+use Rattle.rust_written.specs.Trees.{Bracket, round, curly, open_of, close_of, single, group, Trees, no_trees, tree_and, tree_words, trees_words, IsTree, AreTrees, first_of, Holds, MayStand, GoesBehind, angles_behind, angles_behind_all, before_behind, behind_group, and_word, and_words}
 use Rattle.rust_written.specs.Trees as trees
 use Rattle.rust_written.specs.Impls.{before_behind_all}
 use Rattle.rust_written.proofs.Begins.{Shows, Begins, behind, behind_append, begins_left, begins_right}
@@ -58,11 +58,9 @@ takes_word is_value done last n m w ts s stop step end = ((symbol ts, opened_beh
 
 no_stop : (z deep brace free item x y : Bool) → (if z then not deep && (not brace && not (free && item)) else true) ≡ true → (if z then brace || (if deep then x || y else free && item) else false) ≡ false
 no_stop false deep brace free item x y e = refl
-no_stop true true brace free item x y e = absurd cc
-no_stop true false true free item x y e = absurd cc
-no_stop true false false true true x y e = absurd cc
 no_stop true false false true false x y e = refl
 no_stop true false false false item x y e = refl
+no_stop _ _ _ _ _ x y e = absurd cc
 
 stops_not : (n : Nest) (ts : Tokens) → stays n ts ≡ true → stops_here n ts ≡ false
 stops_not n ts e = no_stop (n.braces == 0) (n.others == 0) (symbol ts == 125) (n.free == 0) (begins_within ts) (begins_item ts) (begins_behind n.before ts) e
@@ -123,8 +121,7 @@ takes_flat_word is_value done last a before w next ts h s n clear semicolon item
 
 close_no_semicolon : (k : Bracket) (ts : Tokens) → Shows (close_of k) ts → (symbol ts == 59) ≡ false
 close_no_semicolon round ts s = rw s.symbol_is refl
-close_no_semicolon square ts s = rw s.symbol_is refl
-close_no_semicolon curly ts s = rw s.symbol_is refl
+close_no_semicolon _ ts s = rw s.symbol_is refl
 
 -- a bracket that is no brace closes the only one that is open
 last_stops : (k : Bracket) (f a : ℕ) (before : Before) (ts : Tokens) → IsOther k → Shows (close_of k) ts → stops_here (nest 0 0 (0 + 1) f a before) ts ≡ false
@@ -173,10 +170,9 @@ takes_curly is done last a before ts h b =
 
 takes_group : (is_value : Bool) (k : Bracket) (is : Trees) (done : List ℕ) (last : Behind) (a : ℕ) (before : Before) (ts : Tokens) → AreTrees is → MayStand is_value k → Holds before k is
     → Begins (tree_words (group k is)) ts → TakesFlat is_value done last a before a (behind_group before k) (tree_words (group k is)) ts
-takes_group is_value round is done last a before ts h may g b = takes_other is_value round (trees_words is) done last a before ts tt b (within round is 0 a before (bumped ts) tt h g b.1)
-takes_group is_value square is done last a before ts h may g b = takes_other is_value square (trees_words is) done last a before ts tt b (within square is 0 a before (bumped ts) tt h g b.1)
 takes_group true curly is done last a before ts h may g b = takes_curly is done last a before ts h b
 takes_group false curly is done last a before ts h may g b = absurd cc
+takes_group is_value k is done last a before ts h may g b = takes_other is_value k (trees_words is) done last a before ts tt b (within k is 0 a before (bumped ts) tt h g b.1)
 
 -- a header is taken whole
 pub takes_header : (is : Trees) (is_value : Bool) (end : Word) (more : List Word) (done : List ℕ) (last : Behind) (a : ℕ) (before : Before) (ts : Tokens) → AreTrees is → GoesBehind is_value before is end

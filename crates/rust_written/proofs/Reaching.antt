@@ -12,7 +12,7 @@ use Rattle.rust_cursor.specs.Extents.{begins, begins_item, begins_behind, begins
 use Rattle.rust_cursor.specs.Angles.{is_header_end, is_barred, is_reached, is_closed, reaching}
 use Rattle.rust_cursor.proofs.Reaches.{reaching_more}
 use Rattle.rust_written.specs.Words.{Word}
-use Rattle.rust_written.specs.Trees.{Bracket, round, square, curly, open_of, close_of, Tree, single, group, Trees, no_trees, tree_and, tree_words, trees_words, IsTree, AreTrees, first_of, Holds, MayStand, GoesBehind, angles_behind, angles_behind_all, before_behind, behind_group}
+use Rattle.rust_written.specs.Trees.{Bracket, curly, open_of, close_of, single, group, Trees, no_trees, tree_and, tree_words, trees_words, IsTree, AreTrees, first_of, Holds, MayStand, GoesBehind, angles_behind, angles_behind_all, before_behind, behind_group}
 use Rattle.rust_written.specs.Trees as trees
 use Rattle.rust_written.specs.Impls.{before_behind_all}
 use Rattle.rust_written.proofs.Begins.{Shows, Begins, behind, behind_append, begins_left, begins_right}
@@ -38,11 +38,9 @@ abbrev Remains : Bool → Bool → Bool → Bool → Type 0
 Remains deep brace free item = (not deep && (not brace && not (free && item))) ≡ true
 
 angles_remain : (deep brace free item end x semicolon : Bool) → Remains deep brace free item → ((brace || (deep && end)) || ((if deep then x else free && item) || (deep && semicolon))) ≡ false
-angles_remain true brace free item end x semicolon e = absurd cc
-angles_remain false true free item end x semicolon e = absurd cc
-angles_remain false false true true end x semicolon e = absurd cc
 angles_remain false false true false end x semicolon e = refl
 angles_remain false false false item end x semicolon e = refl
+angles_remain _ _ _ _ end x semicolon e = absurd cc
 
 field_remains : (deep brace free item end comma : Bool) → Remains deep brace free item → ((brace || (deep && end)) || (deep && comma)) ≡ false
 field_remains true brace free item end comma e = absurd cc
@@ -50,11 +48,9 @@ field_remains false true free item end comma e = absurd cc
 field_remains false false free item end comma e = refl
 
 header_remains : (deep brace free item x end : Bool) → Remains deep brace free item → (brace || ((if deep then x else free && item) || (deep && end))) ≡ false
-header_remains true brace free item x end e = absurd cc
-header_remains false true free item x end e = absurd cc
-header_remains false false true true x end e = absurd cc
 header_remains false false true false x end e = refl
 header_remains false false false item x end e = refl
+header_remains _ _ _ _ x end e = absurd cc
 
 -- in no brace, or in one
 by_braces : (z barred stay : Bool) → (if z then stay else true) ≡ true → (stay ≡ true → barred ≡ false) → (if z then barred else false) ≡ false
@@ -77,8 +73,7 @@ stays_reached r n ts some e = reached_by r n ts some ∙ by_braces (n.braces == 
 pub open_stays : (r : Reach) (n : Nest) → is_flat n ≡ false → is_closed r n ≡ false
 unfolding is_closed
 open_stays reaches.Angles n e = rw e refl
-open_stays reaches.Field n e = refl
-open_stays reaches.Header n e = refl
+open_stays _ n e = refl
 
 pub passes_stays : (ws : List Word) (r : Reach) (n m : Nest) (ts : Tokens) → Begins ws ts → Stays ws n m ts → Passes r n m ws ts
 passes_stays [] r n m ts b h = ap (λ k. reaching r k ts) h
@@ -128,16 +123,14 @@ passes_other r k is a before ts n h g b before_is =
     (passes_word r inner last (close_of k) us (last_barred r k f a mid.0 us n shut) (within_close k ws 0 a before (bumped ts) us n shut mid) (before_is.unclosed (behind_free before))))
 
 pub may_be_other : (k : Bracket) → MayStand false k → IsOther k
-may_be_other round h = tt
-may_be_other square h = tt
 may_be_other curly h = absurd cc
+may_be_other _ h = tt
 
 -- a bracket that is no brace
 pub passes_group : (r : Reach) (k : Bracket) (is : Trees) (a : ℕ) (before : Before) (ts : Tokens) → IsOther k → AreTrees is → Holds before k is → Begins (tree_words (group k is)) ts → IsBefore r a a ts
     → Passes r (nest 0 0 0 0 a before) (nest 0 0 0 0 a (behind_group before k)) (tree_words (group k is)) ts
-passes_group r round is a before ts n h g b i = passes_other r round is a before ts n h g b i
-passes_group r square is a before ts n h g b i = passes_other r square is a before ts n h g b i
 passes_group r curly is a before ts n h g b i = absurd n
+passes_group r k is a before ts n h g b i = passes_other r k is a before ts n h g b i
 
 -- nothing is looked for at these words
 abbrev pub AreBefore : Reach → Before → ℕ → Trees → Tokens → Type 0
@@ -164,6 +157,5 @@ passes_trees (tree_and (group k is') is) r a before end more ts h g b are =
     (passes_trees is r a mid end more (behind ws ts) h.1 g.2 (begins_right ws (trees_words is ++ end ∷ more) ts split) are.1)
 
 pub open_no_block : (k : Bracket) (ts : Tokens) → IsOther k → Shows (open_of k) ts → ((symbol ts == 59) ≡ false) × ((symbol ts == 123) ≡ false)
-open_no_block round ts h s = rw s.symbol_is (refl, refl)
-open_no_block square ts h s = rw s.symbol_is (refl, refl)
 open_no_block curly ts h s = absurd h
+open_no_block _ ts h s = rw s.symbol_is (refl, refl)

@@ -8,16 +8,15 @@ use Rattle.rust_cursor.specs.Tokens.{Tokens}
 use Rattle.rust_cursor.specs.Words.{at, is_glued, bumped}
 use Rattle.rust_cursor.specs.Nests as nests
 use Rattle.rust_cursor.specs.Extents as extents
-use Rattle.rust_written.specs.Words.{Link, joined, apart, free, Word, IsAt}
-use Rattle.rust_written.specs.Trees.{Tree, single, group, Trees, no_trees, tree_and, trees_words, first_of, is_joined, is_free}
+use Rattle.rust_written.specs.Words.{Link, free, Word, IsAt}
+use Rattle.rust_written.specs.Trees.{single, Trees, tree_and, trees_words, first_of, is_joined, is_free}
 use Rattle.rust_written.specs.Trees as trees
 use Rattle.rust_written.proofs.Begins.{Shows, Begins}
 
 -- the first word of trees comes next
 pub shows_first : (is : Trees) (end : Word) (more : List Word) (ts : Tokens) → Begins (trees_words is ++ end ∷ more) ts → Shows (first_of is end) ts
-shows_first no_trees end more ts b = b.0
 shows_first (tree_and (single w) is) end more ts b = b.0
-shows_first (tree_and (group k is') is) end more ts b = b.0
+shows_first _ end more ts b = b.0
 
 -- ---- what begins an item
 
@@ -32,9 +31,8 @@ within_same w next ts s n = rw (begins_same w next ts s n, s.word_is, n.word_is,
 -- ---- what comes before
 
 glued : (l : Link) (past at : ℕ) → IsAt l past at → is_free l ≡ false → (at == past) ≡ is_joined l
-glued joined past at h e = grind (arith, nat_tests)
-glued apart past at h e = grind (arith, nat_tests)
 glued free past at h e = absurd cc
+glued _ past at h e = grind (arith, nat_tests)
 
 pub glued_same : (w : Word) (ts : Tokens) → Shows w ts → is_free w.link ≡ false → is_glued ts ≡ is_joined w.link
 unfolding is_glued

@@ -2,7 +2,7 @@
 use Rattle.std.proofs.Common.{◌≡◌, ◌≢◌, ◌<◌, ◌≤◌, ℕ, zero, suc, ◌&&◌, Bool, true, false, List, [], ◌∷◌, ◌++◌, length, get_or, codes, refl, sym, ap, ◌∙◌, subst, arith}
 use Rattle.std.specs.Prelude.{not, slice_index, map}
 use Rattle.std.specs.List.{list_all}
-use Rattle.std.proofs.lemmas.Bool.{and_parts}
+use Rattle.std.proofs.lemmas.Bool.{and_parts, not-true}
 use Rattle.std.proofs.lemmas.Bool.Decides.{nat_tests}
 use Rattle.rust_lexer.specs.declared.kind.TokenKind.{TokenKind}
 use Rattle.rust_lexer.specs.declared.kind.TokenKind.TheVariants as kinds
@@ -14,12 +14,12 @@ use Rattle.rust_items.proofs.LineEnds.{feeds_behind}
 use Rattle.rust_written.specs.Gaps.{white}
 use Rattle.rust_written.specs.Round.{IsPlain}
 use Rattle.rust_written.specs.Standing.{is_letter, is_word_byte, ends_word, is_mark, IsAsciiWord}
-use Rattle.rust_written.specs.Words.{Link, joined, apart, free, Word, Stands, Spells}
+use Rattle.rust_written.specs.Words.{Link, joined, Word, Stands, Spells}
 use Rattle.rust_written.specs.Trees as trees
 use Rattle.rust_written.specs.Impls.{header_trees}
 use Rattle.rust_written.proofs.Again.{words_stand, marks_stand}
 use Rattle.rust_written.specs.UseTrees.{use_words}
-use Rattle.rust_written.specs.Written.{Scope, unwritten, everywhere, in_crate, in_super, in_self, scope_words, Item, Items, blocked, valued, structure, struct_words, implemented, file_module, module_of, used, no_more, also, words, item_words, block_word, value_word, braced, ended}
+use Rattle.rust_written.specs.Written.{Scope, unwritten, scope_words, Item, Items, blocked, valued, structure, struct_words, implemented, file_module, module_of, used, no_more, also, words, item_words, block_word, value_word, braced, ended}
 use Rattle.rust_written.specs.Spelled.{lead, spell, text_of, is_ascii_word, is_opening, is_closing, is_mark_before, stands_by, are_standing}
 use Rattle.rust_written.specs.Laws.{Writable}
 
@@ -29,15 +29,11 @@ ascii_word : (text : List ℕ) → is_ascii_word text ≡ true → IsAsciiWord t
 ascii_word [] e = absurd cc
 ascii_word (b ∷ z) e = and_parts (is_letter b) (list_all is_word_byte z) e
 
-not_true : (b : Bool) → not b ≡ true → b ≡ false
-not_true true e = absurd cc
-not_true false e = refl
-
 mark_before : (k : TokenKind) (of_kind : Bool) (b : ℕ) (rest : List ℕ) (l : Link) → is_mark_before of_kind rest b ≡ true → (of_kind ≡ true → symbol_kind b ≡ k) → Stands (record { kind = k; text = b ∷ []; link = l }) rest
 mark_before k of_kind b rest l e is =
     let both = and_parts of_kind (is_mark b && not (is_continuation (slice_index rest 0))) e in
     let more = and_parts (is_mark b) (not (is_continuation (slice_index rest 0))) both.1 in
-    subst (λ (j : TokenKind). Stands (record { kind = j; text = b ∷ []; link = l }) rest) (is both.0) (marks_stand b rest l more.0 (not_true (is_continuation (slice_index rest 0)) more.1))
+    subst (λ (j : TokenKind). Stands (record { kind = j; text = b ∷ []; link = l }) rest) (is both.0) (marks_stand b rest l more.0 (not-true (is_continuation (slice_index rest 0)) more.1))
 
 opening : (b : ℕ) → is_opening b ≡ true → symbol_kind b ≡ kinds.OpenDelim
 opening b e = rw e refl
@@ -45,7 +41,7 @@ opening b e = rw e refl
 closing : (b : ℕ) → (not (is_opening b) && is_closing b) ≡ true → symbol_kind b ≡ kinds.CloseDelim
 closing b e =
     let both = and_parts (not (is_opening b)) (is_closing b) e in
-    let other : is_opening b ≡ false = not_true (is_opening b) both.0 in
+    let other : is_opening b ≡ false = not-true (is_opening b) both.0 in
     let shut : is_closing b ≡ true = both.1 in
     rw (other, shut) refl
 
@@ -53,8 +49,8 @@ punctuation : (b : ℕ) → (not (is_opening b) && (not (is_closing b) && is_pun
 punctuation b e =
     let both = and_parts (not (is_opening b)) (not (is_closing b) && is_punctuation b) e in
     let more = and_parts (not (is_closing b)) (is_punctuation b) both.1 in
-    let other : is_opening b ≡ false = not_true (is_opening b) both.0 in
-    let next : is_closing b ≡ false = not_true (is_closing b) more.0 in
+    let other : is_opening b ≡ false = not-true (is_opening b) both.0 in
+    let next : is_closing b ≡ false = not-true (is_closing b) more.0 in
     let last : is_punctuation b ≡ true = more.1 in
     rw (other, next, last) refl
 
@@ -65,12 +61,6 @@ stands_parts kinds.Ident text rest l e =
 stands_parts kinds.OpenDelim (b ∷ []) rest l e = mark_before kinds.OpenDelim (is_opening b) b rest l e (opening b)
 stands_parts kinds.CloseDelim (b ∷ []) rest l e = mark_before kinds.CloseDelim (not (is_opening b) && is_closing b) b rest l e (closing b)
 stands_parts kinds.Punct (b ∷ []) rest l e = mark_before kinds.Punct (not (is_opening b) && (not (is_closing b) && is_punctuation b)) b rest l e (punctuation b)
-stands_parts kinds.OpenDelim [] rest l e = absurd cc
-stands_parts kinds.OpenDelim (b ∷ c ∷ z) rest l e = absurd cc
-stands_parts kinds.CloseDelim [] rest l e = absurd cc
-stands_parts kinds.CloseDelim (b ∷ c ∷ z) rest l e = absurd cc
-stands_parts kinds.Punct [] rest l e = absurd cc
-stands_parts kinds.Punct (b ∷ c ∷ z) rest l e = absurd cc
 stands_parts _ text rest l e = absurd cc
 
 stands : (w : Word) (rest : List ℕ) → stands_by w.kind w.text rest ≡ true → Stands w rest
@@ -79,8 +69,7 @@ stands w rest e = stands_parts w.kind w.text rest w.link e
 spelled_word : (l : Link) (k : TokenKind) (text : List ℕ) (ws : List Word) → Stands (record { kind = k; text = text; link = l }) (spell ws) → Spells ws (spell ws)
     → Spells (record { kind = k; text = text; link = l } ∷ ws) (lead l (text ++ spell ws))
 spelled_word joined k text ws s more = ([], spell ws, tt, tt, s, refl, more)
-spelled_word apart k text ws s more = (white 32 ∷ [], spell ws, (refl, tt), tt, s, refl, more)
-spelled_word free k text ws s more = (white 32 ∷ [], spell ws, (refl, tt), tt, s, refl, more)
+spelled_word _ k text ws s more = (white 32 ∷ [], spell ws, (refl, tt), tt, s, refl, more)
 
 -- words that stand are spelled
 pub spelled : (ws : List Word) → are_standing ws ≡ true → Spells ws (spell ws)
@@ -98,11 +87,7 @@ plain_blank z = (refl, refl, refl)
 
 plain_front : (v : Scope) (ms : List (List ℕ)) (w : List ℕ) (ws more : List Word) → IsPlain (spell (((scope_words v ++ map trees.word ms) ++ trees.word w ∷ ws) ++ more))
 plain_front unwritten [] w ws more = plain_blank _
-plain_front unwritten (m ∷ ms) w ws more = plain_blank _
-plain_front everywhere ms w ws more = plain_blank _
-plain_front in_crate ms w ws more = plain_blank _
-plain_front in_super ms w ws more = plain_blank _
-plain_front in_self ms w ws more = plain_blank _
+plain_front _ _ w ws more = plain_blank _
 
 plain_item : (i : Item) (more : List Word) → IsPlain (spell (item_words i ++ more))
 plain_item (blocked k v n h b) more = plain_front v.scope v.modifiers (block_word k) (trees.word n ∷ (trees.trees_words h ++ braced b)) more
@@ -148,24 +133,16 @@ mark_lacks of_kind rest b e zero l =
 mark_lacks of_kind rest b e (suc i) l = absurd (omega arith)
 
 text_lacks : (k : TokenKind) (text rest : List ℕ) → stands_by k text rest ≡ true → Lacks text
-text_lacks kinds.Ident [] rest e = absurd cc
 text_lacks kinds.Ident (b ∷ z) rest e =
     let word = ascii_word (b ∷ z) (and_parts (is_ascii_word (b ∷ z)) (ends_word (slice_index rest 0)) e).0 in first_lacks b z word.0 (word_lacks z word.1)
 text_lacks kinds.OpenDelim (b ∷ []) rest e = mark_lacks (is_opening b) rest b e
 text_lacks kinds.CloseDelim (b ∷ []) rest e = mark_lacks (not (is_opening b) && is_closing b) rest b e
 text_lacks kinds.Punct (b ∷ []) rest e = mark_lacks (not (is_opening b) && (not (is_closing b) && is_punctuation b)) rest b e
-text_lacks kinds.OpenDelim [] rest e = absurd cc
-text_lacks kinds.OpenDelim (b ∷ c ∷ z) rest e = absurd cc
-text_lacks kinds.CloseDelim [] rest e = absurd cc
-text_lacks kinds.CloseDelim (b ∷ c ∷ z) rest e = absurd cc
-text_lacks kinds.Punct [] rest e = absurd cc
-text_lacks kinds.Punct (b ∷ c ∷ z) rest e = absurd cc
 text_lacks _ text rest e = absurd cc
 
 feeds_lead : (l : Link) (text rest : List ℕ) → Lacks text → with_feeds rest ≡ rest → with_feeds (lead l (text ++ rest)) ≡ lead l (text ++ rest)
 feeds_lead joined text rest h e = feeds_behind text rest h ∙ ap (λ z. text ++ z) e
-feeds_lead apart text rest h e = ap (λ z. 32 ∷ z) (feeds_behind text rest h ∙ ap (λ z. text ++ z) e)
-feeds_lead free text rest h e = ap (λ z. 32 ∷ z) (feeds_behind text rest h ∙ ap (λ z. text ++ z) e)
+feeds_lead _ text rest h e = ap (λ z. 32 ∷ z) (feeds_behind text rest h ∙ ap (λ z. text ++ z) e)
 
 feeds_spell : (ws : List Word) → are_standing ws ≡ true → with_feeds (spell ws) ≡ spell ws
 feeds_spell [] e = refl

@@ -9,7 +9,7 @@ use Rattle.rust_cursor.specs.Words.{symbol, bumped}
 use Rattle.rust_cursor.specs.Nests.{lets_any, behind_free, is_flat, nest_behind}
 use Rattle.rust_cursor.specs.Extents.{begins_item, begins_within}
 use Rattle.rust_written.specs.Words.{Word}
-use Rattle.rust_written.specs.Trees.{Bracket, round, square, curly, open_of, close_of, Tree, single, group, Trees, no_trees, tree_and, tree_words, trees_words, IsTree, AreTrees, first_of, behind_group, Unless, StaysIn, Holds}
+use Rattle.rust_written.specs.Trees.{Bracket, round, curly, open_of, close_of, Tree, single, group, Trees, no_trees, tree_and, tree_words, trees_words, IsTree, AreTrees, first_of, behind_group, Unless, StaysIn, Holds}
 use Rattle.rust_written.specs.Trees as trees
 use Rattle.rust_written.proofs.Begins.{Shows, Begins, behind, begins_left, begins_right}
 use Rattle.rust_written.proofs.Same.{shows_first, within_same, before_same}
@@ -85,9 +85,8 @@ curly_braces ws d i o f a before ts s shut mid =
 
 group_braces : (k : Bracket) (ws : List Word) (d i o f a : ℕ) (before : Before) (ts : Tokens) → Shows (open_of k) ts → Shows (close_of k) (behind ws (bumped ts))
     → ((e j : ℕ) → InBraces ws e j o f a before (bumped ts)) → InBraces (open_of k ∷ (ws ++ close_of k ∷ [])) d i o f a before ts
-group_braces round ws d i o f a before ts s shut mid = other_braces round ws d i o f a before ts tt s shut (mid d (i + 1))
-group_braces square ws d i o f a before ts s shut mid = other_braces square ws d i o f a before ts tt s shut (mid d (i + 1))
 group_braces curly ws d i o f a before ts s shut mid = curly_braces ws d i o f a before ts s shut (mid (d + 1) i)
+group_braces k ws d i o f a before ts s shut mid = other_braces k ws d i o f a before ts tt s shut (mid d (i + 1))
 
 mutual
   tree_braces : (t : Tree) (d i o f a : ℕ) (before : Before) (ts : Tokens) → IsTree t → Begins (tree_words t) ts → InBraces (tree_words t) d i o f a before ts
@@ -123,13 +122,11 @@ word_wide w n o f a after ts s e = stays_word w n (nest 0 0 (o + 1) f a after) t
 
 pub open_no_end : (k : Bracket) (ts : Tokens) → Shows (open_of k) ts → (symbol ts == 125) ≡ false
 open_no_end round ts s = rw s.symbol_is refl
-open_no_end square ts s = rw s.symbol_is refl
-open_no_end curly ts s = rw s.symbol_is refl
+open_no_end _ ts s = rw s.symbol_is refl
 
 pub close_no_end : (k : Bracket) (ts : Tokens) → IsOther k → Shows (close_of k) ts → (symbol ts == 125) ≡ false
-close_no_end round ts h s = rw s.symbol_is refl
-close_no_end square ts h s = rw s.symbol_is refl
 close_no_end curly ts h s = absurd h
+close_no_end _ ts h s = rw s.symbol_is refl
 
 other_free : (k : Bracket) (ws : List Word) (o f a : ℕ) (before : Before) (ts : Tokens) → f ≤ o → IsOther k → Shows (open_of k) ts → Shows (close_of k) (behind ws (bumped ts))
     → IsFree ws (o + 1) f a before (bumped ts) → IsFree (open_of k ∷ (ws ++ close_of k ∷ [])) o f a before ts
@@ -164,9 +161,8 @@ curly_free ws o f a before ts s shut deep =
 
 group_free : (k : Bracket) (ws : List Word) (o f a : ℕ) (before : Before) (ts : Tokens) → f ≤ o → Shows (open_of k) ts → Shows (close_of k) (behind ws (bumped ts))
     → IsFree ws (o + 1) f a before (bumped ts) → InBraces ws 0 0 (o + 1) (f + 1) a before (bumped ts) → IsFree (open_of k ∷ (ws ++ close_of k ∷ [])) o f a before ts
-group_free round ws o f a before ts le s shut mid deep = other_free round ws o f a before ts le tt s shut mid
-group_free square ws o f a before ts le s shut mid deep = other_free square ws o f a before ts le tt s shut mid
 group_free curly ws o f a before ts le s shut mid deep = curly_free ws o f a before ts s shut deep
+group_free k ws o f a before ts le s shut mid deep = other_free k ws o f a before ts le tt s shut mid
 
 mutual
   tree_free : (t : Tree) (o f a : ℕ) (before : Before) (ts : Tokens) → f ≤ o → IsTree t → Begins (tree_words t) ts → IsFree (tree_words t) o f a before ts
@@ -198,14 +194,12 @@ stays_kept o f a before ts e g = rw (not_zero o, e, g, and_false (f == 0)) refl
 open_no_item : (k : Bracket) (ts : Tokens) → Shows (open_of k) ts → begins_within ts ≡ false
 unfolding begins_within begins_item
 open_no_item round ts s = rw s.word_is refl
-open_no_item square ts s = rw s.word_is refl
-open_no_item curly ts s = rw s.word_is refl
+open_no_item _ ts s = rw s.word_is refl
 
 pub close_no_item : (k : Bracket) (ts : Tokens) → Shows (close_of k) ts → begins_within ts ≡ false
 unfolding begins_within begins_item
 close_no_item round ts s = rw s.word_is refl
-close_no_item square ts s = rw s.word_is refl
-close_no_item curly ts s = rw s.word_is refl
+close_no_item _ ts s = rw s.word_is refl
 
 -- what stands in a bracket behind this, and what the bracket is for the word behind it
 abbrev pub Within : List Word → ℕ → ℕ → Before → Tokens → Type 0
@@ -220,10 +214,7 @@ map_unless false f h = f h
 within_from : (ws : List Word) (o a : ℕ) (before : Before) (ts : Tokens) → ((b : Before) → IsFree ws o o a b ts) → Unless (lets_any before) (IsKept ws o a befores.Other ts) → Within ws o a before ts
 within_from ws o a befores.Mark ts free kept = (befores.Mark, free befores.Mark, refl)
 within_from ws o a befores.Hash ts free kept = (befores.Hash, free befores.Hash, refl)
-within_from ws o a befores.Dash ts free kept = (kept.0, kept.1, refl)
-within_from ws o a befores.Angle ts free kept = (kept.0, kept.1, refl)
-within_from ws o a befores.End ts free kept = (kept.0, kept.1, refl)
-within_from ws o a befores.Other ts free kept = (kept.0, kept.1, refl)
+within_from ws o a _ ts free kept = (kept.0, kept.1, refl)
 
 -- the word behind a bracket
 pub within_close : (k : Bracket) (ws : List Word) (o a : ℕ) (before : Before) (ts us : Tokens) → IsOther k → Shows (close_of k) us → (mid : Within ws o a before ts)
@@ -260,27 +251,22 @@ word_kept w next o a before ts h s n clear item =
 -- what stands in a bracket that is no brace, and may stand there
 within_by : (k : Bracket) (is : Trees) (o a : ℕ) (before : Before) (ts : Tokens) → IsOther k → AreTrees is → Holds before k is → Begins (trees_words is ++ close_of k ∷ []) ts
     → (StaysIn befores.Other is (close_of k) → IsKept (trees_words is) o a befores.Other ts) → Within (trees_words is) o a before ts
-within_by round is o a before ts n h g b kept =
-    within_from (trees_words is) o a before ts (λ l. trees_free is o o a l ts (omega arith) h (begins_left (trees_words is) (close_of round ∷ []) ts b)) (map_unless (lets_any before) kept g)
-within_by square is o a before ts n h g b kept =
-    within_from (trees_words is) o a before ts (λ l. trees_free is o o a l ts (omega arith) h (begins_left (trees_words is) (close_of square ∷ []) ts b)) (map_unless (lets_any before) kept g)
 within_by curly is o a before ts n h g b kept = absurd n
+within_by k is o a before ts n h g b kept =
+    within_from (trees_words is) o a before ts (λ l. trees_free is o o a l ts (omega arith) h (begins_left (trees_words is) (close_of k ∷ []) ts b)) (map_unless (lets_any before) kept g)
 
 group_kept : (k : Bracket) (is : Trees) (o a : ℕ) (before : Before) (ts : Tokens) → AreTrees is → Holds before k is → Begins (tree_words (group k is)) ts
     → (StaysIn befores.Other is (close_of k) → IsKept (trees_words is) (o + 1) a befores.Other (bumped ts))
     → Stays (tree_words (group k is)) (nest 0 0 (o + 1) 0 a before) (nest 0 0 (o + 1) 0 a (behind_group before k)) ts
-group_kept round is o a before ts h g b kept =
-    other_kept round (trees_words is) o a before ts tt b.0 (begins_right (trees_words is) (close_of round ∷ []) (bumped ts) b.1).0 (within_by round is (o + 1) a before (bumped ts) tt h g b.1 kept)
-group_kept square is o a before ts h g b kept =
-    other_kept square (trees_words is) o a before ts tt b.0 (begins_right (trees_words is) (close_of square ∷ []) (bumped ts) b.1).0 (within_by square is (o + 1) a before (bumped ts) tt h g b.1 kept)
 group_kept curly is o a before ts h g b kept =
     curly_kept (trees_words is) o a before ts b.0 (begins_right (trees_words is) (close_of curly ∷ []) (bumped ts) b.1).0
     (trees_braces is 0 0 (o + 1) 0 a before (bumped ts) h (begins_left (trees_words is) (close_of curly ∷ []) (bumped ts) b.1))
+group_kept k is o a before ts h g b kept =
+    other_kept k (trees_words is) o a before ts tt b.0 (begins_right (trees_words is) (close_of k ∷ []) (bumped ts) b.1).0 (within_by k is (o + 1) a before (bumped ts) tt h g b.1 kept)
 
 stays_parts : (k : Bracket) (is more : Trees) (before : Before) (end : Word) → StaysIn before (tree_and (group k is) more) end → Holds before k is × StaysIn (behind_group before k) more end
-stays_parts round is more before end g = g
-stays_parts square is more before end g = g
 stays_parts curly is more before end g = (tt, g)
+stays_parts _ is more before end g = g
 
 -- trees with which no item begins
 trees_kept : (is : Trees) (o a : ℕ) (before : Before) (end : Word) (rest : List Word) (ts : Tokens) → AreTrees is → StaysIn before is end → Begins (trees_words is ++ end ∷ rest) ts

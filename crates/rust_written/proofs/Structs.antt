@@ -2,6 +2,7 @@
 use Rattle.std.proofs.Common.{◌≡◌, ◌≤◌, ◌<◌, ℕ, zero, suc, ◌+◌, ◌==◌, ◌||◌, Bool, true, false, Option, Some, None, List, [], ◌∷◌, ◌++◌, codes, length, refl, ap, ◌∙◌, sym, subst, arith, append_assoc, append-nil}
 use Rattle.std.specs.Prelude.{map, not, if◌then◌else◌}
 use Rattle.std.proofs.lemmas.Bool.Decides.{nat_tests}
+use Rattle.std.proofs.lemmas.Bool.{or_parts}
 use Rattle.hir_input.specs.declared.ast.Visibility.{Visibility}
 use Rattle.hir_input.specs.Syntax.{no_fields, record_fields, tuple_fields}
 use Rattle.rust_cursor.specs.Tokens.{Tokens}
@@ -15,13 +16,13 @@ use Rattle.rust_paths.specs.Visibilities.{visibility, scoped, is_in, scope, scop
 use Rattle.rust_metas.specs.Attributes.{outer_attributes}
 use Rattle.rust_leaves.specs.Leaves.{is_before, field, are_over, fields, fields_at}
 use Rattle.rust_written.specs.Words.{Word}
-use Rattle.rust_written.specs.Trees.{mark, Bracket, round, curly, open_of, close_of, close_mark, Tree, single, group, Trees, no_trees, tree_and, tree_words, trees_words, AreTrees, first_of, GoesOn, AreClosed}
+use Rattle.rust_written.specs.Trees.{mark, round, curly, open_of, close_of, single, group, Trees, no_trees, tree_and, tree_words, trees_words, AreTrees, first_of}
 use Rattle.rust_written.specs.Trees as trees
 use Rattle.rust_written.specs.Impls.{trees_append, where_part, generics}
 use Rattle.rust_written.proofs.Begins.{Shows, Begins, behind, behind_append, begins_left, begins_right, past_behind}
 use Rattle.rust_written.proofs.Same.{shows_first}
 use Rattle.rust_written.proofs.Impls.{append_words, append_trees, generics_words, enclosed, generics_passed, no_generics, field_type_passed}
-use Rattle.rust_written.specs.Written.{Scope, unwritten, everywhere, in_crate, in_super, in_self, scope_words, scope_view, Field, Shape, unit_shape, tuple_shape, record_shape, scope_trees, fields_trees, shape_trees, struct_trees, shape_end, field_view, shape_view, BeginsType, IsField, AreFields, IsShape, IsStruct}
+use Rattle.rust_written.specs.Written.{Scope, unwritten, everywhere, scope_words, scope_view, Field, Shape, unit_shape, tuple_shape, record_shape, scope_trees, fields_trees, shape_trees, struct_trees, shape_end, field_view, shape_view, BeginsType, IsField, AreFields, IsShape, IsStruct}
 use Rattle.rust_written.proofs.Uses.{fewer_left, beyond_none, one_element, past_more}
 use Rattle.rust_written.proofs.Fronts.{outer_none}
 
@@ -29,19 +30,14 @@ use Rattle.rust_written.proofs.Fronts.{outer_none}
 
 scope_words_are : (v : Scope) → trees_words (scope_trees v) ≡ scope_words v
 scope_words_are unwritten = refl
-scope_words_are everywhere = refl
-scope_words_are in_crate = refl
-scope_words_are in_super = refl
-scope_words_are in_self = refl
+scope_words_are _ = refl
 
 -- before what does not go on with it
 field_scope : (v : Scope) (w : Word) (ts : Tokens) → BeginsType v w → Begins (scope_words v) ts → Shows w (behind (scope_words v) ts) → visibility ts ≡ (scope_view v, behind (scope_words v) ts)
 unfolding visibility scoped is_in scope scope_of
 field_scope unwritten w ts e b s = rw (s.word_is, e) refl
 field_scope everywhere w ts e b s = rw (b.0.word_is, s.symbol_is, e) refl
-field_scope in_crate w ts e b s = rw (b.0.word_is, b.1.0.symbol_is, b.1.1.0.word_is, b.1.1.1.0.symbol_is) refl
-field_scope in_super w ts e b s = rw (b.0.word_is, b.1.0.symbol_is, b.1.1.0.word_is, b.1.1.1.0.symbol_is) refl
-field_scope in_self w ts e b s = rw (b.0.word_is, b.1.0.symbol_is, b.1.1.0.word_is, b.1.1.1.0.symbol_is) refl
+field_scope _ w ts e b s = rw (b.0.word_is, b.1.0.symbol_is, b.1.1.0.word_is, b.1.1.1.0.symbol_is) refl
 
 -- the first word of a field is no attribute and no end
 pub record IsFirst (w : Word) : Type 0 where
@@ -50,10 +46,7 @@ pub record IsFirst (w : Word) : Type 0 where
 
 first_word : (v : Scope) (w : Word) (ts : Tokens) → IsFirst w → Begins (scope_words v) ts → Shows w (behind (scope_words v) ts) → (x : Word) × IsFirst x × Shows x ts
 first_word unwritten w ts f b s = (w, f, s)
-first_word everywhere w ts f b s = (trees.word (codes "pub"), record { plain = refl; hash = refl }, b.0)
-first_word in_crate w ts f b s = (trees.word (codes "pub"), record { plain = refl; hash = refl }, b.0)
-first_word in_super w ts f b s = (trees.word (codes "pub"), record { plain = refl; hash = refl }, b.0)
-first_word in_self w ts f b s = (trees.word (codes "pub"), record { plain = refl; hash = refl }, b.0)
+first_word _ w ts f b s = (trees.word (codes "pub"), record { plain = refl; hash = refl }, b.0)
 
 -- ---- a field
 
@@ -72,10 +65,6 @@ field_steps end v ts us vs o s t f e = rw (o, s, t, f, e) refl
 abbrev field_words : Field → List Word
 field_words f = scope_words f.scope ++ (trees_words f.of_type ++ mark 44 ∷ [])
 
-parts_of : (a b : Bool) → (a || b) ≡ false → (a ≡ false) × (b ≡ false)
-parts_of true b e = absurd cc
-parts_of false b e = (refl, e)
-
 -- a comma is behind it
 ended_by : (ws : List Word) → 0 < length (ws ++ mark 44 ∷ [])
 ended_by [] = omega arith
@@ -90,7 +79,7 @@ field_read end f ts h is b e =
     let rest = begins_right (scope_words f.scope) tail ts b in
     let begin = first_of f.of_type (mark 44) in
     let shown = shows_first f.of_type (mark 44) [] us rest in
-    let plain = parts_of (trees.symbol_of begin == 35) (documents begin.kind) is.plain in
+    let plain = or_parts (trees.symbol_of begin == 35) (documents begin.kind) is.plain in
     let first = first_word f.scope begin ts (record { plain = plain.1; hash = plain.0 }) front shown in
     let comma : Shows (mark 44) vs = (begins_right (trees_words f.of_type) (mark 44 ∷ []) us rest).0 in
     let all : (behind (field_words f) ts).past ≡ (behind tail us).past = ap (λ (k : Tokens). k.past) (behind_append (scope_words f.scope) tail ts) in
@@ -130,18 +119,13 @@ field_goes f ts h b =
     goes f.scope ts (begins_left (scope_words f.scope) tail ts b) (type_goes f.of_type us h rest)
   where
     type_goes : (t : Trees) (us : Tokens) → AreTrees t → Begins (trees_words t ++ mark 44 ∷ []) us → is_at_end us ≡ false
-    type_goes no_trees us h b = b.0.end_is
     type_goes (tree_and (single w) t) us h b = b.0.end_is ∙ h.0.1
     type_goes (tree_and (group round is) t) us h b = b.0.end_is
-    type_goes (tree_and (group trees.square is) t) us h b = b.0.end_is
-    type_goes (tree_and (group curly is) t) us h b = b.0.end_is
+    type_goes _ us h b = b.0.end_is
 
     goes : (v : Scope) (ts : Tokens) → Begins (scope_words v) ts → is_at_end (behind (scope_words v) ts) ≡ false → is_at_end ts ≡ false
     goes unwritten ts b e = e
-    goes everywhere ts b e = b.0.end_is
-    goes in_crate ts b e = b.0.end_is
-    goes in_super ts b e = b.0.end_is
-    goes in_self ts b e = b.0.end_is
+    goes _ ts b e = b.0.end_is
 
 fields_read : (end : ℕ) (fs : List Field) (n : ℕ) (done : List (Option Visibility)) (ts : Tokens) → length ts.left ≤ n → AreTrees (fields_trees fs) → AreFields fs → Begins (trees_words (fields_trees fs) ++ close_of round ∷ []) ts
     → (behind (trees_words (fields_trees fs)) ts).past ≤ end → turns_from (are_over end) (one (field end)) n done ts ≡ (done ++ map field_view fs, behind (trees_words (fields_trees fs)) ts)

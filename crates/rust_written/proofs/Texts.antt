@@ -2,7 +2,6 @@
 use Rattle.std.proofs.Common.{◌≡◌, ◌<◌, ◌≤◌, ℕ, Bool, true, false, Option, Some, None, List, [], ◌∷◌, ◌++◌, codes, length, refl, ap, ◌∙◌, subst, arith}
 use Rattle.std.specs.Prelude.{map}
 use Rattle.std.specs.List.{filter}
-use Rattle.std.proofs.lemmas.List.Sums.{length-filter, count_by-le-length}
 use Rattle.hir_input.specs.Syntax.{items_from, source_file}
 use Rattle.hir_input.specs.declared.edition.EditionYear.{EditionYear}
 use Rattle.rust_lexer.specs.Piece.{Piece}
@@ -10,7 +9,6 @@ use Rattle.rust_lexer.specs.declared.kind.TokenKind.{TokenKind}
 use Rattle.rust_lexer.specs.Terminated.{is_closed}
 use Rattle.rust_lexer.specs.Tokens.{is_significant, tokens}
 use Rattle.rust_lexer.specs.declared.kind.DocStyle.TheVariants.{Inner}
-use Rattle.rust_lexer.proofs.Laws.{tokens_few}
 use Rattle.rust_cursor.specs.Tokens.{Tokens, last_unended, tokens_of}
 use Rattle.rust_cursor.specs.Words.{symbol, kind, is_empty, bumped}
 use Rattle.rust_cursor.specs.Elements.{most}
@@ -34,6 +32,7 @@ use Rattle.rust_written.specs.UseTrees.{use_words}
 use Rattle.rust_written.specs.Laws.{Writes, ReadAgain}
 use Rattle.rust_written.proofs.Fronts.{inner_none, inner_empty}
 use Rattle.rust_written.proofs.Items.{item_first, finds_reads}
+use Rattle.rust_cursor.proofs.Few.{tokens_short}
 
 -- ---- the tokens of a text
 
@@ -49,14 +48,6 @@ text_begins : (edition : EditionYear) (ws : List Word) (text : List ℕ) → Are
 unfolding tokens_of
 text_begins edition ws text h some =
     (begins ws (tokens_of edition text) (filter is_significant (tokens text)) refl h some, over ws (tokens_of edition text) (filter is_significant (tokens text)) refl h)
-
-text_few : (edition : EditionYear) (text : List ℕ) → length (tokens_of edition text).left ≤ length text
-unfolding tokens_of
-text_few edition text =
-    let counted = length-filter is_significant (tokens text) in
-    let fewer = count_by-le-length is_significant (tokens text) in
-    let all = tokens_few text in
-    omega (arith, counted, fewer, all)
 
 -- ---- the end
 
@@ -175,7 +166,7 @@ read_text edition is text w =
     let ts = tokens_of edition feeds in
     let b = text_begins edition (words is) feeds (tokens_again (words is) feeds w.plain w.spells) (no_word_empty (words is) feeds w.spells) in
     let bound = w.short in
-    let count = text_few edition feeds in
+    let count = tokens_short edition feeds in
     let few : length ts.left ≤ most = omega (arith, bound, count) in
     let none = no_attributes is ts b.0 b.1 in
     let end = behind (words is) ts in

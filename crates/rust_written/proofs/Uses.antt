@@ -4,6 +4,7 @@ use Rattle.std.specs.Prelude.{if◌then◌else◌}
 use Rattle.std.specs.Str.{bytes_eq}
 use Rattle.std.proofs.lemmas.Bool.Decides.{nat_tests}
 use Rattle.std.proofs.lemmas.Slice.Eq.{bytes_eq-Decides}
+use Rattle.std.proofs.lemmas.Bool.{eq-eqb}
 use Rattle.hir_input.specs.declared.ast.PathNode.{PathNode}
 use Rattle.hir_input.specs.declared.ast.Rename.{Rename}
 use Rattle.hir_input.specs.UseTreeView.{UseTreeView, tree_from}
@@ -28,7 +29,7 @@ use Rattle.rust_paths.proofs.Trees.{comma_end}
 use Rattle.rust_written.specs.Words.{Word}
 use Rattle.rust_written.specs.Trees as trees
 use Rattle.rust_written.proofs.Begins.{Shows, Begins, behind, behind_append, begins_left, begins_right, past_behind}
-use Rattle.rust_written.specs.UseTrees.{Segment, named, self_segment, super_segment, crate_segment, Path, segment_word, segment_meaning, colons, more_words, front_words, path_words, path_view, Alias, no_alias, as_name, as_nothing, alias_words, alias_view, UseTree, UseTrees, path_tree, star_tree, list_tree, no_uses, use_and, prefix_words, use_words, list_words, comma_words, use_view, use_views, IsPlainName, IsSegment, AreSegments, IsPath, IsPrefix, IsAlias, IsUse, AreUses}
+use Rattle.rust_written.specs.UseTrees.{Segment, named, Path, segment_word, segment_meaning, colons, more_words, front_words, path_words, path_view, Alias, no_alias, as_name, as_nothing, alias_words, alias_view, UseTree, UseTrees, path_tree, star_tree, list_tree, no_uses, use_and, prefix_words, use_words, list_words, comma_words, use_view, use_views, IsPlainName, IsSegment, AreSegments, IsPath, IsPrefix, IsAlias, IsUse, AreUses}
 
 -- ---- how many tokens are left
 
@@ -73,9 +74,7 @@ segment_reads : (g : Segment) (ts : Tokens) → IsSegment g → Shows (segment_w
 unfolding segment other_segment is_dollar_crate
 segment_reads (named n) ts p s =
     rw (s.word_is, not_word n (codes "self") p no_word_self, not_word n (codes "super") p no_word_super, not_word n (codes "crate") p no_word_crate, not_word n (codes "Self") p no_word_type, s.symbol_is, s.kind_is, name_reads n ts p s) refl
-segment_reads self_segment ts p s = rw s.word_is refl
-segment_reads super_segment ts p s = rw s.word_is refl
-segment_reads crate_segment ts p s = rw s.word_is refl
+segment_reads _ ts p s = rw s.word_is refl
 
 whether : (b : Bool) → (if b then true else true) ≡ true
 whether true = refl
@@ -84,24 +83,17 @@ whether false = refl
 segment_is : (g : Segment) (ts : Tokens) → IsSegment g → Shows (segment_word g) ts → is_segment ts ≡ true
 unfolding is_segment is_path_keyword has_name
 segment_is (named n) ts p s = rw (s.kind_is, s.text_is, name_in ts.edition n p.plain) (whether (is_path_keyword (word ts)))
-segment_is self_segment ts p s = rw s.word_is refl
-segment_is super_segment ts p s = rw s.word_is refl
-segment_is crate_segment ts p s = rw s.word_is refl
+segment_is _ ts p s = rw s.word_is refl
 
 segment_flat : (g : Segment) → trees.symbol_of (segment_word g) ≡ 0
 segment_flat (named n) = refl
-segment_flat self_segment = refl
-segment_flat super_segment = refl
-segment_flat crate_segment = refl
+segment_flat _ = refl
 
 -- ---- colons
 
-same_place : (a b : ℕ) → a ≡ b → (a == b) ≡ true
-same_place a b e = grind (arith, nat_tests)
-
 colons_here : (ts : Tokens) → Shows (trees.mark 58) ts → Shows (trees.joined_mark 58) (bumped ts) → is_pair 58 58 ts ≡ true
 unfolding is_pair is_glued
-colons_here ts s t = rw (s.symbol_is, t.symbol_is, same_place (at (bumped ts)) (bumped ts).past t.at_is) refl
+colons_here ts s t = rw (s.symbol_is, t.symbol_is, eq-eqb (at (bumped ts)) (bumped ts).past t.at_is) refl
 
 no_colons : (ts : Tokens) → (symbol ts == 58) ≡ false → is_pair 58 58 ts ≡ false
 unfolding is_pair
@@ -238,8 +230,7 @@ rename_reads as_nothing ts h b e = rename_some (record { name = None }) ts (bump
 
 alias_flat : (a : Alias) (ts : Tokens) → Begins (alias_words a) ts → IsUseEnd (behind (alias_words a) ts) → (symbol ts == 58) ≡ false
 alias_flat no_alias ts b e = e.colon
-alias_flat (as_name n) ts b e = rw b.0.symbol_is refl
-alias_flat as_nothing ts b e = rw b.0.symbol_is refl
+alias_flat _ ts b e = rw b.0.symbol_is refl
 
 -- ---- trees
 
@@ -387,9 +378,7 @@ past_more (w ∷ ws) ts b l =
 -- a bracket that closes is not the first
 segment_goes : (g : Segment) (ts : Tokens) → Shows (segment_word g) ts → is_at_end ts ≡ false
 segment_goes (named n) ts s = s.end_is
-segment_goes self_segment ts s = s.end_is
-segment_goes super_segment ts s = s.end_is
-segment_goes crate_segment ts s = s.end_is
+segment_goes _ ts s = s.end_is
 
 path_goes : (absolute : Bool) (g : Segment) (more : List Word) (ts : Tokens) → Begins (front_words absolute ++ segment_word g ∷ more) ts → is_at_end ts ≡ false
 path_goes false g more ts b = segment_goes g ts b.0
