@@ -1,7 +1,7 @@
 -- What was found to begin with nothing that stands in front of a text alone does not.
 use Rattle.std.proofs.Common.{◌≡◌, ◌==◌, ◌||◌, ◌&&◌, ℕ, Bool, true, false, List, [], ◌∷◌, refl, sym, subst}
 use Rattle.std.specs.Prelude.{not, slice_index}
-use Rattle.std.proofs.lemmas.Bool.{and_parts, eqb-true}
+use Rattle.std.proofs.lemmas.Bool.{and_parts, eqb-true, not-true}
 use Rattle.rust_lexer.specs.declared.kind.TokenKind.{TokenKind}
 use Rattle.rust_lexer.specs.declared.kind.TokenKind.TheVariants as kinds
 use Rattle.rust_lexer.specs.Alone.{is_fence}
@@ -53,10 +53,6 @@ off : (s t : Bool) → not (s || t) ≡ true → (s ≡ false) × (not t ≡ tru
 off true t e = absurd cc
 off false t e = (refl, e)
 
-neither : (t : Bool) → not t ≡ true → t ≡ false
-neither true e = absurd cc
-neither false e = refl
-
 pub bare_is : (z : List ℕ) → begins_bare z ≡ true → IsBare (with_feeds z)
 bare_is [] e = (refl, (refl, refl))
 bare_is (b ∷ z) e =
@@ -66,4 +62,4 @@ bare_is (b ∷ z) e =
     let dash = off (b == 45) (b == 10 || (b == 13 || b == 239)) rest in
     let feed = off (b == 10) (b == 13 || b == 239) dash.1 in
     let back = off (b == 13) (b == 239) feed.1 in
-    rw back.0 (bare_other b (with_feeds z) h dash.0 feed.0 back.0 (neither (b == 239) back.1)))
+    rw back.0 (bare_other b (with_feeds z) h dash.0 feed.0 back.0 (not-true (b == 239) back.1)))

@@ -86,13 +86,7 @@ same_parts text body range p q a b c s k h =
 
 -- ---- a text that is not cut so
 
--- a text that begins otherwise, or cannot be cut behind its first byte
-pub no_byte : (text : List ℕ) (byte : ℕ) → text ≡ [] → LacksByte text byte
-no_byte text byte e low rest f = let no : [] ≡ byte ∷ rest = sym e ∙ f in cc
-
-pub other_byte : (text : List ℕ) (byte first : ℕ) (more : List ℕ) → text ≡ first ∷ more → (first ≡ byte → ⊥) → LacksByte text byte
-other_byte text byte first more e n low rest f = n (let same : first ∷ more ≡ byte ∷ rest = sym e ∙ f in cc)
-
+-- a text that cannot be cut behind its first byte
 pub uncut_byte : (text : List ℕ) (byte : ℕ) → IsUtf8 text → (IsCharBoundary text 1 → ⊥) → LacksByte text byte
 uncut_byte text byte u f low rest e =
     let long : length text ≡ suc (length rest) = ap length e in

@@ -2,8 +2,8 @@
 use Rattle.std.proofs.Common.{◌≡◌, ◌≤◌, ◌<◌, ◌+◌, ◌-◌, ◌^◌, ◌&&◌, ℕ, true, false, Option, List, [], ◌∷◌, length, refl, ap, sym, subst, ◌∙◌, map, arith}
 use Rattle.std.specs.Prelude.{All, nat_le, nat_lt, option_map}
 use Rattle.std.specs.List.{list_all}
-use Rattle.std.proofs.lemmas.Bool.Decides.{nat_tests}
 use Rattle.std.proofs.lemmas.List.Elements.{All-head, All-tail}
+use Rattle.std.proofs.lemmas.Bool.{le-leb, lt-ltb}
 use Rattle.hir_input.specs.declared.edition.EditionYear.{EditionYear}
 use Rattle.hir_input.specs.declared.ids.FileAstId.{FileAstId}
 use Rattle.rust_cursor.proofs.Ordered.{close_some}
@@ -24,24 +24,21 @@ use Rattle.rust_edits.proofs.Typing.Moved.{uses_below}
 use Rattle.rust_edits.proofs.Typing.ProblemsAlike.{ProblemAlike}
 use Rattle.rust_edits.proofs.Typing.ProblemsIn.{problems_in}
 use Rattle.rust_edits.proofs.Typing.ProblemsIn as within
-use Rattle.rust_edits.proofs.Typing.Returns.{is_le, not_le, feeds_body, body_length, place_high, place_open}
+use Rattle.rust_edits.proofs.Typing.Returns.{not_le, feeds_body, body_length, place_high, place_open}
 use Rattle.rust_edits.proofs.Typing.Texts.{IsMoved}
 use Rattle.rust_edits.proofs.Typing.Typing.{both_read}
 use Rattle.rust_edits.specs.declared.shift.Shift.{Shift}
 use Rattle.rust_edits.specs.Edits.{has_place, has_range, has_some_range, has_item, has_problem, HasPlaces}
 use Rattle.rust_edits.proofs.Steps.{both_true}
 
-is_lt : (m n : ℕ) → m < n → nat_lt m n ≡ true
-is_lt m n h = grind (arith, nat_tests)
-
 has_low : (s : Shift) (at : ℕ) → at ≤ s.opening → has_place s at ≡ true
-has_low s at h = let e : nat_le at s.opening ≡ true = is_le at s.opening h in rw e refl
+has_low s at h = let e : nat_le at s.opening ≡ true = le-leb at s.opening h in rw e refl
 
 has_high : (s : Shift) (at : ℕ) → s.opening < at → s.closing ≤ at → s.closing_new + (at - s.closing) < 2 ^ 64 → has_place s at ≡ true
 has_high s at a b c =
     let e : nat_le at s.opening ≡ false = not_le at s.opening a in
-    let f : nat_le s.closing at ≡ true = is_le s.closing at b in
-    let g : nat_lt (s.closing_new + (at - s.closing)) (2 ^ 64) ≡ true = is_lt (s.closing_new + (at - s.closing)) (2 ^ 64) c in
+    let f : nat_le s.closing at ≡ true = le-leb s.closing at b in
+    let g : nat_lt (s.closing_new + (at - s.closing)) (2 ^ 64) ≡ true = lt-ltb (s.closing_new + (at - s.closing)) (2 ^ 64) c in
     rw (e, f, g) refl
 
 module _ (q m m' s : List ℕ) (shift : Shift) (opening : shift.opening ≡ length q) (closing : shift.closing ≡ close_at q m) (closing_new : shift.closing_new ≡ close_at q m') (short : length (with_body q m' s) < 2 ^ 64) where

@@ -1,9 +1,8 @@
 -- What has places is moved, and loose brackets are compared.
-use Rattle.std.proofs.Common.{◌≡◌, ◌≤◌, ◌==◌, ℕ, Bool, true, List, [], ◌∷◌, ◌++◌, length, take, drop, refl, ap, sym, subst, ◌∙◌, map, arith, append-nil}
+use Rattle.std.proofs.Common.{◌≡◌, ◌≤◌, ◌==◌, ℕ, Bool, true, List, [], ◌∷◌, ◌++◌, length, take, drop, refl, ap, sym, subst, ◌∙◌, map, append-nil}
 use Rattle.std.proofs.lemmas.List.{drop_all, take_all}
 use Rattle.std.specs.List.{list_all}
-use Rattle.std.proofs.lemmas.Bool.{and_parts, eqb-true}
-use Rattle.std.proofs.lemmas.Bool.Decides.{nat_tests}
+use Rattle.std.proofs.lemmas.Bool.{and_parts, eqb-true, eq-eqb}
 use Rattle.rust_edits.specs.Typing.Loose.{Loose}
 use Rattle.rust_edits.specs.Inner.{or_kept, same_loose}
 use Rattle.rust_edits.proofs.Steps.{both_true}
@@ -27,8 +26,5 @@ same_is l m e =
     let both = and_parts (l.closing == m.closing) (l.opening == m.opening) e in
     ap (λ (n : ℕ). record { closing = n; opening = m.opening }) (sym (eqb-true l.closing m.closing both.0)) ∙ ap (λ (n : ℕ). record { closing = l.closing; opening = n }) (sym (eqb-true l.opening m.opening both.1))
 
-itself : (n : ℕ) → (n == n) ≡ true
-itself n = grind (arith, nat_tests)
-
 pub same_of : (l m : Loose) → m ≡ l → same_loose l m ≡ true
-same_of l m e = subst (λ (k : Loose). same_loose l k ≡ true) (sym e) (both_true (l.closing == l.closing) (l.opening == l.opening) (itself l.closing) (itself l.opening))
+same_of l m e = subst (λ (k : Loose). same_loose l k ≡ true) (sym e) (both_true (l.closing == l.closing) (l.opening == l.opening) (eq-eqb l.closing l.closing refl) (eq-eqb l.opening l.opening refl))

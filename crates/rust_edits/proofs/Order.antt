@@ -4,6 +4,7 @@ use Rattle.std.specs.Prelude.{nat_le, slice_get, option_and_then}
 use Rattle.std.specs.List.Sorted.{IsPartitionPoint, IsPartitionedBy}
 use Rattle.std.proofs.lemmas.Bool.Decides.{nat_tests}
 use Rattle.std.proofs.lemmas.Option.{slice_get-get_or}
+use Rattle.std.proofs.lemmas.Bool.{le-leb}
 use Rattle.hir_input.specs.Syntax.{ItemViews}
 use Rattle.rust_items.specs.declared.source_file.ItemPlace.{ItemPlace}
 use Rattle.rust_items.specs.Places.{Telling, ArePlaces, nothing, placed}
@@ -25,9 +26,6 @@ items_are_in_order edition text read is = rises (view_placed edition text read i
 
 -- ---- the last that begins up to a place
 
-le_by : (m n : ℕ) → m ≤ n → nat_le m n ≡ true
-le_by m n h = grind (arith, nat_tests)
-
 by_le : (m n : ℕ) → nat_le m n ≡ true → m ≤ n
 by_le m n e = grind (arith, nat_tests)
 
@@ -42,7 +40,7 @@ begun_first at low (p ∷ ps) h zero zero d le l e = e
 begun_first at low (p ∷ ps) h zero (suc j) d le l e =
     let first = from_at p.range.start ps h.1 j d (omega arith) in
     let begun = by_le (get_or ps j d).range.start at e in
-    le_by p.range.start at (omega (arith, first, begun))
+    le-leb p.range.start at (omega (arith, first, begun))
 begun_first at low (p ∷ ps) h (suc i) zero d le l e = absurd (omega arith)
 begun_first at low (p ∷ ps) h (suc i) (suc j) d le l e = begun_first at p.range.start ps h.1 i j d (omega arith) (omega arith) e
 

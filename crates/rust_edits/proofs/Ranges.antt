@@ -1,6 +1,4 @@
 -- An item's text alone.
-pub mod NearPaths
-pub mod NearTrees
 pub mod NearFronts
 pub mod NearFields
 pub mod NearLeaves

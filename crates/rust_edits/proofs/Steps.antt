@@ -30,10 +30,6 @@ by_some (Some a) f = f a refl
 pub body_held : (items : List ItemPlace) (i : ℕ) (item : ItemPlace) → i < length items → item ≡ get_or items i item → IfSome item.body (λ body. has_body_at body.start items ≡ true)
 body_held items i item h e = by_some item.body (λ r b. held_at items i item r b h e)
 
-pub some_so : {A : Type 0} {P Q : A → Type 0} (o : Option A) → ((a : A) → P a → Q a) → IfSome o P → IfSome o Q
-some_so None f h = tt
-some_so (Some a) f h = f a h
-
 -- what is exactly so where there is a value is not so where there is none
 pub off : {A : Type 0} (o : Option A) (P : Type 0) → IsSome o ↔ P → o ≡ None → P → ⊥
 off o P t e p = false≢true (sym (ap (λ z. is_some z) e) ∙ t.1 p)

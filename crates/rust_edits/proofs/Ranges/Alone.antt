@@ -1,15 +1,15 @@
 -- The text of an item, from the end of what stands before it on, read alone is exactly that item.
-use Rattle.std.proofs.Common.{◌≡◌, ◌<◌, ◌+◌, ◌==◌, ◌||◌, ℕ, suc, true, false, Option, Some, None, List, [], ◌∷◌, ◌++◌, length, refl, sym, ap, ◌∙◌, subst, arith, map, append-nil}
+use Rattle.std.proofs.Common.{◌≡◌, ◌+◌, ◌==◌, ◌||◌, ℕ, suc, true, false, Option, Some, None, List, [], ◌∷◌, ◌++◌, length, refl, sym, ap, ◌∙◌, subst, arith, map, append-nil}
 use Rattle.std.specs.Prelude.{option_to_list, is_some}
 use Rattle.std.specs.List.{filter}
 use Rattle.std.proofs.lemmas.List.Elements.{filter-append}
-use Rattle.std.proofs.lemmas.Bool.Decides.{nat_tests}
+use Rattle.std.proofs.lemmas.Bool.{ne_eqb}
 use Rattle.hir_input.specs.declared.edition.EditionYear.{EditionYear}
 use Rattle.hir_input.specs.Attr.{MetaView}
 use Rattle.hir_input.specs.Syntax.{ItemView}
 use Rattle.rust_lexer.specs.declared.kind.DocStyle.TheVariants.{Inner}
 use Rattle.rust_metas.specs.Attributes.{inner_attributes, is_behind}
-use Rattle.rust_lexer.specs.Alone.{Stop, opening, closing, semicolon, stop, front, moved}
+use Rattle.rust_lexer.specs.Alone.{Stop, opening, stop, front, moved}
 use Rattle.rust_lexer.specs.Piece.{Piece}
 use Rattle.rust_lexer.specs.Symbol.{symbol_of}
 use Rattle.rust_lexer.specs.Tokens.{is_significant, tokens, tokens_from}
@@ -73,7 +73,7 @@ pub record StandsAlone (edition : EditionYear) (b : Ending) (text : List ℕ) (b
   pub none : left.left ≡ []
   pub attrs : (inner_attributes (tokens_of edition text)).0 ≡ []
 
-most_is : most ≡ suc (suc 18446744073709551613)
+pub most_is : most ≡ suc (suc 18446744073709551613)
 unfolding most
 most_is = refl
 
@@ -95,27 +95,21 @@ taken_far m us vs laid some (further p) none =
     let first = taken_behind m us laid some in
     let start = at_behind m us laid in
     let later = behind m p (behind m (bumped_leads us) laid).laid in
-    differs vs.past us.past (omega arith)
-  where
-    differs : (a c : ℕ) → c < a → (a == c) ≡ false
-    differs a c lt = grind (arith, nat_tests)
+    ne_eqb vs.past us.past (λ same. absurd (omega arith))
 
 -- ---- the last token
 
 ended_append : (xs : List Piece) (t : Piece) → is_last (symbol_of t) ≡ true → are_ended (xs ++ t ∷ []) ≡ true
-ended_append [] t e = e
-ended_append (x ∷ []) t e = e
 ended_append (x ∷ y ∷ xs) t e = ended_append (y ∷ xs) t e
+ended_append _ t e = e
 
 pub last_counts : (o : Stop) (at : ℕ) → is_significant (stop_at o at) ≡ true
 last_counts opening at = refl
-last_counts closing at = refl
-last_counts semicolon at = refl
+last_counts _ at = refl
 
 last_symbol : (o : Stop) (at : ℕ) → symbol_of (stop_at o at) ≡ stop o
 last_symbol opening at = refl
-last_symbol closing at = refl
-last_symbol semicolon at = refl
+last_symbol _ at = refl
 
 pub part_ended : (edition : EditionYear) (q w : List ℕ) (o : Stop) (y : List ℕ) → IsPart w o y → is_last (stop o) ≡ true → are_ended (tokens_of edition (ended w o)).left ≡ true
 unfolding tokens_of

@@ -7,7 +7,7 @@ use Rattle.std.specs.List.{filter}
 use Rattle.std.proofs.lemmas.List.Elements.{filter-append}
 use Rattle.std.proofs.lemmas.Bool.Decides.{nat_tests}
 use Rattle.hir_input.specs.declared.edition.EditionYear.{EditionYear}
-use Rattle.rust_lexer.specs.Alone.{Stop, opening, closing, semicolon, stop, behind_lead, EndsAlone, is_fence, is_full, overhang, front, moved}
+use Rattle.rust_lexer.specs.Alone.{Stop, opening, stop, behind_lead, EndsAlone, is_fence, is_full, overhang, front, moved}
 use Rattle.rust_lexer.specs.Cut.{first_cut}
 use Rattle.rust_lexer.specs.Bytes.{is_continuation}
 use Rattle.rust_lexer.specs.Piece.{Piece}
@@ -15,15 +15,14 @@ use Rattle.rust_lexer.specs.Symbol.{symbol_of}
 use Rattle.rust_lexer.specs.Terminated.{is_terminated}
 use Rattle.rust_lexer.specs.Tokens.{has_mark, is_blank, is_bracket_next, is_shebang, is_significant, tokens, tokens_from, whole}
 use Rattle.rust_lexer.proofs.Apart.{own, stop_at, tokens_moved}
-use Rattle.rust_lexer.proofs.Laws.{tokens_lossless, tokens_not_empty}
 use Rattle.rust_lexer.proofs.Same.{by_stop}
 use Rattle.rust_lexer.proofs.Whole.{plain_is, filter_moved}
 use Rattle.rust_cursor.specs.Tokens.{Tokens, end_of, tokens_of, place_if_open, last_unended}
 use Rattle.rust_cursor.specs.Words.{by_first, rest, bumped}
-use Rattle.rust_cursor.proofs.Few.{few}
 use Rattle.rust_cursor.proofs.Leads.{LeadsTo, here, further, when}
 use Rattle.rust_edits.proofs.Ranges.Alone.{last_counts}
 use Rattle.rust_edits.proofs.Ranges.Parts.{ended}
+use Rattle.rust_edits.proofs.Typing.Unended.{last_append}
 
 -- ---- what may stand in front of a text
 
@@ -54,19 +53,14 @@ mark_on : (o : Stop) (x y y' : List ℕ) → has_mark (x ++ stop o ∷ y') ≡ h
 mark_on o x y y' = by_stop (λ s. has_mark (x ++ s ∷ y') ≡ has_mark (x ++ s ∷ y)) (mark_by 123 refl refl x y y') (mark_by 125 refl refl x y y') (mark_by 59 refl refl x y y') o
 
 bracket_on : (o : Stop) (at : ℕ) (xs l l' : List Piece) → is_bracket_next (xs ++ stop_at o at ∷ l') ≡ is_bracket_next (xs ++ stop_at o at ∷ l)
-bracket_on opening at [] l l' = refl
-bracket_on closing at [] l l' = refl
-bracket_on semicolon at [] l l' = refl
 bracket_on o at (t ∷ xs) l l' = when (is_blank t.kind) (λ e. rw e (bracket_on o at xs l l')) (λ e. rw e refl)
+bracket_on opening at _ l l' = refl
+bracket_on _ at _ l l' = refl
 
 shebang_on : (o : Stop) (at : ℕ) (xs l l' : List Piece) → is_shebang (xs ++ stop_at o at ∷ l') ≡ is_shebang (xs ++ stop_at o at ∷ l)
-shebang_on opening at [] l l' = refl
-shebang_on closing at [] l l' = refl
-shebang_on semicolon at [] l l' = refl
-shebang_on opening at (t ∷ []) l l' = refl
-shebang_on closing at (t ∷ []) l l' = refl
-shebang_on semicolon at (t ∷ []) l l' = refl
 shebang_on o at (t ∷ u ∷ xs) l l' = ap (λ r. symbol_of t == 35 && (symbol_of u == 33 && not r)) (bracket_on o at xs l l')
+shebang_on opening at _ l l' = refl
+shebang_on _ at _ l l' = refl
 
 -- nothing stands in front of the longer text either
 pub plain_on : (w : List ℕ) (o : Stop) (y : List ℕ) → EndsAlone w o → is_continuation (slice_index y 0) ≡ false → IsBare (ended w o) → IsBare (w ++ stop o ∷ y)
@@ -136,14 +130,9 @@ last_moved d last (t ∷ ts) = ap (λ l. last_unended l (map (moved d) ts)) (pla
     place true at = refl
     place false at = refl
 
-pub last_append : (last : Option ℕ) (xs ys : List Piece) → last_unended last (xs ++ ys) ≡ last_unended (last_unended last xs) ys
-last_append last [] ys = refl
-last_append last (x ∷ xs) ys = last_append (place_if_open x) xs ys
-
 pub last_stop : (o : Stop) (at : ℕ) (last : Option ℕ) (l : List Piece) → last_unended last (stop_at o at ∷ l) ≡ last_unended None l
 last_stop opening at last l = refl
-last_stop closing at last l = refl
-last_stop semicolon at last l = refl
+last_stop _ at last l = refl
 
 -- where the last token of the longer text is not ended
 pub unended_behind : (edition : EditionYear) (w : List ℕ) (o : Stop) (y : List ℕ) → EndsAlone w o → is_continuation (slice_index y 0) ≡ false → IsBare (w ++ stop o ∷ y) → IsBare y
@@ -192,14 +181,3 @@ end_whole edition w o alone p =
 -- where all tokens of such a text were taken
 pub past_whole : (edition : EditionYear) (w : List ℕ) (o : Stop) (us : Tokens) → EndsAlone w o → IsBare (ended w o) → LeadsTo (tokens_of edition (ended w o)) us → us.left ≡ [] → us.past ≡ suc (length w)
 past_whole edition w o us alone p leads none = sym (ap (end_from us.past) none) ∙ end_on leads ∙ end_whole edition w o alone p
-
--- ---- what stays
-
-pub unended_stays : {ts us : Tokens} → LeadsTo ts us → us.unended ≡ ts.unended
-unfolding bumped
-unended_stays here = refl
-unended_stays (further p) = unended_stays p
-
-pub tokens_short : (edition : EditionYear) (text : List ℕ) → length (tokens_of edition text).left ≤ length text
-unfolding tokens_of
-tokens_short edition text = few (tokens text) text (tokens_not_empty text) (tokens_lossless text)

@@ -1,31 +1,26 @@
 -- A small module, by computing: a text that is one, and where its `{` stands.
 use Rattle.std.proofs.Common.{◌≡◌, ◌==◌, ◌||◌, ℕ, zero, suc, Bool, true, false, Option, None, Some, List, [], ◌∷◌, ◌++◌, codes, length, refl, sym, ap, ◌∙◌}
 use Rattle.std.specs.Prelude.{option_to_list, slice_index}
-use Rattle.hir_input.specs.declared.ast.Visibility.{Visibility}
 use Rattle.hir_input.specs.declared.edition.EditionYear.{EditionYear}
 use Rattle.hir_input.specs.Attr.{MetaView}
 use Rattle.hir_input.specs.Syntax.{ItemView, module_from}
-use Rattle.rust_lexer.specs.declared.kind.DocStyle.TheVariants.{Inner, Outer}
+use Rattle.rust_lexer.specs.declared.kind.DocStyle.TheVariants.{Inner}
 use Rattle.rust_lexer.specs.declared.kind.TokenKind.TheVariants as kinds
 use Rattle.rust_lexer.specs.Alone.{closing}
 use Rattle.rust_lexer.specs.Bytes.{is_continuation, is_wide_start, is_wide_continue}
 use Rattle.rust_lexer.specs.Cut.{first_cut}
 use Rattle.rust_lexer.specs.Piece.{Piece}
 use Rattle.rust_lexer.specs.Tokens.{tokens}
-use Rattle.rust_cursor.specs.Elements.{most, turns}
+use Rattle.rust_cursor.specs.Elements.{most}
 use Rattle.rust_cursor.specs.Tokens.{Tokens, tokens_of}
-use Rattle.rust_cursor.specs.Words.{symbol, word, text, kind, at, is_empty, is_at_end, bumped, eat}
+use Rattle.rust_cursor.specs.Words.{symbol, text, kind, at, is_empty, is_at_end, bumped, eat}
 use Rattle.rust_cursor.proofs.Braced.{tokens_at}
-use Rattle.rust_cursor.proofs.Turns.{turns_stop}
 use Rattle.rust_paths.specs.Names.{plain_name, is_keyword, is_path_keyword, next_name, name, placed_name}
 use Rattle.rust_paths.specs.Visibilities.{visibility}
-use Rattle.rust_metas.specs.Attributes.{is_behind, is_doc, is_attribute, attributes, outer_attributes, inner_attributes}
-use Rattle.rust_leaves.specs.declared.head.Head.{Head}
-use Rattle.rust_leaves.specs.declared.head.Head.TheVariants as heads
-use Rattle.rust_leaves.specs.Heads.{is_modifier, is_modifier_before, behind_modifiers, head, head_by}
-use Rattle.rust_leaves.specs.Fronts.{FrontRead, front_behind, front}
+use Rattle.rust_metas.specs.Attributes.{is_behind, is_doc, is_attribute, inner_attributes}
+use Rattle.rust_leaves.specs.Heads.{head}
+use Rattle.rust_leaves.specs.Fronts.{FrontRead, front}
 use Rattle.rust_leaves.specs.Leaves.{named}
-use Rattle.rust_leaves.proofs.Steps.{modifiers_stop}
 use Rattle.rust_items.specs.Found.{Found, nothing_found}
 use Rattle.rust_items.specs.Items.{BlockRead, items, is_list_end, turn_with, inside, turn, depth_of, finding, finding_from, block_of, and_parent, some_item}
 use Rattle.rust_leaves.specs.Kinds.{named_node}
@@ -35,6 +30,7 @@ use Rattle.rust_edits.specs.Ranges.Inside.{read_at, HoldsAt, OpensModule}
 use Rattle.rust_edits.specs.Ranges.Laws.{EndsOwn}
 use Rattle.rust_edits.proofs.Ranges.Alone.{one_item}
 use Rattle.rust_edits.proofs.Ranges.Inner.{no_inner}
+use Rattle.rust_edits.proofs.Ranges.Examples.{mod_word, is_module, all, behind, not_inner, front_is, not_ended, some_left, starts}
 use Rattle.rust_edits.proofs.Ranges.Modules.{block, made, turn_is}
 
 -- `mod a ` and `}`, with the `{` between them
@@ -43,9 +39,6 @@ before = codes "mod a "
 
 pub close : List ℕ
 close = codes "}"
-
-mod_word : Piece
-mod_word = record { kind = kinds.Ident; text = codes "mod"; at = 0 }
 
 closing_brace : Piece
 closing_brace = record { kind = kinds.CloseDelim; text = codes "}"; at = 7 }
@@ -73,60 +66,25 @@ unfolding close
 uncut_close = refl
 
 module _ (y : EditionYear) where
-  all : Tokens
-  all = tokens_at y 0 (mod_word ∷ a_name ∷ braces) None
+  abbrev module_a : Tokens
+  module_a = all y (a_name ∷ braces)
 
-  behind : Tokens
-  behind = tokens_at y 3 (a_name ∷ braces) None
+  abbrev behind_mod : Tokens
+  behind_mod = behind y (a_name ∷ braces)
 
   at_brace : Tokens
   at_brace = tokens_at y 5 braces None
 
-  abbrev is_module : FrontRead
-  is_module = record { start = 0; attrs = []; visibility = None; head = heads.Module }
-
-  toks : tokens_of y (before ++ 123 ∷ close) ≡ all
+  toks : tokens_of y (before ++ 123 ∷ close) ≡ module_a
   unfolding all before close mod_word a_name braces closing_brace tokens_of tokens first_cut is_wide_start is_wide_continue
   toks = refl
 
-  not_inner : is_behind Inner all ≡ true
-  unfolding all mod_word is_behind is_doc is_attribute symbol kind
-  not_inner = refl
-
-  not_outer : outer_attributes all ≡ ([], all)
-  unfolding all mod_word outer_attributes attributes turns is_behind is_doc is_attribute symbol kind
-  not_outer = turns_stop (is_behind Outer) _ _ [] all refl
-
-  unseen : visibility all ≡ (None, all)
-  unfolding all mod_word visibility word
-  unseen = refl
-
-  not_modified : is_modifier_before (word all) (bumped all) ≡ false
-  unfolding all mod_word is_modifier_before word
-  not_modified = refl
-
-  unmodified : behind_modifiers all ≡ all
-  unfolding behind_modifiers is_modifier
-  unmodified = modifiers_stop _ all not_modified
-
-  head_is : head all ≡ (heads.Module, behind)
-  unfolding all mod_word behind head head_by word bumped
-  head_is = refl
-
-  abbrev made_front : Option Visibility → Head × Tokens → FrontRead × Tokens
-  made_front v h = (record { start = 0; attrs = []; visibility = v; head = h.0 }, h.1)
-
-  front_is : front all ≡ (is_module, behind)
-  unfolding all mod_word front front_behind at
-  front_is =
-      ap (λ r. front_behind (at all) r.0 r.1) not_outer ∙ ap (λ v. made_front v.0 (head (behind_modifiers v.1))) unseen ∙ ap (λ ts. made_front None (head ts)) unmodified ∙ ap (made_front None) head_is
-
-  name_is : (named behind).1 ≡ at_brace
+  name_is : (named behind_mod).1 ≡ at_brace
   unfolding behind a_name at_brace named placed_name name next_name plain_name is_keyword is_path_keyword kind text at bumped
   name_is = refl
 
-  front_there : front (tokens_of y (before ++ 123 ∷ close)) ≡ (is_module, behind)
-  front_there = ap front toks ∙ front_is
+  front_there : front (tokens_of y (before ++ 123 ∷ close)) ≡ (is_module, behind_mod)
+  front_there = ap front toks ∙ front_is y (a_name ∷ braces)
 
   name_there : (named (front (tokens_of y (before ++ 123 ∷ close))).1).1 ≡ at_brace
   name_there = ap (λ (r : FrontRead × Tokens). (named r.1).1) front_there ∙ name_is
@@ -144,7 +102,7 @@ module _ (y : EditionYear) where
   opens = record {
     bare = bare_close;
     uncut = uncut_close;
-    outer = ap (is_behind Inner) toks ∙ not_inner;
+    outer = ap (is_behind Inner) toks ∙ not_inner y (a_name ∷ braces);
     head = ap (λ (r : FrontRead × Tokens). r.0.head) front_there;
     brace = ap symbol name_there ∙ brace_is;
     place = ap at name_there ∙ place_is;
@@ -195,43 +153,31 @@ module _ (y : EditionYear) where
     (and_parent (depth_of 128) f.0.start b.1.1.past ast.Module (named f.1).0 (false || b.0.is_ended) b.1.0 nothing_found, b.1.1),
   )
 
-  is_whole : made 127 y before close opens (block 127 y before close opens) ≡ made_by (is_module, behind) empty
+  is_whole : made 127 y before close opens (block 127 y before close opens) ≡ made_by (is_module, behind_mod) empty
   is_whole =
       ap (λ (t : Tokens). made_by (front (tokens_of y (before ++ 123 ∷ close))) (block_of (turn_with (inside 127) (depth_of 127)) nothing_found t)) name_there
       ∙ ap (made_by (front (tokens_of y (before ++ 123 ∷ close)))) block_is ∙ ap (λ f. made_by f empty) front_there
 
-  not_ended : is_at_end all ≡ false
-  unfolding all mod_word is_at_end
-  not_ended = refl
-
-  some_left : is_empty all ≡ false
-  unfolding all mod_word is_empty
-  some_left = refl
-
-  starts : all.past ≡ 0
-  unfolding all
-  starts = refl
-
-  turn_there : turn 128 nothing_found all ≡ some_item (made_by (is_module, behind) empty)
+  turn_there : turn 128 nothing_found module_a ≡ some_item (made_by (is_module, behind_mod) empty)
   turn_there =
-      ap (turn 128 nothing_found) (sym toks) ∙ turn_is 127 y before close opens (ap is_at_end toks ∙ not_ended) ∙ ap some_item is_whole
+      ap (turn 128 nothing_found) (sym toks) ∙ turn_is 127 y before close opens (ap is_at_end toks ∙ not_ended y (a_name ∷ braces)) ∙ ap some_item is_whole
 
-  sound : (made_by (is_module, behind) empty).1.0.problems ≡ []
+  sound : (made_by (is_module, behind_mod) empty).1.0.problems ≡ []
   unfolding behind a_name named placed_name name next_name plain_name is_keyword is_path_keyword kind text at bumped
   sound = refl
 
-  all_read : read_at true 128 y (before ++ 123 ∷ close) ≡ (option_to_list (turn 128 nothing_found all).0, ((turn 128 nothing_found all).1.0, (turn 128 nothing_found all).1.1))
+  all_read : read_at true 128 y (before ++ 123 ∷ close) ≡ (option_to_list (turn 128 nothing_found module_a).0, ((turn 128 nothing_found module_a).1.0, (turn 128 nothing_found module_a).1.1))
   all_read =
-      ap (λ (t : Tokens). items true 128 nothing_found (inner_attributes t).1) toks ∙ ap (λ (p : List MetaView × Tokens). items true 128 nothing_found p.1) (no_inner all not_inner)
-      ∙ one_item nothing_found all some_left (ap (λ (r : Option ItemView × (Found × Tokens)). r.1.1.left) turn_there)
-      (ap (λ (r : Option ItemView × (Found × Tokens)). r.1.1.past == all.past) turn_there ∙ ap (λ n. 8 == n) starts)
+      ap (λ (t : Tokens). items true 128 nothing_found (inner_attributes t).1) toks ∙ ap (λ (p : List MetaView × Tokens). items true 128 nothing_found p.1) (no_inner module_a (not_inner y (a_name ∷ braces)))
+      ∙ one_item nothing_found module_a (some_left y (a_name ∷ braces)) (ap (λ (r : Option ItemView × (Found × Tokens)). r.1.1.left) turn_there)
+      (ap (λ (r : Option ItemView × (Found × Tokens)). r.1.1.past == module_a.past) turn_there ∙ ap (λ n. 8 == n) (starts y (a_name ∷ braces)))
 
   -- and it is a whole item
   pub holds : HoldsAt true 128 y (before ++ 123 ∷ close)
   holds = record {
     bare = bare_all;
     ends = ends_all;
-    first = (made_by (is_module, behind) empty).0;
+    first = (made_by (is_module, behind_mod) empty).0;
     more = [];
     items = ap (λ (r : List ItemView × (Found × Tokens)). r.0) all_read ∙ ap (λ (r : Option ItemView × (Found × Tokens)). option_to_list r.0) turn_there;
     sound = ap (λ (r : List ItemView × (Found × Tokens)). r.1.0.problems) all_read ∙ ap (λ (r : Option ItemView × (Found × Tokens)). r.1.0.problems) turn_there ∙ sound;

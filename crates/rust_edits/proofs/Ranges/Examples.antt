@@ -40,8 +40,8 @@ use Rattle.rust_items.proofs.Places.{items_found}
 use Rattle.rust_edits.specs.Ranges.Joined.{IsBare, HoldsItems, BeginsAnew, behind_items, StandsBetween}
 use Rattle.rust_edits.specs.Ranges.Laws.{at_top, EndsOwn}
 use Rattle.rust_edits.proofs.Ranges.Alone.{one_item}
-use Rattle.rust_edits.proofs.Ranges.Behind.{unended_stays}
 use Rattle.rust_edits.proofs.Ranges.Inner.{no_inner}
+use Rattle.rust_edits.proofs.Typing.ProblemsIn.{unended_kept}
 
 -- the `;` of `mod b;` is its own
 module_ends : EndsOwn (codes "mod b;")
@@ -67,32 +67,24 @@ places_of_each outer inner last p q r = refl
 pub mod_b : List ℕ
 mod_b = codes "mod b;"
 
-mod_word : Piece
+-- `mod`, in front of these
+unfoldable pub mod_word : Piece
 mod_word = record { kind = kinds.Ident; text = codes "mod"; at = 0 }
 
--- `b;`
-name_and_end : List Piece
-name_and_end = record { kind = kinds.Ident; text = codes "b"; at = 4 } ∷ record { kind = kinds.Punct; text = codes ";"; at = 5 } ∷ []
+abbrev pub is_module : FrontRead
+is_module = record { start = 0; attrs = []; visibility = None; head = heads.Module }
 
-bare : IsBare mod_b
-unfolding mod_b first_cut is_wide_start is_wide_continue
-bare = record { mark = refl; shebang = refl; fence = refl }
+abbrev made : Option Visibility → Head × Tokens → FrontRead × Tokens
+made v h = (record { start = 0; attrs = []; visibility = v; head = h.0 }, h.1)
 
-module _ (y : EditionYear) where
-  all : Tokens
-  all = tokens_at y 0 (mod_word ∷ name_and_end) None
+module _ (y : EditionYear) (left : List Piece) where
+  unfoldable pub all : Tokens
+  all = tokens_at y 0 (mod_word ∷ left) None
 
-  behind : Tokens
-  behind = tokens_at y 3 name_and_end None
+  unfoldable pub behind : Tokens
+  behind = tokens_at y 3 left None
 
-  abbrev is_module : FrontRead
-  is_module = record { start = 0; attrs = []; visibility = None; head = heads.Module }
-
-  toks : tokens_of y mod_b ≡ all
-  unfolding all mod_b mod_word name_and_end tokens_of tokens first_cut is_wide_start is_wide_continue
-  toks = refl
-
-  not_inner : is_behind Inner all ≡ true
+  pub not_inner : is_behind Inner all ≡ true
   unfolding all mod_word is_behind is_doc is_attribute symbol kind
   not_inner = refl
 
@@ -116,51 +108,67 @@ module _ (y : EditionYear) where
   unfolding all mod_word behind head head_by word bumped
   head_is = refl
 
-  abbrev made : Option Visibility → Head × Tokens → FrontRead × Tokens
-  made v h = (record { start = 0; attrs = []; visibility = v; head = h.0 }, h.1)
-
-  front_is : front all ≡ (is_module, behind)
+  pub front_is : front all ≡ (is_module, behind)
   unfolding all mod_word front front_behind at
   front_is =
       ap (λ r. front_behind (at all) r.0 r.1) not_outer ∙ ap (λ v. made v.0 (head (behind_modifiers v.1))) unseen ∙ ap (λ ts. made None (head ts)) unmodified ∙ ap (made None) head_is
+
+  pub not_ended : is_at_end all ≡ false
+  unfolding all mod_word is_at_end
+  not_ended = refl
+
+  pub some_left : is_empty all ≡ false
+  unfolding all mod_word is_empty
+  some_left = refl
+
+  pub starts : all.past ≡ 0
+  unfolding all
+  starts = refl
+
+-- `b;`
+name_and_end : List Piece
+name_and_end = record { kind = kinds.Ident; text = codes "b"; at = 4 } ∷ record { kind = kinds.Punct; text = codes ";"; at = 5 } ∷ []
+
+bare : IsBare mod_b
+unfolding mod_b first_cut is_wide_start is_wide_continue
+bare = record { mark = refl; shebang = refl; fence = refl }
+
+module _ (y : EditionYear) where
+  abbrev module_b : Tokens
+  module_b = all y name_and_end
+
+  abbrev behind_mod : Tokens
+  behind_mod = behind y name_and_end
+
+  toks : tokens_of y mod_b ≡ module_b
+  unfolding all mod_b mod_word name_and_end tokens_of tokens first_cut is_wide_start is_wide_continue
+  toks = refl
 
   -- what is read of an item here
   abbrev read : FrontRead × Tokens → Option ItemView × (Found × Tokens)
   read r = by_head (inside 128) (depth_of 128) r.0.head r.0 nothing_found r.1
 
-  not_ended : is_at_end all ≡ false
-  unfolding all mod_word is_at_end
-  not_ended = refl
-
-  is_turn : turn 128 nothing_found all ≡ read (is_module, behind)
+  is_turn : turn 128 nothing_found module_b ≡ read (is_module, behind_mod)
   unfolding turn
-  is_turn = rw not_ended (ap read front_is)
+  is_turn = rw (not_ended y name_and_end) (ap read (front_is y name_and_end))
 
-  spent : (read (is_module, behind)).1.1.left ≡ []
+  spent : (read (is_module, behind_mod)).1.1.left ≡ []
   unfolding behind name_and_end named placed_name name next_name plain_name is_keyword is_path_keyword kind text at eat symbol bumped
   spent = refl
 
-  far : ((read (is_module, behind)).1.1.past == 0) ≡ false
+  far : ((read (is_module, behind_mod)).1.1.past == 0) ≡ false
   unfolding behind name_and_end named placed_name name next_name plain_name is_keyword is_path_keyword kind text at eat symbol bumped
   far = refl
 
-  sound : (read (is_module, behind)).1.0.problems ≡ []
+  sound : (read (is_module, behind_mod)).1.0.problems ≡ []
   unfolding behind name_and_end named placed_name name next_name plain_name is_keyword is_path_keyword kind text at eat symbol bumped
   sound = refl
 
-  some_left : is_empty all ≡ false
-  unfolding all mod_word is_empty
-  some_left = refl
-
-  starts : all.past ≡ 0
-  unfolding all
-  starts = refl
-
-  all_read : read_of y mod_b ≡ (option_to_list (turn 128 nothing_found all).0, ((turn 128 nothing_found all).1.0, (turn 128 nothing_found all).1.1))
+  all_read : read_of y mod_b ≡ (option_to_list (turn 128 nothing_found module_b).0, ((turn 128 nothing_found module_b).1.0, (turn 128 nothing_found module_b).1.1))
   all_read =
-      ap (λ (t : Tokens). items true 128 nothing_found (inner_attributes t).1) toks ∙ ap (λ (p : List MetaView × Tokens). items true 128 nothing_found p.1) (no_inner all not_inner)
-      ∙ one_item nothing_found all some_left (ap (λ (r : Option ItemView × (Found × Tokens)). r.1.1.left) is_turn ∙ spent)
-      (ap (λ (r : Option ItemView × (Found × Tokens)). r.1.1.past == all.past) is_turn ∙ ap (λ n. (read (is_module, behind)).1.1.past == n) starts ∙ far)
+      ap (λ (t : Tokens). items true 128 nothing_found (inner_attributes t).1) toks ∙ ap (λ (p : List MetaView × Tokens). items true 128 nothing_found p.1) (no_inner module_b (not_inner y name_and_end))
+      ∙ one_item nothing_found module_b (some_left y name_and_end) (ap (λ (r : Option ItemView × (Found × Tokens)). r.1.1.left) is_turn ∙ spent)
+      (ap (λ (r : Option ItemView × (Found × Tokens)). r.1.1.past == module_b.past) is_turn ∙ ap (λ n. (read (is_module, behind_mod)).1.1.past == n) (starts y name_and_end) ∙ far)
 
   ended : (tokens_of y mod_b).unended ≡ None
   unfolding all
@@ -169,7 +177,7 @@ module _ (y : EditionYear) where
   read_ended : (read_of y mod_b).1.1.unended ≡ None
   read_ended =
       let whole = (laid.behind (length mod_b) (inner_attributes_leads (tokens_of y mod_b)) (tokens_laid y mod_b)).laid in
-      unended_stays (through (inner_attributes_leads (tokens_of y mod_b)) (items_found (length mod_b) true 128 nothing_found (behind_attributes y mod_b) whole).leads) ∙ ended
+      unended_kept (through (inner_attributes_leads (tokens_of y mod_b)) (items_found (length mod_b) true 128 nothing_found (behind_attributes y mod_b) whole).leads) ∙ ended
 
   no_problem : (found_in y mod_b).problems ≡ []
   unfolding found_in
@@ -183,7 +191,7 @@ module _ (y : EditionYear) where
   holds = record {
     bare = bare;
     ends = module_ends;
-    first = (module_with (inside 128) (depth_of 128) is_module nothing_found behind).0;
+    first = (module_with (inside 128) (depth_of 128) is_module nothing_found behind_mod).0;
     more = [];
     items = ap (λ (r : List ItemView × (Found × Tokens)). r.0) all_read ∙ ap (λ (r : Option ItemView × (Found × Tokens)). option_to_list r.0) is_turn;
     sound = no_problem;
@@ -197,13 +205,13 @@ module _ (y : EditionYear) where
   unfolding mod_b
   first_uncut = refl
 
-  not_on : goes_on all ≡ false
+  not_on : goes_on module_b ≡ false
   unfolding all mod_word symbol
   not_on = refl
 
   -- and may stand behind others
   pub begins : BeginsAnew y mod_b
-  begins = record { bare = bare; uncut = first_uncut; outer = ap (is_behind Inner) toks ∙ not_inner; still = ap goes_on toks ∙ not_on }
+  begins = record { bare = bare; uncut = first_uncut; outer = ap (is_behind Inner) toks ∙ not_inner y name_and_end; still = ap goes_on toks ∙ not_on }
 
   -- or between them
   pub stands : StandsBetween y mod_b mod_b mod_b

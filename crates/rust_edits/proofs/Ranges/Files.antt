@@ -5,7 +5,7 @@ use Rattle.std.proofs.lemmas.List.{length-map, map-append, take_at, drop_at}
 use Rattle.hir_input.specs.declared.edition.EditionYear.{EditionYear}
 use Rattle.hir_input.specs.Attr.{MetaView}
 use Rattle.hir_input.specs.Syntax.{ItemView, ItemViews, SyntaxView, items_from, items_of}
-use Rattle.rust_lexer.specs.Alone.{Stop, opening, closing, semicolon, stop}
+use Rattle.rust_lexer.specs.Alone.{Stop, opening, stop}
 use Rattle.rust_cursor.proofs.Leads.{when}
 use Rattle.rust_paths.specs.declared.names.TextRange.{TextRange}
 use Rattle.rust_items.specs.declared.log.Problem.{Problem}
@@ -22,9 +22,10 @@ use Rattle.rust_edits.proofs.Ranges.Ranges.{AreIn, IsIn, IsInIf, made_same, cons
 use Rattle.rust_edits.proofs.Typing.Moved.{uses_below}
 use Rattle.rust_edits.proofs.Typing.ProblemsIn as told
 use Rattle.rust_edits.proofs.Typing.ProblemsIn.{problems_in}
+use Rattle.rust_edits.proofs.Typing.Typing.{items_are}
 use Rattle.rust_items.proofs.FilePlaces.{text_found}
 use Rattle.std.proofs.lemmas.List.Elements.{All-head, All-tail}
-use Rattle.rust_edits.proofs.Ranges.Tops.{ids_again, none_held, items_are, places_spans, rows_spans, same_rows, same_spans}
+use Rattle.rust_edits.proofs.Ranges.Tops.{ids_again, none_held, places_spans, rows_spans, same_rows, same_spans}
 use Rattle.rust_edits.proofs.Ranges.Typed.{between}
 
 -- ---- items without ids
@@ -192,8 +193,7 @@ shut_feeds (b ∷ c ∷ z) =
 
 shut_end : (w : List ℕ) (o : Stop) → is_shut (w ++ stop o ∷ []) ≡ true
 shut_end [] opening = refl
-shut_end [] closing = refl
-shut_end [] semicolon = refl
+shut_end [] _ = refl
 shut_end (b ∷ []) o = shut_end [] o
 shut_end (b ∷ c ∷ w) o = shut_end (c ∷ w) o
 

@@ -3,6 +3,7 @@ use Rattle.std.proofs.Common.{◌≡◌, ◌<◌, ◌≤◌, ◌==◌, ◌&&◌,
 use Rattle.std.specs.Prelude.{is_some, option_map, if◌then◌else◌}
 use Rattle.std.specs.Str.{bytes_eq}
 use Rattle.std.proofs.lemmas.Bool.Decides.{nat_tests}
+use Rattle.std.proofs.lemmas.Bool.{eq-eqb}
 use Rattle.hir_input.specs.declared.ast.PathNode.{PathNode}
 use Rattle.hir_input.specs.declared.ast.Visibility.{Visibility}
 use Rattle.hir_input.specs.declared.edition.EditionYear.{EditionYear}
@@ -102,9 +103,6 @@ not_same m n l = grind (arith, nat_tests)
 
 less_same : (m n : ℕ) → m < n → (m == n) ≡ false
 less_same m n l = grind (arith, nat_tests)
-
-eqb_self : (n : ℕ) → (n == n) ≡ true
-eqb_self n = grind (arith, nat_tests)
 
 is_found : (depth start : ℕ) (o : Option LeafRead) (f : Found) (ts : Tokens) → is_some (leaf_found depth start o f ts).0 ≡ true → is_some o ≡ true
 is_found depth start None f ts e = absurd cc
@@ -377,7 +375,7 @@ module _ (past past' : ℕ) (t : Piece) (l : List Piece) (u : Option ℕ) (y : E
     last_same end far = rw most_more (last_step end 18446744073709551614 far)
 
     none_step : (k at : ℕ) (us : Tokens) → at ≡ us.past → last_text_from (suc k) at [] us ≡ []
-    none_step k at us e = let here : (us.past == at) ≡ true = rw e (eqb_self us.past) in rw here refl
+    none_step k at us e = let here : (us.past == at) ≡ true = rw e (eq-eqb us.past us.past refl) in rw here refl
 
     last_none : (at : ℕ) (us : Tokens) → at ≡ us.past → last_text at us ≡ []
     unfolding last_text

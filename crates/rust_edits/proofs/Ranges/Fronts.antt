@@ -1,7 +1,7 @@
 -- Where a text of which no problem is told is cut behind an item, what is in front of the cut holds whole items.
-use Rattle.std.proofs.Common.{◌≡◌, ◌<◌, ◌≤◌, ◌+◌, ◌-◌, ◌==◌, ◌&&◌, ◌||◌, ℕ, zero, suc, Bool, true, false, Option, Some, None, List, [], ◌∷◌, ◌++◌, length, take, drop, refl, sym, ap, ◌∙◌, subst, arith, map, append_assoc, length-append}
+use Rattle.std.proofs.Common.{◌≡◌, ◌<◌, ◌≤◌, ◌+◌, ◌-◌, ◌==◌, ◌&&◌, ℕ, zero, suc, Bool, true, false, Option, Some, None, List, [], ◌∷◌, ◌++◌, length, take, drop, refl, sym, ap, ◌∙◌, subst, arith, map, append_assoc, length-append}
 use Rattle.std.specs.Prelude.{option_to_list, nat_le, slice_index}
-use Rattle.std.proofs.lemmas.Bool.{eqb-true, and_parts}
+use Rattle.std.proofs.lemmas.Bool.{eqb-true, and_parts, or_parts, le-leb, ne_eqb}
 use Rattle.std.proofs.lemmas.Bool.Decides.{nat_tests}
 use Rattle.std.specs.List.{filter, list_any}
 use Rattle.std.proofs.lemmas.List.{append_cancel_left, length-take-le, length-drop, drop-drop, take-append-drop, take_at}
@@ -14,10 +14,10 @@ use Rattle.rust_lexer.specs.Piece.{Piece}
 use Rattle.rust_lexer.proofs.Apart.{front_same, own, stop_at}
 use Rattle.rust_cursor.specs.Elements.{most, beyond}
 use Rattle.rust_cursor.specs.Tokens.{Tokens, tokens_of, last_unended}
-use Rattle.rust_cursor.specs.Words.{by_first, rest, at, is_empty, bumped}
+use Rattle.rust_cursor.specs.Words.{rest, at}
 use Rattle.rust_cursor.proofs.Around.{tokens_sound}
 use Rattle.rust_cursor.proofs.Laid.{IsLaid, behind, at_behind, past_within, tokens_laid}
-use Rattle.rust_cursor.proofs.Leads.{LeadsTo, here, further, through, when, beyond_leads}
+use Rattle.rust_cursor.proofs.Leads.{here, through, when, beyond_leads}
 use Rattle.rust_cursor.proofs.Parting.{by_next, by_kept}
 use Rattle.rust_cursor.proofs.Twins.{empty_same}
 use Rattle.rust_metas.specs.Attributes.{inner_attributes}
@@ -33,18 +33,20 @@ use Rattle.rust_items.proofs.LineEnds.{place_le, place_rises_in}
 use Rattle.rust_items.specs.SourceFiles.{behind_attributes, found_in, read_of}
 use Rattle.rust_items.proofs.Places.{place_span, items_found, turn_found}
 use Rattle.rust_edits.proofs.Typing.Begins.{Begins, unfiltered, begins_whole}
-use Rattle.rust_edits.proofs.Typing.Begins as begun
-use Rattle.rust_edits.proofs.Typing.ProblemsIn.{AreIn, problems_in}
+use Rattle.rust_edits.proofs.Typing.ProblemsIn.{AreIn, problems_in, unended_kept}
+use Rattle.rust_edits.proofs.Typing.BodyStarts.{begins_leads}
+use Rattle.rust_edits.proofs.Typing.Unended.{last_append}
 use Rattle.rust_edits.specs.Ranges.Laws.{ends_items, EndsOwn, is_unfinished, is_unfinished_at, text_at}
 use Rattle.rust_edits.specs.Ranges.Joined.{IsBare, HoldsItems, is_told_up_to, FrontHolds}
 use Rattle.rust_cursor.proofs.Near.{Ending, Near, fewer, nothing, more_left, near_twins}
 use Rattle.rust_cursor.proofs.NearPassing.{beyond_near, near_parting}
 use Rattle.rust_cursor.proofs.NearTexts.{near_enters, near_levels}
+use Rattle.rust_cursor.proofs.Few.{tokens_short}
 use Rattle.rust_edits.proofs.Ranges.NearLeaves.{Given, given_on, Ends, passes, before_end, at_end}
 use Rattle.rust_edits.proofs.Ranges.NearItems.{FoundNear, FoundAlike, turn_whole, flat, is_sound}
 use Rattle.rust_edits.proofs.Ranges.NearTurns.{turn_ends}
 use Rattle.rust_edits.proofs.Ranges.Alone.{part_in}
-use Rattle.rust_edits.proofs.Ranges.Behind.{plain_back, full_both, over_both, plain_tokens, last_append, last_stop, unended_stays, tokens_short}
+use Rattle.rust_edits.proofs.Ranges.Behind.{plain_back, full_both, over_both, plain_tokens, last_stop}
 use Rattle.rust_edits.proofs.Ranges.Feeds.{part_feeds, place_is, feeds_take}
 use Rattle.rust_edits.proofs.Ranges.Joins.{items_top, tokens_near}
 use Rattle.rust_edits.proofs.Ranges.Parts.{ended}
@@ -67,15 +69,12 @@ cut_some : {b : Ending} {f : Found} {ts : Tokens} {h : Found} → HasCut b f ts 
 cut_some (cut_here i e some sound l) = e
 cut_some (cut_later e c) = e
 
-not_same : (m n : ℕ) → n < m → (m == n) ≡ false
-not_same m n l = grind (arith, nat_tests)
-
 -- so more is left than stands behind the short text
 cut_more : {b : Ending} (n : ℕ) {f : Found} {ts : Tokens} {h : Found} → IsLaid n ts → HasCut b f ts h → length b.behind < length ts.left
 cut_more n {f} {ts = ts} laid (cut_here i e some sound l) =
     let start = at_behind n ts laid in
     let strict = turn_strict n 128 f ts i laid some in
-    let taken = beyond_none ts.past (turn 128 f ts).1.1 (not_same (turn 128 f ts).1.1.past ts.past (omega arith)) in
+    let taken = beyond_none ts.past (turn 128 f ts).1.1 (ne_eqb (turn 128 f ts).1.1.past ts.past (λ same. absurd (omega arith))) in
     let same : length (beyond ts.past (turn 128 f ts).1.1).left ≡ length (turn 128 f ts).1.1.left = ap (λ (t : Tokens). length t.left) taken in
     let less = next_fewer true 127 n f ts laid e in omega arith
 cut_more n {f} {ts = ts} laid (cut_later e c) =
@@ -187,7 +186,7 @@ module _ (edition : EditionYear) (w : List ℕ) (o : Stop) (y : List ℕ) (alone
       let x = ended w o in
       let laid = (behind (length x) (inner_attributes_leads (tokens_of edition x)) (tokens_laid edition x)).laid in
       let leads = through (inner_attributes_leads (tokens_of edition x)) (items_found (length x) true 128 nothing_found (behind_attributes edition x) laid).leads in
-      ap (λ (u : Option ℕ). and_problem_at problem.Unterminated u (read_of edition x).1.0) (unended_stays leads ∙ whole_ended edition w o alone plain)
+      ap (λ (u : Option ℕ). and_problem_at problem.Unterminated u (read_of edition x).1.0) (unended_kept leads ∙ whole_ended edition w o alone plain)
 
 -- ---- problems
 
@@ -203,11 +202,7 @@ any_less : (test test' : Problem → Bool) → ((p : Problem) → test p ≡ tru
 any_less test test' less [] e = refl
 any_less test test' less (p ∷ ps) e =
     when (test p) (λ f. absurd (let g = less p f in let no = rw g at e in cc))
-    (λ f. rw f (any_less test test' less ps (second (test' p) (list_any test' ps) e)))
-  where
-    second : (s t : Bool) → (s || t) ≡ false → t ≡ false
-    second true t e = absurd cc
-    second false t e = e
+    (λ f. rw f (any_less test test' less ps (or_parts (test' p) (list_any test' ps) e).1))
 
 -- in a text without returns, none stands up to there either
 up_to_moved : (place : ℕ → ℕ) (end : ℕ) → ((n : ℕ) → n ≤ end → place n ≤ place end) → (ps : List Problem) → is_told_up_to (place end) (map (moved_problem place) ps) ≡ false → is_told_up_to end ps ≡ false
@@ -216,37 +211,17 @@ up_to_moved place end rises (p ∷ ps) e =
     when (nat_le p.at end)
     (λ f. let low : p.at ≤ end = le_of p.at f in
     let high = rises p.at low in
-    let g : nat_le (place p.at) (place end) ≡ true = told_le (place p.at) (place end) high in absurd (let no = rw g at e in cc))
-    (λ f. rw f (up_to_moved place end rises ps (second (nat_le (place p.at) (place end)) (is_told_up_to (place end) (map (moved_problem place) ps)) e)))
+    let g : nat_le (place p.at) (place end) ≡ true = le-leb (place p.at) (place end) high in absurd (let no = rw g at e in cc))
+    (λ f. rw f (up_to_moved place end rises ps (or_parts (nat_le (place p.at) (place end)) (is_told_up_to (place end) (map (moved_problem place) ps)) e).1))
   where
-    second : (s t : Bool) → (s || t) ≡ false → t ≡ false
-    second true t e = absurd cc
-    second false t e = e
-
     le_of : (n : ℕ) → nat_le n end ≡ true → n ≤ end
     le_of n f = grind (arith, nat_tests)
-
-    told_le : (m n : ℕ) → m ≤ n → nat_le m n ≡ true
-    told_le m n l = grind (arith, nat_tests)
 
 filled_cons : (l : List ItemView) (P : Type 0) → is_filled l ≡ true → ((i : ItemView) (is : List ItemView) → l ≡ i ∷ is → P) → P
 filled_cons [] P e on = absurd cc
 filled_cons (i ∷ is) P e on = on i is refl
 
 -- ---- the last token of what is in front
-
-begins_here : (past : ℕ) (left : List Piece) → by_first true (λ _. false) left ≡ false → Begins (by_first past (λ t. t.at) left) left
-begins_here past [] e = absurd cc
-begins_here past (t ∷ ts) e = begun.first refl
-
-begins_rest : (n : ℕ) (left : List Piece) → Begins n (rest left) → Begins n left
-begins_rest n [] b = b
-begins_rest n (t ∷ ts) b = begun.later b
-
-begins_left : {ts us : Tokens} → LeadsTo ts us → is_empty us ≡ false → Begins (at us) ts.left
-unfolding is_empty at bumped
-begins_left {ts} here e = begins_here ts.past ts.left e
-begins_left {ts} (further p) e = begins_rest _ ts.left (begins_left p e)
 
 -- where an item stands in a text and ends with its own token, so does what is in front of its end
 front_ends : (edition : EditionYear) (x : List ℕ) (s e : ℕ) (w : List ℕ) (o : Stop) → IsBare x → Begins s (tokens_of edition x).left → s < e → e ≤ length x → EndsAlone w o → ends_items o ≡ true → take (e - s) (drop s x) ≡ ended w o
@@ -311,7 +286,7 @@ front_holds edition text read i p ps is top_item told bare full own short =
     let feeds : with_feeds cut ≡ take e x = ap (λ k. with_feeds (take k text)) (range ∙ place_is text e within) ∙ feeds_take e text in
     let part_is : take k (drop s x) ≡ ended own.before own.last = sym (part_feeds text s k fits) ∙ ap (λ (r : TextRange). with_feeds (text_at text r)) (sym there) ∙ own.bytes in
     let full_front : is_full (take s x) ≡ true = ap is_full (sym (ap (λ n. with_feeds (take n text)) (start ∙ place_is text s (omega arith)) ∙ feeds_take s text)) ∙ full in
-    let token : Begins s (tokens_of edition x).left = begins_left t.leads (sym (top_is ts) ∙ t.some) in
+    let token : Begins s (tokens_of edition x).left = begins_leads t.leads (sym (top_is ts) ∙ t.some) in
     let ends : EndsOwn (with_feeds cut) =
     subst EndsOwn (sym feeds) (front_ends edition x s e own.before own.last bare token strict within own.alone own.ends part_is full_front) in
     let w = ends.before in

@@ -2,7 +2,7 @@
 use Rattle.std.proofs.Common.{◌≡◌, ◌+◌, ℕ, false, List, [], ◌∷◌, ◌++◌, length, refl, sym, ap, ◌∙◌, subst, arith, map, append_assoc, length-append}
 use Rattle.std.specs.Prelude.{slice_index}
 use Rattle.hir_input.specs.Syntax.{ItemView}
-use Rattle.rust_lexer.specs.Alone.{Stop, opening, closing, semicolon, stop, EndsAlone, is_full, overhang}
+use Rattle.rust_lexer.specs.Alone.{Stop, opening, stop, EndsAlone, is_full, overhang}
 use Rattle.rust_lexer.specs.Bytes.{is_continuation, is_wide_start}
 use Rattle.rust_lexer.specs.Cut.{first_cut}
 use Rattle.rust_lexer.proofs.Apart.{front_same}
@@ -20,12 +20,10 @@ use Rattle.rust_edits.proofs.Ranges.Typed.{items_join}
 
 over_stop : (o : Stop) (z : List ℕ) → is_continuation (slice_index z 0) ≡ false → overhang 0 (stop o ∷ []) z ≡ 0
 unfolding first_cut is_wide_start
-over_stop opening [] e = refl
-over_stop closing [] e = refl
-over_stop semicolon [] e = refl
 over_stop opening (b ∷ z) e = rw e refl
-over_stop closing (b ∷ z) e = rw e refl
-over_stop semicolon (b ∷ z) e = rw e refl
+over_stop opening [] e = refl
+over_stop _ (b ∷ z) e = rw e refl
+over_stop _ [] e = refl
 
 -- the text that ends there is a text by itself in each longer one
 over_ended : (w : List ℕ) (o : Stop) (z : List ℕ) → EndsAlone w o → is_continuation (slice_index z 0) ≡ false → overhang 0 (ended w o) z ≡ 0

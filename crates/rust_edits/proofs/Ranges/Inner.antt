@@ -28,6 +28,7 @@ use Rattle.rust_leaves.specs.Kinds.{invocation, leaf}
 use Rattle.rust_leaves.proofs.Steps.{modifiers_stop}
 use Rattle.rust_items.specs.Found.{Found}
 use Rattle.rust_items.specs.Items.{leaf_turn, turn}
+use Rattle.rust_metas.proofs.Around.{doc_symbol}
 
 -- brackets, punctuation and documentation
 abbrev is_wordless : TokenKind → Bool
@@ -89,21 +90,9 @@ doc_first Outer [] e = absurd cc
 doc_first Inner [] e = absurd cc
 doc_first style (t ∷ left) e = doc_kind style t.kind e
 
-doc_symbol_kind : (style : DocStyle) (k : TokenKind) (b : ℕ) → is_style style (style_by (Some k)) ≡ true → symbol_from k b ≡ 0
-doc_symbol_kind style (kinds.LineComment s) b e = refl
-doc_symbol_kind style (kinds.BlockComment s) b e = refl
-doc_symbol_kind Outer _ b e = absurd cc
-doc_symbol_kind Inner _ b e = absurd cc
-
-doc_symbol : (style : DocStyle) (left : List Piece) → is_style style (style_by (by_first None (λ t. Some t.kind) left)) ≡ true → by_first 0 symbol_of left ≡ 0
-doc_symbol Outer [] e = absurd cc
-doc_symbol Inner [] e = absurd cc
-doc_symbol style (t ∷ left) e = doc_symbol_kind style t.kind _ e
-
 one_style : (s : Option DocStyle) → is_style Inner s ≡ true → is_style Outer s ≡ false
 one_style (Some Inner) e = refl
-one_style (Some Outer) e = absurd cc
-one_style None e = absurd cc
+one_style _ e = absurd cc
 
 -- no outer attribute, no word, and none of these symbols
 pub record IsMute (us : Tokens) : Type 0 where
@@ -119,7 +108,7 @@ symbol_no_doc : (us : Tokens) (c : ℕ) → (symbol us == c) ≡ true → (c == 
 unfolding is_doc symbol kind
 symbol_no_doc us c e n =
     when (is_doc Outer us)
-    (λ f. let none = doc_symbol Outer us.left f in
+    (λ f. let none = doc_symbol Outer us f in
     let same : 0 ≡ c = eqb-true 0 c (ap (λ k. k == c) (sym none) ∙ e) in
     absurd (let no : (0 == 0) ≡ false = subst (λ (z : ℕ). (z == 0) ≡ false) (sym same) n in cc))
     (λ f. f)
@@ -127,7 +116,7 @@ symbol_no_doc us c e n =
 doc_mute : (us : Tokens) → is_doc Inner us ≡ true → IsMute us
 unfolding is_behind is_attribute is_doc symbol kind
 doc_mute us e =
-    let none = doc_symbol Inner us.left e in
+    let none = doc_symbol Inner us e in
     record {
       quiet = quiet us (doc_first Inner us.left e);
       outer = rw (one_style (style_by (kind us)) e, none) refl;
@@ -163,7 +152,7 @@ mark_no_doc : (us : Tokens) → is_attribute Inner us ≡ true → is_doc Outer 
 unfolding is_attribute is_doc symbol kind
 mark_no_doc us e =
     when (is_doc Outer us)
-    (λ f. let none = doc_symbol Outer us.left f in
+    (λ f. let none = doc_symbol Outer us f in
     let mark = (and_parts (symbol us == 35) (symbol (bumped us) == 33 && symbol (bumped (bumped us)) == 91) e).0 in
     absurd (let no = rw none at mark in cc))
     (λ f. f)

@@ -16,7 +16,7 @@ use Rattle.rust_edits.proofs.Ranges.NearItems.{is_quiet}
 use Rattle.rust_edits.proofs.Ranges.Parts.{ended}
 use Rattle.rust_edits.proofs.Ranges.Turning.{run_none}
 use Rattle.rust_cursor.proofs.Near.{nothing}
-use Rattle.rust_edits.proofs.Ranges.Behind.{tokens_short}
+use Rattle.rust_cursor.proofs.Few.{tokens_short}
 use Rattle.rust_metas.specs.Attributes.{inner_attributes}
 use Rattle.rust_metas.proofs.Leads.{inner_attributes_leads}
 use Rattle.rust_items.specs.SourceFiles.{behind_attributes}

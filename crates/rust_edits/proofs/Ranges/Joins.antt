@@ -38,17 +38,20 @@ use Rattle.rust_cursor.proofs.NearPassing.{near_parting}
 use Rattle.rust_cursor.proofs.NearTexts.{near_enters, near_levels}
 use Rattle.rust_cursor.proofs.NearUntil.{is_still}
 use Rattle.rust_cursor.proofs.Parting as parting
+use Rattle.rust_cursor.proofs.Few.{tokens_short}
 use Rattle.rust_edits.proofs.Ranges.NearLeaves.{Given, given_on}
 use Rattle.rust_edits.proofs.Ranges.NearItems.{top_end, FoundNear, is_quiet}
 use Rattle.rust_edits.proofs.Ranges.Alone.{part_in, part_near, part_ended, start_near}
-use Rattle.rust_edits.proofs.Ranges.Behind.{plain_on, behind_moved, first_moved, unended_behind, past_whole, unended_stays, tokens_short, plain_tokens}
+use Rattle.rust_edits.proofs.Ranges.Behind.{plain_on, behind_moved, first_moved, unended_behind, past_whole, plain_tokens}
 use Rattle.rust_edits.proofs.Ranges.Inner.{no_inner}
 use Rattle.rust_edits.proofs.Ranges.Onward.{IsRead, read_on}
 use Rattle.rust_edits.proofs.Ranges.Parts.{ended, IsPart, tokens_behind}
 use Rattle.rust_edits.proofs.Ranges.Ranges.{last_is}
 use Rattle.rust_edits.proofs.Ranges.Seats.{edition_stays}
 use Rattle.rust_edits.proofs.Ranges.Tops.{found_keeps}
-use Rattle.rust_edits.proofs.Ranges.Turning.{run, run_stop, run_none, run_ended, top_is, empty_left}
+use Rattle.rust_edits.proofs.Ranges.Turning.{run, run_stop, run_none, run_ended, top_is}
+use Rattle.rust_edits.proofs.Ranges.NearFields.{empty_left}
+use Rattle.rust_edits.proofs.Typing.ProblemsIn.{unended_kept}
 
 pub items_top : (is_top : Bool) (left : ℕ) (f : Found) (ts : Tokens) → items is_top (suc left) f ts ≡ run is_top left most [] f ts
 unfolding finding
@@ -265,7 +268,7 @@ module _ (is_top : Bool) (left : ℕ) (edition : EditionYear) (w : List ℕ) (o 
     second_near =
         let past : one.rest.past ≡ 0 + by = (one.spent refl).past ∙ (let none : (run is_top left most [] nothing_found us').1.1.past + 0 ≡ (run is_top left most [] nothing_found us').1.1.past = omega arith in none)
         ∙ ap (λ (r : List ItemView × (Found × Tokens)). r.1.1.past) (sym first_read) ∙ first_past ∙ (let none : by ≡ 0 + by = omega arith in none) in
-        level_near by 0 vs.left ts.unended vs.unended edition one.rest past ((one.spent refl).behind ∙ behind_is) (unended_stays to_left) (edition_stays to_left)
+        level_near by 0 vs.left ts.unended vs.unended edition one.rest past ((one.spent refl).behind ∙ behind_is) (unended_kept to_left) (edition_stays to_left)
 
     second_given : Given (length text) (length y) one.rest vs
     second_given = record { laid = (behind (length text) to_left (tokens_laid edition text)).laid; short = tokens_sound edition y }
@@ -300,14 +303,14 @@ module _ (is_top : Bool) (left : ℕ) (edition : EditionYear) (w : List ℕ) (o 
     y_unended : (read_at is_top (suc left) edition y).1.1.unended ≡ vs.unended
     y_unended =
         let laid = (behind (length y) (inner_attributes_leads vs) (tokens_laid edition y)).laid in
-        unended_stays (through (inner_attributes_leads vs) (items_found (length y) is_top (suc left) nothing_found (behind_attributes edition y) laid).leads)
+        unended_kept (through (inner_attributes_leads vs) (items_found (length y) is_top (suc left) nothing_found (behind_attributes edition y) laid).leads)
 
     joins : Joined is_top left edition text x y by
     joins = record {
       attrs = sym k.value;
       items = ap (λ (r : List ItemView × (Found × Tokens)). r.0) all_read ∙ ap (λ l. l ++ two.new) (sym first_items) ∙ ap (λ l. (read_at is_top (suc left) edition x).0 ++ l) (sym second_items);
       found = ap (λ (r : List ItemView × (Found × Tokens)). r.1.0) all_read ∙ found_all;
-      unended = ap (λ (r : List ItemView × (Found × Tokens)). r.1.1.unended) all_read ∙ unended_stays (through to_left two.leads) ∙ unended_behind edition w o y alone begins.uncut long_plain plain'
+      unended = ap (λ (r : List ItemView × (Found × Tokens)). r.1.1.unended) all_read ∙ unended_kept (through to_left two.leads) ∙ unended_behind edition w o y alone begins.uncut long_plain plain'
           ∙ ap (option_map (λ n. n + by)) (sym y_unended);
     }
 

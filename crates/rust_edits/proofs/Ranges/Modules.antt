@@ -38,8 +38,8 @@ use Rattle.rust_cursor.proofs.NearUntil.{Kept}
 use Rattle.rust_edits.proofs.Ranges.NearLeaves.{Given, given_on}
 use Rattle.rust_edits.proofs.Ranges.NearItems.{FoundAlike, is_quiet, quiet_before, quiet_sound, list_keeps, list_long, by_long, flat, front_leads, TurnLong}
 use Rattle.rust_edits.proofs.Ranges.NearTurns.{sound_parent, turn_long, inside_ends, inside_unended}
-use Rattle.rust_edits.proofs.Ranges.Alone.{start_near}
-use Rattle.rust_edits.proofs.Ranges.Behind.{behind_moved, past_whole, unended_stays}
+use Rattle.rust_edits.proofs.Ranges.Alone.{start_near, most_is}
+use Rattle.rust_edits.proofs.Ranges.Behind.{behind_moved, past_whole}
 use Rattle.rust_edits.proofs.Ranges.Inner.{no_inner}
 use Rattle.rust_edits.proofs.Ranges.Inside.{quiet_none}
 use Rattle.rust_edits.proofs.Ranges.Joins.{items_top, level_at, level_near, found_both}
@@ -47,6 +47,7 @@ use Rattle.rust_edits.proofs.Ranges.Seats.{HasPlace, IsLeft, all_left, left_on, 
 use Rattle.rust_edits.proofs.Ranges.Plain.{true_false}
 use Rattle.rust_edits.proofs.Ranges.Tops.{turn_keeps, turn_with_keeps}
 use Rattle.rust_edits.proofs.Ranges.Turning.{run, run_stop, beyond_none, turn_far, turn_told}
+use Rattle.rust_edits.proofs.Typing.ProblemsIn.{unended_kept}
 
 -- ---- a text of one item
 
@@ -105,10 +106,6 @@ module _ (is_top : Bool) (left : ℕ) where
       let q'' : is_quiet (run is_top left (suc k) done r.1.0 r.1.1).1.0 ≡ true = ap (λ t. is_quiet (run is_top left (suc k) done r.1.0 t).1.0) (sym next_is) ∙ q' in
       let last = no_second k done r.1.0 r.1.1 (one_of (suc left) f us quiet) all q'' in
       rw e (ap (λ t. run is_top left (suc k) done r.1.0 t) next_is ∙ run_stop is_top left (suc k) done r.1.0 r.1.1 last))
-
-most_is : most ≡ suc (suc 18446744073709551613)
-unfolding most
-most_is = refl
 
 -- ---- behind the `{`
 
@@ -173,7 +170,7 @@ module _ (left : ℕ) (edition : EditionYear) (h z : List ℕ) (o : OpensModule 
   unfolding tokens_of
   inside_near =
       let none : suc (length h) ≡ 0 + d = omega arith in
-      level_near d 0 vs.left us.unended vs.unended edition (bumped nm.1) (opened_here.past ∙ none) (opened_here.rest ∙ behind_moved d z o.bare) (unended_stays to_inside) (edition_stays to_inside)
+      level_near d 0 vs.left us.unended vs.unended edition (bumped nm.1) (opened_here.past ∙ none) (opened_here.rest ∙ behind_moved d z o.bare) (unended_kept to_inside) (edition_stays to_inside)
 
   inside_given : Given (length text) (length z) (bumped nm.1) vs
   inside_given = record { laid = (behind (length text) to_inside (tokens_laid edition text)).laid; short = tokens_sound edition z }

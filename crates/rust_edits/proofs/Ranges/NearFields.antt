@@ -4,7 +4,6 @@ use Rattle.std.proofs.Common.{◌≡◌, ◌≤◌, ◌+◌, ◌==◌, ◌||◌,
 use Rattle.std.proofs.lemmas.Bool.Decides.{nat_tests}
 use Rattle.hir_input.specs.declared.ast.Visibility.{Visibility}
 use Rattle.hir_input.specs.Syntax.{tuple_fields}
-use Rattle.rust_lexer.specs.Piece.{Piece}
 use Rattle.rust_cursor.specs.declared.cursor.generics.Reach.TheVariants as reaches
 use Rattle.rust_cursor.specs.Tokens.{Tokens, end_of}
 use Rattle.rust_cursor.specs.Words.{by_first, rest, symbol, is_empty, is_at_end, bumped, eat}
@@ -27,6 +26,7 @@ use Rattle.rust_metas.proofs.AlikeAttributes.{outer_attributes_until}
 use Rattle.rust_metas.proofs.Leads.{outer_attributes_leads}
 use Rattle.rust_leaves.specs.Leaves.{is_before, field, are_over, fields, symbol_before, fields_at, struct_fields}
 use Rattle.rust_leaves.proofs.Fields.{type_leads, field_leads, not_before, over_ends, none_seen, symbol_is}
+use Rattle.rust_lexer.specs.Piece.{Piece}
 
 -- ---- places
 
@@ -36,13 +36,13 @@ unfolding bumped
 empty_stays here e = refl
 empty_stays {ts} (further p) e = empty_stays p (ap rest e) ∙ ap (λ l. by_first ts.past end_of l) e
 
-no_token : (ts : Tokens) → is_empty ts ≡ true → ts.left ≡ []
+pub empty_left : (ts : Tokens) → is_empty ts ≡ true → ts.left ≡ []
 unfolding is_empty
-no_token ts e = none ts.left e
+empty_left ts e = by ts.left e
   where
-    none : (left : List Piece) → by_first true (λ _. false) left ≡ true → left ≡ []
-    none [] e = refl
-    none (t ∷ left) e = absurd cc
+    by : (left : List Piece) → by_first true (λ _. false) left ≡ true → left ≡ []
+    by [] e = refl
+    by (t ∷ left) e = absurd cc
 
 -- what leads on, and has no more left, stands no earlier
 pub in_order : {n : ℕ} {ts us vs : Tokens} → IsLaid n ts → LeadsTo ts us → LeadsTo ts vs → length vs.left ≤ length us.left → us.past ≤ vs.past
@@ -50,7 +50,7 @@ in_order {n = n} l here q le = (behind n q l).past
 in_order {n = n} {ts = ts} l (further p) here le =
     let first = fewer p in
     when (is_empty ts)
-    (λ e. let same = empty_stays (further p) (no_token ts e) in omega arith)
+    (λ e. let same = empty_stays (further p) (empty_left ts e) in omega arith)
     (λ e. let less = shorter ts e in absurd (omega arith))
 in_order {n = n} {ts = ts} l (further p) (further q) le = in_order (behind n (bumped_leads ts) l).laid p q le
 

@@ -1,23 +1,26 @@
--- What stands in front of an item is the same in a text that ends with a `;` or a `}` and in a longer one, until these pass the end.
-use Rattle.std.proofs.Common.{◌≡◌, ◌+◌, ℕ, Option, List, refl}
+-- What stands in front of an item, and a name, is the same in a text that ends with a `;` or a `}` and in a longer one, until these pass the end.
+use Rattle.std.proofs.Common.{◌≡◌, ◌+◌, ℕ, Option, List, refl, Some, None, ◌∷◌, ap, ◌∙◌, map}
+use Rattle.std.specs.Prelude.{option_map}
 use Rattle.hir_input.specs.declared.ast.Visibility.{Visibility}
 use Rattle.hir_input.specs.Attr.{MetaView}
 use Rattle.rust_cursor.specs.Reader.{Reader, ◌>>=◌, pure, pass}
 use Rattle.rust_cursor.specs.Tokens.{Tokens}
-use Rattle.rust_cursor.specs.Words.{at}
+use Rattle.rust_cursor.specs.Words.{at, bumped}
 use Rattle.rust_cursor.proofs.Leads.{Forwards, through}
-use Rattle.rust_cursor.proofs.Near.{Ending, Near, at_same}
+use Rattle.rust_cursor.proofs.Near.{Ending, Near, at_same, past_same}
 use Rattle.rust_cursor.proofs.NearPassing.{near_parting}
 use Rattle.rust_cursor.proofs.NearTexts.{near_enters, near_levels}
 use Rattle.rust_cursor.proofs.NearUntil.{UntilBy}
 use Rattle.rust_cursor.proofs.Parting.{gone, kept, by_kept, then_until}
-use Rattle.rust_paths.proofs.Alike.{visibility_until}
+use Rattle.rust_cursor.proofs.Places.{AreAlike, no_more, one_more, IsAlike, neither, both}
+use Rattle.rust_paths.proofs.Alike.{visibility_until, next_name_same, after_name}
 use Rattle.rust_paths.proofs.Leads.{visibility_leads}
 use Rattle.rust_metas.proofs.AlikeAttributes.{outer_attributes_until}
 use Rattle.rust_leaves.specs.Fronts.{FrontRead, front_behind, front}
 use Rattle.rust_leaves.specs.Heads.{behind_modifiers, head}
 use Rattle.rust_leaves.proofs.AlikeFronts.{modifiers_alike, head_until}
 use Rattle.rust_items.proofs.Leads.{behind_modifiers_leads, head_takes}
+use Rattle.rust_paths.specs.Names.{next_name, taken_with, name, Placed, placed, placed_name}
 
 -- the same, so much further on
 pub record FrontNear (b : Ending) (f g : FrontRead) : Type 0 where
@@ -58,3 +61,31 @@ pub front_until : (b : Ending) (ts us : Tokens) → Near b ts us → UntilBy (Fr
 unfolding front
 front_until b ts us h =
     then_until (near_parting b) (front_behind (at ts)) (front_behind (at us)) (front_behind_leads (at ts)) (front_behind_leads (at us)) (λ attrs ts' us' k. front_behind_until b (at ts) (at us) (at_same b ts us h) attrs ts' us' k) (outer_attributes_until (near_parting b) (near_enters b) (near_levels b) ts us h)
+
+-- ---- names and use trees
+
+-- the same name, so much further on
+pub data PlacedNear (b : Ending) : Option Placed → Option Placed → Type 0 where
+  no_place : PlacedNear b None None
+  placed_near : {p q : Placed} → q.name ≡ p.name → p.start ≡ q.start + b.by → p.end ≡ q.end + b.by → PlacedNear b (Some p) (Some q)
+
+placed_kept : (b : Ending) (o o' : Option (List ℕ)) (ts us : Tokens) → o' ≡ o → Near b ts us → ((n : List ℕ) → o ≡ Some n → Near b (bumped ts) (bumped us))
+    → UntilBy (PlacedNear b) b (placed (at ts) (taken_with o ts).0 (taken_with o ts).1.past, (taken_with o ts).1) (placed (at us) (taken_with o' us).0 (taken_with o' us).1.past, (taken_with o' us).1)
+placed_kept b None o' ts us e h next = rw e (kept (record { value = no_place; rest = h }))
+placed_kept b (Some n) o' ts us e h next = rw e (kept (record { value = placed_near refl (at_same b ts us h) (past_same b (bumped ts) (bumped us) (next n refl)); rest = next n refl }))
+
+pub placed_name_until : (b : Ending) (ts us : Tokens) → Near b ts us → UntilBy (PlacedNear b) b (placed_name ts) (placed_name us)
+unfolding placed_name name
+placed_name_until b ts us h = placed_kept b (next_name ts) (next_name us) ts us (next_name_same (near_parting b) ts us h) h (λ n e. after_name (near_parting b) n ts us h e)
+
+-- places so much further on
+abbrev pub further_on : Ending → List ℕ → List ℕ
+further_on b = map (λ n. n + b.by)
+
+pub are_further : (b : Ending) (f g : List ℕ) → AreAlike (λ n m. n ≡ m + b.by) f g → f ≡ further_on b g
+are_further b f g no_more = refl
+are_further b f g (one_more {y = y} {xs = xs} {ys = ys} h k) = ap (λ (n : ℕ). n ∷ xs) h ∙ ap (λ l. (y + b.by) ∷ l) (are_further b xs ys k)
+
+pub is_further : (b : Ending) (o p : Option ℕ) → IsAlike (λ n m. n ≡ m + b.by) o p → o ≡ option_map (λ n. n + b.by) p
+is_further b o p neither = refl
+is_further b o p (both h) = ap Some h

@@ -3,7 +3,7 @@ use Rattle.std.specs.Prelude.{option_map, option_to_list, is_some, is_none, not}
 use Rattle.std.specs.List.{list_any}
 use Rattle.std.proofs.Common.{◌≡◌, ◌≤◌, ◌<◌, ◌+◌, ◌==◌, ◌&&◌, ℕ, zero, suc, Bool, true, false, Option, Some, None, List, [], ◌∷◌, ◌++◌, length, refl, sym, ap, ◌∙◌, subst, arith, map, append_assoc, codes}
 use Rattle.std.proofs.lemmas.List.{map-append}
-use Rattle.std.proofs.lemmas.Bool.Decides.{nat_tests}
+use Rattle.std.proofs.lemmas.Bool.{eq-eqb, not-true, and_right}
 use Rattle.hir_input.specs.declared.ids.AstIdKind.{AstIdKind}
 use Rattle.hir_input.specs.Attr.{MetaView}
 use Rattle.hir_input.specs.Syntax.{ItemView}
@@ -38,13 +38,12 @@ use Rattle.rust_items.specs.declared.log.ProblemKind.TheVariants as problem
 use Rattle.rust_items.specs.Found.{Found, Finder, nothing_found, and_problem, and_problem_at, and_row, and_all}
 use Rattle.rust_items.specs.Items.{span_of, and_flaw, and_item, and_leaf, leaf_found, leaf_turn, finding_from, finding, is_list_end, BlockRead, block_of, as_extern, extern_kept, extern_found, unmatched, extern_turn, extern_inside, inside, turn}
 use Rattle.rust_items.specs.LineEnds.{moved_span, moved_problem}
-use Rattle.rust_items.proofs.Leads.{function_leaf, trait_leaf, union_leaf, enum_leaf, struct_leaf, impl_leaf, crate_leaf, use_leaf, const_leaf, static_leaf, type_alias_leaf, macro_def_leaf, macro_rules_leaf, call_end_leads, named_leads, named_or_leads, renamed_leads, behind_others_leads, front_takes}
+use Rattle.rust_items.proofs.Leads.{named_leads, named_or_leads, renamed_leads, behind_others_leads, front_takes, LeafAt, leaf_at}
 use Rattle.rust_items.proofs.Places.{Finds, extern_turn_found}
 use Rattle.rust_edits.proofs.Ranges.Tops.{Keeps, extern_turn_keeps}
 use Rattle.rust_edits.specs.Ranges.Laws.{is_unfinished}
-use Rattle.rust_edits.proofs.Ranges.NearTrees.{further_on}
-use Rattle.rust_edits.proofs.Ranges.NearFronts.{FrontNear, front_until}
-use Rattle.rust_edits.proofs.Ranges.NearLeaves.{some_on, LeafNear, Given, given_on, Ends, passes, before_end, at_end, SomeLeaf, no_leaf, one_leaf, leaf_ended, LeafEnds, leaf_ends, and_no, item_end_fewer, impl_end_fewer, macro_end_fewer, value_end_fewer, call_end_fewer}
+use Rattle.rust_edits.proofs.Ranges.NearFronts.{FrontNear, front_until, further_on}
+use Rattle.rust_edits.proofs.Ranges.NearLeaves.{some_on, LeafNear, Given, given_on, Ends, passes, before_end, at_end, SomeLeaf, no_leaf, one_leaf, leaf_ended, LeafEnds, leaf_ends, item_end_fewer, impl_end_fewer, macro_end_fewer, value_end_fewer, call_end_fewer}
 
 -- ---- what is found
 
@@ -144,15 +143,11 @@ any_last test (q ∷ ps) qs p e = when (test q) (λ f. rw f refl) (λ f. rw f (a
 pub told_problem : (k : ProblemKind) (at : ℕ) (f : Found) → is_quiet (and_problem k at f) ≡ false
 told_problem k at f = ap not (any_last (λ _. true) f.problems [] (record { kind = k; at = at }) refl)
 
-not_not : (t : Bool) → not t ≡ true → t ≡ false
-not_not true e = absurd cc
-not_not false e = refl
-
 -- what was told before stays told
 pub quiet_before : {f g : Found} → Keeps f g → is_quiet f ≡ false → is_quiet g ≡ false
 quiet_before {f} {g} k e =
     when (is_quiet g)
-    (λ q. let none = k.all (λ _. true) (not_not (list_any (λ _. true) g.problems) q) in absurd (let no = rw none at e in cc))
+    (λ q. let none = k.all (λ _. true) (not-true (list_any (λ _. true) g.problems) q) in absurd (let no = rw none at e in cc))
     (λ q. q)
 
 -- where nothing is told, none of any kind is
@@ -275,7 +270,7 @@ closed_ends b before attrs attrs' is is' f g {p = p} {q = q} e d n (comes c a) =
 module _ (b : Ending) (turn : Finder (Option ItemView)) (t : TurnLong b turn) (finds : (end : ℕ) → Finds end turn) (keeps : KeepsAll turn) where
   -- a block of which a part is not whole, or that is not closed
   block_over : (attrs : List MetaView) (r : List ItemView × (Found × Tokens)) → Over turn_whole (flat r) → ((eat 125 r.1.1).0 && is_quiet r.1.0) ≡ false
-  block_over attrs r (flawed e) = ap (λ t. (eat 125 r.1.1).0 && t) e ∙ and_no (eat 125 r.1.1).0
+  block_over attrs r (flawed e) = ap (λ t. (eat 125 r.1.1).0 && t) e ∙ and_right (eat 125 r.1.1).0 false refl
   block_over attrs r (spent e) = ap (λ t. t && is_quiet r.1.0) (untaken r.1.1 e (eat_fewer 125 r.1.1 (omega arith)))
 
   pub block_ends : (n m : ℕ) (before f g : Found) (ts us : Tokens) → Given n m ts us → Near b ts us → FoundNear b before f g
@@ -304,24 +299,11 @@ module _ (b : Ending) (turn : Finder (Option ItemView)) (t : TurnLong b turn) (f
 -- ---- items that hold none
 
 pub leaf_leads : (h : FrontRead) (ts : Tokens) → LeadsTo ts (leaf h ts).1
-unfolding leaf invocation
-leaf_leads h ts = by h.head
+leaf_leads h ts = by (leaf h ts).0 (leaf_at h ts)
   where
-    by : (w : Head) → LeadsTo ts (leaf_by w h.attrs h.visibility ts).1
-    by heads.Use = (use_leaf h.attrs h.visibility ts).leads
-    by heads.ExternCrate = (crate_leaf h.attrs h.visibility ts).leads
-    by heads.Fn = (function_leaf h.attrs h.visibility ts).leads
-    by heads.Impl = (impl_leaf h.attrs h.visibility ts).leads
-    by heads.Trait = (trait_leaf h.attrs h.visibility ts).leads
-    by heads.Struct = (struct_leaf h.attrs h.visibility ts).leads
-    by heads.Union = (union_leaf h.attrs h.visibility ts).leads
-    by heads.Enum = (enum_leaf h.attrs h.visibility ts).leads
-    by heads.Const = (const_leaf h.attrs h.visibility ts).leads
-    by heads.Static = (static_leaf h.attrs h.visibility ts).leads
-    by heads.TypeAlias = (type_alias_leaf h.attrs h.visibility ts).leads
-    by heads.MacroDef = (macro_def_leaf h.attrs h.visibility ts).leads
-    by heads.MacroRules = (macro_rules_leaf h.attrs h.visibility ts).leads
-    by _ = when (is_some (path ts).0 && is_called (path ts).1) (λ e. rw e (through (path_leads ts) (further (call_end_leads _)))) (λ e. rw e here)
+    by : (o : Option LeafRead) → LeafAt ts (leaf h ts).1 o → LeadsTo ts (leaf h ts).1
+    by None p = p
+    by (Some l) p = p.leads
 
 -- an item, that was not left unfinished at this place
 abbrev pub is_sound : ℕ → Option ItemView × Found → Bool
@@ -330,12 +312,9 @@ is_sound start r = is_some r.0 && not (list_any (λ p. is_unfinished p.kind && p
 abbrev pub TurnEnds : Ending → Found → ℕ → Option ItemView × (Found × Tokens) → Option ItemView × (Found × Tokens) → Type 0
 TurnEnds b before start r r' = Ends (FoundAlike b before) (is_sound start) turn_whole b (flat r) (flat r')
 
-eqb_self : (n : ℕ) → (n == n) ≡ true
-eqb_self n = grind (arith, nat_tests)
-
 pub unfinished : (ended nameless : Bool) (start : ℕ) (f : Found) → ended ≡ false → list_any (λ p. is_unfinished p.kind && p.at == start) (and_flaw ended nameless start f).problems ≡ true
 unfinished true nameless start f e = absurd cc
-unfinished false nameless start f e = any_last _ f.problems [] _ (eqb_self start)
+unfinished false nameless start f e = any_last _ f.problems [] _ (eq-eqb start start refl)
 
 -- what is sound is ended
 still : (o : Option ℕ) (test : Problem → Bool) (f : Found) → list_any test f.problems ≡ true → list_any test (and_problem_at problem.TooDeep o f).problems ≡ true
@@ -354,7 +333,7 @@ sound_leaf depth start end l f e =
 
 -- where nothing is told, an item is ended
 pub quiet_sound : (start : ℕ) (i : ItemView) (f : Found) → is_quiet f ≡ true → is_sound start (Some i, f) ≡ true
-quiet_sound start i f q = ap not (quiet_any (λ p. is_unfinished p.kind && p.at == start) f.problems (not_not (list_any (λ _. true) f.problems) q))
+quiet_sound start i f q = ap not (quiet_any (λ p. is_unfinished p.kind && p.at == start) f.problems (not-true (list_any (λ _. true) f.problems) q))
 
 pub not_quiet : {t : Bool} (f : Found) → (is_quiet f ≡ true → t ≡ true) → t ≡ false → is_quiet f ≡ false
 not_quiet f tells e = when (is_quiet f) (λ q. absurd (let no = sym (tells q) ∙ e in cc)) (λ q. q)

@@ -4,7 +4,7 @@ use Rattle.std.specs.Option.{option_or}
 use Rattle.std.specs.Str.{bytes_eq}
 use Rattle.std.proofs.Common.{◌≡◌, ◌≤◌, ◌<◌, ◌+◌, ◌==◌, ◌&&◌, ℕ, zero, suc, Bool, true, false, Option, Some, None, List, [], ◌++◌, length, refl, sym, ap, ◌∙◌, arith, codes}
 use Rattle.std.proofs.lemmas.Bool.Decides.{nat_tests}
-use Rattle.std.proofs.lemmas.Bool.{and_parts}
+use Rattle.std.proofs.lemmas.Bool.{and_parts, and_right, eq-eqb}
 use Rattle.hir_input.specs.declared.ast.Visibility.{Visibility}
 use Rattle.hir_input.specs.declared.ids.AstIdKind.{AstIdKind}
 use Rattle.hir_input.specs.declared.ids.AstIdKind.TheVariants as kind
@@ -47,9 +47,7 @@ use Rattle.rust_leaves.specs.Fronts.{FrontRead}
 use Rattle.rust_leaves.specs.Texts.{bare, last_text_from, last_text}
 use Rattle.rust_leaves.proofs.Beside.{fields_of}
 use Rattle.rust_items.proofs.Leads.{named_leads, alias_if_leads, renamed_leads, item_end_leads, impl_end_leads, macro_end_leads, value_end_leads, call_end_leads}
-use Rattle.rust_edits.proofs.Ranges.NearPaths.{PlacedNear, no_place, placed_near, placed_name_until}
-use Rattle.rust_edits.proofs.Ranges.NearTrees.{further_on, are_further, is_further}
-use Rattle.rust_edits.proofs.Ranges.NearFronts.{FrontNear}
+use Rattle.rust_edits.proofs.Ranges.NearFronts.{FrontNear, PlacedNear, no_place, placed_near, placed_name_until, further_on, are_further, is_further}
 use Rattle.rust_edits.proofs.Ranges.NearFields.{in_order, lt_by, struct_fields_near}
 
 -- ---- places
@@ -193,14 +191,10 @@ semicolon_leads read ts = eat_leads 59 ts
 semicolon_fewer : (read : ExcerptRead) → TakesEnded (semicolon_end read)
 semicolon_fewer read ts e = eat_fewer 59 ts (omega arith) (and_parts read.is_ended (eat 59 ts).0 e).1
 
-pub and_no : (t : Bool) → (t && false) ≡ false
-and_no true = refl
-and_no false = refl
-
 semicolon_outcome : (b : Ending) (r s : ExcerptRead) → SameText b r s → (ts us : Tokens) → Near b ts us → RestOutcome b (semicolon_end r ts) (semicolon_end s us)
 semicolon_outcome b r s k ts us h =
     map_outcome (λ c. record { body = r.text; is_ended = r.is_ended && c; block = None; braces = None }) (λ c. record { body = s.text; is_ended = s.is_ended && c; block = None; braces = None })
-    (λ e. rw (k.text, k.ended) (record { body = refl; ended = ap (λ c. r.is_ended && c) e; block = no_block; braces = refl })) (λ e. (and_parts r.is_ended (eat 59 ts).0 e).1) (λ e. ap (λ c. s.is_ended && c) e ∙ and_no s.is_ended) (eat_outcome b 59 ts us h)
+    (λ e. rw (k.text, k.ended) (record { body = refl; ended = ap (λ c. r.is_ended && c) e; block = no_block; braces = refl })) (λ e. (and_parts r.is_ended (eat 59 ts).0 e).1) (λ e. ap (λ c. s.is_ended && c) e ∙ and_right s.is_ended false refl) (eat_outcome b 59 ts us h)
 
 call_end_outcome : (b : Ending) (ts us : Tokens) → Near b ts us → RestOutcome b (call_end ts) (call_end us)
 unfolding call_end ends
@@ -375,11 +369,7 @@ no_for : (ts : Tokens) (end : ℕ) → word ts ≡ [] → (bytes_eq (word ts) (c
 no_for ts end e = rw e refl
 
 not_before : (t : Bool) (m n : ℕ) → n ≤ m → (t && nat_lt m n) ≡ false
-not_before t m n le = let no : nat_lt m n ≡ false = grind (arith, nat_tests) in rw no (both_false t)
-  where
-    both_false : (t : Bool) → (t && false) ≡ false
-    both_false true = refl
-    both_false false = refl
+not_before t m n le = let no : nat_lt m n ≡ false = grind (arith, nat_tests) in rw no (and_right t false refl)
 
 trait_same : {n m : ℕ} (b : Ending) (ts us es fs : Tokens) → Given n m ts us → Near b ts us → LeadsTo ts es → es.past ≡ fs.past + b.by → length b.behind ≤ length es.left → has_trait fs.past us ≡ has_trait es.past ts
 unfolding has_trait is_trait_impl
@@ -473,10 +463,7 @@ some_ends o = leaf_by_outcome (λ l. l) (λ l. l) (λ k. k) (λ e. e) (λ e. e) 
 
 -- what leads to tokens before the end is before it
 before_near : (b : Ending) (ts us vs ws : Tokens) → Near b ts us → Near b vs ws → (ts.past == vs.past) ≡ false → LeadsTo ts vs → Near b (bumped ts) (bumped us) × LeadsTo (bumped ts) vs
-before_near b ts us vs ws h k e here = absurd (let same : (ts.past == ts.past) ≡ true = eqb_self ts.past in cc)
-  where
-    eqb_self : (n : ℕ) → (n == n) ≡ true
-    eqb_self n = grind (arith, nat_tests)
+before_near b ts us vs ws h k e here = absurd (let same : (ts.past == ts.past) ≡ true = eq-eqb ts.past ts.past refl in cc)
 before_near b ts us vs ws h k e (further p) =
     (by_next (bumped_onward b ts us h) (λ o. let few = o.few in let less = fewer p in let more = more_left b vs ws o.uneven k in absurd (omega arith)) (λ n. n), p)
 
@@ -519,7 +506,7 @@ invocation_ends : (b : Ending) (attrs : List MetaView) (ts us : Tokens) → Near
 unfolding invocation last_text
 invocation_ends b attrs ts us h =
     by_kept (path_until (near_parting b) ts us h)
-    (λ o. let none : (is_some (path us).0 && is_called (path us).1) ≡ false = ap (λ t. is_some (path us).0 && t) (no_call (path us).1 o.none) ∙ and_no (is_some (path us).0) in
+    (λ o. let none : (is_some (path us).0 && is_called (path us).1) ≡ false = ap (λ t. is_some (path us).0 && t) (no_call (path us).1 o.none) ∙ and_right (is_some (path us).0) false refl in
     let few = o.few in
     when (is_some (path ts).0 && is_called (path ts).1)
     (λ e. rw (e, none)

@@ -6,14 +6,12 @@ use Rattle.std.specs.List.{filter}
 use Rattle.std.proofs.lemmas.Bool.{eqb-true}
 use Rattle.hir_input.specs.declared.edition.EditionYear.{EditionYear}
 use Rattle.rust_lexer.specs.declared.kind.DocStyle.TheVariants.{Outer}
-use Rattle.rust_lexer.specs.declared.kind.TokenKind.{TokenKind}
-use Rattle.rust_lexer.specs.declared.kind.TokenKind.TheVariants as kinds
 use Rattle.rust_lexer.specs.Alone.{Stop, stop, is_fence, moved, EndsAlone}
 use Rattle.rust_lexer.specs.Bytes.{is_continuation, is_wide_start}
 use Rattle.rust_lexer.specs.Cut.{first_cut}
 use Rattle.rust_lexer.specs.Piece.{Piece}
-use Rattle.rust_lexer.specs.Symbol.{symbol_from, symbol_of}
-use Rattle.rust_lexer.specs.Tokens.{has_mark, is_bracket_next, is_shebang, is_significant, is_significant_kind, piece, tokens_from}
+use Rattle.rust_lexer.specs.Symbol.{symbol_of}
+use Rattle.rust_lexer.specs.Tokens.{has_mark, is_bracket_next, is_shebang, is_significant, piece, tokens_from}
 use Rattle.rust_lexer.proofs.Apart.{tokens_first, tokens_moved}
 use Rattle.rust_cursor.specs.Tokens.{Tokens}
 use Rattle.rust_cursor.specs.Words.{by_first, symbol, bumped}
@@ -22,6 +20,7 @@ use Rattle.rust_metas.specs.Attributes.{is_attribute}
 use Rattle.rust_edits.proofs.Ranges.Parts.{ended}
 use Rattle.rust_edits.proofs.Ranges.Inner.{IsMute, symbol_mute}
 use Rattle.std.proofs.lemmas.Bool.{and_parts}
+use Rattle.rust_edits.proofs.Typing.Loose.{passed_symbol}
 
 abbrev starting : ℕ → Piece → List Piece → Option ℕ → EditionYear → Tokens
 starting past t l u y = record { past = past; left = t ∷ l; unended = u; edition = y }
@@ -69,12 +68,6 @@ module _ (past s : ℕ) (t : Piece) (l : List Piece) (u : Option ℕ) (y : Editi
       (λ h. let is : b ≡ 45 = eqb-true b 45 h in absurd (no_dash z (e ∙ ap (λ c. piece (first_cut c z) s c z) is)))
       (λ h. rw (f, g, h) refl)))
 
-  passed : (k : TokenKind) (b : ℕ) → is_significant_kind k ≡ false → symbol_from k b ≡ 0
-  passed kinds.OpenDelim b e = absurd cc
-  passed kinds.CloseDelim b e = absurd cc
-  passed kinds.Punct b e = absurd cc
-  passed _ b e = refl
-
   -- the tokens of the text itself, and those of the longer one
   shebang : (ps rest tail : List Piece) → t ∷ rest ≡ map (moved s) ps ++ tail → l ≡ filter is_significant rest → is_shebang ps ≡ false
   unfolding symbol bumped is_attribute
@@ -90,7 +83,7 @@ module _ (past s : ℕ) (t : Piece) (l : List Piece) (u : Option ℕ) (y : Editi
           let first : t ≡ moved s p = cc in
           let next : rest ≡ moved s q ∷ (map (moved s) ps ++ tail) = cc in
           let some : is_significant (moved s q) ≡ true =
-          when (is_significant (moved s q)) (λ g. g) (λ g. absurd (let zero_is = passed q.kind (slice_index q.text 0) g in let no : (0 == 33) ≡ true = ap (λ c. c == 33) (sym zero_is) ∙ two.0 in cc)) in
+          when (is_significant (moved s q)) (λ g. g) (λ g. absurd (let zero_is = passed_symbol q.kind (slice_index q.text 0) g in let no : (0 == 33) ≡ true = ap (λ c. c == 33) (sym zero_is) ∙ two.0 in cc)) in
           let left : l ≡ moved s q ∷ filter is_significant (map (moved s) ps ++ tail) = f ∙ ap (filter is_significant) next ∙ rw some refl in
           let hash : (symbol_of t == 35) ≡ true = ap (λ (a : Piece). symbol_of a == 35) first ∙ one.0 in
           let bang : by_first 0 symbol_of l ≡ 33 = ap (by_first 0 symbol_of) left ∙ mark in

@@ -1,14 +1,13 @@
 -- The text of the range of an item, read alone, is exactly that item.
-use Rattle.std.proofs.Common.{◌≡◌, ◌<◌, ◌≤◌, ◌+◌, ◌-◌, ◌==◌, ◌&&◌, ◌||◌, ℕ, suc, Bool, true, false, Option, Some, None, List, [], ◌∷◌, ◌++◌, map, length, take, drop, refl, sym, ap, ◌∙◌, subst, arith, append_assoc, length-append}
+use Rattle.std.proofs.Common.{◌≡◌, ◌<◌, ◌≤◌, ◌+◌, ◌-◌, ◌==◌, ◌&&◌, ℕ, suc, true, false, Option, Some, None, List, [], ◌∷◌, ◌++◌, map, length, take, drop, refl, sym, ap, ◌∙◌, subst, arith, append_assoc, length-append}
 use Rattle.std.specs.Prelude.{option_map, option_to_list, is_some}
 use Rattle.std.specs.List.{filter}
-use Rattle.std.proofs.lemmas.Bool.{eqb-true}
-use Rattle.std.proofs.lemmas.Bool.Decides.{nat_tests}
+use Rattle.std.proofs.lemmas.Bool.{eqb-true, eq-eqb, or_parts}
 use Rattle.std.proofs.lemmas.List.{length-map, append_cancel_left, length-take-le, length-drop, drop-drop, take-append-drop}
 use Rattle.hir_input.specs.declared.edition.EditionYear.{EditionYear}
 use Rattle.hir_input.specs.Attr.{MetaView}
 use Rattle.hir_input.specs.Syntax.{ItemView, ItemViews, no_items, item_and, items_from, source_file, syntax_view}
-use Rattle.rust_lexer.specs.Alone.{Stop, opening, closing, semicolon, stop, EndsAlone}
+use Rattle.rust_lexer.specs.Alone.{Stop, opening, stop, EndsAlone}
 use Rattle.rust_lexer.specs.Piece.{Piece}
 use Rattle.rust_lexer.specs.Tokens.{has_mark, is_significant, tokens_from}
 use Rattle.rust_cursor.specs.Tokens.{Tokens, tokens_of}
@@ -44,8 +43,7 @@ use Rattle.rust_edits.proofs.Ranges.Tops.{turn_is, turn_strict, places_spans, wi
 
 pub last_is : (o : Stop) → ends_items o ≡ true → is_last (stop o) ≡ true
 last_is opening e = absurd cc
-last_is closing e = refl
-last_is semicolon e = refl
+last_is _ e = refl
 
 -- an item that a turn finds in a text, and the text of its range
 record IsTaken (x : List ℕ) (edition : EditionYear) (f : Found) (ts : Tokens) (i : ItemView) (w : List ℕ) (o : Stop) : Type 0 where
@@ -126,22 +124,15 @@ module _ (x : List ℕ) (edition : EditionYear) (f : Found) (i : ItemView) (w : 
 
 -- ---- the end of an item
 
-eqb_self : (n : ℕ) → (n == n) ≡ true
-eqb_self n = grind (arith, nat_tests)
-
 any_moved : (place : ℕ → ℕ) (at : ℕ) (ps : List Problem) → is_unfinished_at (place at) (map (moved_problem place) ps) ≡ false → is_unfinished_at at ps ≡ false
 any_moved place at [] e = refl
 any_moved place at (p ∷ ps) e =
     when (is_unfinished p.kind && p.at == at)
     (λ f. let both = and_parts (is_unfinished p.kind) (p.at == at) f in
     let same : p.at ≡ at = eqb-true p.at at both.1 in
-    let here : (place p.at == place at) ≡ true = rw same (eqb_self (place at)) in
+    let here : (place p.at == place at) ≡ true = rw same (eq-eqb (place at) (place at) refl) in
     absurd (let no = rw (both.0, here) at e in cc))
-    (λ f. rw f (any_moved place at ps (rest (is_unfinished p.kind && place p.at == place at) _ e)))
-  where
-    rest : (s t : Bool) → (s || t) ≡ false → t ≡ false
-    rest true t e = absurd cc
-    rest false t e = e
+    (λ f. rw f (any_moved place at ps (or_parts (is_unfinished p.kind && place p.at == place at) _ e).1))
 
 -- an item whose end was found
 pub sound_at : (start : ℕ) (o : Option ItemView) (i : ItemView) (f : Found) → o ≡ Some i → is_unfinished_at start f.problems ≡ false → is_sound start (o, f) ≡ true

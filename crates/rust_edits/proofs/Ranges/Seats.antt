@@ -90,11 +90,10 @@ module _ (x : List ℕ) where
       }
 
   seated_from : (left at : ℕ) (z : List ℕ) → z ≡ drop at x → AreSeated (tokens_from left at z)
-  seated_from zero at [] e = tt
-  seated_from (suc left) at [] e = tt
   seated_from (suc left) at (b ∷ z) e = seated_from left (suc at) z (next_is at b z e)
   seated_from zero at (b ∷ z) e =
       ((λ s. piece_seated (first_cut b z) at b z e refl), seated_from (whole (first_cut b z) z) (suc at) z (next_is at b z e))
+  seated_from _ at [] e = tt
 
   seated_matter : (found : Option ℕ) (at : ℕ) (z : List ℕ) → z ≡ drop at x → AreSeated (matter_by found at z)
   seated_matter None at z e = seated_from 0 at z e

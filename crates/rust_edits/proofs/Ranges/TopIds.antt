@@ -1,7 +1,7 @@
 -- The ids of items at the top, in files of which the first rows are the same.
 use Rattle.std.proofs.Common.{◌≡◌, ◌<◌, ◌≤◌, ◌+◌, ◌-◌, ◌^◌, ◌==◌, ◌&&◌, ◌||◌, ℕ, zero, suc, Bool, true, false, None, List, [], ◌∷◌, ◌++◌, length, refl, sym, ap, ◌∙◌, arith, length-append}
 use Rattle.std.specs.Prelude.{min, nat_lt}
-use Rattle.std.proofs.lemmas.Bool.{eqb-true}
+use Rattle.std.proofs.lemmas.Bool.{eqb-true, and_right}
 use Rattle.std.proofs.lemmas.Bool.Decides.{nat_tests}
 use Rattle.hir_input.specs.declared.ids.AstIdKind.{AstIdKind}
 use Rattle.hir_input.specs.declared.ids.FileAstId.{FileAstId}
@@ -62,11 +62,7 @@ not_before : (d e j i : ℕ) → e ≡ 0 → i ≤ j → (nat_lt d e || (d == e 
 not_before d e j i z l =
     let a : nat_lt d e ≡ false = grind (arith, nat_tests) in
     let b : nat_lt j i ≡ false = grind (arith, nat_tests) in
-    rw (a, b) (and_off (d == e))
-  where
-    and_off : (t : Bool) → (t && false) ≡ false
-    and_off true = refl
-    and_off false = refl
+    rw (a, b) (and_right (d == e) false refl)
 
 at_top_before : (d e j i : ℕ) → e ≡ 0 → (nat_lt d e || (d == e && nat_lt j i)) ≡ true → d ≡ 0
 at_top_before d e j i z h =

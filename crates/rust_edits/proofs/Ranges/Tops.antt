@@ -7,7 +7,7 @@ use Rattle.hir_input.specs.declared.edition.EditionYear.{EditionYear}
 use Rattle.hir_input.specs.declared.ids.FileAstId.{FileAstId}
 use Rattle.hir_input.specs.declared.ids.AstIdKind.{AstIdKind}
 use Rattle.hir_input.specs.declared.ids.AstIdKind.TheVariants as kind
-use Rattle.hir_input.specs.Syntax.{ItemView, ItemViews, plain_item, const_item, struct_item, bare_module, listed_module, use_item, extern_crate, bare_extern_block, listed_extern_block, impl_item, macro_call, macro_rules, asm_item, no_items, item_and, items_from, items_of, SyntaxView, syntax_view}
+use Rattle.hir_input.specs.Syntax.{ItemView, ItemViews, listed_module, listed_extern_block, no_items, item_and, items_from, items_of, SyntaxView, syntax_view}
 use Rattle.rust_cursor.specs.Elements.{most, beyond}
 use Rattle.rust_cursor.specs.Tokens.{Tokens, tokens_of}
 use Rattle.rust_cursor.specs.Words.{at, is_at_end}
@@ -30,17 +30,17 @@ use Rattle.rust_items.specs.Ids.{first, numbered_named, numbered_node, held_with
 use Rattle.rust_items.specs.Items.{BlockRead, span_of, needs_name, and_flaw, and_item, and_parent, leaf_found, leaf_turn, finding_from, finding, is_list_end, items, as_extern, extern_kept, extern_found, extern_turn, extern_block, by_head, turn_with, inside, depth_of, turn}
 use Rattle.rust_items.specs.LineEnds.{moved_span}
 use Rattle.rust_items.specs.Places.{Telling, held, ArePlaces, nothing, placed}
-use Rattle.rust_items.specs.SourceFiles.{places, behind_attributes, file_view, found_in, items_in, read_of, IsFile}
+use Rattle.rust_items.specs.SourceFiles.{places, behind_attributes, file_view, found_in, read_of, IsFile}
 use Rattle.rust_items.proofs.Leads.{front_start}
 use Rattle.rust_items.proofs.Places.{Span, row_kind, place_kind, place_span, adds_use_trees, adds_problem_at, adds_item, AreFound, turn_found, items_found}
 use Rattle.rust_items.proofs.UntilItems.{Rows, found_rows}
 use Rattle.rust_edits.specs.Ranges.Laws.{item_count, items_count, at_top, without_ids, IsAtTop}
+use Rattle.rust_edits.proofs.Typing.Typing.{items_are}
 
 -- ---- how many there are
 
 count_held : (i : ItemView) → item_count i ≡ suc (items_count (held i))
 count_held (listed_module n semicolon is) = refl
-count_held (listed_extern_block n is) = refl
 count_held _ = refl
 
 places_count : {N : Telling} {from to : ℕ} {is : ItemViews} {ps rest : List ItemPlace} → ArePlaces N from to is ps rest → length ps ≡ items_count is + length rest
@@ -55,17 +55,7 @@ mutual
   count_same : (own : List FileAstId) (i : ItemView) (ids : List FileAstId) → item_count (held_with_ids (first own).0 i ids).0 ≡ item_count i
   count_same own (listed_module m semicolon is) ids = ap suc (counts_same is ids)
   count_same own (listed_extern_block m is) ids = ap suc (counts_same is ids)
-  count_same own (plain_item k m) ids = refl
-  count_same own (const_item m) ids = refl
-  count_same own (struct_item m _) ids = refl
-  count_same own (bare_module m semicolon) ids = refl
-  count_same own (use_item u) ids = refl
-  count_same own (extern_crate m rename) ids = refl
-  count_same own (bare_extern_block m) ids = refl
-  count_same own (impl_item m is_trait) ids = refl
-  count_same own (macro_call c) ids = refl
-  count_same own (macro_rules m name) ids = refl
-  count_same own (asm_item m) ids = refl
+  count_same own _ ids = refl
 
   counts_same : (is : ItemViews) (ids : List FileAstId) → items_count (with_ids is ids).0 ≡ items_count is
   counts_same no_items ids = refl
@@ -93,17 +83,7 @@ mutual
   held_left : (own : List FileAstId) (i : ItemView) (ids : List FileAstId) → (held_with_ids (first own).0 i ids).1 ≡ drop (items_count (held i)) ids
   held_left own (listed_module m semicolon is) ids = ids_left is ids
   held_left own (listed_extern_block m is) ids = ids_left is ids
-  held_left own (plain_item k m) ids = refl
-  held_left own (const_item m) ids = refl
-  held_left own (struct_item m _) ids = refl
-  held_left own (bare_module m semicolon) ids = refl
-  held_left own (use_item u) ids = refl
-  held_left own (extern_crate m rename) ids = refl
-  held_left own (bare_extern_block m) ids = refl
-  held_left own (impl_item m is_trait) ids = refl
-  held_left own (macro_call c) ids = refl
-  held_left own (macro_rules m name) ids = refl
-  held_left own (asm_item m) ids = refl
+  held_left own _ ids = refl
 
   ids_left : (is : ItemViews) (ids : List FileAstId) → (with_ids is ids).1 ≡ drop (items_count is) ids
   ids_left no_items ids = refl
@@ -126,17 +106,7 @@ mutual
   held_again : (own other : List FileAstId) (i : ItemView) (ids : List FileAstId) → (held_with_ids (first own).0 (held_with_ids (first other).0 i ids).0 []).0 ≡ (held_with_ids (first own).0 i []).0
   held_again own other (listed_module v semicolon is) ids = ap (listed_module (numbered_named (first own).0 v) semicolon) (ids_again is ids)
   held_again own other (listed_extern_block v is) ids = ap (listed_extern_block (numbered_node (first own).0 v)) (ids_again is ids)
-  held_again own other (plain_item k v) ids = refl
-  held_again own other (const_item v) ids = refl
-  held_again own other (struct_item v _) ids = refl
-  held_again own other (bare_module v semicolon) ids = refl
-  held_again own other (use_item u) ids = refl
-  held_again own other (extern_crate v rename) ids = refl
-  held_again own other (bare_extern_block v) ids = refl
-  held_again own other (impl_item v is_trait) ids = refl
-  held_again own other (macro_call c) ids = refl
-  held_again own other (macro_rules v name) ids = refl
-  held_again own other (asm_item v) ids = refl
+  held_again own other _ ids = refl
 
   pub ids_again : (is : ItemViews) (ids : List FileAstId) → (with_ids (with_ids is ids).0 []).0 ≡ (with_ids is []).0
   ids_again no_items ids = refl
@@ -488,10 +458,6 @@ rows_spans edition x =
 pub found_keeps : (edition : EditionYear) (x : List ℕ) → Keeps (read_of edition x).1.0 (found_in edition x)
 unfolding found_in
 found_keeps edition x = keeps_at problem.Unterminated (read_of edition x).1.1.unended (read_of edition x).1.0 (read_of edition x).1.0 (keeps_same (read_of edition x).1.0)
-
-pub items_are : (edition : EditionYear) (x : List ℕ) → items_in edition x ≡ items_from (read_of edition x).0
-unfolding items_in
-items_are edition x = refl
 
 -- what is found of a whole text are the rows and the spans that were read
 pub same_rows : (edition : EditionYear) (x : List ℕ) → (found_in edition x).rows ≡ (read_of edition x).1.0.rows

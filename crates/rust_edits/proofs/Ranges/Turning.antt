@@ -1,13 +1,12 @@
 -- Turns at the top of a text, or between braces: each takes a token, and it does not matter how many more are allowed than there are tokens.
-use Rattle.std.proofs.Common.{◌≡◌, ◌<◌, ◌==◌, ◌||◌, ℕ, zero, suc, Bool, true, false, Option, Some, None, List, [], ◌∷◌, ◌++◌, length, refl, sym, ◌∙◌, arith}
+use Rattle.std.proofs.Common.{◌≡◌, ◌<◌, ◌==◌, ℕ, zero, suc, Bool, true, false, Option, Some, None, List, [], ◌++◌, length, refl, sym, ◌∙◌, arith}
 use Rattle.std.specs.Prelude.{option_to_list}
-use Rattle.std.proofs.lemmas.Bool.Decides.{nat_tests}
+use Rattle.std.proofs.lemmas.Bool.{eq-eqb, or_parts, ne_eqb}
 use Rattle.hir_input.specs.Syntax.{ItemView}
-use Rattle.rust_lexer.specs.Piece.{Piece}
 use Rattle.rust_cursor.specs.Brackets.{behind_tree}
 use Rattle.rust_cursor.specs.Elements.{beyond}
 use Rattle.rust_cursor.specs.Tokens.{Tokens}
-use Rattle.rust_cursor.specs.Words.{by_first, symbol, at, is_empty, is_at_open, is_at_end, bumped}
+use Rattle.rust_cursor.specs.Words.{symbol, at, is_empty, is_at_open, is_at_end, bumped}
 use Rattle.rust_cursor.proofs.Laid.{IsLaid, behind, at_behind}
 use Rattle.rust_cursor.proofs.Leads.{LeadsTo, here, further, through, when, behind_closed_leads, behind_tree_leads, beyond_leads}
 use Rattle.rust_cursor.proofs.Nesting.{shorter}
@@ -23,6 +22,7 @@ use Rattle.rust_items.proofs.Places.{turn_found}
 use Rattle.rust_cursor.proofs.Near.{fewer}
 use Rattle.rust_edits.proofs.Ranges.NearItems.{is_quiet, told_problem}
 use Rattle.rust_edits.proofs.Ranges.Tops.{turn_strict}
+use Rattle.rust_edits.proofs.Typing.ProblemsAlike.{or_none}
 
 -- ---- tokens that are taken
 
@@ -32,12 +32,9 @@ tree_fewer ts some =
     let less = shorter ts some in
     when (is_at_open ts) (λ e. rw e (let rest = fewer (behind_closed_leads (symbol ts) (bumped ts)) in omega arith)) (λ e. rw e (omega arith))
 
-eqb_self : (n : ℕ) → (n == n) ≡ true
-eqb_self n = grind (arith, nat_tests)
-
 pub beyond_fewer : {ts us : Tokens} → LeadsTo ts us → is_empty ts ≡ false → length (beyond ts.past us).left < length ts.left
 unfolding beyond
-beyond_fewer {ts} here some = let same = eqb_self ts.past in rw same (tree_fewer ts some)
+beyond_fewer {ts} here some = let same = eq-eqb ts.past ts.past refl in rw same (tree_fewer ts some)
 beyond_fewer {ts} {us} (further p) some =
     let first = shorter ts some in
     let less = fewer p in
@@ -48,29 +45,13 @@ pub beyond_none : (past : ℕ) (ts : Tokens) → (ts.past == past) ≡ false →
 unfolding beyond
 beyond_none past ts e = rw e refl
 
-or_first : (s t : Bool) → (s || t) ≡ false → s ≡ false
-or_first true t e = e
-or_first false t e = refl
-
-or_off : (t : Bool) → (t || false) ≡ t
-or_off true = refl
-or_off false = refl
-
 pub top_is : (ts : Tokens) → is_list_end true ts ≡ is_empty ts
 unfolding is_list_end
-top_is ts = or_off (is_empty ts)
+top_is ts = or_none (is_empty ts)
 
 some_token : (is_top : Bool) (ts : Tokens) → is_list_end is_top ts ≡ false → is_empty ts ≡ false
 unfolding is_list_end
-some_token is_top ts e = or_first (is_empty ts) _ e
-
-pub empty_left : (ts : Tokens) → is_empty ts ≡ true → ts.left ≡ []
-unfolding is_empty
-empty_left ts e = by ts.left e
-  where
-    by : (left : List Piece) → by_first true (λ _. false) left ≡ true → left ≡ []
-    by [] e = refl
-    by (t ∷ left) e = absurd cc
+some_token is_top ts e = (or_parts (is_empty ts) _ e).0
 
 pub none_empty : (ts : Tokens) → ts.left ≡ [] → is_empty ts ≡ true
 unfolding is_empty
@@ -136,13 +117,10 @@ unfolding turn
 turn_told left f ts e =
     when (is_at_end ts) (λ g. rw g (told_problem problem.Unmatched (at ts) f)) (λ g. rw g (head_none (inside left) (depth_of left) (front ts).0.head (front ts).0 f (front ts).1 (rw g at e)))
 
-differs : (a c : ℕ) → c < a → (a == c) ≡ false
-differs a c lt = grind (arith, nat_tests)
-
 -- and where none is told, a token was taken
 pub turn_far : (left end : ℕ) (f : Found) (ts : Tokens) → IsLaid end ts → is_quiet (turn left f ts).1.0 ≡ true → ((turn left f ts).1.1.past == ts.past) ≡ false
 turn_far left end f ts laid quiet = by (turn left f ts).0 refl
   where
     by : (o : Option ItemView) → (turn left f ts).0 ≡ o → ((turn left f ts).1.1.past == ts.past) ≡ false
     by None e = absurd (let told = turn_told left f ts e in let no : true ≡ false = sym quiet ∙ told in cc)
-    by (Some i) e = let start = at_behind end ts laid in let less = turn_strict end left f ts i laid e in differs (turn left f ts).1.1.past ts.past (omega arith)
+    by (Some i) e = let start = at_behind end ts laid in let less = turn_strict end left f ts i laid e in ne_eqb (turn left f ts).1.1.past ts.past (λ same. absurd (omega arith))

@@ -22,12 +22,14 @@ use Rattle.rust_items.specs.SourceFiles.{behind_attributes, found_in, read_of}
 use Rattle.rust_edits.specs.Ranges.Laws.{EndsOwn}
 use Rattle.rust_edits.specs.Ranges.Joined.{IsBare, HoldsItems, BeginsAnew, text_attrs, found_on, ItemsJoin, Follows, as_first, behind_items, IsBetween, StandsBetween, TypingItems}
 use Rattle.rust_cursor.proofs.Near.{near_twins, nothing}
-use Rattle.rust_edits.proofs.Ranges.Behind.{plain_on, unended_stays, tokens_short}
+use Rattle.rust_cursor.proofs.Few.{tokens_short}
+use Rattle.rust_edits.proofs.Ranges.Behind.{plain_on}
 use Rattle.rust_edits.proofs.Ranges.Joins.{Joined, joined, first_near, none_told, found_quiet, found_still, unended_join, items_top, top_spent}
 use Rattle.hir_input.specs.Attr.{MetaView}
 use Rattle.rust_edits.proofs.Ranges.Inner.{no_inner}
 use Rattle.rust_edits.proofs.Ranges.Parts.{ended}
 use Rattle.rust_edits.proofs.Ranges.Turning.{run_none}
+use Rattle.rust_edits.proofs.Typing.ProblemsIn.{unended_kept}
 
 -- ---- two texts
 
@@ -122,7 +124,7 @@ none_found : (edition : EditionYear) → found_in edition [] ≡ nothing_found
 unfolding found_in
 none_found edition =
     ap (λ (r : List ItemView × (Found × Tokens)). and_problem_at problem.Unterminated r.1.1.unended r.1.0) (none_read edition)
-    ∙ ap (λ (u : Option ℕ). and_problem_at problem.Unterminated u nothing_found) (unended_stays (inner_attributes_leads (tokens_of edition [])) ∙ none_open edition)
+    ∙ ap (λ (u : Option ℕ). and_problem_at problem.Unterminated u nothing_found) (unended_kept (inner_attributes_leads (tokens_of edition [])) ∙ none_open edition)
 
 -- ---- between others
 

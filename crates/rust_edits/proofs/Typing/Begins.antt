@@ -22,11 +22,10 @@ unfiltered n (t ∷ ts) b = when (is_significant t) (λ e. behind_one n t (filte
 
 -- none begins before what is left of one
 from_place : (n left at : ℕ) (z : List ℕ) → Begins n (tokens_from left at z) → at + left ≤ n
-from_place n zero at [] r = elim r [ ]
-from_place n (suc left) at [] r = elim r [ ]
 from_place n zero at (b ∷ z) (first e) = omega (arith, e)
 from_place n zero at (b ∷ z) (later r) = let more = from_place n (whole (first_cut b z) z) (suc at) z r in omega arith
 from_place n (suc left) at (b ∷ z) r = let more = from_place n left (suc at) z r in omega arith
+from_place n _ at [] r = elim r [ ]
 
 pub begins_whole : (n left at : ℕ) (x w : List ℕ) → n ≡ at + length x → Begins n (tokens_from left at (x ++ w)) → overhang left x w ≡ 0
 begins_whole n left at [] w e b = let low = from_place n left at w b in omega arith

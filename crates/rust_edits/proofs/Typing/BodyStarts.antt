@@ -42,7 +42,7 @@ begins_rest : (n : ℕ) (left : List Piece) → Begins n (rest left) → Begins 
 begins_rest n [] b = b
 begins_rest n (t ∷ ts) b = later b
 
-begins_leads : {ts us : Tokens} → LeadsTo ts us → is_empty us ≡ false → Begins (at us) ts.left
+pub begins_leads : {ts us : Tokens} → LeadsTo ts us → is_empty us ≡ false → Begins (at us) ts.left
 unfolding is_empty at bumped
 begins_leads {ts} here e = begins_here ts.past ts.left e
 begins_leads {ts} {us} (further p) e = begins_rest _ ts.left (begins_leads p e)

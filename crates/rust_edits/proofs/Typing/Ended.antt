@@ -10,7 +10,7 @@ use Rattle.rust_lexer.specs.Alone.{moved, braces_from}
 use Rattle.rust_cursor.specs.declared.cursor.nest.Before.{Before}
 use Rattle.rust_cursor.specs.declared.cursor.nest.Nest.{Nest}
 use Rattle.rust_cursor.specs.Tokens.{Tokens, end_of}
-use Rattle.rust_cursor.specs.Words.{symbol, is_empty, bumped}
+use Rattle.rust_cursor.specs.Words.{symbol, bumped}
 use Rattle.rust_cursor.specs.Nests.{opens_other, closes_other, braces_behind, count_behind, closes_none, behind_braces, flat_behind, is_mark, nest_inside, nest_behind}
 use Rattle.rust_cursor.specs.Extents as extents
 use Rattle.rust_cursor.specs.Extents.{ExcerptRead, stops, ends, opened_behind, taking, taken}
@@ -21,6 +21,8 @@ use Rattle.rust_cursor.proofs.Scans.{taking_stop, taking_end, taking_more}
 use Rattle.rust_cursor.proofs.Views.{beside_twins, symbol_same, next_ahead, next_behind}
 use Rattle.rust_cursor.proofs.Tests.{nest_same, stops_same, ends_same}
 use Rattle.rust_cursor.proofs.Braced.{tokens_at, symbol_at, some_at, bumped_at, inside_is, enters}
+use Rattle.rust_cursor.proofs.Inside.{stops_deep, not_last}
+use Rattle.rust_cursor.proofs.Walk.{nothing, matched_in}
 use Rattle.rust_edits.specs.Typing.Loose.{Loose, none_loose, loose_behind, loose_from}
 
 -- ---- what is counted in braces
@@ -110,14 +112,6 @@ inside_same n k ts us d e =
 
 -- ---- through braces
 
-stops_deep : (e : _) (n : Nest) (ts : Tokens) → is_empty ts ≡ false → (n.braces == 0) ≡ false → stops e n ts ≡ false
-unfolding stops
-stops_deep e n ts h d = rw (h, d) refl
-
-ends_deep : (e : _) (is_call : Bool) (n : Nest) (ts : Tokens) → (n.braces == 0) ≡ false → ends e is_call n ts ≡ false
-unfolding ends
-ends_deep e is_call n ts d = rw d refl
-
 module _ (R : ExcerptRead × Tokens → Type 0) (y : EditionYear) (u : Option ℕ) (n : Nest) where
   -- one token
   step : (e : _) (t : Piece) (rest : List Piece) (k j past : ℕ) (l : Loose) (done : List ℕ) (last : ℕ) (o : Option Tokens) → braces_behind (suc k) (symbol_of t) ≡ suc j
@@ -128,7 +122,7 @@ module _ (R : ExcerptRead × Tokens → Type 0) (y : EditionYear) (u : Option �
       let c = symbol_at y past t rest u in
       let behind_is : nest_behind m ts ≡ inside n (suc j) (loose_behind l (symbol_of t)) = nest_step n k j l ts (ap (braces_behind (suc k)) c ∙ f) ∙ ap (λ s. inside n (suc j) (loose_behind l s)) c in
       let go_on = stops_deep e m ts (some_at y past t rest u) (off k) in
-      let no_end : ends e (is_mark m.before) (nest_behind m ts) ts ≡ false = ap (λ x. ends e (is_mark m.before) x ts) behind_is ∙ ends_deep e (is_mark m.before) (inside n (suc j) (loose_behind l (symbol_of t))) ts (off j) in
+      let no_end : ends e (is_mark m.before) (nest_behind m ts) ts ≡ false = ap (λ x. ends e (is_mark m.before) x ts) behind_is ∙ not_last e (is_mark m.before) (inside n (suc j) (loose_behind l (symbol_of t))) ts (off j) in
       let text = extents.more e last done ts in
       let braces = opened_behind o m ts in
       subst R
@@ -155,30 +149,7 @@ module _ (R : ExcerptRead × Tokens → Type 0) (y : EditionYear) (u : Option �
       (λ b. let h = rw b at g in
       step e t (ms ++ left) k k past l done last o (rw (a, b) refl) (λ done last o. through e left i ms k (end_of t) (loose_behind l (symbol_of t)) done last o h next)))
 
-nothing : (y : EditionYear) (past : ℕ) (u : Option ℕ) → is_empty (tokens_at y past [] u) ≡ true
-unfolding is_empty
-nothing y past u = refl
-
 -- ---- both texts
-
--- braces that match match in others
-matched_in : (d : ℕ) (ms : List Piece) → braces_from 0 ms ≡ Some 0 → braces_from d ms ≡ Some d
-matched_in d ms e = let same : 0 + d ≡ d = omega arith in subst (λ (k : ℕ). braces_from k ms ≡ Some k) same (shifted d 0 0 ms e)
-  where
-    shifted : (d k j : ℕ) (ms : List Piece) → braces_from k ms ≡ Some j → braces_from (k + d) ms ≡ Some (j + d)
-    shifted d k j [] e = let same : k ≡ j = cc in ap (λ i. Some (i + d)) same
-    shifted d k j (t ∷ ms) e =
-        when (symbol_of t == 123)
-        (λ p. let f = rw p at e in rw p (ap (λ i. braces_from i ms) (omega arith) ∙ shifted d (suc k) j ms f))
-        (λ p. let f = rw p at e in
-        when (symbol_of t == 125)
-        (λ q. let g = rw q at f in
-        when (k == 0) (λ r. absurd (let no = rw r at g in cc))
-        (λ r. let h = rw r at g in
-        let some : k ≢ 0 = grind (arith, nat_tests) in
-        let more : (k + d == 0) ≡ false = grind (arith, nat_tests) in
-        rw (p, q, more) (ap (λ i. braces_from i ms) (omega arith) ∙ shifted d (k - 1) j ms h)))
-        (λ q. let g = rw q at f in rw (p, q) (shifted d k j ms g)))
 
 -- as many brackets are loose between the braces of each text
 abbrev pub SameLoose : Bodies → Type 0
@@ -238,8 +209,8 @@ module _ (b : Bodies) (same : SameLoose b) where
       let deep = enters n ts (symbol_at b.edition past b.opening (b.old ++ left) u ∙ b.opens) in
       let m_is : m ≡ inside m (suc k) none_loose = nest_is m (suc k) deep.braces in
       let m'_is : nest_behind n us ≡ inside m (suc k) none_loose = nest_same (beside_twins b) n ts us h ∙ m_is in
-      let no_end : ends e (is_mark n.before) (inside m (suc k) none_loose) ts ≡ false = ends_deep e (is_mark n.before) (inside m (suc k) none_loose) ts (off k) in
-      let no_end' : ends e (is_mark n.before) (inside m (suc k) none_loose) us ≡ false = ends_deep e (is_mark n.before) (inside m (suc k) none_loose) us (off k) in
+      let no_end : ends e (is_mark n.before) (inside m (suc k) none_loose) ts ≡ false = not_last e (is_mark n.before) (inside m (suc k) none_loose) ts (off k) in
+      let no_end' : ends e (is_mark n.before) (inside m (suc k) none_loose) us ≡ false = not_last e (is_mark n.before) (inside m (suc k) none_loose) us (off k) in
       when (stops e n ts)
       (λ p. rw (taking_stop e done last o n ts p, taking_stop e done' last' o' n us (stops' ∙ p)) refl)
       (λ p. let first = taking_more e done last o n ts p (ap (λ x. ends e (is_mark n.before) x ts) m_is ∙ no_end) in

@@ -128,18 +128,16 @@ module _ (b : Bodies) (same : SameLoose b) where
       (λ k. inr (record { ended = (eat_local b 59 refl (use_tree ts).1 (use_tree us).1 k.rest).value; deep = k.value.too_deep }))
   flaws_until heads.ExternCrate attrs v ts us h =
       inr (record { ended = (eat_local b 59 refl _ _ (renamed_beside _ _ (named_or_local b (codes "self") refl ts us h).rest)).value; deep = neither })
-  flaws_until heads.Fn attrs v ts us h = inr (record { ended = item_ended _ _ (named_beside ts us h); deep = neither })
   flaws_until heads.Impl attrs v ts us h = inr (record { ended = impl_ended ts us h; deep = neither })
-  flaws_until heads.Trait attrs v ts us h = inr (record { ended = item_ended _ _ (named_beside ts us h); deep = neither })
-  flaws_until heads.Struct attrs v ts us h = inr (record { ended = item_ended _ _ (named_beside ts us h); deep = neither })
-  flaws_until heads.Union attrs v ts us h = inr (record { ended = item_ended _ _ (named_beside ts us h); deep = neither })
-  flaws_until heads.Enum attrs v ts us h = inr (record { ended = item_ended _ _ (named_beside ts us h); deep = neither })
   flaws_until heads.Const attrs v ts us h = inr (record { ended = value_ended _ _ (eat_word_local b (codes "_") refl _ _ (named_beside ts us h)).rest; deep = neither })
   flaws_until heads.Static attrs v ts us h = inr (record { ended = value_ended _ _ (named_beside _ _ (eat_word_local b (codes "mut") refl ts us h).rest); deep = neither })
   flaws_until heads.TypeAlias attrs v ts us h = inr (record { ended = value_ended _ _ (named_beside ts us h); deep = neither })
   flaws_until heads.MacroDef attrs v ts us h = inr (record { ended = macro_ended _ _ (named_beside ts us h); deep = neither })
   flaws_until heads.MacroRules attrs v ts us h = inr (record { ended = call_ended _ _ (named_or_local b (codes "try") refl ts us h).rest; deep = neither })
-  flaws_until _ attrs v ts us h = inr (invocation_ended attrs ts us h)
+  flaws_until heads.ExternBlock attrs v ts us h = inr (invocation_ended attrs ts us h)
+  flaws_until heads.Module attrs v ts us h = inr (invocation_ended attrs ts us h)
+  flaws_until heads.Other attrs v ts us h = inr (invocation_ended attrs ts us h)
+  flaws_until _ attrs v ts us h = inr (record { ended = item_ended _ _ (named_beside ts us h); deep = neither })
 
 -- ---- what is read of both
 

@@ -26,7 +26,7 @@ use Rattle.rust_paths.specs.Visibilities.{visibility}
 use Rattle.rust_metas.specs.Attributes.{is_behind, is_doc, is_attribute, attributes, outer_attributes, inner_attributes}
 use Rattle.rust_leaves.specs.declared.head.Head.{Head}
 use Rattle.rust_leaves.specs.declared.head.Head.TheVariants as heads
-use Rattle.rust_leaves.specs.Heads.{is_modifier, is_modifier_before, behind_modifiers_from, behind_modifiers, head, head_by}
+use Rattle.rust_leaves.specs.Heads.{is_modifier, is_modifier_before, behind_modifiers, head, head_by}
 use Rattle.rust_leaves.specs.Fronts.{FrontRead, front_behind, front}
 use Rattle.rust_leaves.specs.Leaves.{impl_end}
 use Rattle.rust_leaves.specs.Kinds.{implementation, leaf}
@@ -38,6 +38,7 @@ use Rattle.rust_items.proofs.Places.{Span, adds_item, adds_problem_at, adds_use_
 use Rattle.rust_items.proofs.UntilItems.{Rows, found_rows}
 use Rattle.rust_edits.specs.Typing.Laws.{with_body, OpensAt, IsBody, BeginsPlain, IsTyped}
 use Rattle.rust_edits.specs.Typing.Loose.{none_loose, loose_in}
+use Rattle.rust_leaves.proofs.Steps.{modifiers_stop}
 
 -- ` 1 `
 one : List ℕ
@@ -111,10 +112,6 @@ block : List Piece
 block =
     record { kind = kinds.OpenDelim; text = 123 ∷ []; at = 5 } ∷ record { kind = kinds.Literal literals.Int; text = 49 ∷ []; at = 7 }
     ∷ record { kind = kinds.CloseDelim; text = 125 ∷ []; at = 9 } ∷ []
-
-modifiers_stop : (n : ℕ) (ts : Tokens) → is_modifier ts ≡ false → behind_modifiers_from n ts ≡ ts
-modifiers_stop zero ts e = refl
-modifiers_stop (suc n) ts e = rw e refl
 
 has_first : (n : ℕ) (xs ys : List Span) → has_body n xs ≡ true → has_body n (xs ++ ys) ≡ true
 has_first n [] ys e = absurd cc

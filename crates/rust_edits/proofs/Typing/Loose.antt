@@ -36,7 +36,7 @@ use Rattle.rust_edits.proofs.Typing.Unended.{unended_alike}
 
 -- ---- what is loose between the braces
 
-passed_symbol : (k : TokenKind) (b : ℕ) → is_significant_kind k ≡ false → symbol_from k b ≡ 0
+pub passed_symbol : (k : TokenKind) (b : ℕ) → is_significant_kind k ≡ false → symbol_from k b ≡ 0
 passed_symbol kinds.OpenDelim b e = absurd cc
 passed_symbol kinds.CloseDelim b e = absurd cc
 passed_symbol kinds.Punct b e = absurd cc

@@ -56,7 +56,7 @@ has_join : (at : ℕ) (xs ys : List Span) → has_body at (xs ++ ys) ≡ (has_bo
 has_join at [] ys = refl
 has_join at (x ∷ xs) ys = when (begins_at at x.body) (λ e. rw e refl) (λ e. rw e (has_join at xs ys))
 
-or_none : (t : Bool) → (t || false) ≡ t
+pub or_none : (t : Bool) → (t || false) ≡ t
 or_none true = refl
 or_none false = refl
 

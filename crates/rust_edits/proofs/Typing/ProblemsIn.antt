@@ -114,19 +114,10 @@ LeafIn end (Some l) = MaybeIn end l.too_deep
 leaf_by_in : (end : ℕ) (k : Head) (attrs : List MetaView) (v : Option Visibility) (ts : Tokens) → IsLaid end ts → LeafIn end (leaf_by k attrs v ts).0
 unfolding function union_item enumeration trait_item macro_def type_alias static_value constant structure implementation crate_item use_declaration macro_definition invocation
 leaf_by_in end heads.Use attrs v ts l = tree_in end ts l
-leaf_by_in end heads.ExternCrate attrs v ts l = tt
-leaf_by_in end heads.Fn attrs v ts l = tt
-leaf_by_in end heads.Impl attrs v ts l = tt
-leaf_by_in end heads.Trait attrs v ts l = tt
-leaf_by_in end heads.Struct attrs v ts l = tt
-leaf_by_in end heads.Union attrs v ts l = tt
-leaf_by_in end heads.Enum attrs v ts l = tt
-leaf_by_in end heads.Const attrs v ts l = tt
-leaf_by_in end heads.Static attrs v ts l = tt
-leaf_by_in end heads.TypeAlias attrs v ts l = tt
-leaf_by_in end heads.MacroDef attrs v ts l = tt
-leaf_by_in end heads.MacroRules attrs v ts l = tt
-leaf_by_in end _ attrs v ts l = when (is_some (path ts).0 && is_called (path ts).1) (λ e. rw e tt) (λ e. rw e tt)
+leaf_by_in end heads.ExternBlock attrs v ts l = when (is_some (path ts).0 && is_called (path ts).1) (λ e. rw e tt) (λ e. rw e tt)
+leaf_by_in end heads.Module attrs v ts l = when (is_some (path ts).0 && is_called (path ts).1) (λ e. rw e tt) (λ e. rw e tt)
+leaf_by_in end heads.Other attrs v ts l = when (is_some (path ts).0 && is_called (path ts).1) (λ e. rw e tt) (λ e. rw e tt)
+leaf_by_in end _ attrs v ts l = tt
 
 leaf_in : (end : ℕ) (h : FrontRead) (ts : Tokens) → IsLaid end ts → LeafIn end (leaf h ts).0
 unfolding leaf

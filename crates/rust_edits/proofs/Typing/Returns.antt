@@ -4,19 +4,13 @@ use Rattle.std.specs.Prelude.{nat_le, nat_lt, slice_index}
 use Rattle.std.proofs.lemmas.Bool.Decides.{nat_tests}
 use Rattle.rust_cursor.proofs.Leads.{when}
 use Rattle.rust_items.specs.LineEnds.{is_return, with_feeds, returns_from, place_in}
-use Rattle.std.proofs.lemmas.Bool.{and_parts}
+use Rattle.std.proofs.lemmas.Bool.{and_parts, le-leb, lt-ltb}
 use Rattle.rust_items.proofs.LineEnds.{returns_count, prefix_short, below_none, before}
 use Rattle.rust_edits.specs.Typing.Laws.{with_body}
 use Rattle.rust_edits.specs.Typing.Moved.{shifted_by, close_at}
 
-pub is_le : (m n : ℕ) → m ≤ n → nat_le m n ≡ true
-is_le m n h = grind (arith, nat_tests)
-
 pub not_le : (m n : ℕ) → n < m → nat_le m n ≡ false
 not_le m n h = grind (arith, nat_tests)
-
-is_lt : (m n : ℕ) → m < n → nat_lt m n ≡ true
-is_lt m n h = grind (arith, nat_tests)
 
 lt_by : (m n d : ℕ) → nat_lt (m + d) (n + d) ≡ nat_lt m n
 lt_by m n d = grind (arith, nat_tests)
@@ -49,7 +43,7 @@ module _ (c : ℕ) (other : (c == 10) ≡ false) (bare : (c == 13) ≡ false) wh
   before_high n at (b ∷ z) y l =
       when (is_return b z)
       (λ e. let k : at + length (with_feeds z) < n = rw e at l in
-      let here : nat_lt at n ≡ true = is_lt at n (omega arith) in
+      let here : nat_lt at n ≡ true = lt-ltb at n (omega arith) in
       let rest = before_high n at z y k in
       rw (return_same b z y, e, here) (omega (arith, rest)))
       (λ e. let k : at + length (b ∷ with_feeds z) < n = rw e at l in
@@ -77,7 +71,7 @@ feeds_length q m s = ap length (feeds_body q m s) ∙ body_length (with_feeds q)
 
 place_is : (text : List ℕ) (n : ℕ) → n ≤ length (with_feeds text) → place_in text n ≡ n + before n 0 text
 unfolding place_in
-place_is text n l = rw (is_le n (length (with_feeds text)) l) refl
+place_is text n l = rw (le-leb n (length (with_feeds text)) l) refl
 
 -- where a place in front of the braces is
 place_low : (q m s : List ℕ) (n : ℕ) → n ≤ length (with_feeds q) → place_in (with_body q m s) n ≡ n + before n 0 q
@@ -107,7 +101,7 @@ place_stays q m m' s n l =
     let few = prefix_short (λ i. nat_lt i n) (returns_from 0 q) in
     let all = returns_count 0 q in
     let k = n + before n 0 q in
-    let here : nat_le k (length q) ≡ true = is_le k (length q) (omega arith) in
+    let here : nat_le k (length q) ≡ true = le-leb k (length q) (omega arith) in
     rw (place_low q m s n l, place_low q m' s n l, here) refl
 
 -- and one behind the braces moves
@@ -130,7 +124,7 @@ before_all at [] = refl
 before_all at (b ∷ z) =
     when (is_return b z)
     (λ e. let some = some_feed z (and_parts (b == 13) (slice_index z 0 == 10) e).1 in
-    let here : nat_lt at (at + length (with_feeds z)) ≡ true = is_lt at (at + length (with_feeds z)) (omega arith) in
+    let here : nat_lt at (at + length (with_feeds z)) ≡ true = lt-ltb at (at + length (with_feeds z)) (omega arith) in
     let rest = before_all at z in
     rw (e, here) (omega (arith, rest)))
     (λ e. let next : at + length (b ∷ with_feeds z) ≡ suc at + length (with_feeds z) = omega arith in

@@ -24,7 +24,7 @@ use Rattle.rust_edits.proofs.Typing.Texts.{bodies, bodies_at, IsMoved, are_moved
 
 -- ---- what was found
 
-items_are : (edition : EditionYear) (x : List ℕ) → items_in edition x ≡ items_from (read_of edition x).0
+pub items_are : (edition : EditionYear) (x : List ℕ) → items_in edition x ≡ items_from (read_of edition x).0
 unfolding items_in
 items_are edition x = refl
 

@@ -21,19 +21,17 @@ use Rattle.rust_edits.proofs.Typing.Texts.{IsMoved}
 -- ---- what may stand in front of a text
 
 mark_same : (q y y' : List ℕ) → has_mark (q ++ 123 ∷ y') ≡ has_mark (q ++ 123 ∷ y)
-mark_same [] y y' = refl
 mark_same (a ∷ []) y y' = when (a == 239) (λ e. rw e refl) (λ e. rw e refl)
 mark_same (a ∷ b ∷ []) y y' = when (a == 239 && b == 187) (λ e. rw e refl) (λ e. rw e refl)
-mark_same (a ∷ b ∷ c ∷ q) y y' = refl
+mark_same _ y y' = refl
 
 bracket_same : (x l l' : List Piece) (at : ℕ) → is_bracket_next (x ++ open_at at ∷ l') ≡ is_bracket_next (x ++ open_at at ∷ l)
 bracket_same [] l l' at = refl
 bracket_same (t ∷ x) l l' at = when (is_blank t.kind) (λ e. rw e (bracket_same x l l' at)) (λ e. rw e refl)
 
 shebang_same : (x l l' : List Piece) (at : ℕ) → is_shebang (x ++ open_at at ∷ l') ≡ is_shebang (x ++ open_at at ∷ l)
-shebang_same [] l l' at = refl
-shebang_same (t ∷ []) l l' at = refl
 shebang_same (t ∷ u ∷ x) l l' at = ap (λ r. symbol_of t == 35 && (symbol_of u == 33 && not r)) (bracket_same x l l' at)
+shebang_same _ l l' at = refl
 
 fence_same : (q y y' : List ℕ) → is_fence (q ++ 123 ∷ y') ≡ is_fence (q ++ 123 ∷ y)
 fence_same [] y y' = refl
@@ -51,7 +49,7 @@ fence_same (b ∷ c ∷ d ∷ q) y y' =
 
 -- ---- the last token
 
-last_append : (last : Option ℕ) (xs ys : List Piece) → last_unended last (xs ++ ys) ≡ last_unended (last_unended last xs) ys
+pub last_append : (last : Option ℕ) (xs ys : List Piece) → last_unended last (xs ++ ys) ≡ last_unended (last_unended last xs) ys
 last_append last [] ys = refl
 last_append last (x ∷ xs) ys = last_append (place_if_open x) xs ys
 
@@ -88,12 +86,11 @@ module _ (at low by by_new : ℕ) where
 
   last_alike : (left here : ℕ) (z : List ℕ) (o o' : Option ℕ) → low ≤ here + left → IsAlike (Moves at low by by_new) o o'
       → IsAlike (Moves at low by by_new) (last_unended o (map (moved by) (tokens_from left here z))) (last_unended o' (map (moved by_new) (tokens_from left here z)))
-  last_alike zero here [] o o' l h = h
-  last_alike (suc left) here [] o o' l h = h
   last_alike (suc left) here (b ∷ z) o o' l h = last_alike left (suc here) z o o' (omega arith) h
   last_alike zero here (b ∷ z) o o' l h =
       let t = piece (first_cut b z) here b z in
       last_alike (whole (first_cut b z) z) (suc here) z (place_if_open (moved by t)) (place_if_open (moved by_new t)) (omega arith) (place_alike t (omega arith))
+  last_alike _ here [] o o' l h = h
 
 take_le : (n : ℕ) (l : List ℕ) → length (take n l) ≤ n
 take_le zero l = omega arith
