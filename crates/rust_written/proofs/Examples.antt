@@ -6,6 +6,7 @@ use Rattle.hir_input.specs.declared.ast.Visibility.TheVariants.{Pub, PubCrate}
 use Rattle.hir_input.specs.declared.ids.AstIdKind.TheVariants as kind
 use Rattle.hir_input.specs.Syntax.{NamedView, fn_kind, enum_kind, no_fields, no_items, item_and, plain_item, const_item, struct_item, bare_module, listed_module, items_from}
 use Rattle.rust_cursor.specs.Elements.{most}
+use Rattle.rust_cursor.specs.Words as cursor
 use Rattle.rust_written.specs.Trees.{word, mark, joined_mark, Tree, single, group, Trees, no_trees, tree_and, round, curly, AreTrees, GoesOn, GoesOnType}
 use Rattle.rust_written.specs.Impls.{ImplHeader}
 use Rattle.rust_written.specs.Written.{Scope, Front, unwritten, everywhere, in_crate, functions, enums, constants, Items, blocked, valued, structure, unit_shape, tuple_shape, implemented, file_module, module_of, used, no_more, also, views, row, rows, IsNamed, IsPlainBlock, AreItems}
@@ -19,6 +20,7 @@ use Rattle.hir_input.specs.UseTreeView.{UseTreeView, bare_tree, listed_tree, tre
 use Rattle.rust_written.specs.UseTrees.{named, self_segment, crate_segment, as_name, as_nothing, UseTrees, path_tree, star_tree, list_tree, no_uses, use_and, IsPlainName}
 use Rattle.rust_written.specs.Spelled.{text_of}
 use Rattle.rust_cursor.specs.Nests.{leads_on}
+use Rattle.rust_cursor.specs.Extents.{begins_item, begins_within}
 use Rattle.rust_leaves.specs.Heads.{follows_unsafe}
 use Rattle.rust_paths.specs.Names.{plain_name, is_keyword, is_path_keyword}
 use Rattle.rust_leaves.specs.Texts.{bare}
@@ -78,7 +80,7 @@ unfolding plain_name is_keyword is_path_keyword bare
 function_named = record { plain = refl; name = refl; bare = refl }
 
 function_well : (body : Trees) → AreTrees body → IsPlainBlock body → AreItems 128 (function body)
-unfolding leads_on
+unfolding leads_on begins_item begins_within cursor.symbol cursor.word cursor.kind cursor.bumped cursor.at cursor.is_at_identifier cursor.is_at_end cursor.is_at_doc cursor.is_glued
 function_well body b first = (
   (
     function_named,
@@ -133,7 +135,7 @@ outer_rows : rows 0 outer
 outer_rows = refl
 
 outer_well : AreItems 128 outer
-unfolding plain_name is_keyword is_path_keyword bare leads_on
+unfolding plain_name is_keyword is_path_keyword bare leads_on begins_item begins_within cursor.symbol cursor.word cursor.kind cursor.bumped cursor.at cursor.is_at_identifier cursor.is_at_end cursor.is_at_doc cursor.is_glued
 outer_well =
     let unit : IsNamed (codes "Unit") = record { plain = refl; name = refl; bare = refl } in
     let choice : IsNamed (codes "Kind") = record { plain = refl; name = refl; bare = refl } in
@@ -162,7 +164,7 @@ pair_read : items_from (views pair) ≡ item_and (struct_item (seen (codes "Pair
 pair_read = refl
 
 pair_well : AreItems 128 pair
-unfolding plain_name is_keyword is_path_keyword bare leads_on
+unfolding plain_name is_keyword is_path_keyword bare leads_on begins_item begins_within cursor.symbol cursor.word cursor.kind cursor.bumped cursor.at cursor.is_at_identifier cursor.is_at_end cursor.is_at_doc cursor.is_glued
 pair_well =
     let named : IsNamed (codes "Pair") = record { plain = refl; name = refl; bare = refl } in
     let one : GoesOnType (trees (name (codes "T") ∷ [])) (mark 44) = (refl, refl, refl, refl, refl) in
@@ -210,7 +212,7 @@ implements_read : items_from (views implements)
 implements_read = refl
 
 implements_well : AreItems 128 implements
-unfolding leads_on follows_unsafe
+unfolding leads_on follows_unsafe begins_item begins_within cursor.symbol cursor.word cursor.kind cursor.bumped cursor.at cursor.is_at_identifier cursor.is_at_end cursor.is_at_doc cursor.is_glued
 implements_well = (
   (
     (plain, (plain, (plain, (plain, (plain, (plain, (plain, (plain, (plain, (plain, (plain, (plain, (plain, tt))))))))))))),

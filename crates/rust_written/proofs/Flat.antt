@@ -1,5 +1,5 @@
 -- What stands in no bracket.
-use Rattle.std.proofs.Common.{◌≡◌, ℕ, ◌+◌, ◌-◌, ◌==◌, ◌&&◌, Bool, true, false, [], codes, refl, ap, ◌∙◌}
+use Rattle.std.proofs.Common.{◌≡◌, ℕ, ◌+◌, ◌-◌, ◌==◌, ◌&&◌, Bool, true, false, [], codes, refl, ap, ◌∙◌, ◌∷◌}
 use Rattle.std.specs.Prelude.{if◌then◌else◌}
 use Rattle.std.specs.Str.{bytes_eq}
 use Rattle.std.proofs.lemmas.Bool.{or_parts}
@@ -11,7 +11,7 @@ use Rattle.rust_cursor.specs.Nests.{nest_behind}
 use Rattle.rust_cursor.specs.Nests as nests
 use Rattle.rust_cursor.specs.Extents as extents
 use Rattle.rust_written.specs.Words.{Word}
-use Rattle.rust_written.specs.Trees.{mark, Bracket, round, open_of, single, IsTree, is_joined, is_free}
+use Rattle.rust_written.specs.Trees.{mark, Bracket, round, open_of, single, IsTree, is_free}
 use Rattle.rust_written.specs.Trees as trees
 use Rattle.rust_written.proofs.Begins.{Shows}
 use Rattle.rust_written.proofs.Same.{glued_same, arrow_same, before_same, begins_same}
@@ -27,7 +27,7 @@ angle_same false more dash loose touch join x y z u e f = arrow_same more dash l
 angles_same : (before : Before) (a : ℕ) (w : Word) (ts : Tokens) → Shows w ts → trees.IsClear before w → nests.angles_behind (nest 0 0 0 0 a before) ts ≡ trees.angles_behind before a w
 angles_same before a w ts s c =
     rw s.symbol_is
-    (angle_same (trees.symbol_of w == 60) (trees.symbol_of w == 62) (nests.is_dash before) (is_free w.link) (is_glued ts) (is_joined w.link) a (a - 1) a (a + 1) c (glued_same w ts s))
+    (angle_same (trees.symbol_of w == 60) (trees.symbol_of w == 62) (nests.is_dash before) (is_free w.link) (is_glued ts) (is_glued (trees.as_tokens (w ∷ []))) a (a - 1) a (a + 1) c (glued_same w ts s))
 
 -- where what stands behind it is
 pub flat_word : (a : ℕ) (before : Before) (w : Word) (ts : Tokens) → IsTree (single w) → Shows w ts → trees.IsClear before w

@@ -13,7 +13,7 @@ use Rattle.rust_cursor.specs.Tokens.{Tokens}
 use Rattle.rust_cursor.specs.Words.{at, word, bumped, documents}
 use Rattle.rust_cursor.specs.Elements.{turns, one, most}
 use Rattle.rust_cursor.proofs.Turns.{turns_stop}
-use Rattle.rust_cursor.specs.Extents.{is_item_word}
+use Rattle.rust_cursor.specs.Extents.{is_item_word, begins_item}
 use Rattle.hir_input.specs.declared.edition.EditionYear.TheVariants as year
 use Rattle.rust_paths.proofs.Naming.{name_in}
 use Rattle.rust_paths.specs.Names.{plain_name, is_keyword, is_path_keyword, has_name, placed_name, name, next_name}
@@ -201,6 +201,7 @@ no_item_word w rest e = last (bytes_eq w (codes "pub")) (bytes_eq w (codes "mod"
 
 -- what a value begins with is no item
 no_trait : (t : trees.Trees) → trees.GoesOn true t (trees.mark 59) → bytes_eq (trees.text_of (trees.first_of t (trees.mark 59))) (codes "trait") ≡ false
+unfolding begins_item word
 no_trait (trees.tree_and (trees.single w) t) g = no_item_word (trees.text_of w) _ g.2
 no_trait (trees.tree_and (trees.group trees.round is) t) g = refl
 no_trait _ g = refl

@@ -7,7 +7,7 @@ use Rattle.rust_cursor.specs.declared.cursor.generics.Reach.TheVariants as reach
 use Rattle.rust_cursor.specs.declared.cursor.nest.Before.{Before}
 use Rattle.rust_cursor.specs.declared.cursor.nest.Before.TheVariants as befores
 use Rattle.rust_cursor.specs.Tokens.{Tokens}
-use Rattle.rust_cursor.specs.Words.{symbol, word, is_at_end, bumped}
+use Rattle.rust_cursor.specs.Words.{symbol, word, is_at_end, bumped, is_glued, at, kind, is_at_identifier, is_at_doc}
 use Rattle.rust_cursor.specs.Extents.{begins}
 use Rattle.rust_cursor.specs.Nests.{is_dash, is_mark, nest_behind}
 use Rattle.rust_cursor.specs.Angles.{begins_binder, is_lone_for, is_header_end, is_reached, is_closed, reaching, reached, behind_angles, behind_field, is_trait_impl}
@@ -75,14 +75,15 @@ flat_closed : (before : Before) → is_closed reaches.Angles (nest 0 0 0 0 0 bef
 unfolding is_closed
 flat_closed before = refl
 
+no_angle : (before : Before) → angles_behind before 1 (mark 62) ≡ 0
+unfolding is_glued at
+no_angle before = rw (and_false (is_dash before)) refl
+
 close_behind : (before : Before) (ts : Tokens) → Shows (mark 62) ts → is_dash before ≡ false → reaching reaches.Angles (nest 0 0 0 0 1 before) ts ≡ bumped ts
 close_behind before ts s e =
     let step : nest_behind (nest 0 0 0 0 1 before) ts ≡ nest 0 0 0 0 (angles_behind before 1 (mark 62)) (before_behind before (mark 62)) = flat_word 1 before (mark 62) ts (refl, refl) s (clear_close before e) in
-    let last : nest_behind (nest 0 0 0 0 1 before) ts ≡ nest 0 0 0 0 0 (before_behind before (mark 62)) = step ∙ ap (λ n. nest 0 0 0 0 n (before_behind before (mark 62))) (none before) in
+    let last : nest_behind (nest 0 0 0 0 1 before) ts ≡ nest 0 0 0 0 0 (before_behind before (mark 62)) = step ∙ ap (λ n. nest 0 0 0 0 n (before_behind before (mark 62))) (no_angle before) in
     reaching_end reaches.Angles (nest 0 0 0 0 1 before) ts (close_reached before ts s) (ap (λ k. is_closed reaches.Angles k) last ∙ flat_closed (before_behind before (mark 62)))
-  where
-    none : (before : Before) → angles_behind before 1 (mark 62) ≡ 0
-    none before = rw (and_false (is_dash before)) refl
 
 -- what stands between `<` and `>`
 abbrev pub enclosed : Trees → List Word
@@ -95,6 +96,10 @@ one_open : (before : Before) → is_closed reaches.Angles (nest 0 0 0 0 1 before
 unfolding is_closed
 one_open before = refl
 
+behind_less : before_behind befores.Other (mark 60) ≡ befores.Other
+unfolding symbol kind is_at_identifier is_at_end is_at_doc
+behind_less = refl
+
 pub generics_passed : (g : Trees) (ts : Tokens) → AreTrees g → AreGenerics g → Begins (enclosed g) ts → behind_angles ts ≡ behind (enclosed g) ts
 unfolding behind_angles reached
 generics_passed g ts h is b =
@@ -106,7 +111,7 @@ generics_passed g ts h is b =
     passes_word reaches.Angles (nest 0 0 0 0 0 befores.Other) (nest 0 0 0 0 1 befores.Other) (mark 60) ts
     (flat_reached reaches.Angles 0 befores.Other ts b.0.some
     (angles_bar (symbol ts == 125) (is_at_end ts) (begins (nest 0 0 0 0 0 befores.Other) ts) (symbol ts == 59) (rw b.0.symbol_is refl) b.0.end_is (mark_begins 0 befores.Other (mark 60) ts b.0 refl refl) (rw b.0.symbol_is refl)))
-    (flat_word 0 befores.Other (mark 60) ts (refl, refl) b.0 refl) (one_open befores.Other) in
+    (flat_word 0 befores.Other (mark 60) ts (refl, refl) b.0 refl ∙ ap (λ k. nest 0 0 0 0 1 k) behind_less) (one_open befores.Other) in
     let mid = passes_trees g reaches.Angles 1 befores.Other (mark 62) [] us h is.goes b.1 (all_before_angles g befores.Other 1 (mark 62) [] us h is.goes refl is.unclosed b.1) in
     let all : reaching reaches.Angles (nest 0 0 0 0 0 befores.Other) ts ≡ bumped vs =
     first ∙ mid ∙ ap (λ n. reaching reaches.Angles (nest 0 0 0 0 n before) vs) is.closed ∙ close_behind before vs shut is.undashed in

@@ -1,13 +1,17 @@
 -- Token trees: words that stand in no bracket, and brackets with trees in them.
-use Rattle.std.specs.Prelude.{◌≡◌, ℕ, ◌+◌, ◌-◌, ◌==◌, ◌&&◌, ◌||◌, not, Bool, true, false, if◌then◌else◌, Some, List, [], ◌∷◌, ◌++◌, codes, length, slice_index}
+use Rattle.std.specs.Prelude.{◌≡◌, ℕ, ◌+◌, ◌-◌, ◌==◌, ◌&&◌, ◌||◌, Bool, true, false, if◌then◌else◌, None, List, [], ◌∷◌, ◌++◌, codes, length, map, slice_index}
 use Rattle.std.specs.Str.{bytes_eq}
 use Rattle.rust_lexer.specs.declared.kind.TokenKind.TheVariants as kind
 use Rattle.rust_lexer.specs.Symbol.{symbol_from}
 use Rattle.rust_cursor.specs.declared.cursor.nest.Before.{Before}
 use Rattle.rust_cursor.specs.declared.cursor.nest.Before.TheVariants as befores
-use Rattle.rust_cursor.specs.Words.{closes, documents, identifies, word_by}
-use Rattle.rust_cursor.specs.Nests.{leads_on, is_literal_kind, is_dash, is_mark, lets_any, mark_behind, behind_free}
-use Rattle.rust_cursor.specs.Extents.{is_item_word}
+use Rattle.hir_input.specs.declared.edition.EditionYear.TheVariants as year
+use Rattle.rust_lexer.specs.Piece.{Piece}
+use Rattle.rust_cursor.specs.Tokens.{Tokens}
+use Rattle.rust_cursor.specs.Words.{closes, documents, word_by}
+use Rattle.rust_cursor.specs.Nests.{is_dash, is_mark, lets_any, behind_free}
+use Rattle.rust_cursor.specs.Nests as nests
+use Rattle.rust_cursor.specs.Extents as extents
 use Rattle.rust_written.specs.Words.{Link, joined, free, Word}
 
 -- ---- words
@@ -98,31 +102,25 @@ first_of (tree_and t ts) behind = first_of_tree t
 
 -- ---- what a word is for the one behind it
 
-abbrev pub is_joined : Link → Bool
-is_joined joined = true
-is_joined _ = false
+-- where a token so linked may begin behind what ends at 0
+abbrev pub linked_at : Link → ℕ
+linked_at joined = 0
+linked_at _ = 1
 
 abbrev pub is_free : Link → Bool
 is_free free = true
 is_free _ = false
 
--- the `>` of `->` or `=>`
-abbrev pub is_arrow : Before → Word → Bool
-is_arrow before w = is_dash before && is_joined w.link
+-- a word as a token
+abbrev pub as_token : Word → Piece
+as_token w = record { kind = w.kind; text = w.text; at = linked_at w.link }
 
--- a type or a value can end with it
-abbrev pub can_end : Word → Bool
-can_end w = if identifies w.kind then not (leads_on (text_of w)) else is_literal_kind (Some w.kind) || closes w.kind
-
-abbrev pub symbol_before : Before → Word → Before
-symbol_before before w =
-    if symbol_of w == 45 || symbol_of w == 61 then befores.Dash
-    else (if symbol_of w == 33 then mark_behind before
-    else (if symbol_of w == 35 then befores.Hash
-    else (if symbol_of w == 62 then (if is_arrow before w then befores.Other else befores.Angle) else befores.Other)))
+-- Words as all that is left of a text. Nothing asks where those behind the first stand.
+abbrev pub as_tokens : List Word → Tokens
+as_tokens ws = record { past = 0; left = map as_token ws; unended = None; edition = year.E2024 }
 
 abbrev pub before_behind : Before → Word → Before
-before_behind before w = if documents w.kind then before else (if can_end w then befores.End else symbol_before before w)
+before_behind before w = nests.before_behind before (as_tokens (w ∷ []))
 
 -- what a bracket is for the word behind it
 abbrev pub behind_group : Before → Bracket → Before
@@ -137,20 +135,11 @@ IsClear before w = (symbol_of w == 62 && (is_dash before && is_free w.link)) ≡
 
 -- a word that begins an item, by the word behind it
 abbrev pub begins_item : Word → Word → Bool
-begins_item w next =
-    if is_item_word (text_of w) then true
-    else (if bytes_eq (text_of w) (codes "use") then not (symbol_of next == 60)
-    else (if bytes_eq (text_of w) (codes "fn") || (bytes_eq (text_of w) (codes "static") || bytes_eq (text_of w) (codes "type")) then identifies next.kind
-    else (if bytes_eq (text_of w) (codes "macro_rules") then symbol_of next == 33
-    else (if bytes_eq (text_of w) (codes "extern") then bytes_eq (text_of next) (codes "crate") else false))))
+begins_item w next = extents.begins_item (as_tokens (w ∷ next ∷ []))
 
 -- the same in `(` or `[`
 abbrev pub begins_within : Word → Word → Bool
-begins_within w next =
-    if bytes_eq (text_of w) (codes "pub") then false
-    else (if bytes_eq (text_of w) (codes "use") then identifies next.kind
-    else (if bytes_eq (text_of w) (codes "static") then not (bytes_eq (text_of next) (codes "move") || bytes_eq (text_of next) (codes "async")) && begins_item w next
-    else begins_item w next))
+begins_within w next = extents.begins_within (as_tokens (w ∷ next ∷ []))
 
 abbrev pub is_impl_word : List ℕ → Bool
 is_impl_word w = bytes_eq w (codes "impl") || (bytes_eq w (codes "unsafe") || bytes_eq w (codes "const"))
@@ -202,7 +191,7 @@ GoesOnType ts behind = GoesBehind false befores.Other ts behind
 
 -- how many are open behind a word; the `>` of `->` and `=>` closes none
 abbrev pub angles_behind : Before → ℕ → Word → ℕ
-angles_behind before n w = if symbol_of w == 60 then n + 1 else (if symbol_of w == 62 then (if is_arrow before w then n else n - 1) else n)
+angles_behind before n w = if symbol_of w == 60 then n + 1 else (if symbol_of w == 62 then (if nests.is_arrow before (as_tokens (w ∷ [])) then n else n - 1) else n)
 
 -- how many are open behind trees
 abbrev pub angles_behind_all : Before → ℕ → Trees → ℕ
