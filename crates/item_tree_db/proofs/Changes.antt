@@ -23,7 +23,7 @@ use Rattle.item_tree_db.specs.Since.{Change, change_cmp, IsLate, IsSince, IsSinc
 use Rattle.item_tree_db.specs.Inner.Shelf.{Shelved, Places, placed_at, IsInOrder}
 use Rattle.item_tree_db.specs.State.{Held, State, crate_limit, change_number}
 use Rattle.item_tree_db.specs.Inner.Table.{Table, held_of, state_of, IsSound}
-use Rattle.item_tree_db.specs.Inner.Walk.{HasFewRows, Walk, all_changes, changes_from, late, over, over_all, rows_in}
+use Rattle.item_tree_db.specs.Inner.Walk.{HasFewRows, HasNumber, IsLateWalk, Walk, all_changes, changes_from, late, over, over_all, rows_in}
 use Rattle.item_tree_db.proofs.Places.{IsBelow, equal_of, equal_cmp}
 use Rattle.item_tree_db.proofs.Steps.{found}
 
@@ -72,10 +72,6 @@ tells k i (r ∷ rows) (suc j) n h =
     (subst (λ (m : ℕ). Contains (changes_from k (i + 1) rows) (k, record { 0 = m }, n)) here (tells k (i + 1) rows j n h))
 
 -- ---- places
-
--- of what a place has, crate i has this number
-abbrev HasNumber : Option Shelved → ℕ → ℕ → Type 0
-HasNumber o i n = slice_get (map (λ (row : Row). row.changed) (rows_in o)) i ≡ Some n
 
 -- changes of one place are in the order of their crates
 behind : (d e : Change) → d.0 ≡ e.0 → d.1.0 < e.1.0 → change_cmp d e ≡ Less
@@ -151,6 +147,15 @@ key_of (e ∷ l) k i n h = elim (is_at (place_cmp k) e.0) as (λ b. is_at (place
   | false ↦ λ t g. Contains-append_right (e.0 ∷ []) (keys_of l) k (key_of l k i n g)
 ] refl h
 
+-- a walk over all places meets each that has a number
+pub walks_over_all : (l : Places) (above : ℕ) → IsInOrder l → IsLateWalk above l (late above (all_changes (over_all l)))
+walks_over_all l above s = record {
+  met = keys_of l;
+  in_order = s;
+  whole = λ place i n p h. key_of l place i n h;
+  walked = ap (λ (w : Walk). late above (all_changes w)) (over_keys l s);
+}
+
 -- ---- against what callers see
 
 above_both : (n start c : ℕ) → nat_lt (max n start) c ≡ true → (n < c) × (start < c)
@@ -225,9 +230,10 @@ module _ (t : Table) (sound : IsSound t) (n : ℕ) where
     pub among_is : IsStrictlySortedBy place_cmp places → IsSinceAmong (state_of t) n places (late (max n t.start) (all_changes (over t.places places)))
     among_is s = subst (λ (cs : List Change). IsSinceAmong (state_of t) n places (filter passes cs)) (sym (over_is t.places places)) (among s)
 
-  pub since_is : IsInOrder t.places → IsSince (state_of t) n (late (max n t.start) (all_changes (over_all t.places)))
-  since_is s = since_among (state_of t) n (keys_of t.places) _ (λ c h. key_of t.places c.0 c.1.0 c.2 (row_late c h))
-      (subst (λ (w : Walk). IsSinceAmong (state_of t) n (keys_of t.places) (filter passes (all_changes w))) (sym (over_keys t.places s)) (among_is (keys_of t.places) s))
+  pub since_is : (changes : List Change) → IsLateWalk (max n t.start) t.places changes → IsSince (state_of t) n changes
+  since_is changes w = since_among (state_of t) n w.met changes
+      (λ c h. w.whole c.0 c.1.0 c.2 (let p = h.above in let q = h.above_start in omega arith) (row_late c h))
+      (subst (IsSinceAmong (state_of t) n w.met) (sym w.walked) (among_is w.met w.in_order))
 
 pub few_rows : (t : Table) → IsSound t → length t.crates ≤ crate_limit → HasFewRows t.places
 few_rows t sound few place = IfSome_then (placed_at t.places place) (sound.rows place) (λ placed many. omega (arith, many, few))

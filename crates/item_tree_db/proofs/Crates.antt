@@ -17,7 +17,7 @@ use Rattle.item_tree_db.specs.State.{given}
 
 -- ---- one crate after another
 
-drop_at : {A : Type 0} (xs : List A) (i : ℕ) (x : A) → x ≡ get_or xs i x → i < length xs → drop i xs ≡ x ∷ drop (i + 1) xs
+pub drop_at : {A : Type 0} (xs : List A) (i : ℕ) (x : A) → x ≡ get_or xs i x → i < length xs → drop i xs ≡ x ∷ drop (i + 1) xs
 drop_at {A} xs i x e h = drop_more xs i x h ∙ ap (λ (z : A). z ∷ drop (i + 1) xs) (sym e)
 
 -- what is done, one more that is made of x, and what is left

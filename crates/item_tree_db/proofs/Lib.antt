@@ -5,4 +5,5 @@ pub mod Histories
 pub mod Steps
 pub mod Runs
 pub mod Changes
+pub mod Noted
 pub mod BodyTexts

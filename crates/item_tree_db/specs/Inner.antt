@@ -2,6 +2,7 @@
 pub mod Source
 pub mod Settled
 pub mod Shelf
+pub mod Recent
 pub mod Sizes
 pub mod Walk
 pub mod Table

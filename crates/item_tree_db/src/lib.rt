@@ -4,6 +4,7 @@
 mod edit;
 mod laws;
 mod place;
+mod recent;
 mod rows;
 mod shelf;
 mod since;

@@ -3,6 +3,7 @@ ghost use Rattle.std.specs.Prelude.{◌≡◌, IfErr, IfOk, OnOk, length, map, S
 ghost use Rattle.item_tree.specs.CrateView.{crate_view};
 ghost use Rattle.item_tree_db.specs.Refusal.{TreeFits, TreePasses, UnlessMemory};
 ghost use Rattle.item_tree_db.specs.Inner.Sizes.{CratesFit, CratesPass};
+ghost use Rattle.item_tree_db.specs.Inner.Recent.{newest};
 ghost use Rattle.item_tree_db.specs.Inner.Settled.{settled, settled_row, empty_row, cleared, fresh_row, brought};
 ghost use Rattle.item_tree_db.specs.Inner.Source.{source_place, source_syntax};
 ghost use Rattle.item_tree_db.specs.State.{is_root_of, kept_at};
@@ -19,6 +20,17 @@ use std::mem;
 pub struct Row {
     pub tree: ItemTree,
     pub changed: u64,
+}
+
+/// The greatest change number of rows.
+pub fn newest(rows: &[Row]) -> u64
+    ensures { result ≡ newest rows.now }
+{
+    let mut greatest = 0;
+    for row in rows {
+        greatest = greatest.max(row.changed);
+    }
+    greatest
 }
 
 /// Takes the new tree, with the number, unless it is equal to the old one.

@@ -10,11 +10,13 @@ ghost use Rattle.item_tree_db.specs.Refusal.{UnlessMemory};
 ghost use Rattle.item_tree_db.specs.Inner.Source.{source_place};
 ghost use Rattle.item_tree_db.specs.State.{crate_limit};
 ghost use Rattle.item_tree_db.specs.PlaceOrder.{place_cmp};
-ghost use Rattle.item_tree_db.specs.Inner.Walk.{HasFewRows, all_changes, late, over, over_all, rows_in};
+ghost use Rattle.item_tree_db.specs.Inner.Recent.{newest};
+ghost use Rattle.item_tree_db.specs.Inner.Walk.{HasFewRows, IsLateWalk, all_changes, late, over, rows_in};
 
 use crate::place::Place;
-use crate::rows::{Row, clear, lower_row, settle, settle_first, settle_row};
-use crate::since::{ChangedSince, Chosen, Slots};
+use crate::recent::Recent;
+use crate::rows::{Row, clear, lower_row, newest, settle, settle_first, settle_row};
+use crate::since::{ChangedSince, Chosen, Found, Slots};
 use crate::source::Source;
 use hir_input::Name;
 use item_tree::{CrateData, LowerError};
@@ -68,6 +70,12 @@ impl Entry {
         &self.rows
     }
 
+    fn newest(&self) -> u64
+        ensures { result ≡ newest self.now.rows }
+    {
+        newest(&self.rows)
+    }
+
     fn set(&mut self, source: Source, fresh: Vec<Row>, number: u64)
         requires { length fresh.items ≡ length self.old.rows }
         ensures { self.new ≡ record {
@@ -102,21 +110,25 @@ impl Entry {
     }
 }
 
-/// Entries by place.
+/// Entries by place, and which of them changed lately.
 #[derive(Drop)]
 pub struct Shelf {
     entries: BTreeMap<Place, Entry>,
+    recent: Recent,
 }
 
 impl Model for Shelf {
     ghost use Rattle.item_tree_db.specs.Inner.Shelf.{Places};
     ghost use Rattle.item_tree_db.specs.Inner.Codes.{places_code};
+    ghost use Rattle.item_tree_db.specs.Inner.Recent.{AreNoted};
 
     ghost Value = { Places };
 
     ghost coded = { places_code };
 
     ghost view = { λ a. a.entries.entries };
+
+    ghost invariant = { λ a. AreNoted a.recent a.entries.entries };
 }
 
 impl Shelf {
@@ -125,6 +137,7 @@ impl Shelf {
     {
         Shelf {
             entries: BTreeMap::new(alloc),
+            recent: Recent::new(alloc),
         }
     }
 
@@ -178,13 +191,21 @@ impl Shelf {
         let place = source.place();
         match self.entries.get_mut(&place) {
             Some(entry) => {
+                let old = entry.newest();
                 entry.set(source, fresh, number);
+                let new = entry.newest();
+                self.recent.renote(place, old, new);
                 Ok(())
             }
             None => {
                 settle_first(&mut fresh, alloc, start, number);
-                match self.entries.insert(place, Entry::new(source, fresh)) {
-                    Ok(_) => Ok(()),
+                let entry = Entry::new(source, fresh);
+                let new = entry.newest();
+                match self.entries.insert(place, entry) {
+                    Ok(_) => {
+                        self.recent.note(place, new);
+                        Ok(())
+                    }
                     Err(failed) => {
                         let (_, entry) = failed.value;
                         Err(entry.into_source().unwrap())
@@ -200,7 +221,10 @@ impl Shelf {
             self.new }
     {
         if let Some(entry) = self.entries.get_mut(&place) {
+            let old = entry.newest();
             entry.remove(alloc, number);
+            let new = entry.newest();
+            self.recent.renote(place, old, new);
         }
     }
 
@@ -210,7 +234,10 @@ impl Shelf {
             (placed_at self.old place)) self.old self.new }
     {
         if let Some(entry) = self.entries.get_mut(&place) {
+            let old = entry.newest();
             entry.recast(index, fresh, number);
+            let new = entry.newest();
+            self.recent.renote(place, old, new);
         }
     }
 
@@ -247,13 +274,18 @@ impl Shelf {
         Ok(fresh)
     }
 
-    /// The change numbers above a bound.
+    /// The change numbers above a bound. Looks at the places that have one, unless some may be missing.
     pub fn late(&self, above: u64) -> ChangedSince<'_>
         requires { HasFewRows self.now }
-        ensures value { result ≡ late above (all_changes (over_all self.now)) }
-        ensures in_order { IsInOrder self.now }
+        ensures { IsLateWalk above self.now result }
     {
-        ChangedSince::new(Slots::All(self.entries.iter()), above)
+        match self.recent.above(above) {
+            Some(places) => {
+                let found = Found::new(places.into_iter(), self);
+                ChangedSince::new(Slots::Recent(found), above)
+            }
+            None => ChangedSince::new(Slots::All(self.entries.iter()), above),
+        }
     }
 
     /// Those of some places.

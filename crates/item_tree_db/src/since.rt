@@ -34,11 +34,40 @@ impl<'a> Chosen<'a> {
     }
 }
 
+/// Places of a shelf that were found, each looked up in its turn.
+#[derive(Drop)]
+pub(crate) struct Found<'a> {
+    places: btree_set::IntoIter<Place>,
+    shelf: &'a Shelf,
+}
+
+impl<'a> Found<'a> {
+    ghost use Rattle.std.specs.Prelude.{◌≡◌};
+    ghost use Rattle.std.specs.Map.Iter.{TakesFirst};
+    ghost use Rattle.item_tree_db.specs.Inner.Walk.{found_walk, over};
+
+    pub(crate) fn new(places: btree_set::IntoIter<Place>, shelf: &'a Shelf) -> Self
+        ensures { found_walk result ≡ over shelf.now places }
+    {
+        Found { places, shelf }
+    }
+
+    // The next place, with its rows.
+    fn step(&mut self) -> Option<(Place, &'a [Row])>
+        ensures { TakesFirst (λ slot. (slot.0, slot.1.now)) (found_walk self.old) result
+            (found_walk self.new) }
+    {
+        let place = self.places.next()?;
+        Some((place, self.shelf.rows(place)))
+    }
+}
+
 /// What a walk has left: all places of a shelf, or some.
 #[derive(Drop)]
 pub(crate) enum Slots<'a> {
     All(btree_map::Iter<'a, Place, Entry>),
     Among(Chosen<'a>),
+    Recent(Found<'a>),
 }
 
 impl<'a> Slots<'a> {
@@ -56,6 +85,7 @@ impl<'a> Slots<'a> {
                 Some((*place, entry.rows()))
             }
             Slots::Among(chosen) => chosen.step(),
+            Slots::Recent(found) => found.step(),
         }
     }
 }

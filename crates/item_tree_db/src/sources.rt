@@ -334,7 +334,8 @@ impl Sources {
 
     /// The change numbers above `n` and above `start`, of known crates at all places, in the order of places and
     /// then of crates: what an index that was made at number `n` has to read again. A tree that changed and changed
-    /// back is given too. Takes no memory, and passes over the table once.
+    /// back is given too. Takes memory for the places, and looks at these alone; where memory runs out, or did at an edit
+    /// after `n`, it passes over the table.
     /// A tree that is not given at 0 is empty.
     pub fn changed_since(&self, n: u64) -> ChangedSince<'_>
         ensures since { IsSince self.now n result }

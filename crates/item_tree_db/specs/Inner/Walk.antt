@@ -1,12 +1,15 @@
 -- The change numbers of a shelf, one after another.
-use Rattle.std.specs.Prelude.{ℕ, ◌+◌, ◌≤◌, List, [], ◌∷◌, ◌++◌, drop, filter, length, map, nat_lt, Option, IfSome}
-use Rattle.std.specs.List.{AllByRecursion, flat_map}
+use Rattle.std.specs.Prelude.{◌≡◌, ℕ, ◌+◌, ◌<◌, ◌≤◌, List, [], ◌∷◌, ◌++◌, drop, filter, length, map, nat_lt, Option, Some, IfSome, slice_get}
+use Rattle.std.specs.List.{AllByRecursion, Contains, flat_map}
+use Rattle.std.specs.List.Sorted.{IsStrictlySortedBy}
 use Rattle.std.specs.Option.{option_map_or}
 use Rattle.item_tree_db.specs.declared.place.Place.{Place}
 use Rattle.item_tree_db.specs.declared.rows.Row.{Row}
 use Rattle.item_tree_db.specs.declared.since.Chosen.{Chosen}
+use Rattle.item_tree_db.specs.declared.since.Found.{Found}
 use Rattle.item_tree_db.specs.declared.since.Slots.{Slots}
-use Rattle.item_tree_db.specs.declared.since.Slots.TheVariants.{All, Among}
+use Rattle.item_tree_db.specs.declared.since.Slots.TheVariants.{All, Among, Recent}
+use Rattle.item_tree_db.specs.PlaceOrder.{place_cmp}
 use Rattle.item_tree_db.specs.Since.{Change}
 use Rattle.item_tree_db.specs.Inner.Shelf.{Shelved, Places, placed_at}
 use Rattle.item_tree_db.specs.State.{crate_limit}
@@ -31,10 +34,15 @@ over places = map (λ place. (place, rows_in (placed_at places place)))
 abbrev pub chosen_walk : Chosen → Walk
 chosen_walk chosen = over chosen.shelf.now chosen.places
 
+-- over those that it found
+abbrev pub found_walk : Found → Walk
+found_walk found = over found.shelf.now found.places
+
 -- what the code has left of one
 abbrev pub walk_of : Slots → Walk
 walk_of (All entries) = over_all entries
 walk_of (Among chosen) = chosen_walk chosen
+walk_of (Recent found) = found_walk found
 
 -- of a place, from the crate i on
 abbrev pub changes_from : Place → ℕ → List Row → List Change
@@ -48,6 +56,17 @@ all_changes = flat_map (λ slot. changes_from slot.0 0 slot.1)
 -- those above a bound
 abbrev pub late : ℕ → List Change → List Change
 late above = filter (λ c. nat_lt above c.2)
+
+-- of what a place has, crate i has this number
+abbrev pub HasNumber : Option Shelved → ℕ → ℕ → Type 0
+HasNumber placed i n = slice_get (map (λ row. row.changed) (rows_in placed)) i ≡ Some n
+
+-- those above a bound, by a walk in order over places that hold each that has one
+pub record IsLateWalk (above : ℕ) (places : Places) (changes : List Change) : Type 0 where
+  pub met : List Place
+  pub in_order : IsStrictlySortedBy place_cmp met
+  pub whole : (place : Place) (i n : ℕ) → above < n → HasNumber (placed_at places place) i n → Contains met place
+  pub walked : changes ≡ late above (all_changes (over places met))
 
 -- what is left of a place and the crates from i on, and of the places behind it
 abbrev pub left : ℕ → Place → ℕ → List Row → Walk → List Change

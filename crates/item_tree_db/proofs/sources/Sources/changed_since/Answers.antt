@@ -1,10 +1,10 @@
-use Rattle.std.proofs.Common.{ℕ, ◌≤◌, List, max, subst, ap, sym, ◌∙◌}
+use Rattle.std.proofs.Common.{ℕ, ◌≤◌, subst, sym}
 use Rattle.std.proofs.lemmas.List.{length-map}
 use Rattle.item_tree.specs.CrateView.{crate_view}
-use Rattle.item_tree_db.specs.Since.{Change, IsGrounded, IsSince}
+use Rattle.item_tree_db.specs.Since.{IsGrounded, IsSince}
 use Rattle.item_tree_db.specs.State.{State, crate_limit}
 use Rattle.item_tree_db.specs.Inner.Table.{table_from}
-use Rattle.item_tree_db.specs.Inner.Walk.{all_changes, late, over_all}
+use Rattle.item_tree_db.specs.Inner.Walk.{IsLateWalk}
 use Rattle.item_tree_db.proofs.Changes.{since_is, few_rows}
 use Rattle.item_tree_db.proofs.Steps.{grounded}
 use Rattle.item_tree_db.proofs.sources.Sources.changed_since.Goals as goal
@@ -15,9 +15,9 @@ late-requires c = let i = c.self.inside in few_rows (table_from i.crates.items i
 pub returns-clause-since : goal.returns-clause-since
 returns-clause-since c =
     let i = c.self.inside in
-    let is = c.late.ensures.value ∙ ap (λ (m : ℕ). late m (all_changes (over_all i.places))) c.max.ensures in
-    let since = since_is (table_from i.crates.items i.skipped.items i.start i.number i.places) c.self.invariant.sound c.args.n c.late.ensures.in_order in
-    subst (λ (l : List Change). IsSince c.args.self.now c.args.n l) (sym is) (subst (λ (s : State). IsSince s c.args.n (late (max c.args.n i.start) (all_changes (over_all i.places)))) c.self.view_is since)
+    let walk = subst (λ (m : ℕ). IsLateWalk m i.places c.late.result) c.max.ensures c.late.ensures in
+    let since = since_is (table_from i.crates.items i.skipped.items i.start i.number i.places) c.self.invariant.sound c.args.n c.late.result walk in
+    subst (λ (s : State). IsSince s c.args.n c.late.result) c.self.view_is since
 
 pub returns-clause-grounded : goal.returns-clause-grounded
 returns-clause-grounded c = let i = c.self.inside in subst IsGrounded c.self.view_is (grounded (table_from i.crates.items i.skipped.items i.start i.number i.places) c.self.invariant.sound)

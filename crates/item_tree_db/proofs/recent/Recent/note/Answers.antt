@@ -1,0 +1,5 @@
+use Rattle.item_tree_db.proofs.Noted.{noted_insert}
+use Rattle.item_tree_db.proofs.recent.Recent.note.Goals as goal
+
+pub returns-in-Ok-clause-kept : goal.returns-in-Ok-clause-kept
+returns-in-Ok-clause-kept c = noted_insert c.args.self.now c.insert.new.self (c.args.number, c.args.place) c.in-Ok.ensures.updates
