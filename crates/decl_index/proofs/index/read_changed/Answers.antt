@@ -1,10 +1,15 @@
 use Rattle.std.proofs.Common.{◌++◌, All, List, sym, ap, subst, ◌∙◌, append_assoc}
-use Rattle.std.proofs.lemmas.List.Elements.{All-tail}
+use Rattle.std.proofs.lemmas.List.Elements.{All-head, All-tail}
 use Rattle.item_tree_db.specs.Since.{Change}
 use Rattle.item_tree_db.specs.State.{IsKnown}
 use Rattle.decl_index.specs.declared.entry.Entry.{Entry}
 use Rattle.decl_index.specs.Entries.{entries_at, entries_of}
 use Rattle.decl_index.proofs.index.read_changed.Goals as goal
+
+pub read_tree-requires : goal.read_tree-requires
+read_tree-requires c =
+    let known = λ (d : Change). IsKnown c.args.sources.now d.1 in
+    All-head known (c.in-Some.place, c.in-Some.krate, c.in-Some.field-0-2) c.next.new.self (subst (All known) c.in-Some.ensures.steps c.loop-place.invariant.known)
 
 pub loop-place-preserved : goal.loop-place-preserved
 loop-place-preserved c =
