@@ -31,7 +31,7 @@ pub name_decides : (a b : List ℕ) → Decides (pointwise nat_eq a b) (a ≡ b)
 name_decides = pointwise_decides Decides-eqb
 
 -- references are compared by what they refer to
-pub lent_decide : {T : Type 0} (test : T → T → Bool) → DecidesEq test → (o p : Option (Bor T)) → Decides (option_eq (λ a b. test a.now b.now) o p) (option_copied o ≡ option_copied p)
+lent_decide : {T : Type 0} (test : T → T → Bool) → DecidesEq test → (o p : Option (Bor T)) → Decides (option_eq (λ a b. test a.now b.now) o p) (option_copied o ≡ option_copied p)
 lent_decide test d None None = (λ h. refl, λ e. refl)
 lent_decide test d (Some a) (Some b) = Decides-like _ (ap Some) (λ e. cc) (d a.now b.now)
 lent_decide test d None (Some b) = never (λ e. cc)

@@ -6,7 +6,7 @@ use Rattle.hir_input.specs.declared.ids.FileAstId.{FileAstId}
 use Rattle.item_tree.specs.Node.{Node, leaf, parent, Forest, empty, more, node_ast, Unfolding}
 use Rattle.tree_walk.specs.Preorder.{node_preorder, preorder}
 use Rattle.tree_walk.specs.Rows.{Around, RowView, row, below, node_rows, forest_rows, rows, top}
-use Rattle.item_changes.specs.Changes.{Item, items_behind, items}
+use Rattle.item_changes.specs.Changes.{Item, items}
 use Rattle.item_changes.specs.Own.{own}
 
 abbrev id_of : RowView → FileAstId
@@ -27,19 +27,19 @@ same_ids u = forest_sides (top u) u.forest
 as_many : (u : Unfolding) → length (rows u) ≡ length (map own (preorder u.forest))
 as_many u = sym (length-map (rows u) id_of) ∙ ap length (same_ids u) ∙ length-map (preorder u.forest) node_ast ∙ sym (length-map (preorder u.forest) own)
 
-rows_behind : (before rs : List RowView) (ns : List Node) → length rs ≡ length ns → map (λ (i : Item). i.row) (items_behind before (zip rs ns)) ≡ rs
-rows_behind before [] ns e = refl
-rows_behind before (r ∷ rs) [] e = absurd (omega arith)
-rows_behind before (r ∷ rs) (n ∷ ns) e = ap (λ (xs : List RowView). r ∷ xs) (rows_behind (before ++ r ∷ []) rs ns (omega arith))
+first_sides : {A B : Type 0} (xs : List A) (ys : List B) → length xs ≡ length ys → map (λ p. p.0) (zip xs ys) ≡ xs
+first_sides [] ys e = refl
+first_sides (x ∷ xs) [] e = absurd (omega arith)
+first_sides (x ∷ xs) (y ∷ ys) e = ap (λ zs. x ∷ zs) (first_sides xs ys (omega arith))
 
-owns_behind : (before rs : List RowView) (ns : List Node) → length rs ≡ length ns → map (λ (i : Item). i.own) (items_behind before (zip rs ns)) ≡ ns
-owns_behind before [] [] e = refl
-owns_behind before [] (n ∷ ns) e = absurd (omega arith)
-owns_behind before (r ∷ rs) [] e = absurd (omega arith)
-owns_behind before (r ∷ rs) (n ∷ ns) e = ap (λ (xs : List Node). n ∷ xs) (owns_behind (before ++ r ∷ []) rs ns (omega arith))
+second_sides : {A B : Type 0} (xs : List A) (ys : List B) → length xs ≡ length ys → map (λ p. p.1) (zip xs ys) ≡ ys
+second_sides [] [] e = refl
+second_sides [] (y ∷ ys) e = absurd (omega arith)
+second_sides (x ∷ xs) [] e = absurd (omega arith)
+second_sides (x ∷ xs) (y ∷ ys) e = ap (λ zs. y ∷ zs) (second_sides xs ys (omega arith))
 
-pub all_rows : (u : Unfolding) → map (λ (i : Item). i.row) (items u) ≡ rows u
-all_rows u = rows_behind [] (rows u) (map own (preorder u.forest)) (as_many u)
+pub all_rows : (u : Unfolding) → map (λ (i : Item). i.0) (items u) ≡ rows u
+all_rows u = first_sides (rows u) (map own (preorder u.forest)) (as_many u)
 
-pub all_owns : (u : Unfolding) → map (λ (i : Item). i.own) (items u) ≡ map own (preorder u.forest)
-all_owns u = owns_behind [] (rows u) (map own (preorder u.forest)) (as_many u)
+pub all_owns : (u : Unfolding) → map (λ (i : Item). i.1) (items u) ≡ map own (preorder u.forest)
+all_owns u = second_sides (rows u) (map own (preorder u.forest)) (as_many u)

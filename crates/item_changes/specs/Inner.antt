@@ -1,10 +1,6 @@
 -- For the crate's own functions: items by their ids, and what an item has by its parts.
-use Rattle.std.specs.Prelude.{◌≡◌, ℕ, ◌+◌, Bool, true, false, ◌==◌, ◌&&◌, if◌then◌else◌, List, map, Option, Some, None, option_copied, option_map, unwrap_or}
+use Rattle.std.specs.Prelude.{ℕ, Bool, true, false, List, [], ◌∷◌, map, Option, Some, None, option_copied}
 use Rattle.std.specs.Borrow.{Bor}
-use Rattle.std.specs.HashMap.{get, HashMap}
-use Rattle.std.specs.List.{count_by, find}
-use Rattle.std.specs.declared.hash.BuildHasherDefault.{BuildHasherDefault}
-use Rattle.std.specs.declared.hash.FoldHasher.{FoldHasher}
 use Rattle.hir_input.specs.declared.ids.AstIdKind.{AstIdKind}
 use Rattle.hir_input.specs.declared.ids.AstIdKind.TheVariants as kind
 use Rattle.hir_input.specs.declared.ids.SyntaxContext.{SyntaxContext}
@@ -26,13 +22,12 @@ use Rattle.item_changes.specs.declared.own.Rest as code_rest
 use Rattle.item_changes.specs.declared.own.Rest.TheVariants as code
 use Rattle.item_changes.specs.declared.items.Item as code_item
 use Rattle.item_changes.specs.declared.keys.Key as code_key
-use Rattle.item_changes.specs.declared.finder.Finder as code_finder
-use Rattle.item_changes.specs.contracts.keys.KeyPartialEq.TheImpl as keys
-use Rattle.tree_walk.specs.Rows.{RowView}
-use Rattle.item_changes.specs.Changes.{Item, Key, has_key}
-
-abbrev pub item_view : code_item.Item → Item
-item_view i = record { row = row_view i.row.now; place = i.place; own = i.own }
+use Rattle.tree_walk.specs.declared.rows.Row as code_row
+use Rattle.item_changes.specs.declared.compare.ChangeKind.{ChangeKind}
+use Rattle.item_changes.specs.declared.matching.Keyed.{Keyed}
+use Rattle.item_changes.specs.declared.matching.Match.{Match}
+use Rattle.item_changes.specs.Changes.{ChangeView, Item, ItemKey}
+use Rattle.item_changes.specs.Matches.{match_map}
 
 -- ---- what an item has besides its attributes and visibilities
 
@@ -104,47 +99,20 @@ rest_at u i = of_id u None (λ n. Some (node_rest n)) i
 abbrev pub ctor_at : Unfolding → ℕ → Option (Ctor RawVisibility)
 ctor_at u i = of_id u None node_ctor i
 
--- ---- tables by what items that are alike have in common
+-- ---- items with their keys
 
-abbrev pub key_view : code_key.Key → Key
+abbrev pub item_view : code_item.Item → Item
+item_view i = (row_view i.row.now, i.own)
+
+abbrev pub key_view : code_key.Key → ItemKey
 key_view k = record { kind = k.kind; level = k.level; name = option_copied k.name; scope = map (λ name. name.now) k.scope.now }
 
-abbrev pub same_key : code_key.Key → code_key.Key → Bool
-same_key = keys.ghosts.eq
+abbrev pub keyed_view : Keyed code_key.Key code_item.Item → ItemKey × Item
+keyed_view k = (key_view k.key, item_view k.item)
 
-abbrev pub Counts : Type 0
-Counts = HashMap code_key.Key ℕ (BuildHasherDefault FoldHasher)
+abbrev pub match_view : Match (Bor (Keyed code_key.Key code_item.Item)) → Match Item
+match_view m = match_map (λ k. item_view k.now.item) m
 
-abbrev pub count_of : Counts → code_key.Key → ℕ
-count_of counts k = unwrap_or (get same_key counts k) 0
-
--- one more is counted
-abbrev pub CountsOne : Counts → Counts → code_key.Key → Type 0
-CountsOne old new k = (q : code_key.Key) → count_of new q ≡ count_of old q + (if same_key k q then 1 else 0)
-
--- each key is counted among these rows
-abbrev pub CountsAll : Counts → List RowView → Type 0
-CountsAll counts rows = (q : code_key.Key) → count_of counts q ≡ count_by (has_key (key_view q)) rows
-
-abbrev pub Identity : Type 0
-Identity = code_key.Key × ℕ
-
-abbrev pub same_identity : Identity → Identity → Bool
-same_identity a b = same_key a.0 b.0 && a.1 == b.1
-
-abbrev pub ItemTable : Type 0
-ItemTable = HashMap Identity (Bor code_item.Item) (BuildHasherDefault FoldHasher)
-
-abbrev pub found_in : ItemTable → Identity → Option Item
-found_in table q = option_map (λ i. item_view i.now) (get same_identity table q)
-
--- an item has this key and place
-abbrev pub is_at : Identity → Item → Bool
-is_at q i = has_key (key_view q.0) i.row && q.1 == i.place
-
--- the table finds each of these items
-abbrev pub FindsAll : ItemTable → List code_item.Item → Type 0
-FindsAll table items = (q : Identity) → found_in table q ≡ find (is_at q) (map item_view items)
-
-abbrev pub Finds : code_finder.Finder → Type 0
-Finds finder = FindsAll finder.table finder.items.now
+abbrev pub found_changes : Option (ChangeKind × Bor code_row.Row) → List ChangeView
+found_changes None = []
+found_changes (Some c) = record { kind = c.0; row = row_view c.1.now } ∷ []

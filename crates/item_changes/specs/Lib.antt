@@ -1,4 +1,6 @@
 pub mod Own
+pub mod Matches
 pub mod Changes
+pub mod ChangeWords
 pub mod Views
 pub mod Inner

@@ -1,14 +1,14 @@
 //! Changes of items.
-ghost use Rattle.std.specs.Prelude.{◌≡◌, ◌++◌, ◌∷◌, [], map, option_map, IfOk, OnOk};
+ghost use Rattle.std.specs.Prelude.{◌≡◌, ◌++◌, [], map, IfOk, OnOk};
 ghost use Rattle.std.specs.List.{flat_map};
 ghost use Rattle.tree_walk.specs.Rows as all_rows;
 ghost use Rattle.tree_walk.specs.Views.{row_view};
 ghost use Rattle.item_changes.specs.Changes as spec;
-ghost use Rattle.item_changes.specs.Inner.{Finds, item_view};
+ghost use Rattle.item_changes.specs.Inner.{found_changes, match_view};
 ghost use Rattle.item_changes.specs.Views.{change_view};
 
-use crate::finder::Finder;
-use crate::items::{Item, items};
+use crate::items::{KeyedItem, items};
+use crate::matching::{Match, matched};
 use item_tree::ItemTree;
 use std::alloc::{AllocError, Global};
 use tree_walk::{Row, item_rows};
@@ -39,39 +39,34 @@ impl Drop for Change<'_> {
     }
 }
 
-fn left_as(new: Option<&Item<'_, '_>>) -> Option<ChangeKind>
-    ensures { result ≡ spec.left_as (option_map (λ i. item_view i.now) new.entry) }
+/// What became of an item, and its row; none where both trees keep the same of it.
+fn change_of<'r, 'tree>(
+    found: &Match<&KeyedItem<'r, 'tree>>,
+) -> Option<(ChangeKind, &'r Row<'tree>)>
+    ensures { found_changes result ≡ spec.change_of (match_view found.now) }
 {
-    match new {
-        Some(_) => None,
-        None => Some(ChangeKind::Removed),
-    }
-}
-
-fn came_as(item: &Item<'_, '_>, old: Option<&Item<'_, '_>>) -> Option<ChangeKind>
-    ensures { result ≡ spec.came_as (item_view item.now).own
-        (option_map (λ i. item_view i.now) old.entry) }
-{
-    let Some(old) = old else {
-        return Some(ChangeKind::Added);
-    };
-    if old.own.is_same(&item.own) {
-        None
-    } else {
-        Some(ChangeKind::Changed)
+    match *found {
+        Match::Gone(old) => Some((ChangeKind::Removed, old.item.row)),
+        Match::Came(new) => Some((ChangeKind::Added, new.item.row)),
+        Match::Stays(old, new) => {
+            if old.item.own.is_same(&new.item.own) {
+                None
+            } else {
+                Some((ChangeKind::Changed, new.item.row))
+            }
+        }
     }
 }
 
 fn push_change<'tree>(
     alloc: Global,
-    kind: Option<ChangeKind>,
-    row: &Row<'tree>,
+    change: Option<(ChangeKind, &Row<'tree>)>,
     changes: &mut Vec<Change<'tree>>,
 ) -> Result<(), AllocError>
-    ensures { let change = spec.change_of kind (row_view row.now) in
-        OnOk result (map change_view changes.new.items ≡ map change_view changes.old.items ++ change) }
+    ensures { OnOk result (map change_view changes.new.items
+        ≡ map change_view changes.old.items ++ found_changes change.entry) }
 {
-    let Some(kind) = kind else {
+    let Some((kind, row)) = change else {
         return Ok(());
     };
     let row = Row {
@@ -87,81 +82,18 @@ fn push_change<'tree>(
     Ok(())
 }
 
-fn push_left<'r, 'tree>(
+/// What became of what is the same in two trees, or in one.
+fn changes_of<'tree>(
     alloc: Global,
-    olds: &[Item<'r, 'tree>],
-    news: &Finder<'_, 'r, 'tree>,
-    changes: &mut Vec<Change<'tree>>,
-) -> Result<(), AllocError>
-    requires { Finds news.now }
-    ensures { let left = flat_map (spec.left_change (map item_view news.now.items.now))
-        (map item_view olds.now) in
-        OnOk result (map change_view changes.new.items ≡ map change_view changes.old.items ++ left) }
-{
-    for item in olds {
-        push_change(alloc, left_as(news.find(item)), item.row, changes)?;
-    }
-    Ok(())
-}
-
-fn push_came<'r, 'tree>(
-    alloc: Global,
-    olds: &Finder<'_, 'r, 'tree>,
-    news: &[Item<'r, 'tree>],
-    changes: &mut Vec<Change<'tree>>,
-) -> Result<(), AllocError>
-    requires { Finds olds.now }
-    ensures { let came = flat_map (spec.came_change (map item_view olds.now.items.now))
-        (map item_view news.now) in
-        OnOk result (map change_view changes.new.items ≡ map change_view changes.old.items ++ came) }
-{
-    for item in news {
-        push_change(alloc, came_as(item, olds.find(item)), item.row, changes)?;
-    }
-    Ok(())
-}
-
-/// Adds what is removed.
-fn push_all_left<'r, 'tree>(
-    alloc: Global,
-    olds: &[Item<'r, 'tree>],
-    news: &[Item<'r, 'tree>],
-    changes: &mut Vec<Change<'tree>>,
-) -> Result<(), AllocError>
-    ensures { let left = flat_map (spec.left_change (map item_view news.now))
-        (map item_view olds.now) in
-        OnOk result (map change_view changes.new.items ≡ map change_view changes.old.items ++ left) }
-{
-    let finder = Finder::new(alloc, news)?;
-    push_left(alloc, olds, &finder, changes)
-}
-
-/// Adds what is added or changed.
-fn push_all_came<'r, 'tree>(
-    alloc: Global,
-    olds: &[Item<'r, 'tree>],
-    news: &[Item<'r, 'tree>],
-    changes: &mut Vec<Change<'tree>>,
-) -> Result<(), AllocError>
-    ensures { let came = flat_map (spec.came_change (map item_view olds.now))
-        (map item_view news.now) in
-        OnOk result (map change_view changes.new.items ≡ map change_view changes.old.items ++ came) }
-{
-    let finder = Finder::new(alloc, olds)?;
-    push_came(alloc, &finder, news, changes)
-}
-
-fn changes_between<'r, 'tree>(
-    alloc: Global,
-    olds: &[Item<'r, 'tree>],
-    news: &[Item<'r, 'tree>],
+    found: &[Match<&KeyedItem<'_, 'tree>>],
 ) -> Result<Vec<Change<'tree>>, AllocError>
     ensures { IfOk result (λ v. map change_view v.items
-        ≡ spec.changes_between (map item_view olds.now) (map item_view news.now)) }
+        ≡ flat_map spec.change_of (map match_view found.now)) }
 {
     let mut changes = Vec::new(alloc);
-    push_all_left(alloc, olds, news, &mut changes)?;
-    push_all_came(alloc, olds, news, &mut changes)?;
+    for one in found {
+        push_change(alloc, change_of(one), &mut changes)?;
+    }
     Ok(changes)
 }
 
@@ -179,7 +111,8 @@ fn changes_in<'tree>(
 {
     let olds = items(alloc, old, old_rows)?;
     let news = items(alloc, new, new_rows)?;
-    changes_between(alloc, &olds, &news)
+    let found = matched(alloc, &olds, &news)?;
+    changes_of(alloc, &found)
 }
 
 /// What became of the items of a tree in another: first those that were removed, in the order of the old tree, and then

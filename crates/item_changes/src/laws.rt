@@ -14,8 +14,8 @@ use crate::compare::ChangeKind;
 #[tactic(auto, using(crate::proofs::Sides::same_ids, crate::proofs::Sides::all_rows, crate::proofs::Sides::all_owns))]
 fn sides()
     ensures ids { (u : Unfolding) → map (λ r. r.id) (rows u) ≡ map node_ast (preorder u.forest) }
-    ensures rows { (u : Unfolding) → map (λ i. i.row) (items u) ≡ rows u }
-    ensures owns { (u : Unfolding) → map (λ i. i.own) (items u) ≡ map own (preorder u.forest) }
+    ensures rows { (u : Unfolding) → map (λ i. i.0) (items u) ≡ rows u }
+    ensures owns { (u : Unfolding) → map (λ i. i.1) (items u) ≡ map own (preorder u.forest) }
 {}
 
 // A tree has no changes to itself.

@@ -1,0 +1,9 @@
+use Rattle.std.proofs.Common.{◌≡◌, map, take}
+use Rattle.std.specs.List.{flat_map}
+use Rattle.item_changes.specs.Changes.{change_of}
+use Rattle.item_changes.specs.Inner.{match_view}
+use Rattle.item_changes.specs.Views.{change_view}
+use Rattle.item_changes.proofs.compare.changes_of.Given as goal
+
+abbrev pub invariant-loop-one : goal.invariant-loop-one
+invariant-loop-one l = map change_view l.changes.items ≡ flat_map change_of (map match_view (take l.one-index l.found))
