@@ -6,16 +6,17 @@ use Rattle.rust_items.specs.declared.source_file.ItemPlace.{ItemPlace}
 use Rattle.rust_items.specs.declared.source_file.SourceFile.{SourceFile}
 use Rattle.rust_items.specs.SourceFiles.{IsSourceFile}
 use Rattle.source_rows.specs.Parts.{Part, parts}
+use Rattle.source_rows.specs.Sources.{Source}
 use Rattle.source_changes.specs.declared.Compared.{Compared}
-use Rattle.source_changes.specs.Changes.{AreParts, seen, Source, lines, IsCompared}
+use Rattle.source_changes.specs.Changes.{AreParts, seen_texts, compared_lines, IsCompared}
 
 -- the parts of a text with these items
 pub are_parts : (edition : EditionYear) (text : List ℕ) (file : SourceFile) (items : List ItemPlace) (ps : List Part) → IsSourceFile edition text file → items ≡ file.places.items → ps ≡ parts edition text items → AreParts edition text ps
 are_parts edition text file items ps is same e = (file, is, e ∙ ap (parts edition text) same)
 
 pub compared : (edition : EditionYear) (d : Bool) (old new : Source) (c : Compared) (olds news olds_a news_a olds_b news_b : List Part) → AreParts edition old.text olds → AreParts edition new.text news → olds_a ≡ olds → news_a ≡ news → olds_b ≡ olds → news_b ≡ news
-    → (IsTrue c.is_same ↔ (seen d old.text olds_a ≡ seen d new.text news_a)) → string_bytes c.text ≡ lines c.is_same d old new olds_b news_b → IsCompared edition d old new c
+    → (IsTrue c.is_same ↔ (seen_texts d old.text olds_a ≡ seen_texts d new.text news_a)) → string_bytes c.text ≡ compared_lines c.is_same d old new olds_b news_b → IsCompared edition d old new c
 compared edition d old new c olds news olds_a news_a olds_b news_b a b p q r s same text =
-    let before : seen d old.text olds_a ≡ seen d old.text olds = ap (seen d old.text) p in
-    let after : seen d new.text news_a ≡ seen d new.text news = ap (seen d new.text) q in
-    (olds, news, a, b, ((λ h. sym before ∙ same.0 h ∙ after), (λ h. same.1 (before ∙ h ∙ sym after))), text ∙ (λ k. lines c.is_same d old new (r k) (s k)))
+    let before : seen_texts d old.text olds_a ≡ seen_texts d old.text olds = ap (seen_texts d old.text) p in
+    let after : seen_texts d new.text news_a ≡ seen_texts d new.text news = ap (seen_texts d new.text) q in
+    (olds, news, a, b, ((λ h. sym before ∙ same.0 h ∙ after), (λ h. same.1 (before ∙ h ∙ sym after))), text ∙ (λ k. compared_lines c.is_same d old new (r k) (s k)))

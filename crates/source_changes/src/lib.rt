@@ -1,26 +1,19 @@
 //! What others can see of a file became another.
 #![tactic(auto)]
 
-mod laws;
-
 ghost use Rattle.std.specs.Prelude.{◌≡◌, ◌++◌, ◌↔◌, IfOk, IsTrue, OnOk, map, string_bytes};
-ghost use Rattle.source_rows.specs.Views.{part_view};
-ghost use Rattle.source_rows.specs.ChangeViews.{change_view};
+ghost use Rattle.source_rows.specs.Views.{part_view, source_view};
+ghost use Rattle.source_rows.specs.ChangeViews.{row_change_view};
 ghost use Rattle.source_changes.specs.Changes as spec;
-ghost use Rattle.source_changes.specs.Views.{side_view, source_view};
+ghost use Rattle.source_changes.specs.Views.{lined_view};
 
 use hir_input::EditionYear;
-use line_index::{LineIndex, Position};
+use item_changes::{ChangeKind, change_word};
+use line_index::LineIndex;
 use rust_items::read_source_file;
-use source_rows::{Change, ChangeKind, Part, bodies, changes, parts, rows, same_texts, skeleton};
+pub use source_rows::Source;
+use source_rows::{Change, Part, bodies, changes, parts, push_place, rows, same_texts, skeleton};
 use std::alloc::{AllocError, Global};
-
-/// A file: its path as it is to be written, and its text.
-#[derive(Clone, Copy)]
-pub struct Source<'a> {
-    pub path: &'a str,
-    pub text: &'a str,
-}
 
 /// What became of a file in another.
 #[derive(Debug, Drop)]
@@ -48,37 +41,10 @@ fn seen<'t>(
     has_docs: bool,
 ) -> Result<Vec<&'t str>, AllocError>
     ensures { IfOk result (λ v. map (λ t. t.now) v.items
-        ≡ spec.seen has_docs text.now (map part_view parts.now)) }
+        ≡ spec.seen_texts has_docs text.now (map part_view parts.now)) }
 {
     let bodies = bodies(alloc, parts)?;
     skeleton(alloc, text, &bodies, has_docs)
-}
-
-fn change_word(kind: ChangeKind) -> &'static str
-    ensures { result.now ≡ spec.change_word kind }
-{
-    match kind {
-        ChangeKind::Removed => "removed ",
-        ChangeKind::Added => "added ",
-        ChangeKind::Changed => "changed ",
-    }
-}
-
-/// The line of a change.
-fn push_line(
-    path: &str,
-    position: Position,
-    change: &Change<'_>,
-    out: &mut String,
-) -> Result<(), AllocError>
-    ensures { let line = spec.line_text path.now position (change_view change.now) in
-        OnOk result (string_bytes out.new ≡ string_bytes out.old ++ line) }
-{
-    let (line, column) = (position.line, position.column);
-    write!(out, "{path}:{line}:{column}: ")?;
-    out.push_str(change_word(change.kind))?;
-    out.push_str(change.label)?;
-    out.push_str("\n")
 }
 
 /// A file, with what finds the lines of its places.
@@ -89,12 +55,17 @@ struct Side<'a> {
 }
 
 impl<'a> Side<'a> {
+    /// The line of a change.
     fn push(&mut self, change: &Change<'_>, out: &mut String) -> Result<(), AllocError>
-        ensures text { let line = spec.change_line (side_view self.old) (change_view change.now) in
+        ensures text { let line = spec.row_line (lined_view self.old)
+            (row_change_view change.now) in
             OnOk result (string_bytes out.new ≡ string_bytes out.old ++ line) }
-        ensures same { side_view self.new ≡ side_view self.old }
+        ensures same { lined_view self.new ≡ lined_view self.old }
     {
-        push_line(self.path, self.lines.position(change.at), change, out)
+        push_place(self.path, self.lines.position(change.at), out)?;
+        out.push_str(change_word(change.kind))?;
+        out.push_str(change.label)?;
+        out.push_str("\n")
     }
 }
 
@@ -105,11 +76,11 @@ fn push_between(
     change: &Change<'_>,
     out: &mut String,
 ) -> Result<(), AllocError>
-    ensures text { let line = spec.line_between (side_view old.old) (side_view new.old)
-        (change_view change.now) in
+    ensures text { let line = spec.row_line_between (lined_view old.old) (lined_view new.old)
+        (row_change_view change.now) in
         OnOk result (string_bytes out.new ≡ string_bytes out.old ++ line) }
-    ensures old { side_view old.new ≡ side_view old.old }
-    ensures new { side_view new.new ≡ side_view new.old }
+    ensures old { lined_view old.new ≡ lined_view old.old }
+    ensures new { lined_view new.new ≡ lined_view new.old }
 {
     match change.kind {
         ChangeKind::Removed => old.push(change, out),
@@ -118,7 +89,7 @@ fn push_between(
 }
 
 fn side_from<'a>(source: Source<'a>) -> Side<'a>
-    ensures { side_view result ≡ source_view source.entry }
+    ensures { lined_view result ≡ source_view source.entry }
 {
     Side {
         path: source.path,
@@ -132,8 +103,8 @@ fn lines(
     new: Source<'_>,
     changes: &[Change<'_>],
 ) -> Result<String, AllocError>
-    ensures { let lines = spec.change_lines (source_view old.entry) (source_view new.entry)
-        (map change_view changes.now) in
+    ensures { let lines = spec.row_lines (source_view old.entry) (source_view new.entry)
+        (map row_change_view changes.now) in
         IfOk result (λ text. string_bytes text ≡ lines) }
 {
     let (mut olds, mut news) = (side_from(old), side_from(new));
@@ -172,8 +143,9 @@ fn is_same(
     news: &[Part],
     has_docs: bool,
 ) -> Result<bool, AllocError>
-    ensures { IfOk result (λ same. IsTrue same
-        ↔ (spec.seen has_docs old.now (map part_view olds.now) ≡ spec.seen has_docs new.now (map part_view news.now))) }
+    ensures { let before = spec.seen_texts has_docs old.now (map part_view olds.now) in
+        let after = spec.seen_texts has_docs new.now (map part_view news.now) in
+        IfOk result (λ same. IsTrue same ↔ (before ≡ after)) }
 {
     let old_texts = seen(alloc, old, olds, has_docs)?;
     let new_texts = seen(alloc, new, news, has_docs)?;
@@ -190,7 +162,7 @@ fn text_of(
     news: &[Part],
     has_docs: bool,
 ) -> Result<String, AllocError>
-    ensures { let lines = spec.lines is_same has_docs (source_view old.entry)
+    ensures { let lines = spec.compared_lines is_same has_docs (source_view old.entry)
         (source_view new.entry) (map part_view olds.now) (map part_view news.now) in
         IfOk result (λ text. string_bytes text ≡ lines) }
 {

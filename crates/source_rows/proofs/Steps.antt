@@ -12,7 +12,7 @@ use Rattle.source_rows.specs.declared.kept.Hole.{Hole}
 use Rattle.source_rows.specs.declared.items.Part as code_part
 use Rattle.rust_items.specs.declared.source_file.ItemPlace.{ItemPlace}
 use Rattle.source_rows.specs.Headers.{gap, is_over, reach_behind, spaced, spaced_from}
-use Rattle.source_rows.specs.Labels.{Around}
+use Rattle.source_rows.specs.Labels.{Outer}
 use Rattle.source_rows.specs.Parts.{Part, still_open, parts_of, behind, parts_from}
 use Rattle.source_rows.specs.Rows.{outside, begun}
 use Rattle.source_rows.specs.Views.{part_view}
@@ -47,7 +47,7 @@ drop_next : {A : Type 0} (xs : List A) (i : ℕ) (x : A) → i < length xs → x
 drop_next xs i x h e = let one : suc i ≡ i + 1 = omega arith in drop-cons xs i x h ∙ (λ k. sym e k ∷ drop (one k) xs)
 
 -- one more item
-pub parts_more : (edition : EditionYear) (text : List ℕ) (done pushed : List Part) (around open_around next : List Around) (items : List ItemPlace) (i : ℕ) (s : ItemPlace) (all : List Part) → i < length items → s ≡ get_or items i s
+pub parts_more : (edition : EditionYear) (text : List ℕ) (done pushed : List Part) (around open_around next : List Outer) (items : List ItemPlace) (i : ℕ) (s : ItemPlace) (all : List Part) → i < length items → s ≡ get_or items i s
     → open_around ≡ still_open s.range.start around → pushed ≡ done ++ parts_of edition text open_around s → next ≡ behind text open_around s.id.kind s → done ++ parts_from edition text around (drop i items) ≡ all
     → pushed ++ parts_from edition text next (drop (i + 1) items) ≡ all
 parts_more edition text done pushed around open_around next items i s all h e o p n inv =

@@ -2,12 +2,12 @@
 use Rattle.std.specs.Prelude.{map, string_bytes}
 use Rattle.source_rows.specs.declared.compare.Row as code_row
 use Rattle.source_rows.specs.declared.compare.Change as code_change
-use Rattle.source_rows.specs.Changes.{RowView, ChangeView}
+use Rattle.source_rows.specs.Changes.{TextRow, RowChange}
 
 -- a row as plain data
-abbrev pub row_view : code_row.Row → RowView
-row_view r = record { label = string_bytes r.label; at = r.at; own = map (λ text. text.now) r.own.items }
+abbrev pub text_row_view : code_row.Row → TextRow
+text_row_view r = record { label = string_bytes r.label; at = r.at; own = map (λ text. text.now) r.own.items }
 
 -- a change as plain data
-abbrev pub change_view : code_change.Change → ChangeView
-change_view c = record { kind = c.kind; label = c.label.now; at = c.at }
+abbrev pub row_change_view : code_change.Change → RowChange
+row_change_view c = record { kind = c.kind; label = c.label.now; at = c.at }

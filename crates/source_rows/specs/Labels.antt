@@ -45,12 +45,12 @@ text_at_some text None = []
 text_at_some text (Some range) = text_at text range
 
 -- a module around an item: where it ends, and its name
-pub record Around : Type 0 where
+pub record Outer : Type 0 where
   pub end : ℕ
   pub name : List ℕ
 
 -- the names of modules, from the outermost on, with `::` behind each
-abbrev pub path_of : List Around → List ℕ
+abbrev pub path_of : List Outer → List ℕ
 path_of around = flat_map (λ a. a.name ++ codes "::") around
 
 -- a word, and a text with a blank in front if it is not empty

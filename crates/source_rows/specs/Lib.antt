@@ -2,6 +2,7 @@ pub mod Labels
 pub mod Headers
 pub mod Parts
 pub mod Rows
+pub mod Sources
 pub mod Views
 pub mod Enabled
 pub mod Types

@@ -9,7 +9,7 @@ use Rattle.rust_members.specs.declared.member.MemberKind.{MemberKind}
 use Rattle.rust_members.specs.declared.member.MemberKind.TheVariants as member
 use Rattle.rust_members.specs.Members.{MemberRead}
 use Rattle.rust_members.specs.Lists.{members}
-use Rattle.source_rows.specs.Labels.{item_word, member_word, text_at, text_at_some, Around, path_of, label}
+use Rattle.source_rows.specs.Labels.{item_word, member_word, text_at, text_at_some, Outer, path_of, label}
 use Rattle.source_rows.specs.Headers.{header}
 
 -- a part: what it is called, where it is told, where it stands, the name that counts among the tokens around it, and the braces whose tokens do not count
@@ -88,23 +88,23 @@ item_part path s = record {
   body = fn_body s.id.kind s.body;
 }
 
-abbrev pub item_path : EditionYear → List ℕ → List Around → ItemPlace → List ℕ
+abbrev pub item_path : EditionYear → List ℕ → List Outer → ItemPlace → List ℕ
 item_path edition text around s = path_of around ++ name_of edition text s s.name
 
 -- an item, and behind it its members
-abbrev pub parts_of : EditionYear → List ℕ → List Around → ItemPlace → List Part
+abbrev pub parts_of : EditionYear → List ℕ → List Outer → ItemPlace → List Part
 parts_of edition text around s = item_part (item_path edition text around s) s ∷ member_parts edition text (item_path edition text around s) s
 
 -- the modules that end behind a place
-abbrev pub still_open : ℕ → List Around → List Around
+abbrev pub still_open : ℕ → List Outer → List Outer
 still_open place around = filter (λ a. nat_lt place a.end) around
 
 -- what stands around an item that follows this one, where these stand around it
-abbrev pub behind : List ℕ → List Around → AstIdKind → ItemPlace → List Around
+abbrev pub behind : List ℕ → List Outer → AstIdKind → ItemPlace → List Outer
 behind text around kind.Module s = around ++ record { end = s.range.end; name = text_at_some text s.name } ∷ []
 behind text around _ s = around
 
-abbrev pub parts_from : EditionYear → List ℕ → List Around → List ItemPlace → List Part
+abbrev pub parts_from : EditionYear → List ℕ → List Outer → List ItemPlace → List Part
 parts_from edition text around [] = []
 parts_from edition text around (s ∷ ss) =
     let open_around = still_open s.range.start around in

@@ -3,7 +3,7 @@ use Rattle.std.specs.Prelude.{ℕ, ◌+◌, ◌-◌, Bool, nat_le, nat_lt, if◌
 use Rattle.std.specs.List.{flat_map}
 use Rattle.rust_paths.specs.declared.names.TextRange.{TextRange}
 use Rattle.source_rows.specs.declared.kept.Hole.{Hole}
-use Rattle.source_rows.specs.Changes.{RowView}
+use Rattle.source_rows.specs.Changes.{TextRow}
 use Rattle.source_rows.specs.Skeletons.{skeleton}
 use Rattle.source_rows.specs.Labels.{text_at}
 use Rattle.source_rows.specs.Parts.{Part}
@@ -41,10 +41,10 @@ moved_back by h = hole (h.start - by) (h.end - by)
 abbrev pub own : Bool → List ℕ → Part → List Part → List (List ℕ)
 own has_docs text p behind = skeleton has_docs (map (moved_back p.range.start) (holes p behind)) (text_at text p.range)
 
-abbrev pub row : Bool → List ℕ → Part → List Part → RowView
-row has_docs text p behind = record { label = p.label; at = p.at; own = own has_docs text p behind }
+abbrev pub part_row : Bool → List ℕ → Part → List Part → TextRow
+part_row has_docs text p behind = record { label = p.label; at = p.at; own = own has_docs text p behind }
 
 -- each part with its own tokens
-abbrev pub rows : Bool → List ℕ → List Part → List RowView
-rows has_docs text [] = []
-rows has_docs text (p ∷ ps) = row has_docs text p ps ∷ rows has_docs text ps
+abbrev pub part_rows : Bool → List ℕ → List Part → List TextRow
+part_rows has_docs text [] = []
+part_rows has_docs text (p ∷ ps) = part_row has_docs text p ps ∷ part_rows has_docs text ps

@@ -1,13 +1,14 @@
 //! What of some rows became another.
 
-ghost use Rattle.std.specs.Prelude.{◌≡◌, ◌++◌, map, option_map, IfOk, OnOk};
+ghost use Rattle.std.specs.Prelude.{◌≡◌, ◌++◌, map, IfOk, OnOk};
 ghost use Rattle.std.specs.List.{flat_map};
 ghost use Rattle.source_rows.specs.Changes as spec;
-ghost use Rattle.source_rows.specs.Inner.{Finds, item_view};
-ghost use Rattle.source_rows.specs.ChangeViews.{change_view, row_view};
+ghost use Rattle.source_rows.specs.Inner.{found_row_change, row_match};
+ghost use Rattle.source_rows.specs.ChangeViews.{row_change_view, text_row_view};
 
 use crate::kept::same_texts;
-use crate::labelled::{Finder, Item, items};
+use crate::labelled::{Labelled, labelled};
+use item_changes::{ChangeKind, Match, matched};
 use std::alloc::{AllocError, Global};
 
 /// A part of a text that is told by itself.
@@ -32,17 +33,6 @@ impl Drop for Row<'_> {
     }
 }
 
-/// What became of a row.
-#[derive(Clone, Copy, Debug, PartialEq, Eq)]
-pub enum ChangeKind {
-    /// The old text alone has it.
-    Removed,
-    /// The new text alone has it.
-    Added,
-    /// Both have it, with other tokens of its own.
-    Changed,
-}
-
 /// A change of a row.
 #[derive(Clone, Copy, Debug)]
 pub struct Change<'r> {
@@ -52,121 +42,58 @@ pub struct Change<'r> {
     pub at: usize,
 }
 
-fn left_as(new: Option<&Item<'_, '_>>) -> Option<ChangeKind>
-    ensures { result ≡ spec.left_as (option_map (λ i. item_view i.now) new.entry) }
+fn changed<'r>(kind: ChangeKind, row: &'r Row<'_>) -> Change<'r>
+    ensures { row_change_view result ≡ spec.row_change kind (text_row_view row.now) }
 {
-    match new {
-        Some(_) => None,
-        None => Some(ChangeKind::Removed),
+    Change {
+        kind,
+        label: &row.label,
+        at: row.at,
     }
 }
 
-fn came_as(item: &Item<'_, '_>, old: Option<&Item<'_, '_>>) -> Option<ChangeKind>
-    ensures { result ≡ spec.came_as (item_view item.now).row.own
-        (option_map (λ i. item_view i.now) old.entry) }
+/// What became of a row; none where both texts have the same tokens of it.
+fn change_of<'r>(found: &Match<&Labelled<'r, '_>>) -> Option<Change<'r>>
+    ensures { found_row_change result ≡ spec.row_change_of (row_match found.now) }
 {
-    let Some(old) = old else {
-        return Some(ChangeKind::Added);
-    };
-    if same_texts(&old.row.own, &item.row.own) {
-        None
-    } else {
-        Some(ChangeKind::Changed)
+    match *found {
+        Match::Gone(old) => Some(changed(ChangeKind::Removed, old.item)),
+        Match::Came(new) => Some(changed(ChangeKind::Added, new.item)),
+        Match::Stays(old, new) => {
+            if same_texts(&old.item.own, &new.item.own) {
+                None
+            } else {
+                Some(changed(ChangeKind::Changed, new.item))
+            }
+        }
     }
 }
 
 fn push_change<'r>(
-    kind: Option<ChangeKind>,
-    row: &'r Row<'_>,
+    change: Option<Change<'r>>,
     changes: &mut Vec<Change<'r>>,
 ) -> Result<(), AllocError>
-    ensures { let change = spec.change_of kind (row_view row.now) in
-        OnOk result (map change_view changes.new.items ≡ map change_view changes.old.items ++ change) }
+    ensures { OnOk result (map row_change_view changes.new.items
+        ≡ map row_change_view changes.old.items ++ found_row_change change.entry) }
 {
-    let Some(kind) = kind else {
+    let Some(change) = change else {
         return Ok(());
     };
-    changes.push(Change {
-        kind,
-        label: &row.label,
-        at: row.at,
-    })?;
+    changes.push(change)?;
     Ok(())
 }
 
-fn push_left<'r>(
-    olds: &[Item<'r, '_>],
-    news: &Finder<'_, 'r, '_>,
-    changes: &mut Vec<Change<'r>>,
-) -> Result<(), AllocError>
-    requires { Finds news.now }
-    ensures { let left = flat_map (spec.left_change (map item_view news.now.items.now))
-        (map item_view olds.now) in
-        OnOk result (map change_view changes.new.items ≡ map change_view changes.old.items ++ left) }
-{
-    for item in olds {
-        push_change(left_as(news.find(item)), item.row, changes)?;
-    }
-    Ok(())
-}
-
-fn push_came<'r>(
-    olds: &Finder<'_, 'r, '_>,
-    news: &[Item<'r, '_>],
-    changes: &mut Vec<Change<'r>>,
-) -> Result<(), AllocError>
-    requires { Finds olds.now }
-    ensures { let came = flat_map (spec.came_change (map item_view olds.now.items.now))
-        (map item_view news.now) in
-        OnOk result (map change_view changes.new.items ≡ map change_view changes.old.items ++ came) }
-{
-    for item in news {
-        push_change(came_as(item, olds.find(item)), item.row, changes)?;
-    }
-    Ok(())
-}
-
-/// Adds what is removed, of those that are found in no new row.
-fn push_all_left<'r>(
+fn changes_of<'r>(
     alloc: Global,
-    olds: &[Item<'r, '_>],
-    news: &[Item<'r, '_>],
-    changes: &mut Vec<Change<'r>>,
-) -> Result<(), AllocError>
-    ensures { let left = flat_map (spec.left_change (map item_view news.now))
-        (map item_view olds.now) in
-        OnOk result (map change_view changes.new.items ≡ map change_view changes.old.items ++ left) }
-{
-    let finder = Finder::new(alloc, news)?;
-    push_left(olds, &finder, changes)
-}
-
-/// Adds what is added or changed.
-fn push_all_came<'r>(
-    alloc: Global,
-    olds: &[Item<'r, '_>],
-    news: &[Item<'r, '_>],
-    changes: &mut Vec<Change<'r>>,
-) -> Result<(), AllocError>
-    ensures { let came = flat_map (spec.came_change (map item_view olds.now))
-        (map item_view news.now) in
-        OnOk result (map change_view changes.new.items ≡ map change_view changes.old.items ++ came) }
-{
-    let finder = Finder::new(alloc, olds)?;
-    push_came(&finder, news, changes)
-}
-
-fn changes_between<'r>(
-    alloc: Global,
-    olds: &[Item<'r, '_>],
-    news: &[Item<'r, '_>],
+    found: &[Match<&Labelled<'r, '_>>],
 ) -> Result<Vec<Change<'r>>, AllocError>
-    ensures { IfOk result (λ v. map change_view v.items
-        ≡ spec.changes_between (map item_view olds.now) (map item_view news.now)) }
+    ensures { IfOk result (λ v. map row_change_view v.items
+        ≡ flat_map spec.row_change_of (map row_match found.now)) }
 {
     let mut changes = Vec::new(alloc);
-    push_all_left(alloc, olds, news, &mut changes)?;
-    push_all_came(alloc, olds, news, &mut changes)?;
+    for one in found {
+        push_change(change_of(one), &mut changes)?;
+    }
     Ok(changes)
 }
 
@@ -184,10 +111,11 @@ pub fn changes<'r>(
     old: &'r [Row<'_>],
     new: &'r [Row<'_>],
 ) -> Result<Vec<Change<'r>>, AllocError>
-    ensures { IfOk result (λ v. map change_view v.items
-        ≡ spec.changes (map row_view old.now) (map row_view new.now)) }
+    ensures { IfOk result (λ v. map row_change_view v.items
+        ≡ spec.row_changes (map text_row_view old.now) (map text_row_view new.now)) }
 {
-    let olds = items(alloc, old)?;
-    let news = items(alloc, new)?;
-    changes_between(alloc, &olds, &news)
+    let olds = labelled(alloc, old)?;
+    let news = labelled(alloc, new)?;
+    let found = matched(alloc, &olds, &news)?;
+    changes_of(alloc, &found)
 }

@@ -4,7 +4,7 @@ ghost use Rattle.std.specs.Prelude.{◌≡◌, ◌++◌, ◌∷◌, [], IfOk, On
 ghost use Rattle.rust_members.specs.Views.{member_view};
 ghost use Rattle.source_rows.specs.Labels.{path_of};
 ghost use Rattle.source_rows.specs.Parts as spec;
-ghost use Rattle.source_rows.specs.Views.{around_view, part_view};
+ghost use Rattle.source_rows.specs.Views.{outer_view, part_view};
 
 use crate::headers::header;
 use crate::labels::{item_word, member_word, push_label, text_at, text_at_some};
@@ -163,7 +163,7 @@ fn push_name(
 
 fn push_path(around: &[Around<'_>], out: &mut String) -> Result<(), AllocError>
     ensures { OnOk result (string_bytes out.new ≡ string_bytes out.old
-        ++ path_of (map around_view around.now)) }
+        ++ path_of (map outer_view around.now)) }
 {
     for module in around {
         out.push_str(module.name)?;
@@ -180,7 +180,7 @@ fn item_path(
     item: &ItemPlace,
 ) -> Result<String, AllocError>
     ensures { IfOk result (λ out. string_bytes out
-        ≡ spec.item_path edition text.now (map around_view around.now) item.now) }
+        ≡ spec.item_path edition text.now (map outer_view around.now) item.now) }
 {
     let mut out = String::new(alloc);
     push_path(around, &mut out)?;
@@ -220,7 +220,7 @@ fn push_item(
     item: &ItemPlace,
     parts: &mut Vec<Part>,
 ) -> Result<(), AllocError>
-    ensures { let more = spec.parts_of edition text.now (map around_view around.now) item.now in
+    ensures { let more = spec.parts_of edition text.now (map outer_view around.now) item.now in
         OnOk result (map part_view parts.new.items ≡ map part_view parts.old.items ++ more) }
 {
     let path = item_path(alloc, text, edition, around, item)?;
@@ -236,8 +236,8 @@ fn still_open<'t>(
     place: usize,
     around: &[Around<'t>],
 ) -> Result<Vec<Around<'t>>, AllocError>
-    ensures { IfOk result (λ v. map around_view v.items
-        ≡ spec.still_open place (map around_view around.now)) }
+    ensures { IfOk result (λ v. map outer_view v.items
+        ≡ spec.still_open place (map outer_view around.now)) }
 {
     let mut left = Vec::new(alloc);
     for module in around {
@@ -254,8 +254,8 @@ fn enter<'t>(
     item: &ItemPlace,
     around: &mut Vec<Around<'t>>,
 ) -> Result<(), AllocError>
-    ensures { OnOk result (map around_view around.new.items
-        ≡ spec.behind text.now (map around_view around.old.items) item.now.id.kind item.now) }
+    ensures { OnOk result (map outer_view around.new.items
+        ≡ spec.behind text.now (map outer_view around.old.items) item.now.id.kind item.now) }
 {
     match item.id.kind {
         AstIdKind::Module => {

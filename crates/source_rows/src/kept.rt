@@ -97,7 +97,7 @@ pub fn skeleton<'t>(
 }
 
 /// Whether two lists of texts are one.
-#[tactic(auto, using(crate::proofs::Tables::lists_tell, crate::proofs::Tables::lists_same))]
+#[tactic(auto, using(crate::proofs::Texts::lists_tell, crate::proofs::Texts::lists_same))]
 pub fn same_texts(left: &[&str], right: &[&str]) -> bool
     ensures one { IsTrue result ↔ (map (λ t. t.now) left.now ≡ map (λ t. t.now) right.now) }
     ensures test { result ≡ same_texts (map (λ t. t.now) left.now) (map (λ t. t.now) right.now) }

@@ -8,7 +8,7 @@ use rust_members::{MemberKind, TextRange, cut_out};
 use std::alloc::AllocError;
 
 /// The word of an item's kind.
-pub(crate) fn item_word(kind: AstIdKind) -> &'static str
+pub fn item_word(kind: AstIdKind) -> &'static str
     ensures { result.now ≡ spec.item_word kind }
 {
     match kind {

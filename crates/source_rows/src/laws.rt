@@ -4,23 +4,22 @@ ghost use Rattle.hir_input.specs.Equality.{IsCopied};
 ghost use Rattle.std.specs.Prelude.{◌≡◌};
 ghost use Rattle.std.specs.Bool.{Decides};
 
-use crate::compare::{Change, ChangeKind};
+use crate::compare::Change;
 use crate::kept::Hole;
 use crate::reading::Reading;
+use crate::source::Source;
 
 fn readings()
     ensures { IsCopied ⟦<Reading<'static> as Clone>⟧.is_clone }
 {}
 
+fn sources()
+    ensures { IsCopied ⟦<Source<'static> as Clone>⟧.is_clone }
+{}
+
 fn holes()
     ensures equal { (a b : Hole) → Decides (⟦<Hole as PartialEq>⟧.eq a b) (a ≡ b) }
     ensures copied { (source copy : Hole) → ⟦<Hole as Clone>⟧.is_clone source copy → copy ≡ source }
-{}
-
-fn change_kinds()
-    ensures equal { (a b : ChangeKind) → Decides (⟦<ChangeKind as PartialEq>⟧.eq a b) (a ≡ b) }
-    ensures copied { (source copy : ChangeKind) → ⟦<ChangeKind as Clone>⟧.is_clone source copy
-        → copy ≡ source }
 {}
 
 fn changes()

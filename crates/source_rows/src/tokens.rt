@@ -2,7 +2,7 @@
 
 ghost use Rattle.std.specs.Prelude.{◌≡◌, ◌++◌, IfOk, OnOk, map};
 ghost use Rattle.std.specs.List.{flat_map};
-ghost use Rattle.source_rows.specs.ChangeViews.{row_view};
+ghost use Rattle.source_rows.specs.ChangeViews.{text_row_view};
 ghost use Rattle.source_rows.specs.Rows as spec;
 ghost use Rattle.source_rows.specs.Views.{part_view};
 
@@ -113,8 +113,8 @@ fn row<'t>(
     behind: &[Part],
     has_docs: bool,
 ) -> Result<Row<'t>, AllocError>
-    ensures { IfOk result (λ row. row_view row
-        ≡ spec.row has_docs text.now (part_view part.now) (map part_view behind.now)) }
+    ensures { IfOk result (λ row. text_row_view row
+        ≡ spec.part_row has_docs text.now (part_view part.now) (map part_view behind.now)) }
 {
     let holes = holes(alloc, part, behind)?;
     let holes = moved_back(alloc, part.range.start, &holes)?;
@@ -134,8 +134,8 @@ pub fn rows<'t>(
     parts: &[Part],
     has_docs: bool,
 ) -> Result<Vec<Row<'t>>, AllocError>
-    ensures { IfOk result (λ v. map row_view v.items
-        ≡ spec.rows has_docs text.now (map part_view parts.now)) }
+    ensures { IfOk result (λ v. map text_row_view v.items
+        ≡ spec.part_rows has_docs text.now (map part_view parts.now)) }
 {
     let mut rows = Vec::new(alloc);
     let mut left = parts;

@@ -1,11 +1,11 @@
 use Rattle.std.proofs.Common.{◌≡◌, ◌++◌, map, length}
-use Rattle.source_rows.specs.ChangeViews.{row_view}
-use Rattle.source_rows.specs.Rows.{rows}
+use Rattle.source_rows.specs.ChangeViews.{text_row_view}
+use Rattle.source_rows.specs.Rows.{part_rows}
 use Rattle.source_rows.specs.Views.{part_view}
 use Rattle.source_rows.proofs.tokens.rows.Given as goal
 
 abbrev pub invariant-loop-left : goal.invariant-loop-left
-invariant-loop-left l = map row_view l.rows.items ++ rows l.has_docs l.text (map part_view l.left) ≡ rows l.has_docs l.text (map part_view l.fn.parts)
+invariant-loop-left l = map text_row_view l.rows.items ++ part_rows l.has_docs l.text (map part_view l.left) ≡ part_rows l.has_docs l.text (map part_view l.fn.parts)
 
 abbrev pub decreases-loop-left : goal.decreases-loop-left
 decreases-loop-left l = length l.left

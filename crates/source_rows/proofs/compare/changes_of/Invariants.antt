@@ -1,0 +1,9 @@
+use Rattle.std.proofs.Common.{◌≡◌, map, take}
+use Rattle.std.specs.List.{flat_map}
+use Rattle.source_rows.specs.Changes.{row_change_of}
+use Rattle.source_rows.specs.ChangeViews.{row_change_view}
+use Rattle.source_rows.specs.Inner.{row_match}
+use Rattle.source_rows.proofs.compare.changes_of.Given as goal
+
+abbrev pub invariant-loop-one : goal.invariant-loop-one
+invariant-loop-one l = map row_change_view l.changes.items ≡ flat_map row_change_of (map row_match (take l.one-index l.found))

@@ -1,0 +1,27 @@
+//! A file, and its places as compilers write them.
+
+ghost use Rattle.std.specs.Prelude.{◌≡◌, ◌++◌, OnOk, string_bytes};
+ghost use Rattle.source_rows.specs.Sources.{place_text};
+
+use line_index::Position;
+use std::alloc::AllocError;
+
+/// A file: its path as it is to be written, and its text.
+#[derive(Clone, Copy)]
+pub struct Source<'a> {
+    pub path: &'a str,
+    pub text: &'a str,
+}
+
+/// Adds file, line and column, as compilers write them.
+///
+/// # Errors
+///
+/// Only if memory runs out.
+pub fn push_place(path: &str, position: Position, out: &mut String) -> Result<(), AllocError>
+    ensures { OnOk result (string_bytes out.new ≡ string_bytes out.old
+        ++ place_text path.now position) }
+{
+    let (line, column) = (position.line, position.column);
+    write!(out, "{path}:{line}:{column}: ")
+}
