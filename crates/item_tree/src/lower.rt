@@ -250,6 +250,7 @@ fn lower_items(ctx: Ctx, rows: &mut Rows, items: &[ast::Item]) -> Result<Vec<Mod
 }
 
 #[cycle(lower)]
+#[tactic(auto, using(hir_input::proofs::SyntaxViews::item_views))]
 fn lower_item(ctx: Ctx, rows: &mut Rows, item: &ast::Item) -> Result<Option<ModItemId>, LowerError>
     requires { IsWithinLimits rows.old }
     ensures { IsLowered ctx.entry rows.old rows.new (item_view item.now) result }
