@@ -1,5 +1,5 @@
 -- The words of kinds, and paths.
-use Rattle.std.specs.Prelude.{List, ℕ, [], ◌∷◌, ◌++◌, codes, Option, Some, None, unwrap_or}
+use Rattle.std.specs.Prelude.{List, ℕ, Bool, [], ◌∷◌, ◌++◌, codes, Option, Some, None, is_some, unwrap_or}
 use Rattle.std.specs.List.{flat_map}
 use Rattle.hir_input.specs.declared.ids.AstIdKind.{AstIdKind}
 use Rattle.hir_input.specs.declared.ids.AstIdKind.TheVariants as kind
@@ -8,24 +8,38 @@ use Rattle.rust_members.specs.declared.member.MemberKind.{MemberKind}
 use Rattle.rust_members.specs.declared.member.MemberKind.TheVariants as member
 use Rattle.rust_members.specs.Lists.{cut_out}
 
+-- what is written of the items of a kind: the word that lists have; the letter in a tags file, as Universal Ctags has it, if they have tags; and what Universal Ctags calls what their members stand in, if they have members
+pub record KindTexts : Type 0 where
+  pub word : List ℕ
+  pub letter : Option (List ℕ)
+  pub scope : Option (List ℕ)
+
+-- that of a kind
+abbrev pub kind_texts : AstIdKind → KindTexts
+kind_texts kind.Const = record { word = codes "const"; letter = Some (codes "C"); scope = None }
+kind_texts kind.Enum = record { word = codes "enum"; letter = Some (codes "g"); scope = Some (codes "enum") }
+kind_texts kind.ExternBlock = record { word = codes "extern"; letter = None; scope = None }
+kind_texts kind.ExternCrate = record { word = codes "extern crate"; letter = None; scope = None }
+kind_texts kind.Fn = record { word = codes "fn"; letter = Some (codes "f"); scope = None }
+kind_texts kind.Impl = record { word = codes "impl"; letter = None; scope = Some (codes "implementation") }
+kind_texts kind.MacroDef = record { word = codes "macro"; letter = Some (codes "M"); scope = None }
+kind_texts kind.MacroCall = record { word = codes "macro call"; letter = None; scope = None }
+kind_texts kind.MacroRules = record { word = codes "macro_rules"; letter = Some (codes "M"); scope = None }
+kind_texts kind.Module = record { word = codes "mod"; letter = Some (codes "n"); scope = None }
+kind_texts kind.Static = record { word = codes "static"; letter = Some (codes "v"); scope = None }
+kind_texts kind.Struct = record { word = codes "struct"; letter = Some (codes "s"); scope = Some (codes "struct") }
+kind_texts kind.Trait = record { word = codes "trait"; letter = Some (codes "i"); scope = Some (codes "interface") }
+kind_texts kind.TypeAlias = record { word = codes "type"; letter = Some (codes "t"); scope = None }
+kind_texts kind.Union = record { word = codes "union"; letter = Some (codes "s"); scope = Some (codes "struct") }
+kind_texts kind.Use = record { word = codes "use"; letter = None; scope = None }
+
 -- the word of an item's kind
 abbrev pub item_word : AstIdKind → List ℕ
-item_word kind.Const = codes "const"
-item_word kind.Enum = codes "enum"
-item_word kind.ExternBlock = codes "extern"
-item_word kind.ExternCrate = codes "extern crate"
-item_word kind.Fn = codes "fn"
-item_word kind.Impl = codes "impl"
-item_word kind.MacroDef = codes "macro"
-item_word kind.MacroCall = codes "macro call"
-item_word kind.MacroRules = codes "macro_rules"
-item_word kind.Module = codes "mod"
-item_word kind.Static = codes "static"
-item_word kind.Struct = codes "struct"
-item_word kind.Trait = codes "trait"
-item_word kind.TypeAlias = codes "type"
-item_word kind.Union = codes "union"
-item_word kind.Use = codes "use"
+item_word k = (kind_texts k).word
+
+-- items of some kinds have members
+abbrev pub has_members : AstIdKind → Bool
+has_members k = is_some (kind_texts k).scope
 
 -- the word of a member's kind
 abbrev pub member_word : MemberKind → List ℕ

@@ -15,8 +15,8 @@ use Rattle.rust_items.specs.declared.source_file.ItemPlace.{ItemPlace}
 use Rattle.rust_members.specs.declared.member.MemberKind.{MemberKind}
 use Rattle.rust_members.specs.Members.{MemberRead}
 use Rattle.source_rows.specs.Headers.{header}
-use Rattle.source_rows.specs.Labels.{text_at}
-use Rattle.source_rows.specs.Parts.{has_members, members_in}
+use Rattle.source_rows.specs.Labels.{has_members, text_at}
+use Rattle.source_rows.specs.Parts.{members_in}
 use Rattle.source_rows.specs.Enabled.{any_disables}
 use Rattle.source_rows.specs.Types.{type_name}
 

@@ -1,5 +1,5 @@
 -- The items of a text and their members, as parts of it.
-use Rattle.std.specs.Prelude.{ℕ, Bool, true, false, nat_lt, List, [], ◌∷◌, ◌++◌, map, filter, codes, Option, Some, None}
+use Rattle.std.specs.Prelude.{ℕ, Bool, true, nat_lt, List, [], ◌∷◌, ◌++◌, map, filter, codes, Option, Some, None}
 use Rattle.hir_input.specs.declared.edition.EditionYear.{EditionYear}
 use Rattle.hir_input.specs.declared.ids.AstIdKind.{AstIdKind}
 use Rattle.hir_input.specs.declared.ids.AstIdKind.TheVariants as kind
@@ -9,7 +9,7 @@ use Rattle.rust_members.specs.declared.member.MemberKind.{MemberKind}
 use Rattle.rust_members.specs.declared.member.MemberKind.TheVariants as member
 use Rattle.rust_members.specs.Members.{MemberRead}
 use Rattle.rust_members.specs.Lists.{members}
-use Rattle.source_rows.specs.Labels.{item_word, member_word, text_at, text_at_some, Outer, path_of, label}
+use Rattle.source_rows.specs.Labels.{item_word, has_members, member_word, text_at, text_at_some, Outer, path_of, label}
 use Rattle.source_rows.specs.Headers.{header}
 
 -- a part: what it is called, where it is told, where it stands, the name that counts among the tokens around it, and the braces whose tokens do not count
@@ -44,15 +44,6 @@ member_part text path m = record {
   kept = kept_name m.kind m.name;
   body = m.body;
 }
-
--- items of these kinds have members
-abbrev pub has_members : AstIdKind → Bool
-has_members kind.Trait = true
-has_members kind.Impl = true
-has_members kind.Enum = true
-has_members kind.Struct = true
-has_members kind.Union = true
-has_members _ = false
 
 -- the members of an item of this kind in this body, if it may have some
 abbrev pub members_in : EditionYear → AstIdKind → List ℕ → Bool → Option TextRange → List MemberRead

@@ -2,12 +2,12 @@
 
 ghost use Rattle.std.specs.Prelude.{◌≡◌, ◌++◌, ◌∷◌, [], IfOk, OnOk, map, string_bytes};
 ghost use Rattle.rust_members.specs.Views.{member_view};
-ghost use Rattle.source_rows.specs.Labels.{path_of};
+ghost use Rattle.source_rows.specs.Labels.{has_members, path_of};
 ghost use Rattle.source_rows.specs.Parts as spec;
 ghost use Rattle.source_rows.specs.Views.{outer_view, part_view};
 
 use crate::headers::header;
-use crate::labels::{item_word, member_word, push_label, text_at, text_at_some};
+use crate::labels::{kind_texts, member_word, push_label, text_at, text_at_some};
 use hir_input::{AstIdKind, EditionYear};
 use rust_items::ItemPlace;
 use rust_members::{Member, MemberKind, TextRange, read_members};
@@ -100,12 +100,9 @@ fn push_members(
 }
 
 fn has_members(kind: AstIdKind) -> bool
-    ensures { result ≡ spec.has_members kind }
+    ensures { result ≡ has_members kind }
 {
-    matches!(
-        kind,
-        AstIdKind::Trait | AstIdKind::Impl | AstIdKind::Enum | AstIdKind::Struct | AstIdKind::Union
-    )
+    kind_texts(kind).scope.is_some()
 }
 
 /// The members of an item of a text, which has these braces: none, where items of its kind have none.
@@ -120,7 +117,7 @@ pub fn members_in(
     body: Option<TextRange>,
     edition: EditionYear,
 ) -> Result<Vec<Member>, AllocError>
-    ensures { let read = spec.members_in edition kind text.now (spec.has_members kind) body in
+    ensures { let read = spec.members_in edition kind text.now (has_members kind) body in
         IfOk result (λ v. map member_view v.items ≡ read) }
 {
     if !has_members(kind) {
@@ -201,7 +198,7 @@ fn item_part(alloc: Global, path: &str, item: &ItemPlace) -> Result<Part, AllocE
     ensures { IfOk result (λ part. part_view part ≡ spec.item_part path.now item.now) }
 {
     let mut label = String::new(alloc);
-    push_label(&mut label, item_word(item.id.kind), path)?;
+    push_label(&mut label, kind_texts(item.id.kind).word, path)?;
     Ok(Part {
         label,
         at: told_at(item.range, item.name),

@@ -21,7 +21,7 @@ pub use headers::header;
 pub use item_changes::ChangeKind;
 pub use items::{Part, members_in, parts};
 pub use kept::{Hole, same_texts, skeleton};
-pub use labels::{item_word, member_word, text_at};
+pub use labels::{KindTexts, item_word, kind_texts, member_word, text_at};
 pub use listed::ListedMember;
 pub use reading::Reading;
 pub use source::{Source, push_place};
