@@ -15,7 +15,7 @@ use Rattle.rust_items.specs.declared.source_file.ItemPlace.{ItemPlace}
 use Rattle.source_rows.specs.Listed.{Reading, header_of, members_of}
 use Rattle.source_listing.specs.Lines.{Choice, Source, is_chosen}
 use Rattle.source_listing.specs.Places.{place_of, spot_at}
-use Rattle.source_listing.specs.Objects.{ItemView, item_in, item_entry, member_objects, object_form, whole_object, own_objects, node_objects, forest_objects, tree_objects}
+use Rattle.source_listing.specs.Objects.{ItemView, item_in, item_entry, member_objects, entry_object, whole_object, own_objects, node_objects, listed_objects, tree_objects}
 use Rattle.source_listing.specs.declared.finder.Spot.{Spot}
 use Rattle.hir_input.specs.declared.edition.Edition.{Edition}
 use Rattle.source_listing.specs.declared.lines.Printer.{Printer}
@@ -23,17 +23,17 @@ use Rattle.source_listing.specs.Inner.{IsPrinterOf, file_of, item_at, objects_at
 use Rattle.source_listing.proofs.Printers.{file_is}
 
 module _ (s : Source) (x : Reading) (reserved : List (List ℕ)) (places : List ItemPlace) (c : Choice) where
-  forest_is : (level : ℕ) (a : Bool) (f : Forest) → flat_map (node_objects s x reserved places c level a) (nodes f) ≡ forest_objects s x reserved places c level a f
+  forest_is : (level : ℕ) (a : Bool) (f : Forest) → flat_map (node_objects s x reserved places c level a) (nodes f) ≡ listed_objects s x reserved places c level a f
   forest_is level a empty = refl
   forest_is level a (more n f) = ap (λ ds. node_objects s x reserved places c level a n ++ ds) (forest_is level a f)
 
   -- the objects of ids that stand for a forest
   pub ids_objects : (u : Unfolding) (level : ℕ) (a : Bool) (is : List ℕ) (f : Forest) → StandFor u is f
-      → flat_map (objects_at s x reserved places c u level a) is ≡ forest_objects s x reserved places c level a f
+      → flat_map (objects_at s x reserved places c u level a) is ≡ listed_objects s x reserved places c level a f
   ids_objects u level a is f e = flat_map_of_id u (node_objects s x reserved places c level a) is (nodes f) e ∙ forest_is level a f
 
   node_is : (level : ℕ) (a : Bool) (n : Node)
-      → node_objects s x reserved places c level a n ≡ own_objects s x reserved places c level (item_in a n) (forest_objects s x reserved places c (level + 1) (item_in a n).is_active (children n))
+      → node_objects s x reserved places c level a n ≡ own_objects s x reserved places c level (item_in a n) (listed_objects s x reserved places c (level + 1) (item_in a n).is_active (children n))
   node_is level a (leaf h l) = refl
   node_is level a (parent h t f) = refl
 
@@ -42,7 +42,7 @@ module _ (s : Source) (x : Reading) (reserved : List (List ℕ)) (places : List 
   one_objects u level a is None y e f = absurd (cc)
   one_objects u level a is (Some n) y e f =
       let e : item_in a n ≡ y = cc in
-      node_is level a n ∙ ap (λ y. own_objects s x reserved places c level y (forest_objects s x reserved places c (level + 1) y.is_active (children n))) e
+      node_is level a n ∙ ap (λ y. own_objects s x reserved places c level y (listed_objects s x reserved places c (level + 1) y.is_active (children n))) e
       ∙ ap (own_objects s x reserved places c level y) (sym (ids_objects u (level + 1) y.is_active is (children n) f))
 
   -- the object of an item is around those of its children
@@ -58,7 +58,7 @@ module _ (s : Source) (x : Reading) (reserved : List (List ℕ)) (places : List 
   unlisted level a None y e f = refl
   unlisted level a (Some n) y e f =
       let e : item_in a n ≡ y = cc in
-      node_is level a n ∙ unlisted_own level y (item_in a n) (forest_objects s x reserved places c (level + 1) (item_in a n).is_active (children n)) e f
+      node_is level a n ∙ unlisted_own level y (item_in a n) (listed_objects s x reserved places c (level + 1) (item_in a n).is_active (children n)) e f
 
   -- an item that is not chosen has none
   pub item_unlisted : (u : Unfolding) (level : ℕ) (a : Bool) (i : ℕ) (y : ItemView) → y ∷ [] ≡ item_at u a i → is_chosen c level y.is_active ≡ false
@@ -82,7 +82,7 @@ module _ (s : Source) (x : Reading) (reserved : List (List ℕ)) (places : List 
   pub object_is : (u : Unfolding) (level : ℕ) (is : List ℕ) (y : ItemView) (place : Option ItemPlace) (spot : Option Spot) (members inner : List Data) (d : Data)
       → place ≡ place_of y.id places → spot ≡ option_map (spot_at s.text) place → members ≡ member_objects s.text reserved c level (members_of x place y.is_active)
       → inner ≡ members ++ flat_map (objects_at s x reserved places c u (level + 1) y.is_active) is
-      → d ≡ object_form y.is_active spot (item_entry reserved (header_of x y.id.kind place) y) (items_of inner)
+      → d ≡ entry_object y.is_active spot (item_entry reserved (header_of x y.id.kind place) y) (items_of inner)
       → d ≡ whole_object s x reserved places c level y (place_of y.id places) (flat_map (objects_at s x reserved places c u (level + 1) y.is_active) is)
   object_is u level is y place spot members inner d e f g h k = rw (k, h, g, f, e) refl
 
@@ -94,7 +94,7 @@ pub objects_are : (s : Source) (places : List ItemPlace) (edition : Edition) (p 
 objects_are s places edition p x c u a is none ds h f t g e =
     e ∙ ap (λ xs. xs ++ flat_map (objects_at (file_of p) x (reserved_of p) (places_of p) c u 0 a) is) g
     ∙ ids_objects (file_of p) x (reserved_of p) (places_of p) c u 0 a is u.forest f
-    ∙ ap (λ b. forest_objects (file_of p) x (reserved_of p) (places_of p) c 0 b u.forest) t
+    ∙ ap (λ b. listed_objects (file_of p) x (reserved_of p) (places_of p) c 0 b u.forest) t
     ∙ ap (λ file. tree_objects file x (reserved_of p) (places_of p) c u) (file_is s places edition p h)
     ∙ ap (λ (z : Edition). tree_objects s x z.reserved.items (places_of p) c u) h.1
     ∙ ap (λ ps. tree_objects s x edition.reserved.items ps c u) h.2.1

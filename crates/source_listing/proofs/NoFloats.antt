@@ -23,7 +23,7 @@ use Rattle.source_listing.specs.Uses.{FilePlaces}
 use Rattle.source_listing.specs.Imports.{of_declared, spots_of_any}
 use Rattle.source_listing.specs.Lines.{Choice, Source, is_chosen}
 use Rattle.source_listing.specs.Places.{place_of, spot_at}
-use Rattle.source_listing.specs.Objects.{Entry, ItemView, item_in, name_form, header_form, subject_form, visibility_form, line_form, column_form, range_form, object_form, item_entry, member_entry, member_spot, member_object, member_objects, file_form, whole_object, own_objects, node_objects, forest_objects, tree_objects, problem_objects}
+use Rattle.source_listing.specs.Objects.{Entry, ItemView, item_in, name_form, header_form, subject_form, visibility_form, line_form, column_form, range_form, entry_object, item_entry, member_entry, member_spot, member_object, member_objects, file_form, whole_object, own_objects, node_objects, listed_objects, tree_objects, problem_objects}
 
 -- ---- lists
 
@@ -98,7 +98,7 @@ alias_none reserved (Some alias) = refl
 -- ---- outlines
 
 object_none : (is_active : Bool) (spot : Option Spot) (e : Entry) (ds : Items) → has_float e.id ≡ false → has_float e.name ≡ false → has_float e.path ≡ false → has_float e.visibility ≡ false → items_have_float ds ≡ false
-    → has_float (object_form is_active spot e ds) ≡ false
+    → has_float (entry_object is_active spot e ds) ≡ false
 object_none is_active spot e ds i n p v h = rw (h, column_none spot, i, line_none spot, n, p, range_none spot, v) refl
 
 member_none : (text : List ℕ) (reserved : List (List ℕ)) (m : Listed) → has_float (member_object text reserved m) ≡ false
@@ -120,11 +120,11 @@ module _ (s : Source) (x : Reading) (reserved : List (List ℕ)) (places : List 
   mutual
     node_none : (level : ℕ) (a : Bool) (n : Node) → items_have_float (items_of (node_objects s x reserved places c level a n)) ≡ false
     node_none level a (leaf h l) = own_none level (item_in a (leaf h l)) [] refl
-    node_none level a (parent h t f) = own_none level (item_in a (parent h t f)) (forest_objects s x reserved places c (level + 1) (item_in a (parent h t f)).is_active f) (forest_none (level + 1) (item_in a (parent h t f)).is_active f)
+    node_none level a (parent h t f) = own_none level (item_in a (parent h t f)) (listed_objects s x reserved places c (level + 1) (item_in a (parent h t f)).is_active f) (forest_none (level + 1) (item_in a (parent h t f)).is_active f)
 
-    forest_none : (level : ℕ) (a : Bool) (f : Forest) → items_have_float (items_of (forest_objects s x reserved places c level a f)) ≡ false
+    forest_none : (level : ℕ) (a : Bool) (f : Forest) → items_have_float (items_of (listed_objects s x reserved places c level a f)) ≡ false
     forest_none level a empty = refl
-    forest_none level a (more n f) = both_none (node_objects s x reserved places c level a n) (forest_objects s x reserved places c level a f) (node_none level a n) (forest_none level a f)
+    forest_none level a (more n f) = both_none (node_objects s x reserved places c level a n) (listed_objects s x reserved places c level a f) (node_none level a n) (forest_none level a f)
 
   -- the values of an outline hold no float
   pub no_float_in_outline : (u : Unfolding) → items_have_float (items_of (tree_objects s x reserved places c u)) ≡ false

@@ -1,8 +1,6 @@
 -- What lines are made of, and those of problems.
 use Rattle.std.specs.Prelude.{ℕ, Bool, true, false, not, ◌&&◌, ◌||◌, ◌*◌, ◌==◌, nat_lt, if◌then◌else◌, List, [], ◌++◌, codes, length, replicate, Option, Some, None, option_map}
 use Rattle.std.specs.List.{flat_map}
-use Rattle.hir_input.specs.declared.ids.AstIdKind.{AstIdKind}
-use Rattle.hir_input.specs.declared.ids.AstIdKind.TheVariants as kind
 use Rattle.hir_input.specs.Name.{shown_name}
 use Rattle.hir_input.specs.declared.mod_path.PathKind.{PathKind}
 use Rattle.hir_input.specs.declared.mod_path.PathKind.TheVariants.{Super, Crate}
@@ -14,40 +12,13 @@ use Rattle.item_tree.specs.Page.{shown_visibility}
 use Rattle.item_tree.specs.Tree.{Tree, single, glob, prefixed}
 use Rattle.item_tree.specs.UseText.{shown_prefix, shown_rename}
 use Rattle.tree_walk.specs.Rows.{RowView, Subject, no_subject, used, called}
-use Rattle.line_index.specs.Positions.{position_of}
 use Rattle.rust_items.specs.declared.source_file.ItemPlace.{ItemPlace}
 use Rattle.source_problems.specs.declared.problem.SourceProblem.{SourceProblem}
 use Rattle.source_problems.specs.declared.problem.SourceProblemKind.{SourceProblemKind}
 use Rattle.source_problems.specs.declared.problem.SourceProblemKind.TheVariants as problem
-use Rattle.source_listing.specs.Places.{place_text, stands_at}
-
--- the word of a kind
-abbrev pub word : AstIdKind → List ℕ
-word kind.Const = codes "const"
-word kind.Enum = codes "enum"
-word kind.ExternBlock = codes "extern"
-word kind.ExternCrate = codes "extern crate"
-word kind.Fn = codes "fn"
-word kind.Impl = codes "impl"
-word kind.MacroDef = codes "macro"
-word kind.MacroCall = codes "macro call"
-word kind.MacroRules = codes "macro_rules"
-word kind.Module = codes "mod"
-word kind.Static = codes "static"
-word kind.Struct = codes "struct"
-word kind.Trait = codes "trait"
-word kind.TypeAlias = codes "type"
-word kind.Union = codes "union"
-word kind.Use = codes "use"
-
--- a file: its path as it was given, and its text
-pub record Source : Type 0 where
-  pub path : List ℕ
-  pub text : List ℕ
-
--- file, line and column of a byte of the text
-abbrev pub place_at : Source → ℕ → List ℕ
-place_at s at = place_text s.path (position_of s.text at)
+pub use Rattle.source_rows.specs.Labels.{item_word}
+pub use Rattle.source_rows.specs.Sources.{Source, place_at}
+use Rattle.source_listing.specs.Places.{stands_at}
 
 -- where something stands in a file; all has a place
 abbrev pub at_text : Source → Option ℕ → List ℕ

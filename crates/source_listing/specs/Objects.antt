@@ -12,6 +12,7 @@ use Rattle.item_tree.specs.declared.visibility.VisibilityExplicitness.TheVariant
 use Rattle.item_tree.specs.Node.{Node, leaf, parent, Forest, empty, more, node_ast, Unfolding}
 use Rattle.def_collector.specs.Declarations.{node_name, node_visibility}
 use Rattle.tree_walk.specs.Rows.{Subject, no_subject, used, called, node_subject, is_enabled, is_file_enabled}
+pub use Rattle.tree_walk.specs.Objects.{name_form}
 use Rattle.line_index.specs.declared.Position.{Position}
 use Rattle.line_index.specs.Positions.{position_of}
 use Rattle.rust_items.specs.declared.log.Problem.{Problem}
@@ -21,7 +22,7 @@ use Rattle.source_rows.specs.Listed.{Listed, Reading, header_of, members_of}
 use Rattle.source_problems.specs.declared.problem.SourceProblemKind.{SourceProblemKind}
 use Rattle.source_problems.specs.Problems.{told_kind}
 use Rattle.source_listing.specs.declared.finder.Spot.{Spot}
-use Rattle.source_listing.specs.Lines.{Choice, Source, is_chosen, message, short_tree, visible_in, word}
+use Rattle.source_listing.specs.Lines.{Choice, Source, is_chosen, message, short_tree, visible_in, item_word}
 use Rattle.source_listing.specs.Places.{place_of, spot_at}
 
 -- an item, and whether no cfg disables it, nor an item that it stands in, nor the file
@@ -39,10 +40,6 @@ item_in is_active n = record { id = node_ast n; name = node_name n; subject = no
 
 abbrev pub count_form : ℕ → Data
 count_form n = number (unsigned n)
-
-abbrev pub name_form : Option (List ℕ) → Data
-name_form None = null
-name_form (Some name) = string name
 
 -- the header of an impl; other items have none
 abbrev pub header_form : List ℕ → Data
@@ -89,7 +86,7 @@ pub record Entry : Type 0 where
 abbrev pub item_entry : List (List ℕ) → List ℕ → ItemView → Entry
 item_entry reserved header i = record {
   id = string (shown_id i.id);
-  kind = word i.id.kind;
+  kind = item_word i.id.kind;
   name = name_form i.name;
   path = subject_form reserved header i.subject;
   visibility = visibility_form reserved i.visibility;
@@ -106,8 +103,8 @@ member_entry reserved m = record {
 }
 
 -- the object of what stands there, which a cfg disables or not, around others; the members of an object are in the order of their keys
-abbrev pub object_form : Bool → Option Spot → Entry → Items → Data
-object_form is_active spot e inner =
+abbrev pub entry_object : Bool → Option Spot → Entry → Items → Data
+entry_object is_active spot e inner =
     object
     (member (codes "active") (boolean is_active)
     (member (codes "children") (array inner)
@@ -125,7 +122,7 @@ abbrev pub member_spot : List ℕ → Listed → Spot
 member_spot text m = record { position = position_of text m.at; range = m.range }
 
 abbrev pub member_object : List ℕ → List (List ℕ) → Listed → Data
-member_object text reserved m = object_form m.is_active (Some (member_spot text m)) (member_entry reserved m) no_items
+member_object text reserved m = entry_object m.is_active (Some (member_spot text m)) (member_entry reserved m) no_items
 
 -- the objects of the listed members of an item in so many others
 abbrev pub member_objects : List ℕ → List (List ℕ) → Choice → ℕ → List Listed → List Data
@@ -138,7 +135,7 @@ module _ (s : Source) (x : Reading) (reserved : List (List ℕ)) (places : List 
   -- the object of an item that stands there, around those of its listed members and then these
   abbrev pub whole_object : ℕ → ItemView → Option ItemPlace → List Data → Data
   whole_object level i place inner =
-      object_form i.is_active (option_map (spot_at s.text) place) (item_entry reserved (header_of x i.id.kind place) i)
+      entry_object i.is_active (option_map (spot_at s.text) place) (item_entry reserved (header_of x i.id.kind place) i)
       (items_of (member_objects s.text reserved c level (members_of x place i.is_active) ++ inner))
 
   -- the same by its id, if it is listed; what stands in an item that is not listed is not listed either
@@ -150,15 +147,15 @@ module _ (s : Source) (x : Reading) (reserved : List (List ℕ)) (places : List 
     pub node_objects : ℕ → Bool → Node → List Data
     node_objects level is_active (leaf h l) = own_objects level (item_in is_active (leaf h l)) []
     node_objects level is_active (parent h t f) =
-        own_objects level (item_in is_active (parent h t f)) (forest_objects (level + 1) (item_in is_active (parent h t f)).is_active f)
+        own_objects level (item_in is_active (parent h t f)) (listed_objects (level + 1) (item_in is_active (parent h t f)).is_active f)
 
-    pub forest_objects : ℕ → Bool → Forest → List Data
-    forest_objects level is_active empty = []
-    forest_objects level is_active (more n f) = node_objects level is_active n ++ forest_objects level is_active f
+    pub listed_objects : ℕ → Bool → Forest → List Data
+    listed_objects level is_active empty = []
+    listed_objects level is_active (more n f) = node_objects level is_active n ++ listed_objects level is_active f
 
   -- those of a whole tree
   abbrev pub tree_objects : Unfolding → List Data
-  tree_objects u = forest_objects 0 (is_file_enabled u) u.forest
+  tree_objects u = listed_objects 0 (is_file_enabled u) u.forest
 
   -- the object of a file, on one line
   abbrev pub json_line : Unfolding → List ℕ

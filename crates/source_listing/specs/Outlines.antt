@@ -8,7 +8,7 @@ use Rattle.rust_items.specs.declared.source_file.ItemPlace.{ItemPlace}
 use Rattle.source_rows.specs.Labels.{member_word}
 use Rattle.source_rows.specs.Listed.{Listed, Reading, header_of, members_of}
 use Rattle.source_listing.specs.Colors.{bold, colored, cyan, faint}
-use Rattle.source_listing.specs.Lines.{Choice, Source, indent, is_chosen, is_listed, line_end, name_text, place_at, stand_text, subject_text, visibility_text, word}
+use Rattle.source_listing.specs.Lines.{Choice, Source, indent, is_chosen, is_listed, line_end, name_text, place_at, stand_text, subject_text, visibility_text, item_word}
 use Rattle.source_listing.specs.Places.{place_of}
 
 -- where the headers and the members of a file are read
@@ -32,7 +32,7 @@ title reserved header name subject = header_text header ++ name_text reserved na
 -- the line of an item: its place, four blanks for each item that it stands in, its visibility, the word of its kind, its title, and whether a cfg disables it
 abbrev pub item_line : Source → List (List ℕ) → Bool → Option ItemPlace → List ℕ → RowView → List ℕ
 item_line s reserved is_colored place header r =
-    colored is_colored faint (stand_text s place) ++ indent r.level ++ visibility_text reserved r.visibility ++ colored is_colored cyan (word r.id.kind)
+    colored is_colored faint (stand_text s place) ++ indent r.level ++ visibility_text reserved r.visibility ++ colored is_colored cyan (item_word r.id.kind)
     ++ colored is_colored bold (title reserved header r.name r.subject) ++ line_end r.is_active
 
 -- the line of a member of an item in so many others, one level deeper; its title is its name alone

@@ -1,9 +1,9 @@
 -- Where an item stands, by its id.
-use Rattle.std.specs.Prelude.{◌≢◌, ℕ, Bool, ◌==◌, ◌&&◌, if◌then◌else◌, List, [], ◌∷◌, ◌++◌, codes, decimal, Option, Some, None}
+use Rattle.std.specs.Prelude.{◌≢◌, ℕ, Bool, ◌==◌, ◌&&◌, if◌then◌else◌, List, [], ◌∷◌, ◌++◌, codes, Option, Some, None}
 use Rattle.std.specs.List.{AllPairs}
 use Rattle.hir_input.specs.declared.ids.FileAstId.{FileAstId}
-use Rattle.line_index.specs.declared.Position.{Position}
 use Rattle.line_index.specs.Positions.{position_of}
+use Rattle.source_rows.specs.Sources.{place_text}
 use Rattle.rust_ids.specs.Ids.{kind_place}
 use Rattle.rust_paths.specs.declared.names.TextRange.{TextRange}
 use Rattle.rust_items.specs.declared.source_file.ItemPlace.{ItemPlace}
@@ -34,11 +34,7 @@ stands_at p = at_name p.name p.range.start
 abbrev pub spot_at : List ℕ → ItemPlace → Spot
 spot_at text p = record { position = position_of text (stands_at p); range = p.range }
 
--- what an editor and a compiler write of a place: the file, the line and the column
-abbrev pub place_text : List ℕ → Position → List ℕ
-place_text path p = path ++ codes ":" ++ decimal p.line ++ codes ":" ++ decimal p.column ++ codes ": "
-
--- the same of an item; each has a place
+-- what an editor and a compiler write of the place of an item; each has a place
 abbrev pub item_place : List ℕ → Option Spot → List ℕ
 item_place path None = path ++ codes ": "
 item_place path (Some spot) = place_text path spot.position

@@ -7,7 +7,7 @@ use Rattle.tree_walk.specs.Rows.{RowView}
 use Rattle.source_rows.specs.Listed.{Listed, Reading, members_of, type_name_of}
 use Rattle.rust_items.specs.declared.source_file.ItemPlace.{ItemPlace}
 use Rattle.source_rows.specs.Labels.{member_word}
-use Rattle.source_listing.specs.Lines.{Source, at_text, name_text, word}
+use Rattle.source_listing.specs.Lines.{Source, at_text, name_text, item_word}
 use Rattle.source_listing.specs.Places.{place_of, stands_at}
 
 -- what is looked for: names with two colons before each, from the top on or anywhere, with or without what a cfg disables
@@ -54,7 +54,7 @@ found_text s reserved at word name = at_text s at ++ word ++ name_text reserved 
 
 -- those of an item
 abbrev pub found_line : Source → List (List ℕ) → Option ItemPlace → RowView → List ℕ
-found_line s reserved place r = found_text s reserved (option_map stands_at place) (word r.id.kind) r.name
+found_line s reserved place r = found_text s reserved (option_map stands_at place) (item_word r.id.kind) r.name
 
 abbrev pub if_found : Source → List (List ℕ) → Query → Option ItemPlace → RowView → List ℕ
 if_found s reserved q place r = if is_found q r then found_line s reserved place r else []

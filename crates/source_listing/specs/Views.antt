@@ -1,20 +1,16 @@
 -- What the code holds, as plain data.
 use Rattle.std.specs.Prelude.{string_bytes}
-use Rattle.source_listing.specs.declared.lines.Source as code_source
+pub use Rattle.source_rows.specs.Views.{source_view}
 use Rattle.source_listing.specs.declared.lines.Choice as code_choice
 use Rattle.source_listing.specs.declared.search.Query as code_query
 use Rattle.source_listing.specs.declared.sought.SoughtPath as code_sought
 use Rattle.source_listing.specs.Sought.{Sought}
-use Rattle.source_listing.specs.Lines.{Source, Choice}
+use Rattle.source_listing.specs.Lines.{Choice}
 use Rattle.source_listing.specs.declared.outlines.Look as code_look
 use Rattle.source_listing.specs.Outlines.{Look}
 use Rattle.source_listing.specs.Search.{Query}
 use Rattle.source_listing.specs.declared.changed.Side as code_side
 use Rattle.source_listing.specs.Changed.{Side}
-
--- a file as plain data
-abbrev pub source_view : code_source.Source → Source
-source_view s = record { path = s.path.now; text = s.text.now }
 
 -- a choice of items as plain data
 abbrev pub choice_view : code_choice.Choice → Choice

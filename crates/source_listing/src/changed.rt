@@ -7,12 +7,13 @@ ghost use Rattle.source_listing.specs.Inner.{IsSameFile, places_of, reserved_of,
 ghost use Rattle.source_listing.specs.Places.{AreDistinct};
 ghost use Rattle.source_listing.specs.Views.{side_view};
 
-use crate::lines::{Printer, Source, push_name, word};
+use crate::lines::{Printer, push_name};
 use crate::subjects::push_subject;
 use hir_input::Edition;
-use item_changes::{Change, ChangeKind, changes};
+use item_changes::{Change, ChangeKind, change_word, changes};
 use item_tree::ItemTree;
 use rust_items::ItemPlace;
+use source_rows::{Source, item_word};
 use std::alloc::{AllocError, Global};
 
 /// A file, with the places of its items, which the reader gave, and its tree.
@@ -21,16 +22,6 @@ pub struct Side<'a> {
     pub source: Source<'a>,
     pub places: &'a [ItemPlace],
     pub tree: &'a ItemTree,
-}
-
-fn change_word(kind: ChangeKind) -> &'static str
-    ensures { result.now ≡ spec.change_word kind }
-{
-    match kind {
-        ChangeKind::Removed => "removed ",
-        ChangeKind::Added => "added ",
-        ChangeKind::Changed => "changed ",
-    }
 }
 
 impl Printer<'_> {
@@ -43,7 +34,7 @@ impl Printer<'_> {
     {
         self.push_place_of(change.row.id, out)?;
         out.push_str(change_word(change.kind))?;
-        out.push_str(word(change.row.id.kind))?;
+        out.push_str(item_word(change.row.id.kind))?;
         push_name(self.edition, change.row.name, out)?;
         push_subject(self.edition, change.row.subject, out)?;
         out.push_str("\n")

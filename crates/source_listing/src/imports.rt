@@ -11,12 +11,13 @@ ghost use Rattle.source_listing.specs.Places.{AreDistinct};
 ghost use Rattle.source_listing.specs.Uses.{placed, tree_spots};
 ghost use Rattle.source_listing.specs.Views.{source_view};
 
-use crate::lines::{Source, push_spot};
+use crate::lines::push_spot;
 use crate::uses::{TreeFinder, UseTrees};
 use def_collector::{Declaration, Declares, Listed, collect};
 use hir_input::Edition;
 use item_tree::{ImportAlias, ImportKind, ItemTree};
 use rust_items::ItemPlace;
+use source_rows::Source;
 use std::alloc::{AllocError, Global};
 
 pub(crate) fn push_rename(

@@ -16,7 +16,7 @@ ghost use Rattle.source_listing.specs.Places.{AreDistinct, place_of, spot_at};
 ghost use Rattle.source_listing.specs.Views.{choice_view, source_view};
 
 use crate::finder::Spot;
-use crate::lines::{Choice, Printer, Source, push_visible_in, word};
+use crate::lines::{Choice, Printer, push_visible_in};
 use crate::subjects::push_short_tree;
 use def_collector::{name_at, visibility_at};
 use hir_input::{CfgOptions, Edition, FileAstId, Name};
@@ -24,7 +24,7 @@ use item_tree::{ItemTree, ModItemId, RawVisibility, VisibilityExplicitness};
 use json_object::{Members, of_text, with};
 use rust_items::ItemPlace;
 use serde_json::{Map, Value, put};
-use source_rows::{ListedMember, Reading, member_word};
+use source_rows::{ListedMember, Reading, Source, item_word, member_word};
 use std::alloc::{AllocError, Global};
 use tree_walk::{Subject, children, is_enabled, is_file_enabled, subject_at};
 
@@ -211,7 +211,7 @@ fn put_item(
     put(members, alloc, "path", path)?;
     let name = name_value(alloc, item.name)?;
     put(members, alloc, "name", name)?;
-    put_text(alloc, "kind", word(item.id.kind), members)?;
+    put_text(alloc, "kind", item_word(item.id.kind), members)?;
     let id = item.id.to_string(alloc)?;
     put(members, alloc, "id", Value::String(id))
 }
@@ -359,7 +359,7 @@ fn item_object(
 ) -> Result<Value, AllocError>
     ensures { let header = header_of (reading_view reading.entry) item.now.id.kind stand.place in
         let entry = spec.item_entry edition.now.reserved.items header (item_view item.now) in
-        IfOk result (λ object. view object ≡ spec.object_form item.now.is_active stand.spot entry (items_view inner.items)) }
+        IfOk result (λ object. view object ≡ spec.entry_object item.now.is_active stand.spot entry (items_view inner.items)) }
 {
     let header = reading.header(alloc, item.id.kind, stand.place)?;
     let mut members = Map::new(alloc);

@@ -5,7 +5,7 @@ ghost use Rattle.rust_cursor.specs.Tokens.{Tokens};
 ghost use Rattle.source_listing.specs.Told.{AreToldFor};
 
 use crate::changed::Side;
-use crate::lines::{Choice, Source};
+use crate::lines::Choice;
 use crate::outlines::Look;
 use crate::search::Query;
 
@@ -19,6 +19,5 @@ fn copies()
     ensures choices { IsCopied ⟦<Choice as Clone>⟧.is_clone }
     ensures looks { IsCopied ⟦<Look as Clone>⟧.is_clone }
     ensures queries { IsCopied ⟦<Query<'static> as Clone>⟧.is_clone }
-    ensures sources { IsCopied ⟦<Source<'static> as Clone>⟧.is_clone }
     ensures sides { IsCopied ⟦<Side<'static> as Clone>⟧.is_clone }
 {}

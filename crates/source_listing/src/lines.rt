@@ -3,24 +3,16 @@ ghost use Rattle.std.specs.Prelude.{◌≡◌, ◌+◌, ◌++◌, OnOk, option_c
 ghost use Rattle.tree_walk.specs.Views.{row_view};
 ghost use Rattle.source_listing.specs.Inner.{IsPrinterOf, IsSameFile, file_of, places_of, reserved_of};
 ghost use Rattle.source_listing.specs.Lines as spec;
-ghost use Rattle.source_listing.specs.Places.{AreDistinct, item_place, place_of, place_text};
+ghost use Rattle.source_listing.specs.Places.{AreDistinct, item_place, place_of};
 ghost use Rattle.source_listing.specs.Views.{choice_view, source_view};
 
 use crate::finder::{Finder, Spot, stand_of};
-use crate::subjects::push_subject;
-use hir_input::{AstIdKind, Edition, FileAstId, ModPath, Name, PathKind};
+use hir_input::{Edition, FileAstId, ModPath, Name, PathKind};
 use item_tree::{RawVisibility, VisibilityExplicitness};
-use line_index::Position;
 use rust_items::ItemPlace;
+use source_rows::{Source, push_place};
 use std::alloc::AllocError;
 use tree_walk::Row;
-
-/// A file: its path as it is to be written, and its text.
-#[derive(Clone, Copy)]
-pub struct Source<'a> {
-    pub path: &'a str,
-    pub text: &'a str,
-}
 
 /// Which items are listed.
 #[derive(Clone, Copy, Debug)]
@@ -61,16 +53,7 @@ impl Choice {
     }
 }
 
-/// File, line and column, as compilers write them.
-pub(crate) fn push_place(path: &str, position: Position, out: &mut String) -> Result<(), AllocError>
-    ensures { OnOk result (string_bytes out.new ≡ string_bytes out.old
-        ++ place_text path.now position) }
-{
-    let (line, column) = (position.line, position.column);
-    write!(out, "{path}:{line}:{column}: ")
-}
-
-/// The same of what stands in a file.
+/// File, line and column of what stands in a file, as compilers write them.
 pub(crate) fn push_spot(path: &str, spot: Option<Spot>, out: &mut String) -> Result<(), AllocError>
     ensures { OnOk result (string_bytes out.new ≡ string_bytes out.old
         ++ item_place path.now spot) }
@@ -81,30 +64,6 @@ pub(crate) fn push_spot(path: &str, spot: Option<Spot>, out: &mut String) -> Res
             out.push_str(path)?;
             out.push_str(": ")
         }
-    }
-}
-
-/// The word of a kind.
-pub(crate) fn word(kind: AstIdKind) -> &'static str
-    ensures { result.now ≡ spec.word kind }
-{
-    match kind {
-        AstIdKind::Const => "const",
-        AstIdKind::Enum => "enum",
-        AstIdKind::ExternBlock => "extern",
-        AstIdKind::ExternCrate => "extern crate",
-        AstIdKind::Fn => "fn",
-        AstIdKind::Impl => "impl",
-        AstIdKind::MacroDef => "macro",
-        AstIdKind::MacroCall => "macro call",
-        AstIdKind::MacroRules => "macro_rules",
-        AstIdKind::Module => "mod",
-        AstIdKind::Static => "static",
-        AstIdKind::Struct => "struct",
-        AstIdKind::Trait => "trait",
-        AstIdKind::TypeAlias => "type",
-        AstIdKind::Union => "union",
-        AstIdKind::Use => "use",
     }
 }
 

@@ -12,14 +12,12 @@ ghost use Rattle.source_listing.specs.Views.{look_view, source_view};
 
 use crate::colors::{BOLD, CYAN, FAINT, USUAL, push_color, push_colored};
 use crate::finder::stand_of;
-use crate::lines::{
-    Choice, Printer, Source, push_end, push_indent, push_name, push_visibility, word,
-};
+use crate::lines::{Choice, Printer, push_end, push_indent, push_name, push_visibility};
 use crate::subjects::push_subject;
 use hir_input::{CfgOptions, Edition, Name};
 use item_tree::ItemTree;
 use rust_items::ItemPlace;
-use source_rows::{ListedMember, Reading, member_word};
+use source_rows::{ListedMember, Reading, Source, item_word, member_word};
 use std::alloc::{AllocError, Global};
 use tree_walk::{Row, Subject, item_rows};
 
@@ -100,7 +98,7 @@ impl Printer<'_> {
     {
         self.push_head(is_colored, stand_of(place), row.level, out)?;
         push_visibility(self.edition, row.visibility, out)?;
-        push_colored(is_colored, CYAN, word(row.id.kind), out)?;
+        push_colored(is_colored, CYAN, item_word(row.id.kind), out)?;
         push_title(is_colored, self.edition, header, row.name, row.subject, out)?;
         push_end(row.is_active, out)
     }

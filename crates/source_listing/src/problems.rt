@@ -5,12 +5,12 @@ ghost use Rattle.source_listing.specs.Lines as spec;
 ghost use Rattle.source_listing.specs.Objects.{problem_at, problem_objects};
 ghost use Rattle.source_listing.specs.Views.{source_view};
 
-use crate::lines::{Source, push_place};
 use json_object::{of_text, with};
 use line_index::{LineIndex, Position};
 use rust_items::Problem;
 use serde_json::Value;
 use source_problems::{SourceProblem, SourceProblemKind};
+use source_rows::{Source, push_place};
 use std::alloc::{AllocError, Global};
 
 /// What is wrong, in words.

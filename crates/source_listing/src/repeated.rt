@@ -13,12 +13,13 @@ ghost use Rattle.source_listing.specs.Views.{source_view};
 
 use crate::finder::Spot;
 use crate::imports::push_import_text;
-use crate::lines::{Source, push_spot};
+use crate::lines::push_spot;
 use crate::uses::{TreeFinder, UseTrees};
 use def_collector::{Listed, list_imports};
 use hir_input::{Edition, FileAstId};
 use item_tree::{ItemTree, ModItemId, ModItemKind};
 use rust_items::ItemPlace;
+use source_rows::Source;
 use std::alloc::{AllocError, Global};
 use std::collections::HashMap;
 use tree_walk::children;

@@ -12,11 +12,11 @@ ghost use Rattle.source_listing.specs.Places.{AreDistinct};
 ghost use Rattle.source_listing.specs.Views.{query_view, source_view};
 
 use crate::finder::stand_of;
-use crate::lines::{Printer, Source, push_name, word};
+use crate::lines::{Printer, push_name};
 use hir_input::{CfgOptions, Edition, Name};
 use item_tree::ItemTree;
 use rust_items::ItemPlace;
-use source_rows::{ListedMember, Reading, member_word};
+use source_rows::{ListedMember, Reading, Source, item_word, member_word};
 use std::alloc::{AllocError, Global};
 use tree_walk::{Row, item_rows};
 
@@ -175,7 +175,7 @@ impl Printer<'_> {
         if !query.finds(alloc, row)? {
             return Ok(());
         }
-        self.push_found(stand_of(place), word(row.id.kind), row.name, out)
+        self.push_found(stand_of(place), item_word(row.id.kind), row.name, out)
     }
 
     /// The line of a member, if that is looked for.

@@ -5,7 +5,7 @@ use Rattle.serde_json.specs.View.{items_of, view}
 use Rattle.source_rows.specs.Listed.{header_of, members_of}
 use Rattle.source_rows.specs.ListedViews.{reading_view}
 use Rattle.source_listing.specs.Inner.{file_of, item_view, objects_at, places_of, reserved_of}
-use Rattle.source_listing.specs.Objects.{item_entry, member_objects, object_form}
+use Rattle.source_listing.specs.Objects.{item_entry, member_objects, entry_object}
 use Rattle.source_listing.specs.Views.{choice_view}
 use Rattle.source_listing.proofs.Nested.{object_adds, object_is}
 use Rattle.source_listing.proofs.Printers.{Setting, same_through, setting_same}
@@ -31,7 +31,7 @@ push_object-returns-clause-objects t c =
     let are_inner = c.in_ok-push_objects.ensures.objects
     ∙ ap (λ (t : Setting). members ++ flat_map (objects_at t.file x t.reserved t.places choice u (level + 1) y.is_active) is) (setting_same p c.member_values.new.printer behind) in
     let is_object = c.in_ok-object.ensures
-    ∙ ap (λ (t : Setting). object_form y.is_active spot (item_entry t.reserved (header_of x y.id.kind place) y) (items_of inner)) (setting_same p c.push_objects.new.printer last) in
+    ∙ ap (λ (t : Setting). entry_object y.is_active spot (item_entry t.reserved (header_of x y.id.kind place) y) (items_of inner)) (setting_same p c.push_objects.new.printer last) in
     object_adds (file_of p) x (reserved_of p) (places_of p) choice u level c.args.around.is_active c.args.id is y (view c.in_ok-object.object) (map view c.args.out.now.items) (map view c.push.new.self.items)
     c.item_of-item.ensures c.children-ids.ensures.stand (search rules)
     (object_is (file_of p) x (reserved_of p) (places_of p) choice u level is y place spot members inner (view c.in_ok-object.object) c.stand-stand.ensures.place c.stand-stand.ensures.spot are_members are_inner is_object)

@@ -18,6 +18,6 @@ returns-clause-text c =
     let colors = c.args.is_colored in
     let head = c.in_ok-push_head.ensures.text ∙ ap (λ at. out ++ colored colors faint (spec.at_text file at) ++ spec.indent row.level) c.stand_of.ensures in
     on_ok_weaker c.push_end.result (line_pushed out (colored colors faint (spec.stand_text file c.args.place)) (spec.indent row.level) (spec.visibility_text reserved (option_copied row.visibility))
-    (colored colors cyan (spec.word row.id.kind)) (colored colors bold (title reserved c.args.header.now (option_copied row.name) (subject_view row.subject))) _
+    (colored colors cyan (spec.item_word row.id.kind)) (colored colors bold (title reserved c.args.header.now (option_copied row.name) (subject_view row.subject))) _
     (string_bytes c.push_head.new.out) (string_bytes c.push_visibility.new.out) (string_bytes c.push_colored.new.out) (string_bytes c.push_title.new.out) (string_bytes c.push_end.new.out)
     head (search rules) (search rules) (search rules)) c.push_end.ensures
