@@ -2,11 +2,10 @@
 use Rattle.std.specs.Prelude.{ℕ, Bool, ◌+◌, ◌/◌, ◌%◌, ◌==◌, ◌||◌, nat_lt, if◌then◌else◌, List, [], ◌∷◌, ◌++◌, codes, decimal, encode_utf8, filter, Option, Some, None, option_map, option_to_list}
 use Rattle.std.specs.List.{flat_map}
 use Rattle.std.specs.Str.{chars}
-use Rattle.hir_input.specs.declared.ids.AstIdKind.{AstIdKind}
-use Rattle.hir_input.specs.declared.ids.AstIdKind.TheVariants as kind
 use Rattle.hir_input.specs.Id.{hex_digit}
 use Rattle.tree_walk.specs.Rows.{RowView}
 use Rattle.line_index.specs.Positions.{position_of}
+use Rattle.source_rows.specs.Labels.{kind_texts}
 use Rattle.source_rows.specs.Listed.{Listed, Reading, members_of}
 use Rattle.rust_items.specs.declared.source_file.ItemPlace.{ItemPlace}
 use Rattle.rust_members.specs.declared.member.MemberKind.{MemberKind}
@@ -15,22 +14,7 @@ use Rattle.source_listing.specs.Lines.{Choice, is_chosen, is_listed}
 use Rattle.source_listing.specs.Places.{place_of, stands_at}
 use Rattle.source_listing.specs.Search.{holder, segment}
 
--- the letter of a kind, as Universal Ctags has it; items of the other kinds have no tag
-abbrev pub letter : AstIdKind → Option (List ℕ)
-letter kind.Const = Some (codes "C")
-letter kind.Enum = Some (codes "g")
-letter kind.Fn = Some (codes "f")
-letter kind.MacroDef = Some (codes "M")
-letter kind.MacroRules = Some (codes "M")
-letter kind.Module = Some (codes "n")
-letter kind.Static = Some (codes "v")
-letter kind.Struct = Some (codes "s")
-letter kind.Trait = Some (codes "i")
-letter kind.TypeAlias = Some (codes "t")
-letter kind.Union = Some (codes "s")
-letter _ = None
-
--- the same of a member; constants, which Universal Ctags passes over, have that of items
+-- the letter of a member's kind; constants, which Universal Ctags passes over, have that of items
 abbrev pub member_letter : MemberKind → Option (List ℕ)
 member_letter member.Function = Some (codes "P")
 member_letter member.Constant = Some (codes "C")
@@ -39,13 +23,9 @@ member_letter member.MacroCall = None
 member_letter member.Variant = Some (codes "e")
 member_letter member.Field = Some (codes "m")
 
--- what members stand in, if that has a name; without one they stand in modules alone
-abbrev pub scope_word : AstIdKind → Option (List ℕ) → List ℕ
-scope_word kind.Enum (Some name) = codes "enum"
-scope_word kind.Impl (Some name) = codes "implementation"
-scope_word kind.Struct (Some name) = codes "struct"
-scope_word kind.Trait (Some name) = codes "interface"
-scope_word kind.Union (Some name) = codes "struct"
+-- what members stand in, if that has a name, is called by this word; without one they stand in modules alone
+abbrev pub scope_word : Option (List ℕ) → Option (List ℕ) → List ℕ
+scope_word (Some name) (Some word) = word
 scope_word _ _ = codes "module"
 
 -- what a tag stands in: the word for the innermost, and the names from the outermost on
@@ -83,12 +63,12 @@ tag_of path scope _ _ _ = None
 
 -- an item has a tag if it has a name, and its kind a letter; the path of the file is written so
 abbrev pub tag : List ℕ → List ℕ → Option ItemPlace → RowView → Option (List ℕ)
-tag path text place r = tag_of path r.scope r.name (letter r.id.kind) (option_map (λ p. line_at text (stands_at p)) place)
+tag path text place r = tag_of path r.scope r.name (kind_texts r.id.kind).letter (option_map (λ p. line_at text (stands_at p)) place)
 
 -- a member of an item, which is called so for its members, has one if its kind has a letter
 abbrev pub member_tag : List ℕ → List ℕ → RowView → Option (List ℕ) → Listed → Option (List ℕ)
 member_tag path text r name m =
-    option_map (λ l. tag_text m.name path (line_at text m.at) l (scope_word r.id.kind name) (r.scope ++ option_to_list name)) (member_letter m.kind)
+    option_map (λ l. tag_text m.name path (line_at text m.at) l (scope_word name (kind_texts r.id.kind).scope) (r.scope ++ option_to_list name)) (member_letter m.kind)
 
 abbrev pub if_any : Option (List ℕ) → List (List ℕ)
 if_any None = []

@@ -3,6 +3,7 @@ ghost use Rattle.std.specs.Prelude.{◌≡◌, ◌<◌, ◌++◌, ◌∷◌, [],
 ghost use Rattle.hir_input.specs.Id.{hex_digit as hex_digit_of};
 ghost use Rattle.tree_walk.specs.Rows as rows;
 ghost use Rattle.tree_walk.specs.Views.{row_view};
+ghost use Rattle.source_rows.specs.Labels.{kind_texts};
 ghost use Rattle.source_rows.specs.ListedViews.{listed_view, reading_view};
 ghost use Rattle.source_listing.specs.Ends.{IsBeginOf};
 ghost use Rattle.source_listing.specs.Inner.{IsSameFinder};
@@ -17,31 +18,9 @@ use hir_input::{AstIdKind, Name};
 use item_tree::ItemTree;
 use rust_items::ItemPlace;
 use rust_members::MemberKind;
-use source_rows::{ListedMember, Reading};
+use source_rows::{ListedMember, Reading, kind_texts};
 use std::alloc::{AllocError, Global};
 use tree_walk::{Row, item_rows};
-
-/// The letter of a kind.
-fn letter(kind: AstIdKind) -> Option<&'static str>
-    ensures { option_map (λ s. s.now) result ≡ spec.letter kind }
-{
-    match kind {
-        AstIdKind::Const => Some("C"),
-        AstIdKind::Enum => Some("g"),
-        AstIdKind::Fn => Some("f"),
-        AstIdKind::MacroDef | AstIdKind::MacroRules => Some("M"),
-        AstIdKind::Module => Some("n"),
-        AstIdKind::Static => Some("v"),
-        AstIdKind::Struct | AstIdKind::Union => Some("s"),
-        AstIdKind::Trait => Some("i"),
-        AstIdKind::TypeAlias => Some("t"),
-        AstIdKind::ExternBlock
-        | AstIdKind::ExternCrate
-        | AstIdKind::Impl
-        | AstIdKind::MacroCall
-        | AstIdKind::Use => None,
-    }
-}
 
 /// The letter of a member's kind.
 fn member_letter(kind: MemberKind) -> Option<&'static str>
@@ -57,16 +36,16 @@ fn member_letter(kind: MemberKind) -> Option<&'static str>
     }
 }
 
-/// The word for what members stand in.
+/// The word for what members of an item stand in.
 fn scope_word(kind: AstIdKind, name: Option<&Name>) -> &'static str
-    ensures { result.now ≡ spec.scope_word kind (option_copied name.entry) }
+    ensures { result.now ≡ spec.scope_word (option_copied name.entry) (kind_texts kind).scope }
 {
-    match (kind, name) {
-        (AstIdKind::Enum, Some(_)) => "enum",
-        (AstIdKind::Impl, Some(_)) => "implementation",
-        (AstIdKind::Struct | AstIdKind::Union, Some(_)) => "struct",
-        (AstIdKind::Trait, Some(_)) => "interface",
-        _ => "module",
+    match name {
+        None => "module",
+        Some(_) => match kind_texts(kind).scope {
+            Some(word) => word,
+            None => "module",
+        },
     }
 }
 
@@ -180,7 +159,7 @@ fn tag(
     let Some(name) = row.name else {
         return Ok(None);
     };
-    let Some(letter) = letter(row.id.kind) else {
+    let Some(letter) = kind_texts(row.id.kind).letter else {
         return Ok(None);
     };
     let Some(place) = place else {
