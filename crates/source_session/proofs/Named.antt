@@ -1,10 +1,9 @@
 -- Crates that lines name, and values without floats.
-use Rattle.std.proofs.Common.{◌≡◌, ℕ, ◌+◌, ◌<◌, suc, true, false, ◌||◌, List, [], ◌∷◌, ◌++◌, Option, Some, None, All, Result, Ok, Err, IfOk, length, map, filter, take, get_or, refl, sym, ap, subst, ◌∙◌, arith}
+use Rattle.std.proofs.Common.{◌≡◌, ℕ, ◌+◌, ◌<◌, suc, true, false, ◌||◌, List, [], ◌∷◌, ◌++◌, Option, Some, None, All, length, map, filter, take, get_or, refl, sym, ap, subst, ◌∙◌, arith}
 use Rattle.std.proofs.lemmas.List.{take_more}
 use Rattle.std.specs.List.{AllByRecursion, AllZip}
 use Rattle.serde_json.specs.Data.{Data}
-use Rattle.serde_json.specs.View.{items_of}
-use Rattle.serde_json.specs.Written.{has_float, items_have_float}
+use Rattle.serde_json.specs.Written.{has_float}
 use Rattle.hir_input.specs.declared.ids.Crate.{Crate}
 use Rattle.hir_input.specs.declared.ids.HirFileId.{HirFileId}
 use Rattle.hir_input.specs.declared.ids.FileAstId.{FileAstId}
@@ -24,12 +23,13 @@ use Rattle.decl_index.specs.declared.entry.Entry.{Entry}
 use Rattle.rust_items.specs.declared.source_file.ItemPlace.{ItemPlace}
 use Rattle.source_listing.specs.Outlines.{reading}
 use Rattle.source_listing.proofs.NoFloats.{no_float_in_outline, no_float_in_imports, no_float_in_problems}
-use Rattle.source_session.specs.Files.{CrateFiles}
-use Rattle.source_session.specs.Found.{ast_of, found_form, found_in, id_form, in_file, place_by_id, IsFound}
+use Rattle.source_session.specs.declared.show.LineShow.{LineShow}
+use Rattle.source_session.specs.declared.show.LineShow.TheVariants.{Table, Outline, TreeItems, ImportPlaces, Changes, Problems, Find}
+use Rattle.source_session.specs.Found.{ast_of, found_form, found_in, id_form, in_file, place_by_id}
 use Rattle.source_session.specs.Inner.{AreUnfloating, Knowing}
 use Rattle.source_session.specs.Sessions.{Session}
-use Rattle.source_session.specs.Shown.{all_items, change_form, change_with, imports_form, item_objects, items_member, outline_form, pathless, problems_form, tree_form, tree_of, AreChangeValues, IsTextOf}
-use Rattle.source_session.specs.Sought.{SoughtItem, is_sought}
+use Rattle.source_session.specs.Shown.{all_items, change_form, change_with, item_objects, items_member, pathless, tree_of, IsShown}
+use Rattle.source_session.specs.Sought.{is_sought}
 use Rattle.source_session.specs.SourceTexts.{text_bytes, text_places, all_places, text_problems}
 use Rattle.source_session.specs.Texts.{Texts, text_at, text_in}
 
@@ -64,7 +64,7 @@ no_float_found : (texts : Texts) (place : Place) (krate : Crate) (id : Option Fi
 no_float_found texts (File file) krate id = let t = text_in texts file.0 in no_float_in_file file krate (id_form id) (text_bytes t) (place_by_id t id) (no_float_id id)
 no_float_found texts (Block block) krate id = ap (λ b. b || false) (no_float_id id)
 
-pub no_float_in_found : (s : State) (texts : Texts) (entries : List Entry) → AreUnfloating (map (found_form s texts) entries)
+no_float_in_found : (s : State) (texts : Texts) (entries : List Entry) → AreUnfloating (map (found_form s texts) entries)
 no_float_in_found s texts [] = refl
 no_float_in_found s texts (e ∷ es) = rw (no_float_found texts e.place e.krate (ast_of s e), no_float_in_found s texts es) refl
 
@@ -81,45 +81,30 @@ no_float_in_changes : (changes : List Change) → AreUnfloating (map change_form
 no_float_in_changes [] = refl
 no_float_in_changes (c ∷ cs) = rw (no_float_change_form c, no_float_in_changes cs) refl
 
--- ---- shows
-
--- what holds of an answer's value, holds of it
-pub if_ok : {A E : Type 0} (P Q : A → Type 0) (r : Result A E) → ((a : A) → P a → Q a) → IfOk r P → IfOk r Q
-if_ok P Q (Ok a) more h = more a h
-if_ok P Q (Err e) more h = tt
-
 no_float_items : (u : Session) (krate : Crate) (place : Place) → AreUnfloating (item_objects u krate place)
 no_float_items u krate place =
     let t = text_at u.texts place in
     let s = pathless (text_bytes t) in no_float_in_outline s (reading s u.edition.0 None) u.edition.1 (text_places t) all_items (tree_of u krate place)
 
-pub no_float_outline : (u : Session) (krate : Crate) (file : HirFileId) → has_float (outline_form u krate file) ≡ false
-no_float_outline u krate file = no_float_items u krate (File file)
+-- ---- shows
 
-pub no_float_tree : (u : Session) (krate : Crate) (place : Place) → has_float (tree_form u krate place) ≡ false
-no_float_tree u krate place = no_float_change (item_objects u krate place) (place, krate, change_number u.table place krate.0) (no_float_items u krate place)
+no_float_shown : (u : Session) (show : LineShow) (d : Data) → IsShown u show d → has_float d ≡ false
+no_float_shown u (Table (OfTree show)) d h = ap has_float h
+no_float_shown u (Table (Changed since)) d h = ap has_float h.2
+no_float_shown u (Outline krate file) d h = ap has_float h ∙ no_float_items u krate (File file)
+no_float_shown u (TreeItems krate place) d h = ap has_float h ∙ no_float_change (item_objects u krate place) (place, krate, change_number u.table place krate.0) (no_float_items u krate place)
+no_float_shown u (ImportPlaces krate place) d h = let t = text_at u.texts place in ap has_float h ∙ no_float_in_imports (text_bytes t) u.edition.1 (all_places t) (tree_of u krate place).forest
+no_float_shown u (Changes since) d h = ap has_float h.2 ∙ no_float_in_changes h.0
+no_float_shown u (Problems file) d h = let t = text_in u.texts file.0 in ap has_float h ∙ no_float_in_problems (text_bytes t) (text_problems t)
+no_float_shown u (Find q) d h = ap has_float h.2 ∙ no_float_in_found u.table u.texts (filter (is_sought u.files u.table q) h.0)
 
-pub no_float_imports : (u : Session) (krate : Crate) (place : Place) → has_float (imports_form u krate place) ≡ false
-no_float_imports u krate place = let t = text_at u.texts place in no_float_in_imports (text_bytes t) u.edition.1 (all_places t) (tree_of u krate place).forest
-
-pub no_float_changes : (files : CrateFiles) (s : State) (since : ℕ) (d : Data) → AreChangeValues files s since d → has_float d ≡ false
-no_float_changes files s since d h = ap has_float h.2 ∙ no_float_in_changes h.0
-
-pub no_float_written : (files : CrateFiles) (reserved : List (List ℕ)) (s : State) (show : Show) (d : Data) → IsTextOf files reserved s show d → has_float d ≡ false
-no_float_written files reserved s (OfTree show) d h = ap has_float h
-no_float_written files reserved s (Changed since) d h = ap has_float h.2
-
-pub no_float_problems : (u : Session) (file : HirFileId) → has_float (problems_form u file) ≡ false
-no_float_problems u file = let t = text_in u.texts file.0 in no_float_in_problems (text_bytes t) (text_problems t)
-
-pub no_float_found_value : (files : CrateFiles) (s : State) (texts : Texts) (q : SoughtItem) (d : Data) → IsFound files s texts q d → has_float d ≡ false
-no_float_found_value files s texts q d h = ap has_float h.2 ∙ no_float_in_found s texts (filter (is_sought files s q) h.0)
+pub no_float_in_shown : (u : Session) (shows : List LineShow) (ds : List Data) → AllZip (IsShown u) shows ds → AreUnfloating ds
+no_float_in_shown u [] [] are = refl
+no_float_in_shown u [] (d ∷ ds) are = absurd are
+no_float_in_shown u (x ∷ xs) [] are = absurd are
+no_float_in_shown u (x ∷ xs) (d ∷ ds) are = rw (no_float_shown u x d are.0, no_float_in_shown u xs ds are.1) refl
 
 -- ---- one value more
-
-pub unfloating_push : (ds : List Data) (d : Data) → AreUnfloating ds → has_float d ≡ false → AreUnfloating (ds ++ d ∷ [])
-unfloating_push [] d h e = rw e refl
-unfloating_push (x ∷ ds) d h e = elim (has_float x) as (λ b. (b || items_have_float (items_of ds)) ≡ false → (b || items_have_float (items_of (ds ++ d ∷ []))) ≡ false) [ true ↦ λ g. g | false ↦ λ g. unfloating_push ds d g e ] h
 
 zip_push : {A B : Type 0} (R : A → B → Type 0) (xs : List A) (ys : List B) (x : A) (y : B) → AllZip R xs ys → R x y → AllZip R (xs ++ x ∷ []) (ys ++ y ∷ [])
 zip_push R [] [] x y are is = (is, tt)

@@ -1,14 +1,12 @@
 //! The values of shows.
-ghost use Rattle.std.specs.Prelude.{◌≡◌, ◌++◌, All, IfOk, OnOk, false, filter, map, string_bytes};
+ghost use Rattle.std.specs.Prelude.{◌≡◌, ◌++◌, All, IfOk, OnOk, filter, map, string_bytes};
 ghost use Rattle.std.specs.List.{AllZip, flat_map};
 ghost use Rattle.serde_json.specs.Data.{string};
 ghost use Rattle.serde_json.specs.View.{view};
-ghost use Rattle.serde_json.specs.Written.{has_float};
 ghost use Rattle.item_tree_db.specs.State.{IsKnown};
 ghost use Rattle.item_tree_request.specs.Outputs.{Knows, change_line, printed};
 ghost use Rattle.source_session.specs.Files.{is_change_in};
 ghost use Rattle.source_session.specs.Found.{IsFound};
-ghost use Rattle.source_session.specs.Inner.{AreUnfloating};
 ghost use Rattle.source_session.specs.Shows.{IsNamed, NamesCrate};
 ghost use Rattle.source_session.specs.Shown.{AreChangeLines, AreChangeValues, AreOwnChanges, IsShown, IsTextOf, change_form, change_with, imports_form, item_objects, items_member, outline_form, problems_form, tree_form};
 
@@ -293,11 +291,10 @@ impl Session {
         Ok(Value::Array(values))
     }
 
-    // The value of a show, which holds no float.
+    // The value of a show.
     fn show(&mut self, alloc: Global, show: &LineShow) -> Result<Value, AllocError>
         requires { NamesCrate self.old.count show.now }
         ensures shown { IfOk result (λ value. IsShown self.old show.now (view value)) }
-        ensures no_float { IfOk result (λ value. has_float (view value) ≡ false) }
         ensures same { self.new ≡ self.old }
     {
         match show {
@@ -326,7 +323,6 @@ impl Session {
         requires { All (NamesCrate self.old.count) shows.now }
         ensures shown { IfOk result
             (λ values. AllZip (IsShown self.old) shows.now (map view values.items)) }
-        ensures no_float { IfOk result (λ values. AreUnfloating (map view values.items)) }
         ensures same { self.new ≡ self.old }
     {
         let mut values = Vec::with_capacity(alloc, shows.len())?;

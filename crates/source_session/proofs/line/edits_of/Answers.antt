@@ -1,26 +1,13 @@
-use Rattle.std.proofs.Common.{◌≡◌, ◌∷◌, All, length, map, rules, sym, ap, ◌∙◌, subst}
+use Rattle.std.proofs.Common.{All, decimal, rules, sym, subst}
 use Rattle.std.proofs.lemmas.List.Elements.{All-push}
-use Rattle.serde_json.specs.View.{items_view, view}
-use Rattle.hir_input_json.specs.Reading.{right}
-use Rattle.hir_input_json.specs.Forms.{each_from}
-use Rattle.hir_input_json.proofs.Lists.{joined, joined_next}
+use Rattle.hir_input_json.proofs.Lists.{read_next}
 use Rattle.source_session.specs.Edits.{edit_view, line_edit, IsUsable}
 use Rattle.source_session.proofs.line.edits_of.Goals as goal
 
 pub loop-item-preserved : goal.loop-item-preserved
 loop-item-preserved c =
-    let count = c.args.count in
-    let form = line_edit count in
-    let done = c.loop-item.edits.items in
-    let made = c.in_ok-read.read in
-    let rest = c.next.new.self.rest.items in
-    let step : c.loop-item.item-iterator.rest.items ≡ c.in-Some.item ∷ rest = search rules in
-    let read : form (view c.in-Some.item) ≡ right (edit_view made) = search rules in
-    let own : IsUsable count made = search rules in
-    let pushed = c.in_ok-push.ensures.items in
-    let reading =
-    c.loop-item.invariant.0
-    ∙ ap (λ vs. joined (map edit_view done) (each_from (length done) form (items_view vs))) step
-    ∙ joined_next edit_view form done made (view c.in-Some.item) (items_view rest) read
-    ∙ ap (λ es. joined (map edit_view es) (each_from (length es) form (items_view rest))) (sym pushed) in
-    (reading, subst (All (IsUsable count)) (sym pushed) (All-push (IsUsable count) done made c.loop-item.invariant.1 own))
+    let usable : IsUsable c.args.count c.in_ok-read.read = search rules in
+    let pushed = c.in_ok-push.ensures.items in (
+      read_next edit_view (line_edit c.args.count) _ _ _ _ _ _ _ (decimal c.len-place.result) _ c.loop-item.invariant.0 c.in-Some.ensures.steps.0 c.edit_of.ensures.reads c.in_ok-read.ensures pushed,
+      subst (All (IsUsable c.args.count)) (sym pushed) (All-push (IsUsable c.args.count) _ _ c.loop-item.invariant.1 usable),
+    )

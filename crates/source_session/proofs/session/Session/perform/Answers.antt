@@ -9,6 +9,7 @@ use Rattle.source_session.specs.Replies.{IsDone}
 use Rattle.source_session.specs.Sessions.{IsEdited}
 use Rattle.source_session.specs.Shown.{IsShown}
 use Rattle.source_session.proofs.Made.{stopped_all}
+use Rattle.source_session.proofs.Named.{no_float_in_shown}
 use Rattle.source_session.proofs.session.Session.perform.Goals as goal
 
 pub returns-in_err-values-clause-done : goal.returns-in_err-values-clause-done
@@ -29,3 +30,9 @@ returns-clause-done c =
       subst (IsEdited s edits) (sym c.show_all.ensures.same) c.in_ok-edit.ensures,
       subst (λ u. AllZip (IsShown u) c.args.asked.shows.items values) (sym c.show_all.ensures.same) over,
     )
+
+pub returns-clause-no_float : goal.returns-clause-no_float
+returns-clause-no_float c =
+    let u = c.edit.new.self in
+    let values = map view c.in_ok-values.values.items in
+    no_float_in_shown u c.args.asked.shows.items values (subst (λ shows. AllZip (IsShown u) shows values) c.deref.ensures.value c.in_ok-values.ensures.shown)

@@ -1,13 +1,11 @@
--- the values so far are those of the shows so far, hold no float, and the session is as it was
+-- the values so far are those of the shows so far, and the session is as it was
 use Rattle.std.proofs.Common.{◌≡◌, map, take}
 use Rattle.std.specs.List.{AllZip}
 use Rattle.serde_json.specs.View.{view}
-use Rattle.source_session.specs.Inner.{AreUnfloating}
 use Rattle.source_session.specs.Shown.{IsShown}
 use Rattle.source_session.proofs.session.Session.show_all.Given as goal
 
 abbrev pub invariant-loop-show : goal.invariant-loop-show
 invariant-loop-show l =
     AllZip (IsShown l.fn.self) (take l.show-index l.shows) (map view l.values.items)
-    × AreUnfloating (map view l.values.items)
     × (l.self ≡ l.fn.self)
