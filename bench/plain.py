@@ -10,7 +10,7 @@ import sys
 
 HERE = pathlib.Path(__file__).resolve().parent
 SOURCE = HERE.parent / 'crates' / 'rust_lexer' / 'src'
-MODULES = ['bytes', 'comment', 'cut', 'frontmatter', 'identifier', 'kind', 'lexer', 'number', 'quoted', 'token']
+MODULES = ['bytes', 'comment', 'cut', 'depth', 'frontmatter', 'identifier', 'kind', 'lexer', 'number', 'quoted', 'token']
 
 MAIN = '''
 mod memchr {
