@@ -105,11 +105,21 @@ def typed_anywhere(chance, text, _items):
     return start, end, ''.join(chance.choice(LOOSE) for _ in range(chance.randrange(3)))
 
 
-def begins_inner(text, at):
-    """Whether inner attributes come next, behind white space and comments."""
+def behind_blanks(text, at):
+    """The place behind white space and comments, but for inner documentation."""
     while found := re.compile(r'\s+|//(?!!)[^\n]*|/\*(?!!)').match(text, at):
         at = end_of_comment(text, at) if found.group() == '/*' else found.end()
-    return text.startswith(('#', '//!', '/*!'), at)
+    return at
+
+
+def begins_inner(text, at):
+    """Whether inner attributes come next, behind white space and comments."""
+    at = behind_blanks(text, at)
+    for mark in '#![':
+        if not text.startswith(mark, at):
+            return text.startswith(('//!', '/*!'), at) and mark == '#'
+        at = behind_blanks(text, at + 1)
+    return True
 
 
 class Typist:

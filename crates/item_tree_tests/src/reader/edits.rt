@@ -52,6 +52,8 @@ const EDITS: &[(&str, usize, usize, &str, usize)] = &[
     // Round brackets may stay open: the item is then unfinished, and stands where it stands.
     ("fn f() { 1 }", 9, 10, "(", 12),
     ("fn f() { 1 }", 9, 10, "{ é }", 17),
+    ("fn f() { 1 }", 9, 9, "#[a] ", 17),
+    ("fn f() { 1 }", 9, 9, "#!", 14),
     // Not in the braces, or not only.
     ("fn f() { 1 }", 3, 4, "g", 0),
     ("fn f() { 1 }", 7, 9, "", 0),
@@ -60,6 +62,7 @@ const EDITS: &[(&str, usize, usize, &str, usize)] = &[
     // What was typed does not stand alone.
     ("fn f() { 1 }", 9, 10, "{", 0),
     ("fn f() { 1 }", 9, 10, "} {", 0),
+    ("fn f() { 1 }", 9, 9, "# /**/ ! [a]", 0),
     ("fn f() { 1 }", 9, 10, "// x", 0),
     ("fn f() { 1 }", 9, 10, "\"", 0),
     ("fn f() { 1 }", 9, 10, "/*", 0),
